@@ -1,0 +1,93 @@
+-- Decimal numbers: what digits are worth, and the digits of a number.
+--     value n s      what the digits of s are worth after digits that are worth n
+--     isNumber m s   digits alone, at least one, worth no more than m
+--     digits f n     the digits of n without leading zeros, where n < 10 ^ (f + 1)
+--     digits-value, digits-all, digits-some: a number is read back from its digits
+use mathlib.Core.Path.{_≡_, refl, _∙_}
+use mathlib.Core.Bool.{Bool, true, false}
+use mathlib.Core.List.{List, [], _∷_, _++_}
+use Prim.Native.Nat.{ℕ, zero, suc, _+_, _-_, _*_, _/_, _%_, _^_, _≤_, _<_}
+use native.Mathlib.Nat.{pow-succ'}
+use native.Mathlib.Omega.{arith}
+use lib.Dec.{leb, ltb}
+use lib.ListN.{length, length-append}
+use borrow.Author.Tests.{lt-ltb, ltb-true, ltb-false, le-leb}
+use Rattle.octets.specs.Pick.{pick, _and_, within, within-yes}
+use Rattle.octets.specs.Scan.{allOf}
+use Rattle.octets.specs.Append.{_⊕_}
+use Rattle.octets.specs.Class.{isDigit}
+
+-- a byte that is no digit counts 0, so that the function is total
+abbrev pub digitOf : ℕ → ℕ
+digitOf b = pick (isDigit b) (b - 48) 0
+
+unfoldable pub value : ℕ → List ℕ → ℕ
+value n [] = n
+value n (b ∷ s) = value (n * 10 + digitOf b) s
+
+abbrev pub isNumber : ℕ → List ℕ → Bool
+isNumber most s = ltb 0 (length s) and allOf isDigit s and leb (value 0 s) most
+
+unfoldable pub digits : ℕ → ℕ → List ℕ
+digits zero n = (48 + n % 10) ∷ []
+digits (suc f) n = pick (ltb n 10) ((48 + n) ∷ []) (digits f (n / 10) ⊕ (48 + n % 10) ∷ [])
+
+-- ---- the digits of a number are read back
+
+value-snoc : (s : List ℕ) (n b : ℕ) → value n (s ++ (b ∷ [])) ≡ value n s * 10 + digitOf b
+unfolding value
+value-snoc [] n b = refl
+value-snoc (x ∷ s) n b = value-snoc s (n * 10 + digitOf x) b
+
+all-snoc : (s : List ℕ) (b : ℕ) → allOf isDigit s ≡ true → isDigit b ≡ true → allOf isDigit (s ++ (b ∷ [])) ≡ true
+unfolding allOf pick
+all-snoc [] b p q = rw q
+all-snoc (x ∷ s) b p q = go (isDigit x) p (λ r. all-snoc s b r q)
+  where
+    go : (t : Bool) → pick t (allOf isDigit s) false ≡ true → (allOf isDigit s ≡ true → allOf isDigit (s ++ (b ∷ [])) ≡ true) →
+        pick t (allOf isDigit (s ++ (b ∷ []))) false ≡ true
+    go true p ih = ih p
+    go false p ih = p
+
+pub is-digit : (x : ℕ) → x < 10 → isDigit (48 + x) ≡ true
+is-digit x h = within-yes 48 57 (48 + x) (le-leb 48 (48 + x) (omega arith)) (le-leb (48 + x) 57 (omega arith))
+
+pub digit-of : (x : ℕ) → x < 10 → digitOf (48 + x) ≡ x
+unfolding pick
+digit-of x h = rw (is-digit x h) (omega arith)
+
+shorter : (f n : ℕ) → n < 10 ^ suc (suc f) → n / 10 < 10 ^ suc f
+shorter f n h = let g : n < 10 * 10 ^ suc f = rw pow-succ' at h in omega arith
+
+pub digits-value : (f n : ℕ) → n < 10 ^ suc f → value 0 (digits f n) ≡ n
+unfolding digits value _⊕_ pick
+digits-value zero n h = rw (digit-of (n % 10) (omega arith)) (omega arith)
+digits-value (suc f) n h = go (ltb n 10) refl (digits-value f (n / 10) (shorter f n h))
+  where
+    go : (t : Bool) → ltb n 10 ≡ t → value 0 (digits f (n / 10)) ≡ n / 10 → value 0 (pick t ((48 + n) ∷ []) (digits f (n / 10) ⊕ (48 + n % 10) ∷ [])) ≡ n
+    go true e ih = rw (digit-of n (ltb-true n 10 e)) (omega arith)
+    go false e ih = value-snoc (digits f (n / 10)) 0 (48 + n % 10) ∙ rw (ih, digit-of (n % 10) (omega arith)) (omega arith)
+
+pub digits-all : (f n : ℕ) → allOf isDigit (digits f n) ≡ true
+unfolding digits allOf _⊕_ pick
+digits-all zero n = rw (is-digit (n % 10) (omega arith))
+digits-all (suc f) n = go (ltb n 10) refl (digits-all f (n / 10))
+  where
+    go : (t : Bool) → ltb n 10 ≡ t → allOf isDigit (digits f (n / 10)) ≡ true →
+        allOf isDigit (pick t ((48 + n) ∷ []) (digits f (n / 10) ⊕ (48 + n % 10) ∷ [])) ≡ true
+    go true e ih = rw (is-digit n (ltb-true n 10 e))
+    go false e ih = all-snoc (digits f (n / 10)) (48 + n % 10) ih (is-digit (n % 10) (omega arith))
+
+pub digits-some : (f n : ℕ) → 0 < length (digits f n)
+unfolding digits _⊕_ pick
+digits-some zero n = omega arith
+digits-some (suc f) n = go (ltb n 10)
+  where
+    go : (t : Bool) → 0 < length (pick t ((48 + n) ∷ []) (digits f (n / 10) ⊕ (48 + n % 10) ∷ []))
+    go true = omega arith
+    go false = simp length-append (omega arith)
+
+-- a number that is not too much is a number by its digits
+pub digits-number : (f n most : ℕ) → n < 10 ^ suc f → n ≤ most → isNumber most (digits f n) ≡ true
+unfolding _and_
+digits-number f n most h l = rw (lt-ltb 0 (length (digits f n)) (digits-some f n), digits-all, digits-value f n h, le-leb n most l)

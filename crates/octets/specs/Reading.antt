@@ -1,0 +1,35 @@
+-- Readings that may fail: `some` of what was read, or `none`.
+--     provided     some value if a test holds
+--     andThen      a reading that goes on with what another one read
+--     readEach     each of a list read, or none
+--     isRead       whether it was read
+use mathlib.Core.Path.{_≡_, refl, ap}
+use mathlib.Core.Bool.{Bool, true, false}
+use mathlib.Core.List.{List, [], _∷_}
+use mathlib.Core.Option.{Option, none, some}
+use Rattle.octets.specs.Pick.{pick}
+
+module _ {A : Type 0} where
+  abbrev pub provided : Bool → A → Option A
+  provided b a = pick b (some a) none
+
+  unfoldable pub andThen : {B : Type 0} → Option A → (A → Option B) → Option B
+  andThen none f = none
+  andThen (some a) f = f a
+
+  unfoldable pub isRead : Option A → Bool
+  isRead none = false
+  isRead (some a) = true
+
+  unfoldable pub readOr : A → Option A → A
+  readOr d none = d
+  readOr d (some a) = a
+
+  -- one more in front of what was read
+  unfoldable pub consRead : A → Option (List A) → Option (List A)
+  consRead a none = none
+  consRead a (some l) = some (a ∷ l)
+
+unfoldable pub readEach : {A B : Type 0} → (A → Option B) → List A → Option (List B)
+readEach f [] = some []
+readEach f (a ∷ l) = andThen (f a) (λ b. consRead b (readEach f l))

@@ -1,0 +1,163 @@
+-- Loops that go over a list s from its front, an element a turn, with `drop i s` left.
+--     spanLen p s       how many elements at the front pass p;   Span is the invariant
+--     spanEnd p s i     the same from an index i, as an index;   SpanFrom is the invariant, `search scanning-from`
+--     allOf p s         whether each element passes p;           All is the invariant
+--     foldl f st s      a state carried over the elements;       Folding is the invariant
+--     foldi f st i s    the same, by a step that is told the index;   FoldingI is the invariant
+-- Each has its start, its turn and its end among the rules `scanning`: `search scanning` answers nearly every need of such a loop.
+use mathlib.Core.Path.{_≡_, refl, sym, ap, _∙_}
+use mathlib.Core.Bool.{Bool, true, false}
+use mathlib.Core.List.{List, [], _∷_}
+use Prim.Native.Nat.{ℕ, zero, suc, _+_, _-_, _≤_, _<_}
+use native.Mathlib.Numerals.{add-one}
+use native.Mathlib.Omega.{arith}
+use lib.ListN.{length, getD, take, drop, length-drop, drop-of-length-le}
+use lib.Seq.{drop-cons, take-all, length-take-le}
+use borrow.Author.Needs.{needs}
+use Rattle.octets.specs.Pick.{pick, flag-yes, flag-no}
+
+-- one element more
+pub drop-next : (s : List ℕ) (i : ℕ) → i < length s → drop i s ≡ getD s i 0 ∷ drop (i + 1) s
+drop-next s i h = rw (add-one, drop-cons s i 0)
+
+-- what `&s[a..]` is, as a callee sees it
+pub part-rest : (s : List ℕ) (a : ℕ) → take (length s - a) (drop a s) ≡ drop a s
+part-rest s a = take-all (length s - a) (drop a s) (simp length-drop (omega arith))
+
+-- what `&s[..n]` counts, under a test n < s.len()
+pub take-length-lt : (n : ℕ) (s : List ℕ) → n < length s → length (take n s) ≡ n
+take-length-lt n s h = length-take-le n s (omega arith)
+
+-- ---- the longest front that passes a test
+
+unfoldable pub spanLen : (ℕ → Bool) → List ℕ → ℕ
+spanLen p [] = 0
+spanLen p (x ∷ s) = pick (p x) (suc (spanLen p s)) 0
+
+pub record Span (p : ℕ → Bool) (s : List ℕ) (i : ℕ) : Type 0 where
+  pub inside : i ≤ length s
+  pub left : spanLen p s ≡ i + spanLen p (drop i s)
+
+module _ (p : ℕ → Bool) (s : List ℕ) where
+  pub span-start : Span p s 0
+  span-start = record { inside = omega arith; left = omega arith }
+
+  pub span-more : (i : ℕ) → Span p s i → i < length s → p (getD s i 0) ≡ true → Span p s (i + 1)
+  unfolding spanLen pick
+  span-more i t h e = record { inside = omega arith; left = t .left ∙ rw (drop-next s i h, e) (omega arith) }
+
+  pub span-stop : (i : ℕ) → Span p s i → i < length s → p (getD s i 0) ≡ false → i ≡ spanLen p s
+  unfolding spanLen pick
+  span-stop i t h e = sym (t .left ∙ rw (drop-next s i h, e) (omega arith))
+
+  pub span-end : (i : ℕ) → Span p s i → length s ≤ i → i ≡ spanLen p s
+  unfolding spanLen
+  span-end i t h = sym (t .left ∙ rw (drop-of-length-le s h) (omega arith))
+
+-- ---- the same from an index i: where the front of `drop i s` that passes the test ends
+
+abbrev pub spanEnd : (ℕ → Bool) → List ℕ → ℕ → ℕ
+spanEnd p s i = i + spanLen p (drop i s)
+
+pub record SpanFrom (p : ℕ → Bool) (s : List ℕ) (i j : ℕ) : Type 0 where
+  pub inside : j ≤ length s
+  pub left : spanEnd p s i ≡ spanEnd p s j
+
+module _ (p : ℕ → Bool) (s : List ℕ) (i : ℕ) where
+  pub from-start : i ≤ length s → SpanFrom p s i i
+  from-start h = record { inside = h; left = refl }
+
+  pub from-more : (j : ℕ) → SpanFrom p s i j → j < length s → p (getD s j 0) ≡ true → SpanFrom p s i (j + 1)
+  unfolding spanLen pick
+  from-more j t h e = record { inside = omega arith; left = t .left ∙ rw (drop-next s j h, e) (omega arith) }
+
+  pub from-stop : (j : ℕ) → SpanFrom p s i j → j < length s → p (getD s j 0) ≡ false → j ≡ spanEnd p s i
+  unfolding spanLen pick
+  from-stop j t h e = sym (t .left ∙ rw (drop-next s j h, e) (omega arith))
+
+  pub from-end : (j : ℕ) → SpanFrom p s i j → length s ≤ j → j ≡ spanEnd p s i
+  unfolding spanLen
+  from-end j t h = sym (t .left ∙ rw (drop-of-length-le s h) (omega arith))
+
+pub ruleset scanning-from = (from-start, from-more, from-stop, from-end, flag-yes, flag-no, needs)
+
+-- ---- a test of each element
+
+unfoldable pub allOf : (ℕ → Bool) → List ℕ → Bool
+allOf p [] = true
+allOf p (x ∷ s) = pick (p x) (allOf p s) false
+
+pub record All (p : ℕ → Bool) (s : List ℕ) (i : ℕ) : Type 0 where
+  pub inside : i ≤ length s
+  pub left : allOf p s ≡ allOf p (drop i s)
+
+module _ (p : ℕ → Bool) (s : List ℕ) where
+  pub all-start : All p s 0
+  all-start = record { inside = omega arith; left = refl }
+
+  pub all-more : (i : ℕ) → All p s i → i < length s → p (getD s i 0) ≡ true → All p s (i + 1)
+  unfolding allOf pick
+  all-more i t h e = record { inside = omega arith; left = t .left ∙ rw (drop-next s i h, e) }
+
+  pub all-stop : (i : ℕ) → All p s i → i < length s → p (getD s i 0) ≡ false → false ≡ allOf p s
+  unfolding allOf pick
+  all-stop i t h e = sym (t .left ∙ rw (drop-next s i h, e))
+
+  pub all-end : (i : ℕ) → All p s i → length s ≤ i → true ≡ allOf p s
+  unfolding allOf
+  all-end i t h = sym (t .left ∙ rw (drop-of-length-le s h))
+
+-- ---- a state carried over the elements
+
+unfoldable pub foldl : {S : Type 0} → (S → ℕ → S) → S → List ℕ → S
+foldl f st [] = st
+foldl f st (x ∷ s) = foldl f (f st x) s
+
+pub record Folding {S : Type 0} (f : S → ℕ → S) (st₀ : S) (s : List ℕ) (st : S) (i : ℕ) : Type 0 where
+  pub inside : i ≤ length s
+  pub left : foldl f st₀ s ≡ foldl f st (drop i s)
+
+module _ {S : Type 0} (f : S → ℕ → S) (s : List ℕ) where
+  pub fold-start : (st : S) → Folding f st s st 0
+  fold-start st = record { inside = omega arith; left = refl }
+
+  pub fold-more : (st₀ st st′ : S) (i : ℕ) → Folding f st₀ s st i → i < length s → st′ ≡ f st (getD s i 0) → Folding f st₀ s st′ (i + 1)
+  unfolding foldl
+  fold-more st₀ st st′ i t h e = record { inside = omega arith; left = t .left ∙ rw (drop-next s i h, e) }
+
+  pub fold-end : (st₀ st : S) (i : ℕ) → Folding f st₀ s st i → length s ≤ i → st ≡ foldl f st₀ s
+  unfolding foldl
+  fold-end st₀ st i t h = sym (t .left ∙ rw (drop-of-length-le s h))
+
+  -- a loop may stop early, in a state that no element changes
+  pub fold-stop : (st₀ st : S) (i : ℕ) → Folding f st₀ s st i → ((x : ℕ) → f st x ≡ st) → st ≡ foldl f st₀ s
+  unfolding foldl
+  fold-stop st₀ st i t fixed = sym (t .left ∙ stays (drop i s))
+    where
+      stays : (l : List ℕ) → foldl f st l ≡ st
+      stays [] = refl
+      stays (x ∷ l) = ap (λ (u : S). foldl f u l) (fixed x) ∙ stays l
+
+-- ---- a state carried over the elements by a step that is told the index
+
+unfoldable pub foldi : {S : Type 0} → (S → ℕ → ℕ → S) → S → ℕ → List ℕ → S
+foldi f st i [] = st
+foldi f st i (x ∷ s) = foldi f (f st i x) (i + 1) s
+
+pub record FoldingI {S : Type 0} (f : S → ℕ → ℕ → S) (st₀ : S) (s : List ℕ) (st : S) (i : ℕ) : Type 0 where
+  pub inside : i ≤ length s
+  pub left : foldi f st₀ 0 s ≡ foldi f st i (drop i s)
+
+module _ {S : Type 0} (f : S → ℕ → ℕ → S) (s : List ℕ) where
+  pub foldi-start : (st : S) → FoldingI f st s st 0
+  foldi-start st = record { inside = omega arith; left = refl }
+
+  pub foldi-more : (st₀ st st′ : S) (i : ℕ) → FoldingI f st₀ s st i → i < length s → st′ ≡ f st i (getD s i 0) → FoldingI f st₀ s st′ (i + 1)
+  unfolding foldi
+  foldi-more st₀ st st′ i t h e = record { inside = omega arith; left = t .left ∙ rw (drop-next s i h, e) }
+
+  pub foldi-end : (st₀ st : S) (i : ℕ) → FoldingI f st₀ s st i → length s ≤ i → st ≡ foldi f st₀ 0 s
+  unfolding foldi
+  foldi-end st₀ st i t h = sym (t .left ∙ rw (drop-of-length-le s h))
+
+pub ruleset scanning = (span-start, span-more, span-stop, span-end, all-start, all-more, all-stop, all-end, fold-start, fold-more, fold-end, foldi-start, foldi-more, foldi-end, flag-yes, flag-no, needs)

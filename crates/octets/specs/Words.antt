@@ -1,0 +1,127 @@
+-- Byte lists as words: compared, counted, looked up in a list, cut at a separator, joined by one.
+--     same          the same bytes
+--     starts        one begins with the other
+--     isOneOf       one of a list of words
+--     count         how often a word stands in a list
+--     cutAt         the pieces between separators: cutAt 44 "a,b" is "a", "b"; a list of no bytes is one empty piece
+--     joinedBy      pieces with a separator between them;   cut-joined: cutting takes it back
+--     rowOf         the row of a table that has a given name
+use mathlib.Core.Path.{_≡_, refl, sym, ap, _∙_}
+use mathlib.Core.Bool.{Bool, true, false, false≢true}
+use mathlib.Core.List.{List, [], _∷_}
+use mathlib.Core.Option.{Option, none, some}
+use Prim.Native.Nat.{ℕ, zero, suc}
+use lib.Dec.{eqb}
+use borrow.Author.Tests.{eq-eqb, ne-eqb, eqb-true, eqb-false}
+use Rattle.octets.specs.Pick.{pick, _and_, _or_}
+use Rattle.octets.specs.Append.{_⊕_, append-none}
+
+unfoldable pub same : List ℕ → List ℕ → Bool
+same [] [] = true
+same [] (y ∷ t) = false
+same (x ∷ s) [] = false
+same (x ∷ s) (y ∷ t) = eqb x y and same s t
+
+-- p stands at the front of s
+unfoldable pub starts : List ℕ → List ℕ → Bool
+starts [] s = true
+starts (x ∷ p) [] = false
+starts (x ∷ p) (y ∷ s) = eqb x y and starts p s
+
+abbrev pub isEmpty : {A : Type 0} → List A → Bool
+isEmpty [] = true
+isEmpty (x ∷ s) = false
+
+unfoldable pub isOneOf : List ℕ → List (List ℕ) → Bool
+isOneOf w [] = false
+isOneOf w (x ∷ ws) = same w x or isOneOf w ws
+
+unfoldable pub count : List ℕ → List (List ℕ) → ℕ
+count w [] = 0
+count w (x ∷ ws) = pick (same w x) (suc (count w ws)) (count w ws)
+
+-- a byte that stands in s
+unfoldable pub holds : ℕ → List ℕ → Bool
+holds b [] = false
+holds b (x ∷ s) = eqb b x or holds b s
+
+-- one byte more in the first piece
+unfoldable pub onto : ℕ → List (List ℕ) → List (List ℕ)
+onto b [] = (b ∷ []) ∷ []
+onto b (p ∷ ps) = (b ∷ p) ∷ ps
+
+unfoldable pub cutAt : ℕ → List ℕ → List (List ℕ)
+cutAt c [] = [] ∷ []
+cutAt c (b ∷ s) = pick (eqb b c) ([] ∷ cutAt c s) (onto b (cutAt c s))
+
+-- each piece with the separator before it
+unfoldable pub eachAfter : ℕ → List (List ℕ) → List ℕ
+eachAfter c [] = []
+eachAfter c (p ∷ ps) = c ∷ (p ⊕ eachAfter c ps)
+
+unfoldable pub joinedBy : ℕ → List (List ℕ) → List ℕ
+joinedBy c [] = []
+joinedBy c (p ∷ ps) = p ⊕ eachAfter c ps
+
+-- the first row of a list whose name is w
+unfoldable pub rowOf : {A : Type 0} → (A → List ℕ) → List ℕ → List A → Option A
+rowOf name w [] = none
+rowOf name w (r ∷ rs) = pick (same w (name r)) (some r) (rowOf name w rs)
+
+-- ---- laws
+
+pub same-self : (s : List ℕ) → same s s ≡ true
+unfolding same _and_
+same-self [] = refl
+same-self (x ∷ s) = rw (eq-eqb x x refl) (same-self s)
+
+pub same-true : (s t : List ℕ) → same s t ≡ true → s ≡ t
+unfolding same _and_
+same-true [] [] h = refl
+same-true [] (y ∷ t) h = let z : _≡_ {A = Bool} false true = h in absurd (false≢true z)
+same-true (x ∷ s) [] h = let z : _≡_ {A = Bool} false true = h in absurd (false≢true z)
+same-true (x ∷ s) (y ∷ t) h = go (eqb x y) refl h (same-true s t)
+  where
+    go : (b : Bool) → eqb x y ≡ b → (b and same s t) ≡ true → (same s t ≡ true → s ≡ t) → x ∷ s ≡ y ∷ t
+    go true e k ih = let p : x ≡ y = eqb-true x y e in let q : s ≡ t = ih k in cc
+    go false e k ih = absurd (false≢true k)
+
+-- joined pieces that hold no separator are cut where they were joined
+cut-piece : (c : ℕ) (p : List ℕ) → holds c p ≡ false → cutAt c p ≡ p ∷ []
+unfolding holds cutAt onto pick _or_
+cut-piece c [] h = refl
+cut-piece c (b ∷ p) h = go (eqb c b) refl h (cut-piece c p)
+  where
+    go : (t : Bool) → eqb c b ≡ t → (t or holds c p) ≡ false → (holds c p ≡ false → cutAt c p ≡ p ∷ []) →
+        pick (eqb b c) ([] ∷ cutAt c p) (onto b (cutAt c p)) ≡ (b ∷ p) ∷ []
+    go true e k ih = absurd (false≢true (sym k))
+    go false e k ih = rw (ne-eqb b c (λ q. eqb-false c b e (sym q)), ih k)
+
+cut-front : (c : ℕ) (p s : List ℕ) → holds c p ≡ false → cutAt c (p ⊕ (c ∷ s)) ≡ p ∷ cutAt c s
+unfolding holds cutAt onto pick _or_ _⊕_
+cut-front c [] s h = rw (eq-eqb c c refl)
+cut-front c (b ∷ p) s h = go (eqb c b) refl h (cut-front c p s)
+  where
+    go : (t : Bool) → eqb c b ≡ t → (t or holds c p) ≡ false → (holds c p ≡ false → cutAt c (p ⊕ (c ∷ s)) ≡ p ∷ cutAt c s) →
+        pick (eqb b c) ([] ∷ cutAt c (p ⊕ (c ∷ s))) (onto b (cutAt c (p ⊕ (c ∷ s)))) ≡ (b ∷ p) ∷ cutAt c s
+    go true e k ih = absurd (false≢true (sym k))
+    go false e k ih = rw (ne-eqb b c (λ q. eqb-false c b e (sym q)), ih k)
+
+-- no piece holds the separator
+unfoldable pub noneHolds : ℕ → List (List ℕ) → Bool
+noneHolds c [] = true
+noneHolds c (p ∷ ps) = pick (holds c p) false (noneHolds c ps)
+
+pub cut-joined : (c : ℕ) (p : List ℕ) (ps : List (List ℕ)) → noneHolds c (p ∷ ps) ≡ true → cutAt c (joinedBy c (p ∷ ps)) ≡ p ∷ ps
+unfolding noneHolds joinedBy eachAfter pick
+cut-joined c p [] h = go (holds c p) refl h
+  where
+    go : (t : Bool) → holds c p ≡ t → pick t false true ≡ true → cutAt c (p ⊕ []) ≡ p ∷ []
+    go true e k = absurd (false≢true k)
+    go false e k = rw append-none (cut-piece c p e)
+cut-joined c p (q ∷ ps) h = go (holds c p) refl h (cut-joined c q ps)
+  where
+    go : (t : Bool) → holds c p ≡ t → pick t false (noneHolds c (q ∷ ps)) ≡ true → (noneHolds c (q ∷ ps) ≡ true → cutAt c (joinedBy c (q ∷ ps)) ≡ q ∷ ps) →
+        cutAt c (p ⊕ (c ∷ (q ⊕ eachAfter c ps))) ≡ p ∷ q ∷ ps
+    go true e k ih = absurd (false≢true k)
+    go false e k ih = cut-front c p (q ⊕ eachAfter c ps) e ∙ ap (λ (l : List (List ℕ)). p ∷ l) (ih k)
