@@ -1,0 +1,15 @@
+-- The values that are numbers.
+--     Sign        a sign in front of digits
+--     Integer     INTEGER
+--     Float       FLOAT
+--     Boolean     BOOLEAN
+--     Geo         GEO, two FLOAT values
+--     Computing   opens all of these, for examples that compute
+--     Examples    computed examples
+pub mod Sign
+pub mod Integer
+pub mod Float
+pub mod Boolean
+pub mod Geo
+pub mod Computing
+pub mod Examples
