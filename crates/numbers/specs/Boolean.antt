@@ -6,8 +6,9 @@ use mathlib.Core.List.{List, [], _∷_}
 use mathlib.Core.Option.{Option, none, some}
 use Prim.Native.Nat.{ℕ}
 use Rattle.octets.specs.Ascii.{ascii}
-use Rattle.octets.specs.Pick.{pick}
-use Rattle.octets.specs.Class.{upper}
+use Rattle.octets.specs.Pick.{pick, _and_, _or_}
+use Rattle.octets.specs.Scan.{allOf}
+use Rattle.octets.specs.Class.{upper, isVisible}
 use Rattle.octets.specs.Words.{same, isOneOf}
 use Rattle.octets.specs.Reading.{provided}
 use Rattle.model.specs.Calendar.{Format, ical, xcal}
@@ -19,3 +20,19 @@ readBoolean xcal s = pick (isOneOf s (ascii "true" ∷ ascii "1" ∷ [])) (some 
 abbrev pub writeBoolean : Format → Bool → List ℕ
 writeBoolean ical b = pick b (ascii "TRUE") (ascii "FALSE")
 writeBoolean xcal b = pick b (ascii "true") (ascii "false")
+
+-- ---- laws
+
+pub boolean-read-back : (f : Format) (b : Bool) → readBoolean f (writeBoolean f b) ≡ some b
+unfolding pick _and_ _or_ upper same isOneOf
+boolean-read-back ical true = refl
+boolean-read-back ical false = refl
+boolean-read-back xcal true = refl
+boolean-read-back xcal false = refl
+
+pub boolean-visible : (f : Format) (b : Bool) → allOf isVisible (writeBoolean f b) ≡ true
+unfolding pick _and_ allOf
+boolean-visible ical true = refl
+boolean-visible ical false = refl
+boolean-visible xcal true = refl
+boolean-visible xcal false = refl

@@ -1,6 +1,7 @@
 -- General laws of bytes, tests and readings that the values' laws use.
 --     and-both, provided-some, andThen-some    what a test that holds, a reading that gave something, was made of
---     all-implies, all-append                  a test of each element, weakened and over one list after another
+--     all-cons, all-append, all-implies        a test of each element, over one more, over one list after another, weakened
+--     all-holds                                a byte that fails the test does not stand there
 --     digit-range, digit-visible               what a digit is
 use mathlib.Core.Path.{_≡_, refl, sym, _∙_}
 use mathlib.Core.Bool.{Bool, true, false, false≢true}
@@ -9,11 +10,12 @@ use mathlib.Core.Option.{Option, none, some}
 use Prim.Native.Nat.{ℕ, _≤_}
 use native.Mathlib.Omega.{arith}
 use lib.Dec.{leb}
-use borrow.Author.Tests.{leb-true, le-leb}
-use Rattle.octets.specs.Pick.{pick, _and_, within-yes}
+use borrow.Author.Tests.{leb-true, le-leb, ne-eqb}
+use Rattle.octets.specs.Pick.{pick, _and_, _or_, within-yes}
 use Rattle.octets.specs.Scan.{allOf}
 use Rattle.octets.specs.Append.{_⊕_}
 use Rattle.octets.specs.Class.{isDigit, isVisible}
+use Rattle.octets.specs.Words.{holds}
 use Rattle.octets.specs.Reading.{provided, andThen}
 
 pub and-both : (a b : Bool) → (a and b) ≡ true → (a ≡ true) × (b ≡ true)
@@ -57,6 +59,12 @@ all-cons p b s h = go (p b) refl h
     go : (t : Bool) → p b ≡ t → pick t (allOf p s) false ≡ true → (p b ≡ true) × (allOf p s ≡ true)
     go true e k = (e, k)
     go false e k = absurd (false≢true k)
+
+-- what passes a test holds no byte that fails it
+pub all-holds : (p : ℕ → Bool) (c : ℕ) → p c ≡ false → (s : List ℕ) → allOf p s ≡ true → holds c s ≡ false
+unfolding holds _or_
+all-holds p c e [] h = refl
+all-holds p c e (b ∷ s) h = let q = all-cons p b s h in rw (ne-eqb c b (λ z. false≢true (sym e ∙ rw z (q .0)))) (all-holds p c e s (q .1))
 
 pub digit-range : (b : ℕ) → isDigit b ≡ true → (48 ≤ b) × (b ≤ 57)
 digit-range b h = let p = and-both (leb 48 b) (leb b 57) h in (leb-true 48 b (p .0), leb-true b 57 (p .1))
