@@ -19,7 +19,7 @@ use Rattle.octets.specs.Words.{isEmpty, holds, cutAt, noneHolds, joinedBy, each
 use Rattle.octets.specs.Reading.{provided, andThen}
 use Rattle.model.specs.Calendar.{Decimal}
 use Rattle.numbers.specs.Extra.{and-both, provided-some, andThen-some, all-implies, all-append, all-cons, all-holds, digit-visible}
-use Rattle.numbers.specs.Sign.{hasMinus, unsigned, signed, isDigits, leadsInDigit, digits-lead, lead-append, signed-minus, signed-rest, signed-visible}
+use Rattle.numbers.specs.Sign.{hasMinus, unsigned, signed, isDigits, leadsInDigit, digits-lead, lead-append, signed-minus, signed-rest, signed-all}
 
 abbrev pub decimal : Bool → List ℕ → List ℕ → Decimal
 decimal m b a = record { minus = m; before = b; after = a }
@@ -269,18 +269,21 @@ float-accepted s d h =
     let q : normal (p .0) ≡ d = cc (p .2) in
     rw (← q) (normal-is-normal (p .0) (spelled-digits s (p .0) (p .1)))
 
--- ---- laws: what is written is visible
+-- ---- laws: what is written is made of digits, a minus and a point
 
-point-visible : (s : List ℕ) → allOf isVisible s ≡ true → allOf isVisible (afterPoint s) ≡ true
-unfolding afterPoint allOf pick _and_
-point-visible [] h = refl
-point-visible (b ∷ s) h = h
+point-all : (p : ℕ → Bool) (s : List ℕ) → p 46 ≡ true → allOf p s ≡ true → allOf p (afterPoint s) ≡ true
+unfolding afterPoint allOf pick
+point-all p [] e h = refl
+point-all p (b ∷ s) e h = rw e h
+
+pub float-all : (p : ℕ → Bool) → ((b : ℕ) → isDigit b ≡ true → p b ≡ true) → p 45 ≡ true → p 46 ≡ true → (d : Decimal) → isNormal d ≡ true → allOf p (writeFloat d) ≡ true
+float-all p f m e d h =
+    let n = normal-parts d h in
+    signed-all p (d .minus) (orZero (d .before) ⊕ afterPoint (d .after)) m
+      (all-append p (orZero (d .before)) (afterPoint (d .after))
+        (all-implies isDigit p f (orZero (d .before)) (and-both _ _ (zero-digits (d .before) (n .beforeDigits)) .1))
+        (point-all p (d .after) e (all-implies isDigit p f (d .after) (n .afterDigits))))
 
 pub float-visible : (d : Decimal) → isNormal d ≡ true → allOf isVisible (writeFloat d) ≡ true
-float-visible d h =
-    let n = normal-parts d h in
-    let digitsSeen = all-implies isDigit isVisible digit-visible in
-    signed-visible (d .minus) (orZero (d .before) ⊕ afterPoint (d .after))
-      (all-append isVisible (orZero (d .before)) (afterPoint (d .after))
-        (digitsSeen (orZero (d .before)) (and-both _ _ (zero-digits (d .before) (n .beforeDigits)) .1))
-        (point-visible (d .after) (digitsSeen (d .after) (n .afterDigits))))
+unfolding _and_
+float-visible d h = float-all isVisible digit-visible refl refl d h

@@ -18,7 +18,7 @@ use Rattle.octets.specs.Decimal.{value, isNumber, digits, digits-value, digits-
 use Rattle.octets.specs.Reading.{provided}
 use Rattle.model.specs.Calendar.{Whole}
 use Rattle.numbers.specs.Extra.{and-both, provided-some, all-implies, digit-visible}
-use Rattle.numbers.specs.Sign.{hasMinus, unsigned, signed, leadsInDigit, digits-lead, signed-minus, signed-rest, signed-visible}
+use Rattle.numbers.specs.Sign.{hasMinus, unsigned, signed, leadsInDigit, digits-lead, signed-minus, signed-rest, signed-all}
 
 -- the largest magnitude of a negative number, and of another
 abbrev pub most : Bool → ℕ
@@ -54,7 +54,8 @@ pub whole-rest : (w : Whole) → unsigned (writeWhole w) ≡ digits 9 (w .magnit
 whole-rest w = signed-rest (w .negative) (digits 9 (w .magnitude)) (lead (w .magnitude))
 
 pub whole-visible : (w : Whole) → allOf isVisible (writeWhole w) ≡ true
-whole-visible w = signed-visible (w .negative) (digits 9 (w .magnitude)) (all-implies isDigit isVisible digit-visible (digits 9 (w .magnitude)) (digits-all 9 (w .magnitude)))
+unfolding _and_
+whole-visible w = signed-all isVisible (w .negative) (digits 9 (w .magnitude)) refl (all-implies isDigit isVisible digit-visible (digits 9 (w .magnitude)) (digits-all 9 (w .magnitude)))
 
 pub integer-read-back : (w : Whole) → isInteger w ≡ true → readInteger (writeInteger w) ≡ some w
 unfolding pick _and_

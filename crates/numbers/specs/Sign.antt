@@ -11,11 +11,11 @@ use Prim.Native.Nat.{ℕ, _<_}
 use native.Mathlib.Omega.{arith}
 use lib.Dec.{eqb, ltb}
 use lib.ListN.{length}
-use borrow.Author.Tests.{ne-eqb, lt-ltb, ltb-true}
+use borrow.Author.Tests.{ne-eqb}
 use Rattle.octets.specs.Pick.{pick, _and_, _or_}
 use Rattle.octets.specs.Scan.{allOf}
 use Rattle.octets.specs.Append.{_⊕_}
-use Rattle.octets.specs.Class.{isDigit, isVisible}
+use Rattle.octets.specs.Class.{isDigit}
 use Rattle.numbers.specs.Extra.{all-cons, digit-range}
 
 -- 45 is -, 43 is +
@@ -61,7 +61,7 @@ signed-rest true s h = refl
 signed-rest false [] h = absurd (false≢true h)
 signed-rest false (b ∷ s) h = let p = digit-range b h in rw (ne-eqb b 45 (λ e. omega arith), ne-eqb b 43 (λ e. omega arith))
 
-pub signed-visible : (m : Bool) (s : List ℕ) → allOf isVisible s ≡ true → allOf isVisible (signed m s) ≡ true
-unfolding allOf pick _and_
-signed-visible true s h = h
-signed-visible false s h = h
+pub signed-all : (p : ℕ → Bool) (m : Bool) (s : List ℕ) → p 45 ≡ true → allOf p s ≡ true → allOf p (signed m s) ≡ true
+unfolding allOf pick
+signed-all p true s e h = rw e h
+signed-all p false s e h = h
