@@ -1,0 +1,17 @@
+-- The values that are numbers.
+--     Extra       general laws of tests and readings
+--     Sign        a sign in front of digits
+--     Integer     INTEGER
+--     Float       FLOAT
+--     Boolean     BOOLEAN
+--     Geo         GEO, two FLOAT values
+--     Computing   opens all of these, for examples that compute
+--     Examples    computed examples
+pub mod Extra
+pub mod Sign
+pub mod Integer
+pub mod Float
+pub mod Boolean
+pub mod Geo
+pub mod Computing
+pub mod Examples
