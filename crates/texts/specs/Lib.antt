@@ -1,4 +1,5 @@
 -- Values that are characters.
+--     Extra           general laws of bytes that a list holds, or that all pass a test
 --     Text            TEXT, escaped and unescaped, and the splitter of escaped text
 --     TextList        lists of TEXT: CATEGORIES, RESOURCES
 --     RequestStatus   REQUEST-STATUS, two or three TEXT
@@ -8,6 +9,7 @@
 --     Quoting         parameter values between double quotes
 --     Computing       opens all of these, for examples that compute
 --     Examples        computed examples
+pub mod Extra
 pub mod Text
 pub mod TextList
 pub mod RequestStatus
