@@ -1,0 +1,79 @@
+-- Computed examples of items and rules.
+use mathlib.Core.Path.{_≡_, refl}
+use mathlib.Core.Bool.{Bool, true, false}
+use mathlib.Core.List.{List, [], _∷_, map}
+use mathlib.Core.Option.{Option, none, some}
+use Prim.Native.Nat.{ℕ}
+use Rattle.octets.specs.Ascii.{ascii}
+use Rattle.octets.specs.Reading.{isRead}
+use Rattle.model.specs.Calendar.{Format, ical, xcal, RuleItem, RulePart, moment, number, word, weekday}
+use Rattle.recur.specs.Parts.{partNames, isListPart, partOrder}
+use Rattle.recur.specs.Item.{whole, readItem, writeItem, isItem}
+use Rattle.recur.specs.Rule.{rulePart, readRule, writeRule, isRule}
+use Rattle.recur.specs.Computing.{recur-compute}
+
+-- words: any case from text, capitals from XML
+words : map (λ (f : Format). readItem f (ascii "FREQ") (ascii "Daily")) (ical ∷ xcal ∷ []) ≡ some (word (ascii "DAILY")) ∷ none ∷ []
+unfolding recur-compute
+words = refl
+
+-- digit counts, signs and ranges
+counts : map (readItem ical (ascii "COUNT")) (ascii "0005" ∷ ascii "+5" ∷ ascii "0" ∷ ascii "2147483647" ∷ ascii "2147483648" ∷ ascii "" ∷ [])
+    ≡ some (number (whole false 5)) ∷ none ∷ none ∷ some (number (whole false 2147483647)) ∷ none ∷ none ∷ []
+unfolding recur-compute
+counts = refl
+
+seconds : map (readItem ical (ascii "BYSECOND")) (ascii "07" ∷ ascii "007" ∷ ascii "60" ∷ ascii "61" ∷ ascii "-1" ∷ [])
+    ≡ some (number (whole false 7)) ∷ none ∷ some (number (whole false 60)) ∷ none ∷ none ∷ []
+unfolding recur-compute
+seconds = refl
+
+positions : map (readItem xcal (ascii "BYSETPOS")) (ascii "-366" ∷ ascii "+001" ∷ ascii "0" ∷ ascii "-" ∷ ascii "+-1" ∷ [])
+    ≡ some (number (whole true 366)) ∷ some (number (whole false 1)) ∷ none ∷ none ∷ none ∷ []
+unfolding recur-compute
+positions = refl
+
+days : map (readItem ical (ascii "BYDAY")) (ascii "su" ∷ ascii "+2Mo" ∷ ascii "-1SU" ∷ ascii "54SU" ∷ ascii "+SU" ∷ ascii "1" ∷ ascii "SUMO" ∷ ascii "SU1" ∷ [])
+    ≡ some (weekday none (ascii "SU")) ∷ some (weekday (some (whole false 2)) (ascii "MO")) ∷ some (weekday (some (whole true 1)) (ascii "SU")) ∷ none ∷ none ∷ none ∷ none ∷ none ∷ []
+unfolding recur-compute
+days = refl
+
+written : map (writeItem ical) (number (whole true 366) ∷ weekday (some (whole true 1)) (ascii "SU") ∷ weekday none (ascii "MO") ∷ word (ascii "DAILY") ∷ [])
+    ≡ ascii "-366" ∷ ascii "-1SU" ∷ ascii "MO" ∷ ascii "DAILY" ∷ []
+unfolding recur-compute
+written = refl
+
+-- a whole rule: its parts are put in the schema's order
+rule : readRule (ascii "byday=-1SU,mo;FREQ=monthly;Count=010")
+    ≡ some (
+      rulePart (ascii "FREQ") (word (ascii "MONTHLY") ∷ [])
+      ∷ rulePart (ascii "COUNT") (number (whole false 10) ∷ [])
+      ∷ rulePart (ascii "BYDAY") (weekday (some (whole true 1)) (ascii "SU") ∷ weekday none (ascii "MO") ∷ [])
+      ∷ [])
+unfolding recur-compute
+rule = refl
+
+-- what is a fault and what is none
+rules : map (λ (s : List ℕ). isRead (readRule s)) (
+      ascii "FREQ=DAILY;BYSETPOS=1,1"
+      ∷ ascii "COUNT=1"
+      ∷ ascii "FREQ=DAILY;"
+      ∷ ascii "FREQ=DAILY;COUNT"
+      ∷ ascii "FREQ=DAILY;BYDAY=SU,"
+      ∷ ascii "FREQ=DAILY;FREQ=DAILY"
+      ∷ ascii "FREQ=DAILY;RSCALE=GREGORIAN"
+      ∷ ascii "FREQ=DAILY,WEEKLY"
+      ∷ ascii "FREQ=DAILY=WEEKLY"
+      ∷ ascii ""
+      ∷ [])
+    ≡ true ∷ false ∷ false ∷ false ∷ false ∷ false ∷ false ∷ false ∷ false ∷ false ∷ []
+unfolding recur-compute
+rules = refl
+
+names : map (λ (n : List ℕ). partOrder n) (ascii "FREQ" ∷ ascii "WKST" ∷ ascii "RSCALE" ∷ []) ≡ 0 ∷ 13 ∷ 14 ∷ []
+unfolding recur-compute
+names = refl
+
+lists : map isListPart (ascii "INTERVAL" ∷ ascii "BYDAY" ∷ ascii "X-A" ∷ []) ≡ false ∷ true ∷ false ∷ []
+unfolding recur-compute
+lists = refl

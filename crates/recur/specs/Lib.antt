@@ -1,0 +1,13 @@
+-- RECUR (RFC 5545, section 3.3.10): recurrence rules.
+--     Extra      what this crate wants of lists, tests and readings in general
+--     Parts      the parts of a rule in the schema's order, and what an item of each is
+--     Item       one item of a part, read and written
+--     Rule       a whole rule in text, read and written
+--     Computing  opens all of these, for examples that compute
+--     Examples   computed examples
+pub mod Extra
+pub mod Parts
+pub mod Item
+pub mod Rule
+pub mod Computing
+pub mod Examples

@@ -1,0 +1,1 @@
+// RECUR: recurrence rules, their parts and items, read and written. Definitions and their laws are in specs/.
