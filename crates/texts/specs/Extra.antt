@@ -1,11 +1,14 @@
--- General laws of bytes that a list holds, or that all pass a test.
+-- General laws: tests taken apart, readings by a test, bytes that a list holds or that all pass a test.
 use mathlib.Core.Path.{_≡_, refl, sym, ap, _∙_}
 use mathlib.Core.Bool.{Bool, true, false, false≢true}
 use mathlib.Core.List.{List, [], _∷_}
-use Prim.Native.Nat.{ℕ}
-use lib.Dec.{eqb}
-use borrow.Author.Tests.{eqb-true}
-use Rattle.octets.specs.Pick.{pick, _and_, _or_}
+use mathlib.Core.Option.{Option, none, some}
+use Prim.Native.Nat.{ℕ, _≤_}
+use native.Mathlib.Omega.{arith}
+use lib.Dec.{eqb, leb}
+use borrow.Author.Tests.{eqb-true, leb-true}
+use Rattle.octets.specs.Pick.{pick, _and_, _or_, within}
+use Rattle.octets.specs.Reading.{provided}
 use Rattle.octets.specs.Append.{_⊕_}
 use Rattle.octets.specs.Scan.{allOf}
 use Rattle.octets.specs.Words.{holds, eachAfter, joinedBy, noneHolds}
@@ -31,6 +34,29 @@ pub and-true-right : (a b : Bool) → (a and b) ≡ true → b ≡ true
 unfolding _and_
 and-true-right true b h = h
 and-true-right false b h = absurd (false≢true h)
+
+pub or-cases : {P : Type 0} (a b : Bool) → (a or b) ≡ true → (a ≡ true → P) → (b ≡ true → P) → P
+unfolding _or_
+or-cases true b h f g = f refl
+or-cases false b h f g = g h
+
+pub within-low : (lo hi x : ℕ) → within lo hi x ≡ true → lo ≤ x
+within-low lo hi x h = leb-true lo x (and-true-left (leb lo x) (leb x hi) h)
+
+pub within-high : (lo hi x : ℕ) → within lo hi x ≡ true → x ≤ hi
+within-high lo hi x h = leb-true x hi (and-true-right (leb lo x) (leb x hi) h)
+
+-- ---- what a reading by a test reads
+
+pub provided-test : {A : Type 0} (t : Bool) (a v : A) → provided t a ≡ some v → t ≡ true
+unfolding pick
+provided-test true a v h = refl
+provided-test false a v h = let z : _≡_ {A = ℕ} 0 1 = cc in absurd (omega arith)
+
+pub provided-is : {A : Type 0} (t : Bool) (a v : A) → provided t a ≡ some v → a ≡ v
+unfolding pick
+provided-is true a v h = cc
+provided-is false a v h = let z : _≡_ {A = ℕ} 0 1 = cc in absurd (omega arith)
 
 -- ---- a byte that is in neither of two lists is in none of both joined
 

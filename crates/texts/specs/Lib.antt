@@ -1,5 +1,5 @@
 -- Values that are characters.
---     Extra           general laws of bytes that a list holds, or that all pass a test
+--     Extra           general laws of tests, readings and bytes
 --     Text            TEXT, escaped and unescaped, and the splitter of escaped text
 --     TextList        lists of TEXT: CATEGORIES, RESOURCES
 --     RequestStatus   REQUEST-STATUS, two or three TEXT

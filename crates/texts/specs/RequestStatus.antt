@@ -8,10 +8,12 @@ use mathlib.Core.Bool.{Bool, true, false}
 use mathlib.Core.List.{List, [], _∷_, map}
 use mathlib.Core.Option.{Option, none, some}
 use Prim.Native.Nat.{ℕ}
-use Rattle.octets.specs.Words.{joinedBy}
+use Rattle.octets.specs.Pick.{_or_}
+use Rattle.octets.specs.Words.{holds, joinedBy, noneHolds}
 use Rattle.octets.specs.Reading.{andThen}
 use Rattle.model.specs.Calendar.{Value, requestStatus}
-use Rattle.texts.specs.Text.{splitText, writeText}
+use Rattle.texts.specs.Extra.{joined-without}
+use Rattle.texts.specs.Text.{splitText, writeText, split-read-back, each-one-line, each-no-return}
 
 --   rstatus  = "REQUEST-STATUS" rstatparam ":" statcode ";" statdesc [";" extdata]
 --   statdesc = text
@@ -43,3 +45,21 @@ statusParts code description (some x) = code ∷ description ∷ x ∷ []
 
 abbrev pub writeRequestStatus : List ℕ → List ℕ → Option (List ℕ) → List ℕ
 writeRequestStatus code description x = joinedBy 59 (map writeText (statusParts code description x))
+
+-- ---- laws
+
+pub request-status-read-back : (code description : List ℕ) (x : Option (List ℕ)) →
+    readRequestStatus (writeRequestStatus code description x) ≡ some (requestStatus code description x)
+unfolding andThen _or_
+request-status-read-back code description none = rw (split-read-back 59 refl code (description ∷ []))
+request-status-read-back code description (some x) = rw (split-read-back 59 refl code (description ∷ x ∷ []))
+
+-- no LF, and a CR only where a part has one
+pub request-status-one-line : (code description : List ℕ) (x : Option (List ℕ)) → holds 10 (writeRequestStatus code description x) ≡ false
+request-status-one-line code description x =
+    joined-without 10 59 (map writeText (statusParts code description x)) refl (each-one-line (statusParts code description x))
+
+pub request-status-no-return : (code description : List ℕ) (x : Option (List ℕ)) → noneHolds 13 (statusParts code description x) ≡ true →
+    holds 13 (writeRequestStatus code description x) ≡ false
+request-status-no-return code description x h =
+    joined-without 13 59 (map writeText (statusParts code description x)) refl (each-no-return (statusParts code description x) h)
