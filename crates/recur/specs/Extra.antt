@@ -1,27 +1,126 @@
--- What this crate wants of lists and tests in general.
---     everyOf     whether each of a list passes a test
---     upTo        the bytes before the first that passes a test
---     fromOn      the bytes from the first that passes a test
---     past        the bytes after the first that passes a test
+-- What this crate wants of lists, tests and readings in general.
+--     everyOf                        whether each of a list passes a test
+--     and-left, and-right            both of joined tests hold
+--     provided-some, andThen-some    what was read, was read from something
+--     all-weaker, all-both, all-lacks   bytes of a class
+--     one-of-all, row-all, row-is    a word of a list, a row of a table
 use mathlib.Core.Path.{_≡_, refl, sym, ap, _∙_}
 use mathlib.Core.Bool.{Bool, true, false, false≢true}
 use mathlib.Core.List.{List, [], _∷_}
 use mathlib.Core.Option.{Option, none, some}
-use Prim.Native.Nat.{ℕ, zero, suc}
+use Prim.Native.Nat.{ℕ}
+use lib.Dec.{eqb}
+use borrow.Author.Tests.{eqb-true}
+use native.Mathlib.Omega.{arith}
 use Rattle.octets.specs.Pick.{pick, _and_, _or_}
+use Rattle.octets.specs.Scan.{allOf}
+use Rattle.octets.specs.Append.{_⊕_}
+use Rattle.octets.specs.Words.{same, same-true, isOneOf, holds, rowOf}
+use Rattle.octets.specs.Reading.{provided, andThen}
 
 unfoldable pub everyOf : {A : Type 0} → (A → Bool) → List A → Bool
 everyOf p [] = true
 everyOf p (x ∷ l) = pick (p x) (everyOf p l) false
 
-unfoldable pub upTo : (ℕ → Bool) → List ℕ → List ℕ
-upTo p [] = []
-upTo p (b ∷ s) = pick (p b) [] (b ∷ upTo p s)
+-- ---- tests
 
-unfoldable pub fromOn : (ℕ → Bool) → List ℕ → List ℕ
-fromOn p [] = []
-fromOn p (b ∷ s) = pick (p b) (b ∷ s) (fromOn p s)
+pub and-left : (a b : Bool) → (a and b) ≡ true → a ≡ true
+unfolding _and_
+and-left true b h = refl
+and-left false b h = h
 
-unfoldable pub past : (ℕ → Bool) → List ℕ → List ℕ
-past p [] = []
-past p (b ∷ s) = pick (p b) s (past p s)
+pub and-right : (a b : Bool) → (a and b) ≡ true → b ≡ true
+unfolding _and_
+and-right true b h = h
+and-right false b h = absurd (false≢true h)
+
+pub or-none : (a b : Bool) → (a or b) ≡ false → (a ≡ false) × (b ≡ false)
+unfolding _or_
+or-none true b h = absurd (false≢true (sym h))
+or-none false b h = (refl, h)
+
+-- a choice that holds, where the other way is false
+pub pick-first : (a b : Bool) → pick a b false ≡ true → (a ≡ true) × (b ≡ true)
+unfolding pick
+pick-first true b h = (refl, h)
+pick-first false b h = absurd (false≢true h)
+
+pub pick-second : (a b : Bool) → pick a false b ≡ true → (a ≡ false) × (b ≡ true)
+unfolding pick
+pick-second true b h = absurd (false≢true h)
+pick-second false b h = (refl, h)
+
+-- ---- readings
+
+module _ {A : Type 0} where
+  pub provided-some : (b : Bool) (a v : A) → provided b a ≡ some v → (b ≡ true) × (a ≡ v)
+  unfolding pick
+  provided-some true a v h = (refl, cc)
+  provided-some false a v h = let z : _≡_ {A = ℕ} 0 1 = cc in absurd (omega arith)
+
+  pub andThen-some : {B : Type 0} (o : Option A) (f : A → Option B) (v : B) → andThen o f ≡ some v → (a : A) × (o ≡ some a) × (f a ≡ some v)
+  unfolding andThen
+  andThen-some none f v h = let z : _≡_ {A = ℕ} 0 1 = cc in absurd (omega arith)
+  andThen-some (some a) f v h = (a, refl, h)
+
+-- ---- bytes of a class
+
+pub all-weaker : (p q : ℕ → Bool) → ((x : ℕ) → p x ≡ true → q x ≡ true) → (s : List ℕ) → allOf p s ≡ true → allOf q s ≡ true
+unfolding allOf pick
+all-weaker p q k [] h = refl
+all-weaker p q k (x ∷ s) h = go (pick-first (p x) (allOf p s) h) (all-weaker p q k s)
+  where
+    go : (p x ≡ true) × (allOf p s ≡ true) → (allOf p s ≡ true → allOf q s ≡ true) → pick (q x) (allOf q s) false ≡ true
+    go e ih = rw (k x (e .0), ih (e .1))
+
+pub all-both : (p : ℕ → Bool) (s t : List ℕ) → allOf p s ≡ true → allOf p t ≡ true → allOf p (s ⊕ t) ≡ true
+unfolding allOf _⊕_ pick
+all-both p [] t h k = k
+all-both p (x ∷ s) t h k = go (pick-first (p x) (allOf p s) h) (λ e. all-both p s t e k)
+  where
+    go : (p x ≡ true) × (allOf p s ≡ true) → (allOf p s ≡ true → allOf p (s ⊕ t) ≡ true) → pick (p x) (allOf p (s ⊕ t)) false ≡ true
+    go e ih = rw (e .0, ih (e .1))
+
+-- a byte outside the class does not stand there
+pub all-lacks : (p : ℕ → Bool) (c : ℕ) → p c ≡ false → (s : List ℕ) → allOf p s ≡ true → holds c s ≡ false
+unfolding allOf holds _or_
+all-lacks p c n [] h = refl
+all-lacks p c n (x ∷ s) h = go (eqb c x) refl (pick-first (p x) (allOf p s) h) (all-lacks p c n s)
+  where
+    go : (t : Bool) → eqb c x ≡ t → (p x ≡ true) × (allOf p s ≡ true) → (allOf p s ≡ true → holds c s ≡ false) → (t or holds c s) ≡ false
+    go true e f ih = absurd (false≢true (sym n ∙ ap p (eqb-true c x e) ∙ f .0))
+    go false e f ih = ih (f .1)
+
+-- ---- a word of a list, a row of a table
+
+pub one-of-all : (q : List ℕ → Bool) (w : List ℕ) (ws : List (List ℕ)) → everyOf q ws ≡ true → isOneOf w ws ≡ true → q w ≡ true
+unfolding everyOf isOneOf _or_
+one-of-all q w [] h o = absurd (false≢true o)
+one-of-all q w (x ∷ ws) h o = go (same w x) refl (pick-first (q x) (everyOf q ws) h) o (one-of-all q w ws)
+  where
+    go : (t : Bool) → same w x ≡ t → (q x ≡ true) × (everyOf q ws ≡ true) → (t or isOneOf w ws) ≡ true →
+        (everyOf q ws ≡ true → isOneOf w ws ≡ true → q w ≡ true) → q w ≡ true
+    go true e f k ih = ap q (same-true w x e) ∙ f .0
+    go false e f k ih = ih (f .1) k
+
+module _ {A : Type 0} (name : A → List ℕ) where
+  -- what holds of every row holds of the row that is found
+  pub row-all : (q : A → Bool) (n : List ℕ) (rows : List A) (r : A) → everyOf q rows ≡ true → rowOf name n rows ≡ some r → q r ≡ true
+  unfolding everyOf rowOf pick
+  row-all q n [] r h e = let z : _≡_ {A = ℕ} 0 1 = cc in absurd (omega arith)
+  row-all q n (x ∷ rows) r h e = go (same n (name x)) (pick-first (q x) (everyOf q rows) h) e (row-all q n rows r)
+    where
+      go : (t : Bool) → (q x ≡ true) × (everyOf q rows ≡ true) → pick t (some x) (rowOf name n rows) ≡ some r →
+          (everyOf q rows ≡ true → rowOf name n rows ≡ some r → q r ≡ true) → q r ≡ true
+      go true f k ih = let z : x ≡ r = cc in ap q (sym z) ∙ f .0
+      go false f k ih = ih (f .1) k
+
+  -- and has the name
+  pub row-is : (n : List ℕ) (rows : List A) (r : A) → rowOf name n rows ≡ some r → n ≡ name r
+  unfolding rowOf pick
+  row-is n [] r e = let z : _≡_ {A = ℕ} 0 1 = cc in absurd (omega arith)
+  row-is n (x ∷ rows) r e = go (same n (name x)) refl e (row-is n rows r)
+    where
+      go : (t : Bool) → same n (name x) ≡ t → pick t (some x) (rowOf name n rows) ≡ some r → (rowOf name n rows ≡ some r → n ≡ name r) → n ≡ name r
+      go true f k ih = let z : x ≡ r = cc in same-true n (name x) f ∙ ap name z
+      go false f k ih = ih k

@@ -16,7 +16,7 @@ use Rattle.octets.specs.Words.{isOneOf}
 use Rattle.octets.specs.Decimal.{value, isNumber, digits}
 use Rattle.octets.specs.Reading.{provided, andThen}
 use Rattle.model.specs.Calendar.{Format, ical, xcal, Whole, RuleItem, moment, number, word, weekday}
-use Rattle.recur.specs.Extra.{upTo, fromOn}
+use Rattle.recur.specs.Front.{upTo, fromOn}
 use Rattle.recur.specs.Parts.{ItemForm, wordOf, enddate, counting, unsigned, signed, weekdaynum, Part, partOf, weekdays}
 
 abbrev pub whole : Bool → ℕ → Whole
