@@ -3,6 +3,7 @@
 --     ContentLine  the grammar, read by recursive descent
 --     Write        a content line written
 --     RoundTrip    a content line written is read back
+--     Accepted     what is read is a content line, written as it stood
 --     Names        names that can be carried (refusal 5)
 --     Computing    opens all of these, for examples that compute
 --     Examples     lines that are read, lines that are refused, lines that are written
@@ -10,6 +11,7 @@ pub mod Extra
 pub mod ContentLine
 pub mod Write
 pub mod RoundTrip
+pub mod Accepted
 pub mod Names
 pub mod Computing
 pub mod Examples

@@ -75,7 +75,7 @@ value-round v r h g = go (v .quoted) (v .chars) h
     go true c h = quoted-round c r h
     go false c h = text-round c r h g
 
-abbrev commaValue : ParamValue → List ℕ → List ℕ
+abbrev pub commaValue : ParamValue → List ℕ → List ℕ
 commaValue v r = 44 ∷ (writeParamValue v ⊕ r)
 
 values-round : (vs : List ParamValue) (r : List ℕ) → Each (λ v. isParamValue v ≡ true) vs → AfterParam r → (many nextValue (writeAll commaValue vs r) ≡ ok vs r) × AfterValue (writeAll commaValue vs r)
@@ -93,7 +93,7 @@ unfolding stops pick _and_ _or_
 equals-stops r = refl
 
 -- a written parameter, with its first value apart
-parameter-parts : (n : List ℕ) (v : ParamValue) (vs : List ParamValue) (r : List ℕ) → writeParameter (record { name = n; values = v ∷ vs }) ⊕ r ≡ 59 ∷ (n ⊕ (61 ∷ (writeParamValue v ⊕ writeAll commaValue vs r)))
+pub parameter-parts : (n : List ℕ) (v : ParamValue) (vs : List ParamValue) (r : List ℕ) → writeParameter (record { name = n; values = v ∷ vs }) ⊕ r ≡ 59 ∷ (n ⊕ (61 ∷ (writeParamValue v ⊕ writeAll commaValue vs r)))
 unfolding writeParameter joinedBy
 parameter-parts n v vs r = rw (append-cons, append-regroup, append-cons, append-regroup, each-after-all 44 writeParamValue vs r)
 
@@ -105,7 +105,7 @@ param-round n v vs r hn hv hs g =
     let i = values-round vs r hs g in
     rw (run-front isNameChar n (61 ∷ t) (q .1) (equals-stops t), after-front isNameChar n (61 ∷ t) (q .1) (equals-stops t), q .0, after-is, value-round v (writeAll commaValue vs r) hv (i .1), i .0)
 
-abbrev writeParam : RawParameter → List ℕ → List ℕ
+abbrev pub writeParam : RawParameter → List ℕ → List ℕ
 writeParam p r = writeParameter p ⊕ r
 
 parameter-round : (p : RawParameter) (r : List ℕ) → isRawParameter p ≡ true → AfterParam r → nextParam (writeParam p r) ≡ got p r
