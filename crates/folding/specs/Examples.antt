@@ -18,7 +18,7 @@ unfolding-once : map unfolded (
     ascii "\r\r\n \nA" ∷
     ascii "\r\r\n \n B" ∷
     ascii "A\r B\n C\r\n" ∷ [])
-  ≡ (ascii "ABC\r\nD\r\n" ∷
+    ≡ (ascii "ABC\r\nD\r\n" ∷
     ascii "AB\r\n" ∷
     (0xC3 ∷ 0xA9 ∷ []) ∷
     ascii "\r\n A" ∷
@@ -39,7 +39,7 @@ origins = refl
 
 -- whole lines, an empty one, bare CR and LF inside a line, a loose end; a text that ends with CRLF has no loose line
 texts-of-lines : map lines (ascii "A\r\n\r\nBC\r\n" ∷ ascii "A\rB\nC\r\r\nD" ∷ ascii "A\r" ∷ [] ∷ [])
-  ≡ (whole 0 (ascii "A") ∷ whole 3 [] ∷ whole 5 (ascii "BC") ∷ []) ∷ (whole 0 (ascii "A\rB\nC\r") ∷ loose 8 ∷ []) ∷ (loose 0 ∷ []) ∷ [] ∷ []
+    ≡ (whole 0 (ascii "A") ∷ whole 3 [] ∷ whole 5 (ascii "BC") ∷ []) ∷ (whole 0 (ascii "A\rB\nC\r") ∷ loose 8 ∷ []) ∷ (loose 0 ∷ []) ∷ [] ∷ []
 unfolding folding-compute
 texts-of-lines = refl
 
@@ -49,22 +49,22 @@ many n = replicate n 65
 
 -- 75 octets stay whole; 76 give 75, then a space and 1; 149 fill two lines, 150 begin a third
 folded-octets : map foldedLine ([] ∷ many 75 ∷ many 76 ∷ many 149 ∷ many 150 ∷ [])
-  ≡ crlf
-  ∷ (many 75 ++ crlf)
-  ∷ (many 75 ++ ascii "\r\n A\r\n")
-  ∷ (many 75 ++ ascii "\r\n " ++ many 74 ++ crlf)
-  ∷ (many 75 ++ ascii "\r\n " ++ many 74 ++ ascii "\r\n A\r\n") ∷ []
+    ≡ crlf
+    ∷ (many 75 ++ crlf)
+    ∷ (many 75 ++ ascii "\r\n A\r\n")
+    ∷ (many 75 ++ ascii "\r\n " ++ many 74 ++ crlf)
+    ∷ (many 75 ++ ascii "\r\n " ++ many 74 ++ ascii "\r\n A\r\n") ∷ []
 unfolding folding-compute
 folded-octets = refl
 
 -- a character is not parted: after 74, 73 and 72 octets one of two, three and four octets goes to the next line, after one octet less it stays
 folded-characters : map foldedLine ((many 74 ++ (0xC3 ∷ 0xA9 ∷ [])) ∷ (many 73 ++ (0xC3 ∷ 0xA9 ∷ 65 ∷ [])) ∷
     (many 73 ++ (0xE2 ∷ 0x82 ∷ 0xAC ∷ [])) ∷ (many 72 ++ (0xF0 ∷ 0x9F ∷ 0x98 ∷ 0x80 ∷ [])) ∷ (many 71 ++ (0xF0 ∷ 0x9F ∷ 0x98 ∷ 0x80 ∷ [])) ∷ [])
-  ≡ (many 74 ++ ascii "\r\n " ++ (0xC3 ∷ 0xA9 ∷ 13 ∷ 10 ∷ []))
-  ∷ (many 73 ++ (0xC3 ∷ 0xA9 ∷ []) ++ ascii "\r\n A\r\n")
-  ∷ (many 73 ++ ascii "\r\n " ++ (0xE2 ∷ 0x82 ∷ 0xAC ∷ 13 ∷ 10 ∷ []))
-  ∷ (many 72 ++ ascii "\r\n " ++ (0xF0 ∷ 0x9F ∷ 0x98 ∷ 0x80 ∷ 13 ∷ 10 ∷ []))
-  ∷ (many 71 ++ (0xF0 ∷ 0x9F ∷ 0x98 ∷ 0x80 ∷ 13 ∷ 10 ∷ [])) ∷ []
+    ≡ (many 74 ++ ascii "\r\n " ++ (0xC3 ∷ 0xA9 ∷ 13 ∷ 10 ∷ []))
+    ∷ (many 73 ++ (0xC3 ∷ 0xA9 ∷ []) ++ ascii "\r\n A\r\n")
+    ∷ (many 73 ++ ascii "\r\n " ++ (0xE2 ∷ 0x82 ∷ 0xAC ∷ 13 ∷ 10 ∷ []))
+    ∷ (many 72 ++ ascii "\r\n " ++ (0xF0 ∷ 0x9F ∷ 0x98 ∷ 0x80 ∷ 13 ∷ 10 ∷ []))
+    ∷ (many 71 ++ (0xF0 ∷ 0x9F ∷ 0x98 ∷ 0x80 ∷ 13 ∷ 10 ∷ [])) ∷ []
 unfolding folding-compute
 folded-characters = refl
 

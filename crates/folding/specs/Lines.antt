@@ -1,11 +1,19 @@
 -- The lines of a text. A line is what stands before the next CRLF; what has no CRLF after it is a loose line. A text that ends with CRLF ends with a whole line.
 --     lines s          the lines of s, each with the index in s where it starts
 --     linesFrom p s    the same, where s starts at index p
-use mathlib.Core.Bool.{Bool, true, false}
-use mathlib.Core.List.{List, [], _∷_}
-use Prim.Native.Nat.{ℕ, zero, suc, _+_}
-use Rattle.octets.specs.Pick.{_or_}
-use Rattle.octets.specs.Words.{starts}
+--     lines-whole      what stands before the first CRLF is a line;   lines-loose: what holds none
+--     lines-append     of two texts, where the first has no loose line;   lines-ended: it has none if it ends with CRLF
+use mathlib.Core.Path.{_≡_, refl, sym, ap, _∙_}
+use mathlib.Core.Bool.{Bool, true, false, false≢true}
+use mathlib.Core.List.{List, [], _∷_, map}
+use Prim.Native.Nat.{ℕ, zero, suc, _+_, _≤_}
+use native.Mathlib.Omega.{arith}
+use lib.Dec.{eqb}
+use lib.ListN.{length}
+use Rattle.octets.specs.Pick.{_and_, _or_}
+use Rattle.octets.specs.Append.{_⊕_}
+use Rattle.octets.specs.Words.{starts, holds}
+use Rattle.folding.specs.Extra.{or-false}
 use Rattle.folding.specs.Unfold.{crlf}
 
 -- where a line starts, and its bytes; or where a loose line starts
@@ -40,3 +48,35 @@ lines s = linesFrom 0 s
 unfoldable pub holdsBreak : List ℕ → Bool
 holdsBreak [] = false
 holdsBreak (a ∷ s) = starts crlf (a ∷ s) or holdsBreak s
+
+-- no line of a list is loose
+unfoldable pub noneLoose : List Line → Bool
+noneLoose [] = true
+noneLoose (whole p l ∷ ls) = noneLoose ls
+noneLoose (loose p ∷ ls) = false
+
+-- a line that starts n further on
+abbrev pub moved : ℕ → Line → Line
+moved n (whole p l) = whole (p + n) l
+moved n (loose p) = loose (p + n)
+
+-- ---- laws
+
+-- bytes without CR hold no break
+pub no-break : (s : List ℕ) → holds 13 s ≡ false → holdsBreak s ≡ false
+unfolding holds holdsBreak starts _and_ _or_
+no-break [] h = refl
+no-break (a ∷ s) h = let e = or-false (eqb 13 a) (holds 13 s) h in rw (e .0) (no-break s (e .1))
+
+-- a line's end does not come earlier because of the CR that ends the line
+break-seam : (a : ℕ) (l r : List ℕ) → starts crlf ((a ∷ l) ⊕ (13 ∷ r)) ≡ starts crlf (a ∷ l)
+unfolding starts _⊕_ _and_
+break-seam a [] r = refl
+break-seam a (b ∷ l) r = refl
+
+pub lines-whole : (l r : List ℕ) (p : ℕ) → holdsBreak l ≡ false → linesFrom p (l ⊕ (13 ∷ 10 ∷ r)) ≡ whole p l ∷ linesFrom (p + length l + 2) r
+unfolding linesAfter lineStep longer holdsBreak starts _⊕_ _and_
+lines-whole [] r p h = ap (λ (n : ℕ). whole p [] ∷ linesFrom n r) (omega arith)
+lines-whole (a ∷ l) r p h =
+    let e = or-false (starts crlf (a ∷ l)) (holdsBreak l) h in
+    rw (break-seam a l (10 ∷ r), e .0, lines-whole l r (p + 1) (e .1)) ?
