@@ -1,11 +1,10 @@
 -- Computed examples.
 use mathlib.Core.Path.{_≡_, refl}
-use mathlib.Core.Bool.{Bool, true, false}
-use mathlib.Core.List.{List, [], _∷_, map}
-use mathlib.Core.Option.{Option, none, some}
-use Prim.Native.Nat.{ℕ}
+use mathlib.Core.Bool.{true, false}
+use mathlib.Core.List.{[], _∷_, map}
+use mathlib.Core.Option.{none, some}
 use Rattle.octets.specs.Ascii.{ascii}
-use Rattle.model.specs.Calendar.{Value, requestStatus, ical, xcal}
+use Rattle.model.specs.Calendar.{requestStatus, ical, xcal}
 use Rattle.texts.specs.Text.{readText, writeText}
 use Rattle.texts.specs.TextList.{readTexts, writeTexts}
 use Rattle.texts.specs.RequestStatus.{readRequestStatus, writeRequestStatus}

@@ -1,8 +1,8 @@
 -- General laws: tests taken apart, readings by a test, bytes that a list holds or that all pass a test.
-use mathlib.Core.Path.{_≡_, refl, sym, ap, _∙_}
+use mathlib.Core.Path.{_≡_, refl, sym, _∙_}
 use mathlib.Core.Bool.{Bool, true, false, false≢true}
 use mathlib.Core.List.{List, [], _∷_}
-use mathlib.Core.Option.{Option, none, some}
+use mathlib.Core.Option.{some}
 use Prim.Native.Nat.{ℕ, _≤_}
 use native.Mathlib.Omega.{arith}
 use lib.Dec.{eqb, leb}
@@ -102,6 +102,15 @@ all-weaker p q f (b ∷ s) h = go (p b) refl h (all-weaker p q f s)
     go : (t : Bool) → p b ≡ t → pick t (allOf p s) false ≡ true → (allOf p s ≡ true → allOf q s ≡ true) → pick (q b) (allOf q s) false ≡ true
     go true e k ih = rw (f b e) (ih k)
     go false e k ih = absurd (false≢true k)
+
+pub all-both : (p : ℕ → Bool) (a b : List ℕ) → allOf p a ≡ true → allOf p b ≡ true → allOf p (a ⊕ b) ≡ true
+unfolding allOf pick _⊕_
+all-both p [] b h k = k
+all-both p (x ∷ a) b h k = go (p x) h (λ r. all-both p a b r k)
+  where
+    go : (t : Bool) → pick t (allOf p a) false ≡ true → (allOf p a ≡ true → allOf p (a ⊕ b) ≡ true) → pick t (allOf p (a ⊕ b)) false ≡ true
+    go true h ih = ih h
+    go false h ih = h
 
 -- a byte that fails the test stands nowhere
 pub all-without : (p : ℕ → Bool) (x : ℕ) → p x ≡ false → (s : List ℕ) → allOf p s ≡ true → holds x s ≡ false

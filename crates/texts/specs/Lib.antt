@@ -1,6 +1,7 @@
 -- Values that are characters.
 --     Extra           general laws of tests, readings and bytes
 --     Text            TEXT, escaped and unescaped, and the splitter of escaped text
+--     Escaped         the bytes of escaped text: one line
 --     TextList        lists of TEXT: CATEGORIES, RESOURCES
 --     RequestStatus   REQUEST-STATUS, two or three TEXT
 --     Uri             URI and CAL-ADDRESS
@@ -11,6 +12,7 @@
 --     Examples        computed examples
 pub mod Extra
 pub mod Text
+pub mod Escaped
 pub mod TextList
 pub mod RequestStatus
 pub mod Uri

@@ -2,18 +2,20 @@
 -- Its code is any TEXT, as are the description and the data.
 --     readRequestStatus s                       two or three texts between bare semicolons; a bare comma is a fault; an empty third part is kept
 --     writeRequestStatus code description data  the same back
---     request-status-read-back, request-status-one-line, request-status-no-return
+--     request-status-read-back, request-status-accepted, request-status-one-line, request-status-no-return
 use mathlib.Core.Path.{_≡_, refl}
-use mathlib.Core.Bool.{Bool, true, false}
+use mathlib.Core.Bool.{true, false}
 use mathlib.Core.List.{List, [], _∷_, map}
 use mathlib.Core.Option.{Option, none, some}
 use Prim.Native.Nat.{ℕ}
+use native.Mathlib.Omega.{arith}
 use Rattle.octets.specs.Pick.{_or_}
 use Rattle.octets.specs.Words.{holds, joinedBy, noneHolds}
 use Rattle.octets.specs.Reading.{andThen}
 use Rattle.model.specs.Calendar.{Value, requestStatus}
 use Rattle.texts.specs.Extra.{joined-without}
-use Rattle.texts.specs.Text.{splitText, writeText, split-read-back, each-one-line, each-no-return}
+use Rattle.texts.specs.Text.{splitText, writeText, split-read-back}
+use Rattle.texts.specs.Escaped.{each-one-line, each-no-return}
 
 --   rstatus  = "REQUEST-STATUS" rstatparam ":" statcode ";" statdesc [";" extdata]
 --   statdesc = text
@@ -53,6 +55,28 @@ pub request-status-read-back : (code description : List ℕ) (x : Option (List �
 unfolding andThen _or_
 request-status-read-back code description none = rw (split-read-back 59 refl code (description ∷ []))
 request-status-read-back code description (some x) = rw (split-read-back 59 refl code (description ∷ x ∷ []))
+
+-- what is read is a REQUEST-STATUS
+pub record IsStatus (v : Value) : Type 0 where
+  pub code : List ℕ
+  pub description : List ℕ
+  pub extra : Option (List ℕ)
+  pub is : v ≡ requestStatus code description extra
+
+status-of : (ps : List (List ℕ)) (v : Value) → statusOf ps ≡ some v → IsStatus v
+status-of [] v h = let z : _≡_ {A = ℕ} 0 1 = cc in absurd (omega arith)
+status-of (c ∷ []) v h = let z : _≡_ {A = ℕ} 0 1 = cc in absurd (omega arith)
+status-of (c ∷ d ∷ []) v h = record { code = c; description = d; extra = none; is = cc }
+status-of (c ∷ d ∷ x ∷ []) v h = record { code = c; description = d; extra = some x; is = cc }
+status-of (c ∷ d ∷ x ∷ p ∷ ps) v h = let z : _≡_ {A = ℕ} 0 1 = cc in absurd (omega arith)
+
+pub request-status-accepted : (s : List ℕ) (v : Value) → readRequestStatus s ≡ some v → IsStatus v
+unfolding andThen
+request-status-accepted s v h = go (splitText 59 s) h
+  where
+    go : (o : Option (List (List ℕ))) → andThen o statusOf ≡ some v → IsStatus v
+    go none k = let z : _≡_ {A = ℕ} 0 1 = cc in absurd (omega arith)
+    go (some ps) k = status-of ps v k
 
 -- no LF, and a CR only where a part has one
 pub request-status-one-line : (code description : List ℕ) (x : Option (List ℕ)) → holds 10 (writeRequestStatus code description x) ≡ false

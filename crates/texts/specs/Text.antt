@@ -3,20 +3,21 @@
 --     splitText c s    the unescaped texts between bare separators c (44 comma, 59 semicolon, 0 none); a bare comma or semicolon that is not c is a fault
 --     readText s       one TEXT, unescaped
 --     writeText s      escaped
---     split-read-back  what is written, joined by the separator, is split again;   text-read-back
---     text-one-line, text-no-return   what is written holds no LF, and a CR only where the text has one
+--     split-front      the splitter's law: an escaped text in front of anything is that text in front of its first piece
+--     split-read-back  texts written and joined by a separator are split again;   text-read-back, for one
+--     split-some       what is split has at least one piece
+--     text-end, text-step   readText a byte at a time
 use mathlib.Core.Path.{_≡_, refl, sym, ap, _∙_}
 use mathlib.Core.Bool.{Bool, true, false, false≢true, not}
 use mathlib.Core.List.{List, [], _∷_, map}
 use mathlib.Core.Option.{Option, none, some}
 use Prim.Native.Nat.{ℕ}
 use lib.Dec.{eqb}
-use borrow.Author.Tests.{eqb-true, eqb-false, ne-eqb, not-true}
+use borrow.Author.Tests.{eqb-true, not-true}
 use Rattle.octets.specs.Pick.{pick, _or_}
 use Rattle.octets.specs.Append.{_⊕_, append-empty, append-none, append-regroup}
-use Rattle.octets.specs.Words.{onto, isEmpty, holds, eachAfter, joinedBy, noneHolds}
+use Rattle.octets.specs.Words.{onto, isEmpty, eachAfter, joinedBy}
 use Rattle.octets.specs.Reading.{andThen, consRead}
-use Rattle.texts.specs.Extra.{or-false-left, or-false-right, holds-neither, none-first, none-rest}
 
 --   text         = *(TSAFE-CHAR / ":" / DQUOTE / ESCAPED-CHAR)
 --   ESCAPED-CHAR = ("\\" / "\;" / "\," / "\N" / "\n")
@@ -151,45 +152,6 @@ split-read-back c h p (q ∷ ps) = go (split-read-back c h q ps)
 pub text-read-back : (s : List ℕ) → readText (writeText s) ≡ some s
 unfolding andThen
 text-read-back s = rw (split-one 0 s)
-
--- ---- what is written is one line
-
-escape-without : (x b : ℕ) → eqb x 92 ≡ false → eqb x 110 ≡ false → (eqb b 10 ≡ false → eqb x b ≡ false) → holds x (escapeText b) ≡ false
-unfolding holds pick _or_
-escape-without x b p q h = newline (eqb b 10) refl
-  where
-    other : (t : Bool) → eqb x b ≡ false → holds x (pick t (92 ∷ b ∷ []) (b ∷ [])) ≡ false
-    other true n = rw (p, n)
-    other false n = rw n
-    newline : (t : Bool) → eqb b 10 ≡ t → holds x (pick t (92 ∷ 110 ∷ []) (pick (isEscaped b) (92 ∷ b ∷ []) (b ∷ []))) ≡ false
-    newline true e = rw (p, q)
-    newline false e = other (isEscaped b) (h e)
-
-not-newline : (b : ℕ) → eqb b 10 ≡ false → eqb 10 b ≡ false
-not-newline b e = ne-eqb 10 b (λ h. eqb-false b 10 e (sym h))
-
--- no LF
-pub text-one-line : (s : List ℕ) → holds 10 (writeText s) ≡ false
-unfolding writeText holds
-text-one-line [] = refl
-text-one-line (b ∷ s) = holds-neither 10 (escapeText b) (writeText s) (escape-without 10 b refl refl (not-newline b)) (text-one-line s)
-
--- a CR only where the text has one
-pub text-no-return : (s : List ℕ) → holds 13 s ≡ false → holds 13 (writeText s) ≡ false
-unfolding writeText holds
-text-no-return [] h = refl
-text-no-return (b ∷ s) h =
-    holds-neither 13 (escapeText b) (writeText s) (escape-without 13 b refl refl (λ e. or-false-left (eqb 13 b) _ h)) (text-no-return s (or-false-right (eqb 13 b) _ h))
-
-pub each-one-line : (ts : List (List ℕ)) → noneHolds 10 (map writeText ts) ≡ true
-unfolding noneHolds pick
-each-one-line [] = refl
-each-one-line (t ∷ ts) = rw (text-one-line t) (each-one-line ts)
-
-pub each-no-return : (ts : List (List ℕ)) → noneHolds 13 ts ≡ true → noneHolds 13 (map writeText ts) ≡ true
-unfolding noneHolds pick
-each-no-return [] h = refl
-each-no-return (t ∷ ts) h = rw (text-no-return t (none-first 13 t ts h)) (each-no-return ts (none-rest 13 t ts h))
 
 -- ---- what is read has at least one piece
 

@@ -3,14 +3,15 @@
 --     writeTexts ts    escaped, with commas between them
 --     texts-read-back, texts-accepted, texts-one-line, texts-no-return
 use mathlib.Core.Path.{_≡_, refl}
-use mathlib.Core.Bool.{Bool, true, false}
-use mathlib.Core.List.{List, [], _∷_, map}
-use mathlib.Core.Option.{Option, none, some}
+use mathlib.Core.Bool.{true, false}
+use mathlib.Core.List.{List, _∷_, map}
+use mathlib.Core.Option.{Option, some}
 use Prim.Native.Nat.{ℕ}
 use Rattle.octets.specs.Words.{isEmpty, holds, joinedBy, noneHolds}
 use Rattle.octets.specs.Pick.{_or_}
 use Rattle.texts.specs.Extra.{joined-without}
-use Rattle.texts.specs.Text.{splitText, writeText, split-read-back, split-some, each-one-line, each-no-return}
+use Rattle.texts.specs.Text.{splitText, writeText, split-read-back, split-some}
+use Rattle.texts.specs.Escaped.{each-one-line, each-no-return}
 
 --   categories = "CATEGORIES" catparam ":" text *("," text) CRLF
 --   resources  = "RESOURCES" resrcparam ":" text *("," text) CRLF

@@ -3,7 +3,7 @@
 --     unknown-read-back, unknown-kept, unknown-accepted, unknown-one-line
 use mathlib.Core.Path.{_≡_, refl}
 use mathlib.Core.Bool.{Bool, true, false, false≢true}
-use mathlib.Core.List.{List, [], _∷_}
+use mathlib.Core.List.{List}
 use mathlib.Core.Option.{Option, none, some}
 use Prim.Native.Nat.{ℕ}
 use Rattle.octets.specs.Pick.{pick, pick-yes}
