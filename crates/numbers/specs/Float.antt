@@ -114,10 +114,15 @@ unfolding fraction pieces pick _and_
 fraction-written [] h = refl
 fraction-written (x ∷ a) h = rw (lt-ltb 0 (suc (length a)) (omega arith), h)
 
-no-leading-zero : (s : List ℕ) → leadsInZero s ≡ false → noLeading (orZero s) ≡ s
-unfolding noLeading orZero leadsInZero pick
+no-leading-zero : (s : List ℕ) → leadsInZero s ≡ false → noLeading s ≡ s
+unfolding noLeading leadsInZero pick
 no-leading-zero [] h = refl
 no-leading-zero (b ∷ s) h = rw h
+
+or-zero-leading : (s : List ℕ) → noLeading (orZero s) ≡ noLeading s
+unfolding noLeading orZero pick
+or-zero-leading [] = refl
+or-zero-leading (b ∷ s) = refl
 
 no-trailing-zero : (s : List ℕ) → endsInZero s ≡ false → noTrailing s ≡ s
 unfolding noTrailing endsInZero kept pick
@@ -171,6 +176,7 @@ float-read-back d h =
     let n = normal-parts d h in
     rw (
       spelled-written (d .minus) (d .before) (d .after) (n .beforeDigits) (n .afterDigits),
+      or-zero-leading (d .before),
       no-leading-zero (d .before) (n .noLead),
       no-trailing-zero (d .after) (n .noTrail),
       keeps-sign (isZero d) (d .minus) (n .zeroPlus),
@@ -262,6 +268,15 @@ normal-is-normal d h =
       noLead = leading-none (d .before);
       noTrail = trailing-none (d .after);
       zeroPlus = zero-plus (isZero (normal d)) (d .minus) })
+
+-- a normal form is its own
+pub normal-fixed : (d : Decimal) → isNormal d ≡ true → normal d ≡ d
+normal-fixed d h =
+    let n = normal-parts d h in
+    rw (no-leading-zero (d .before) (n .noLead), no-trailing-zero (d .after) (n .noTrail), keeps-sign (isZero d) (d .minus) (n .zeroPlus))
+
+pub normal-digits : (d : Decimal) → isNormal d ≡ true → Digits d
+normal-digits d h = let n = normal-parts d h in record { beforeDigits = n .beforeDigits; afterDigits = n .afterDigits }
 
 pub float-accepted : (s : List ℕ) (d : Decimal) → readFloat s ≡ some d → isNormal d ≡ true
 float-accepted s d h =

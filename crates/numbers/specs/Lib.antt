@@ -3,6 +3,7 @@
 --     Sign        a sign in front of digits
 --     Integer     INTEGER
 --     Float       FLOAT
+--     FloatValue  the number that a FLOAT states, and that it is kept
 --     Boolean     BOOLEAN
 --     Geo         GEO, two FLOAT values
 --     Computing   opens all of these, for examples that compute
@@ -11,6 +12,7 @@ pub mod Extra
 pub mod Sign
 pub mod Integer
 pub mod Float
+pub mod FloatValue
 pub mod Boolean
 pub mod Geo
 pub mod Computing
