@@ -8,25 +8,26 @@
 use mathlib.Core.Path.{_≡_, refl, sym, ap, _∙_}
 use mathlib.Core.Bool.{Bool, true, false, not, false≢true}
 use mathlib.Core.List.{List, [], _∷_}
-use mathlib.Core.Option.{Option, none, some}
+use mathlib.Core.Option.{some}
 use mathlib.Core.Logic.{_↔_}
-use Prim.Native.Nat.{ℕ, zero, suc, _+_, _-_, _*_, _^_, _≤_, _<_}
-use native.Mathlib.Nat.{pow-zero, pow-succ', mul-assoc, mul-comm, zero-mul, zero-add, suc-add}
+use Prim.Native.Nat.{ℕ, zero, suc, _+_, _-_, _*_, _^_}
+use native.Mathlib.Nat.{pow-zero, pow-succ', zero-mul}
 use native.Mathlib.Omega.{arith}
 use lib.Dec.{eqb, ltb}
 use lib.ListN.{length}
 use lib.Pow.{pow-add}
-use borrow.Author.Tests.{eqb-true, ltb-true, ltb-false, lt-ltb}
+use borrow.Author.Tests.{eqb-true, ltb-true, ltb-false}
 use Rattle.octets.specs.Pick.{pick, _and_}
 use Rattle.octets.specs.Scan.{allOf}
-use Rattle.octets.specs.Append.{_⊕_, append-none, append-regroup, length-both}
+use Rattle.octets.specs.Append.{_⊕_, length-both}
 use Rattle.octets.specs.Class.{isDigit}
 use Rattle.octets.specs.Words.{isEmpty}
 use Rattle.octets.specs.Decimal.{value, digitOf}
 use Rattle.octets.specs.Reading.{andThen}
 use Rattle.model.specs.Calendar.{Decimal}
 use Rattle.numbers.specs.Extra.{and-both, all-cons, all-append, digit-range}
-use Rattle.numbers.specs.Float.{decimal, spelled, noLeading, noTrailing, kept, normal, readFloat, isZero, isNormal, Normal, normal-parts, normal-digits, normal-fixed, Digits, spelled-digits, float-accepted}
+use Rattle.numbers.specs.Float.{decimal, spelled, noLeading, noTrailing, kept, normal, readFloat, isZero, isNormal}
+use Rattle.numbers.specs.FloatLaws.{Digits, normal-digits, normal-fixed, spelled-digits, float-accepted}
 
 abbrev pub numerator : Decimal → ℕ
 numerator d = value 0 (d .before ⊕ d .after)
@@ -110,20 +111,22 @@ magnitude-same a b h k e =
     let p = a .before in
     let q = b .before in
     let after = digits-same (a .after ⊕ zeros j) (b .after ⊕ zeros i) (value 0 p) (value 0 q)
-        (rw (length-both (a .after) (zeros j), length-both (b .after) (zeros i), zeros-length j, zeros-length i) (omega arith))
-        (all-append isDigit (a .after) (zeros j) (h .afterDigits) (zeros-digits j))
-        (all-append isDigit (b .after) (zeros i) (k .afterDigits) (zeros-digits i))
-        (shifted p (a .after) j ∙ e ∙ sym (shifted q (b .after) i)) in
+    (rw (length-both (a .after) (zeros j), length-both (b .after) (zeros i), zeros-length j, zeros-length i) (omega arith))
+    (all-append isDigit (a .after) (zeros j) (h .afterDigits) (zeros-digits j))
+    (all-append isDigit (b .after) (zeros i) (k .afterDigits) (zeros-digits i))
+    (shifted p (a .after) j ∙ e ∙ sym (shifted q (b .after) i)) in
     let before = digits-same (zeros (length q) ⊕ p) (zeros (length p) ⊕ q) 0 0
-        (rw (length-both (zeros (length q)) p, length-both (zeros (length p)) q, zeros-length (length q), zeros-length (length p)) (omega arith))
-        (all-append isDigit (zeros (length q)) p (zeros-digits (length q)) (h .beforeDigits))
-        (all-append isDigit (zeros (length p)) q (zeros-digits (length p)) (k .beforeDigits))
-        (led (length q) p ∙ after .0 ∙ sym (led (length p) q)) in
-    (sym (leading-zeros (length q) p) ∙ ap noLeading (before .1) ∙ leading-zeros (length p) q,
-     sym (trailing-zeros (a .after) j) ∙ ap noTrailing (after .1) ∙ trailing-zeros (b .after) i)
+    (rw (length-both (zeros (length q)) p, length-both (zeros (length p)) q, zeros-length (length q), zeros-length (length p)) (omega arith))
+    (all-append isDigit (zeros (length q)) p (zeros-digits (length q)) (h .beforeDigits))
+    (all-append isDigit (zeros (length p)) q (zeros-digits (length p)) (k .beforeDigits))
+    (led (length q) p ∙ after .0 ∙ sym (led (length p) q)) in (
+      sym (leading-zeros (length q) p) ∙ ap noLeading (before .1) ∙ leading-zeros (length p) q,
+      sym (trailing-zeros (a .after) j) ∙ ap noTrailing (after .1) ∙ trailing-zeros (b .after) i,
+    )
   where
     shifted : (s t : List ℕ) (n : ℕ) → value (value 0 s) (t ⊕ zeros n) ≡ value 0 (s ⊕ t) * 10 ^ n
     shifted s t n = rw (value-append t (zeros n) (value 0 s), value-zeros n (value (value 0 s) t), value-append s t 0)
+
     led : (n : ℕ) (s : List ℕ) → value 0 (zeros n ⊕ s) ≡ value 0 s
     led n s = rw (value-append (zeros n) s 0, value-zeros n 0, zero-mul)
 
@@ -146,6 +149,7 @@ trailing-split (b ∷ s) = go (noTrailing s) (trailing-split s)
     last : (t : Bool) (k : ℕ) → eqb b 48 ≡ t → s ≡ zeros k → (j : ℕ) × (b ∷ s ≡ pick t [] (b ∷ []) ⊕ zeros j)
     last true k e r = let z = eqb-true b 48 e in (suc k, cc (z, r))
     last false k e r = (k, cc r)
+
     go : (t : List ℕ) → (k : ℕ) × (s ≡ t ⊕ zeros k) → (j : ℕ) × (b ∷ s ≡ kept b t ⊕ zeros j)
     go [] r = last (eqb b 48) (r .0) refl (r .1)
     go (c ∷ t) r = (r .0, cc (r .1))
@@ -168,16 +172,17 @@ shorter a =
       worth =
           ap (λ (s : List ℕ). value 0 (s ⊕ a .after)) (p .1)
           ∙ ap (λ (s : List ℕ). value 0 ((zeros (p .0) ⊕ l) ⊕ s)) (q .1)
-          ∙ rw (value-append (zeros (p .0) ⊕ l) (t ⊕ zeros (q .0)) 0, value-append (zeros (p .0)) l 0, value-zeros (p .0) 0, zero-mul, value-append t (zeros (q .0)) (value 0 l), value-zeros (q .0) (value (value 0 l) t), value-append l t 0) }
+          ∙ rw (value-append (zeros (p .0) ⊕ l) (t ⊕ zeros (q .0)) 0, value-append (zeros (p .0)) l 0, value-zeros (p .0) 0, zero-mul, value-append t (zeros (q .0)) (value 0 l), value-zeros (q .0) (value (value 0 l) t), value-append l t 0);
+    }
 
 empty-true : (s : List ℕ) → isEmpty s ≡ true → s ≡ []
 empty-true [] h = refl
 empty-true (b ∷ s) h = absurd (false≢true h)
 
 -- a normal form is zero exactly when the number is
-zero-digits : (a : Decimal) → Digits a → numerator a ≡ 0 → isZero (normal a) ≡ true
+zero-normal : (a : Decimal) → Digits a → numerator a ≡ 0 → isZero (normal a) ≡ true
 unfolding noLeading noTrailing value _⊕_ allOf _and_
-zero-digits a h z =
+zero-normal a h z =
     let r = magnitude-same a (decimal false [] []) h (record { beforeDigits = refl; afterDigits = refl }) (rw z (sym (zero-mul (10 ^ length (a .after))))) in
     rw (r .0, r .1)
 
@@ -195,7 +200,7 @@ normal-sign a h = ap (λ (t : Bool). t and a .minus) (go (ltb 0 (numerator a)) (
     go true true e f = let n = ltb-true 0 (numerator a) e in absurd (omega (arith, zero-number a f))
     go true false e f = refl
     go false true e f = refl
-    go false false e f = let n = ltb-false 0 (numerator a) e in sym (sym f ∙ zero-digits a h (omega arith))
+    go false false e f = let n = ltb-false 0 (numerator a) e in sym (sym f ∙ zero-normal a h (omega arith))
 
 -- ---- the theorem
 
@@ -216,7 +221,8 @@ normal-same a b h k e =
     let l : length (noTrailing (a .after)) ≡ length (noTrailing (b .after)) = ap (λ (d : Decimal). length (d .after)) e in
     record {
       magnitude = rw (p .worth, q .worth, p .places, q .places, n, l) (crosswise (numerator (normal b)) (length (noTrailing (b .after))) (p .dropped) (q .dropped));
-      sign = sym (normal-sign a h) ∙ ap (λ (d : Decimal). d .minus) e ∙ normal-sign b k }
+      sign = sym (normal-sign a h) ∙ ap (λ (d : Decimal). d .minus) e ∙ normal-sign b k;
+    }
 
 -- digits state the same number exactly when their normal forms are equal
 pub normal-number : (a b : Decimal) → Digits a → Digits b → (SameNumber a b ↔ (normal a ≡ normal b))

@@ -3,6 +3,7 @@
 --     Sign        a sign in front of digits
 --     Integer     INTEGER
 --     Float       FLOAT
+--     FloatLaws   the laws of FLOAT
 --     FloatValue  the number that a FLOAT states, and that it is kept
 --     Boolean     BOOLEAN
 --     Geo         GEO, two FLOAT values
@@ -12,6 +13,7 @@ pub mod Extra
 pub mod Sign
 pub mod Integer
 pub mod Float
+pub mod FloatLaws
 pub mod FloatValue
 pub mod Boolean
 pub mod Geo
