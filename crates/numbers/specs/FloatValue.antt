@@ -10,23 +10,24 @@ use mathlib.Core.Bool.{Bool, true, false, not, false≢true}
 use mathlib.Core.List.{List, [], _∷_}
 use mathlib.Core.Option.{some}
 use mathlib.Core.Logic.{_↔_}
-use Prim.Native.Nat.{ℕ, zero, suc, _+_, _-_, _*_, _^_}
-use native.Mathlib.Nat.{pow-zero, pow-succ', zero-mul}
+use Prim.Native.Nat.{ℕ, _+_, _*_, _^_}
+use native.Mathlib.Nat.{zero-mul}
 use native.Mathlib.Omega.{arith}
-use lib.Dec.{eqb, ltb}
+use lib.Dec.{ltb}
 use lib.ListN.{length}
 use lib.Pow.{pow-add}
-use borrow.Author.Tests.{eqb-true, ltb-true, ltb-false}
-use Rattle.octets.specs.Pick.{pick, _and_}
+use borrow.Author.Tests.{ltb-true, ltb-false}
+use Rattle.octets.specs.Pick.{_and_}
 use Rattle.octets.specs.Scan.{allOf}
-use Rattle.octets.specs.Append.{_⊕_, length-both}
+use Rattle.octets.specs.Append.{_⊕_}
 use Rattle.octets.specs.Class.{isDigit}
 use Rattle.octets.specs.Words.{isEmpty}
-use Rattle.octets.specs.Decimal.{value, digitOf}
+use Rattle.octets.specs.Decimal.{value}
 use Rattle.octets.specs.Reading.{andThen}
 use Rattle.model.specs.Calendar.{Decimal}
-use Rattle.numbers.specs.Extra.{and-both, all-cons, all-append, digit-range}
-use Rattle.numbers.specs.Float.{decimal, spelled, noLeading, noTrailing, kept, normal, readFloat, isZero, isNormal}
+use Rattle.numbers.specs.Extra.{and-both}
+use Rattle.numbers.specs.Float.{decimal, spelled, noLeading, noTrailing, normal, readFloat, isZero, isNormal}
+use Rattle.numbers.specs.Worth.{zeros, value-append, digits-same, front-length, front-value, front-digits, back-length, back-value, back-digits, leading-zeros, trailing-zeros, leading-split, trailing-split}
 use Rattle.numbers.specs.FloatLaws.{Digits, normal-digits, normal-fixed, spelled-digits, float-accepted}
 
 abbrev pub numerator : Decimal → ℕ
@@ -40,119 +41,33 @@ pub record SameNumber (a b : Decimal) : Type 0 where
   pub magnitude : numerator a * 10 ^ length (b .after) ≡ numerator b * 10 ^ length (a .after)
   pub sign : isNegative a ≡ isNegative b
 
--- ---- zeros, 48 each, in front of digits and after them
+-- ---- digits that are worth the same have the same normal form
 
-zeros : ℕ → List ℕ
-zeros zero = []
-zeros (suc k) = 48 ∷ zeros k
+-- digits before the point: as many, by zeros in front
+before-same : (p q : List ℕ) → allOf isDigit p ≡ true → allOf isDigit q ≡ true → value 0 p ≡ value 0 q → noLeading p ≡ noLeading q
+before-same p q h k e =
+    let m = length p in
+    let n = length q in
+    let l : length (zeros n ⊕ p) ≡ length (zeros m ⊕ q) = rw (front-length n p, front-length m q) (omega arith) in
+    let v : value 0 (zeros n ⊕ p) ≡ value 0 (zeros m ⊕ q) = front-value n p ∙ e ∙ sym (front-value m q) in
+    let r = digits-same (zeros n ⊕ p) (zeros m ⊕ q) 0 0 l (front-digits n p h) (front-digits m q k) v in
+    sym (leading-zeros n p) ∙ ap noLeading (r .1) ∙ leading-zeros m q
 
-zeros-digits : (k : ℕ) → allOf isDigit (zeros k) ≡ true
-unfolding zeros allOf pick _and_
-zeros-digits zero = refl
-zeros-digits (suc k) = zeros-digits k
-
-zeros-length : (k : ℕ) → length (zeros k) ≡ k
-unfolding zeros
-zeros-length zero = refl
-zeros-length (suc k) = ap suc (zeros-length k)
-
-value-append : (s t : List ℕ) (n : ℕ) → value n (s ⊕ t) ≡ value (value n s) t
-unfolding value _⊕_
-value-append [] t n = refl
-value-append (b ∷ s) t n = value-append s t (n * 10 + digitOf b)
-
-value-zeros : (k n : ℕ) → value n (zeros k) ≡ n * 10 ^ k
-unfolding zeros value pick _and_
-value-zeros zero n = rw pow-zero (omega arith)
-value-zeros (suc k) n = value-zeros k (n * 10 + 0) ∙ rw (pow-succ' 10 k) (omega arith)
-
-leading-zeros : (k : ℕ) (s : List ℕ) → noLeading (zeros k ⊕ s) ≡ noLeading s
-unfolding zeros noLeading _⊕_ pick
-leading-zeros zero s = refl
-leading-zeros (suc k) s = leading-zeros k s
-
-only-zeros : (k : ℕ) → noTrailing (zeros k) ≡ []
-unfolding zeros noTrailing kept pick
-only-zeros zero = refl
-only-zeros (suc k) = rw (only-zeros k)
-
-trailing-zeros : (s : List ℕ) (k : ℕ) → noTrailing (s ⊕ zeros k) ≡ noTrailing s
-unfolding noTrailing _⊕_
-trailing-zeros [] k = only-zeros k
-trailing-zeros (b ∷ s) k = rw (trailing-zeros s k)
-
--- ---- as many digits that are worth the same are the same
-
-digit-same : (b c x y : ℕ) → isDigit b ≡ true → isDigit c ≡ true → x * 10 + digitOf b ≡ y * 10 + digitOf c → (x ≡ y) × (b ≡ c)
-unfolding pick
-digit-same b c x y h k e =
-    let p = digit-range b h in
-    let q = digit-range c k in
-    let f : x * 10 + (b - 48) ≡ y * 10 + (c - 48) = rw (h, k) at e in
-    (omega arith, omega arith)
-
-digits-same : (s t : List ℕ) (x y : ℕ) → length s ≡ length t → allOf isDigit s ≡ true → allOf isDigit t ≡ true → value x s ≡ value y t → (x ≡ y) × (s ≡ t)
-unfolding value
-digits-same [] [] x y l h k e = (e, refl)
-digits-same [] (c ∷ t) x y l h k e = absurd (omega arith)
-digits-same (b ∷ s) [] x y l h k e = absurd (omega arith)
-digits-same (b ∷ s) (c ∷ t) x y l h k e =
-    let p = all-cons isDigit b s h in
-    let q = all-cons isDigit c t k in
-    let r = digits-same s t (x * 10 + digitOf b) (y * 10 + digitOf c) (omega arith) (p .1) (q .1) e in
-    let u = digit-same b c x y (p .0) (q .0) (r .0) in
-    (u .0, cc (u .1, r .1))
-
+-- digits after the point: as many, by zeros after them
 magnitude-same : (a b : Decimal) → Digits a → Digits b → numerator a * 10 ^ length (b .after) ≡ numerator b * 10 ^ length (a .after) →
     (noLeading (a .before) ≡ noLeading (b .before)) × (noTrailing (a .after) ≡ noTrailing (b .after))
 magnitude-same a b h k e =
-    let i = length (a .after) in
-    let j = length (b .after) in
-    let p = a .before in
-    let q = b .before in
-    let after = digits-same (a .after ⊕ zeros j) (b .after ⊕ zeros i) (value 0 p) (value 0 q)
-    (rw (length-both (a .after) (zeros j), length-both (b .after) (zeros i), zeros-length j, zeros-length i) (omega arith))
-    (all-append isDigit (a .after) (zeros j) (h .afterDigits) (zeros-digits j))
-    (all-append isDigit (b .after) (zeros i) (k .afterDigits) (zeros-digits i))
-    (shifted p (a .after) j ∙ e ∙ sym (shifted q (b .after) i)) in
-    let before = digits-same (zeros (length q) ⊕ p) (zeros (length p) ⊕ q) 0 0
-    (rw (length-both (zeros (length q)) p, length-both (zeros (length p)) q, zeros-length (length q), zeros-length (length p)) (omega arith))
-    (all-append isDigit (zeros (length q)) p (zeros-digits (length q)) (h .beforeDigits))
-    (all-append isDigit (zeros (length p)) q (zeros-digits (length p)) (k .beforeDigits))
-    (led (length q) p ∙ after .0 ∙ sym (led (length p) q)) in (
-      sym (leading-zeros (length q) p) ∙ ap noLeading (before .1) ∙ leading-zeros (length p) q,
-      sym (trailing-zeros (a .after) j) ∙ ap noTrailing (after .1) ∙ trailing-zeros (b .after) i,
-    )
-  where
-    shifted : (s t : List ℕ) (n : ℕ) → value (value 0 s) (t ⊕ zeros n) ≡ value 0 (s ⊕ t) * 10 ^ n
-    shifted s t n = rw (value-append t (zeros n) (value 0 s), value-zeros n (value (value 0 s) t), value-append s t 0)
+    let m = length (a .after) in
+    let n = length (b .after) in
+    let s = a .after ⊕ zeros n in
+    let t = b .after ⊕ zeros m in
+    let l : length s ≡ length t = rw (back-length (a .after) n, back-length (b .after) m) (omega arith) in
+    let v : value (value 0 (a .before)) s ≡ value (value 0 (b .before)) t = back-value (a .before) (a .after) n ∙ e ∙ sym (back-value (b .before) (b .after) m) in
+    let r = digits-same s t (value 0 (a .before)) (value 0 (b .before)) l (back-digits (a .after) n (h .afterDigits)) (back-digits (b .after) m (k .afterDigits)) v in
+    let before = before-same (a .before) (b .before) (h .beforeDigits) (k .beforeDigits) (r .0) in
+    (before, sym (trailing-zeros (a .after) n) ∙ ap noTrailing (r .1) ∙ trailing-zeros (b .after) m)
 
-    led : (n : ℕ) (s : List ℕ) → value 0 (zeros n ⊕ s) ≡ value 0 s
-    led n s = rw (value-append (zeros n) s 0, value-zeros n 0, zero-mul)
-
--- ---- zeros that go are worth nothing
-
-leading-split : (s : List ℕ) → (k : ℕ) × (s ≡ zeros k ⊕ noLeading s)
-unfolding zeros noLeading _⊕_ pick
-leading-split [] = (0, refl)
-leading-split (b ∷ s) = go (eqb b 48) refl (leading-split s)
-  where
-    go : (t : Bool) → eqb b 48 ≡ t → (k : ℕ) × (s ≡ zeros k ⊕ noLeading s) → (k : ℕ) × (b ∷ s ≡ zeros k ⊕ pick t (noLeading s) (b ∷ s))
-    go true e r = let z = eqb-true b 48 e in (suc (r .0), cc (z, r .1))
-    go false e r = (0, refl)
-
-trailing-split : (s : List ℕ) → (k : ℕ) × (s ≡ noTrailing s ⊕ zeros k)
-unfolding zeros noTrailing kept _⊕_ pick
-trailing-split [] = (0, refl)
-trailing-split (b ∷ s) = go (noTrailing s) (trailing-split s)
-  where
-    last : (t : Bool) (k : ℕ) → eqb b 48 ≡ t → s ≡ zeros k → (j : ℕ) × (b ∷ s ≡ pick t [] (b ∷ []) ⊕ zeros j)
-    last true k e r = let z = eqb-true b 48 e in (suc k, cc (z, r))
-    last false k e r = (k, cc r)
-
-    go : (t : List ℕ) → (k : ℕ) × (s ≡ t ⊕ zeros k) → (j : ℕ) × (b ∷ s ≡ kept b t ⊕ zeros j)
-    go [] r = last (eqb b 48) (r .0) refl (r .1)
-    go (c ∷ t) r = (r .0, cc (r .1))
+-- ---- a normal form is worth as much
 
 -- how many zeros trail, and what the numerator is without them
 record Shorter (a : Decimal) : Type 0 where
@@ -166,13 +81,15 @@ shorter a =
     let q = trailing-split (a .after) in
     let l = noLeading (a .before) in
     let t = noTrailing (a .after) in
+    let v : value 0 (a .before) ≡ value 0 l = ap (value 0) (p .1) ∙ front-value (p .0) l in
     record {
       dropped = q .0;
-      places = ap length (q .1) ∙ length-both t (zeros (q .0)) ∙ ap (λ (n : ℕ). length t + n) (zeros-length (q .0));
+      places = ap length (q .1) ∙ back-length t (q .0);
       worth =
-          ap (λ (s : List ℕ). value 0 (s ⊕ a .after)) (p .1)
-          ∙ ap (λ (s : List ℕ). value 0 ((zeros (p .0) ⊕ l) ⊕ s)) (q .1)
-          ∙ rw (value-append (zeros (p .0) ⊕ l) (t ⊕ zeros (q .0)) 0, value-append (zeros (p .0)) l 0, value-zeros (p .0) 0, zero-mul, value-append t (zeros (q .0)) (value 0 l), value-zeros (q .0) (value (value 0 l) t), value-append l t 0);
+          value-append (a .before) (a .after) 0
+          ∙ ap (λ (n : ℕ). value n (a .after)) v
+          ∙ ap (value (value 0 l)) (q .1)
+          ∙ back-value l t (q .0);
     }
 
 empty-true : (s : List ℕ) → isEmpty s ≡ true → s ≡ []
@@ -241,7 +158,7 @@ pub float-keeps-number : (s : List ℕ) (a d : Decimal) → spelled s ≡ some a
 unfolding andThen
 float-keeps-number s a d e h =
     let r : some (normal a) ≡ some d = rw e at h in
-    let q : normal a ≡ d = cc in
+    let q : normal a ≡ d = cc r in
     let n = float-accepted s d h in
     normal-same a d (spelled-digits s a e) (normal-digits d n) (q ∙ sym (normal-fixed d n))
 
