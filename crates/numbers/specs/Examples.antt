@@ -6,7 +6,7 @@ use mathlib.Core.Option.{Option, none, some}
 use Prim.Native.Nat.{ℕ}
 use Rattle.octets.specs.Ascii.{ascii}
 use Rattle.octets.specs.Reading.{andThen}
-use Rattle.model.specs.Calendar.{Format, ical, xcal, Whole, Decimal, Value, geo}
+use Rattle.model.specs.Calendar.{ical, xcal, Whole, geo}
 use Rattle.numbers.specs.Integer.{readInteger, writeInteger, isInteger}
 use Rattle.numbers.specs.Float.{decimal, readFloat, writeFloat, isNormal}
 use Rattle.numbers.specs.Boolean.{readBoolean, writeBoolean}
@@ -44,7 +44,7 @@ integers-kept = refl
 
 floats : map readFloat (ascii "-037.50" ∷ ascii "0.5" ∷ ascii "+10" ∷ ascii "-0.00" ∷ ascii "-0.05" ∷ [])
     ≡ (some (decimal true (ascii "37") (ascii "5")) ∷ some (decimal false [] (ascii "5")) ∷ some (decimal false (ascii "10") [])
-      ∷ some (decimal false [] []) ∷ some (decimal true [] (ascii "05")) ∷ [])
+    ∷ some (decimal false [] []) ∷ some (decimal true [] (ascii "05")) ∷ [])
 unfolding numbers-compute
 floats = refl
 
@@ -55,7 +55,7 @@ floats-refused = refl
 
 floats-written : map floatAgain (ascii "-037.50" ∷ ascii "0.5" ∷ ascii "000" ∷ ascii "-0" ∷ ascii "100.00" ∷ ascii "-1.10" ∷ ascii "12345678901234567890.123456789012345678900" ∷ [])
     ≡ (some (ascii "-37.5") ∷ some (ascii "0.5") ∷ some (ascii "0") ∷ some (ascii "0") ∷ some (ascii "100") ∷ some (ascii "-1.1")
-      ∷ some (ascii "12345678901234567890.1234567890123456789") ∷ [])
+    ∷ some (ascii "12345678901234567890.1234567890123456789") ∷ [])
 unfolding numbers-compute
 floats-written = refl
 
@@ -74,9 +74,17 @@ booleans-xml : map (readBoolean xcal) (ascii "true" ∷ ascii "false" ∷ ascii 
 unfolding numbers-compute
 booleans-xml = refl
 
+booleans-written : map (writeBoolean ical) (true ∷ false ∷ []) ≡ (ascii "TRUE" ∷ ascii "FALSE" ∷ [])
+unfolding numbers-compute
+booleans-written = refl
+
+booleans-written-xml : map (writeBoolean xcal) (true ∷ false ∷ []) ≡ (ascii "true" ∷ ascii "false" ∷ [])
+unfolding numbers-compute
+booleans-written-xml = refl
+
 geos : map readGeo (ascii "37.386013;-122.082932" ∷ ascii "+1.0;-0" ∷ ascii "1" ∷ ascii "1;2;3" ∷ ascii "1;" ∷ ascii ";1" ∷ ascii "1;.5" ∷ [])
     ≡ (some (geo (decimal false (ascii "37") (ascii "386013")) (decimal true (ascii "122") (ascii "082932")))
-      ∷ some (geo (decimal false (ascii "1") []) (decimal false [] [])) ∷ none ∷ none ∷ none ∷ none ∷ none ∷ [])
+    ∷ some (geo (decimal false (ascii "1") []) (decimal false [] [])) ∷ none ∷ none ∷ none ∷ none ∷ none ∷ [])
 unfolding numbers-compute
 geos = refl
 

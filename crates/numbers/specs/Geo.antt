@@ -1,6 +1,7 @@
 -- GEO in text (RFC 5545, section 3.8.1.6): geovalue = float ";" float, latitude and longitude.
 --     readGeo, writeGeo
-use mathlib.Core.Path.{_≡_, refl, sym, _∙_}
+--     IsGeo       a latitude and a longitude in normal form
+use mathlib.Core.Path.{_≡_, refl}
 use mathlib.Core.Bool.{Bool, true, false, not}
 use mathlib.Core.List.{List, [], _∷_}
 use mathlib.Core.Option.{Option, none, some}
@@ -16,7 +17,8 @@ use Rattle.octets.specs.Words.{isEmpty, holds, cutAt, noneHolds, joinedBy, each
 use Rattle.octets.specs.Reading.{andThen}
 use Rattle.model.specs.Calendar.{Decimal, Value, geo}
 use Rattle.numbers.specs.Extra.{andThen-some, all-append, all-holds, digit-range}
-use Rattle.numbers.specs.Float.{readFloat, writeFloat, isNormal, float-read-back, float-accepted, float-all, float-visible}
+use Rattle.numbers.specs.Float.{readFloat, writeFloat, isNormal}
+use Rattle.numbers.specs.FloatLaws.{float-read-back, float-accepted, float-all, float-visible}
 
 -- the longitude, from the pieces that follow the first semicolon (59 is ;)
 unfoldable pub longitude : List (List ℕ) → Option Decimal
@@ -77,7 +79,8 @@ coordinates-accepted (s ∷ ps) v h =
       longitude = q .0;
       both = cc (q .2);
       latitudeNormal = float-accepted s (p .0) (p .1);
-      longitudeNormal = longitude-accepted ps (q .0) (q .1) }
+      longitudeNormal = longitude-accepted ps (q .0) (q .1);
+    }
 
 pub geo-accepted : (s : List ℕ) (v : Value) → readGeo s ≡ some v → IsGeo v
 geo-accepted s v h = coordinates-accepted (cutAt 59 s) v h

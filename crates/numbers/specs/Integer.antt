@@ -1,16 +1,16 @@
 -- INTEGER (RFC 5545, section 3.3.8; RFC 6321, section 3.6.8), the same in text and in XML: integer = (["+"] / "-") 1*DIGIT, from -2147483648 to 2147483647.
 --     whole m n       the number of magnitude n, negative if m says so and it is not zero
 --     writeWhole      a minus if it is negative, and its digits; for magnitudes below 10 ^ 10
+--     whole-minus, whole-rest, whole-all    the sign and the digits of what it writes, and a test that digits and the minus pass
 --     readInteger, writeInteger, isInteger
-use mathlib.Core.Path.{_≡_, refl, sym, _∙_}
-use mathlib.Core.Bool.{Bool, true, false, false≢true}
-use mathlib.Core.List.{List, [], _∷_}
-use mathlib.Core.Option.{Option, none, some}
+use mathlib.Core.Path.{_≡_, refl}
+use mathlib.Core.Bool.{Bool, true, false}
+use mathlib.Core.List.{List}
+use mathlib.Core.Option.{Option, some}
 use Prim.Native.Nat.{ℕ, _^_, _≤_, _<_}
 use native.Mathlib.Omega.{arith}
 use lib.Dec.{ltb, leb}
-use lib.ListN.{length}
-use borrow.Author.Tests.{lt-ltb, leb-true, ltb-true, ltb-false, le-leb}
+use borrow.Author.Tests.{lt-ltb, leb-true, ltb-false, le-leb}
 use Rattle.octets.specs.Pick.{pick, _and_, within, within-yes}
 use Rattle.octets.specs.Scan.{allOf}
 use Rattle.octets.specs.Class.{isDigit, isVisible}
@@ -53,9 +53,8 @@ whole-minus w = signed-minus (w .negative) (digits 9 (w .magnitude)) (lead (w .m
 pub whole-rest : (w : Whole) → unsigned (writeWhole w) ≡ digits 9 (w .magnitude)
 whole-rest w = signed-rest (w .negative) (digits 9 (w .magnitude)) (lead (w .magnitude))
 
-pub whole-visible : (w : Whole) → allOf isVisible (writeWhole w) ≡ true
-unfolding _and_
-whole-visible w = signed-all isVisible (w .negative) (digits 9 (w .magnitude)) refl (all-implies isDigit isVisible digit-visible (digits 9 (w .magnitude)) (digits-all 9 (w .magnitude)))
+pub whole-all : (p : ℕ → Bool) → ((b : ℕ) → isDigit b ≡ true → p b ≡ true) → p 45 ≡ true → (w : Whole) → allOf p (writeWhole w) ≡ true
+whole-all p f e w = signed-all p (w .negative) (digits 9 (w .magnitude)) e (all-implies isDigit p f (digits 9 (w .magnitude)) (digits-all 9 (w .magnitude)))
 
 pub integer-read-back : (w : Whole) → isInteger w ≡ true → readInteger (writeInteger w) ≡ some w
 unfolding pick _and_
@@ -89,4 +88,5 @@ integer-accepted s w h =
     rw (← (p .1)) (whole-integer (hasMinus s) (value 0 (unsigned s)) (leb-true _ _ (q .1)))
 
 pub integer-visible : (w : Whole) → allOf isVisible (writeInteger w) ≡ true
-integer-visible w = whole-visible w
+unfolding _and_
+integer-visible w = whole-all isVisible digit-visible refl w

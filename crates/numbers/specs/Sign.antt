@@ -4,7 +4,7 @@
 --     signed m s     s with a minus in front if m says so; a plus is not written
 --     isDigits s     1*DIGIT
 --     leadsInDigit s    s begins with a digit;   signed-minus, signed-rest: then the sign is read back
-use mathlib.Core.Path.{_≡_, refl, sym, _∙_}
+use mathlib.Core.Path.{_≡_, refl}
 use mathlib.Core.Bool.{Bool, true, false, false≢true}
 use mathlib.Core.List.{List, [], _∷_}
 use Prim.Native.Nat.{ℕ, _<_}
