@@ -1,19 +1,19 @@
 -- What is read as a content line is one, and the bytes are those that it is written with.
 --     content-line-accepted      what is read is a content line of the grammar
 --     content-line-write-back    what is read is written as it stood
-use mathlib.Core.Path.{_≡_, refl, sym, ap, _∙_}
-use mathlib.Core.Bool.{Bool, true, false, false≢true}
-use mathlib.Core.List.{List, [], _∷_, map}
-use mathlib.Core.Option.{Option, none, some}
+use mathlib.Core.Path.{_≡_, refl, ap, _∙_}
+use mathlib.Core.Bool.{true, false}
+use mathlib.Core.List.{List, _∷_}
+use mathlib.Core.Option.{none, some}
 use Prim.Native.Nat.{ℕ}
 use native.Mathlib.Omega.{arith}
-use Rattle.octets.specs.Pick.{pick, _and_, and-yes}
+use Rattle.octets.specs.Pick.{pick, and-yes}
 use Rattle.octets.specs.Scan.{allOf}
-use Rattle.octets.specs.Append.{_⊕_, joined, append-empty, append-cons, append-regroup}
+use Rattle.octets.specs.Append.{_⊕_, append-empty, append-cons, append-regroup}
 use Rattle.octets.specs.Class.{isNameChar}
 use Rattle.octets.specs.Words.{isEmpty}
 use Rattle.octets.specs.Reading.{provided}
-use Rattle.octets.specs.Many.{One, got, bad, All, ok, no, many, writeAll, Each}
+use Rattle.octets.specs.Many.{One, got, bad, All, ok, no, many}
 use Rattle.lines.specs.Extra.{runOf, afterRun, afterByte, every, pick-case, every-of-each, run-passes, run-joined, after-case, joined-all, many-read}
 use Rattle.lines.specs.ContentLine.{ParamValue, RawParameter, ContentLine, isQSafeChar, isSafeChar, isValueChar, isName, isParamValue, isRawParameter, isContentLine, paramtext, quotedString, paramValue, nextValue, withValues, withFirst, param, nextParam, withValue, contentLine}
 use Rattle.lines.specs.Write.{writeParamValue, writeParameter, writeContentLine}

@@ -4,7 +4,7 @@
 --     afterByte b s f d     what f makes of the rest behind b, if b stands at the front of s; else d
 --     every f l             each item of l passes f
 --     run-front, after-front, run-passes, run-joined    a run written is read back; a run read is written back
---     after-is, after-not, after-case, pick-case, and-both          what follows from an answer, by cases
+--     after-is, after-not, after-case, pick-case, and-both, or-neither          what follows from an answer, by cases
 --     many-read             what holds of an item that was read, for all items of a repetition
 use mathlib.Core.Path.{_≡_, refl, sym, ap, _∙_}
 use mathlib.Core.Bool.{Bool, true, false, cond, false≢true}
@@ -15,7 +15,7 @@ use lib.Dec.{eqb, ltb}
 use lib.ListN.{length, take, drop, take-append-drop}
 use lib.Seq.{take-append-seam, drop-append-seam}
 use borrow.Author.Tests.{eq-eqb, ne-eqb, eqb-true}
-use Rattle.octets.specs.Pick.{pick, _and_}
+use Rattle.octets.specs.Pick.{pick, _and_, _or_}
 use Rattle.octets.specs.Scan.{spanLen, allOf}
 use Rattle.octets.specs.Append.{_⊕_, joined, append-regroup, append-empty, append-cons}
 use Rattle.octets.specs.Words.{eachAfter}
@@ -52,6 +52,11 @@ unfolding _and_
 and-both true b h = (refl, h)
 and-both false b h = absurd (false≢true h)
 
+pub or-neither : (a b : Bool) → (a or b) ≡ false → (a ≡ false) × (b ≡ false)
+unfolding _or_
+or-neither true b h = absurd (false≢true (sym h))
+or-neither false b h = (refl, h)
+
 -- a choice that is true, with a side that never is
 pub pick-first : (t a : Bool) → pick t a false ≡ true → (t ≡ true) × (a ≡ true)
 unfolding pick
@@ -62,6 +67,12 @@ pub pick-second : (t a : Bool) → pick t false a ≡ true → (t ≡ false) × 
 unfolding pick
 pick-second true a h = absurd (false≢true h)
 pick-second false a h = (refl, h)
+
+-- bytes that pass a test pass a weaker one
+pub all-weaker : (p q : ℕ → Bool) → ((b : ℕ) → p b ≡ true → q b ≡ true) → (s : List ℕ) → allOf p s ≡ true → allOf q s ≡ true
+unfolding allOf pick
+all-weaker p q w [] h = refl
+all-weaker p q w (b ∷ s) h = let t = pick-first (p b) (allOf p s) h in rw (w b (t .0)) (all-weaker p q w s (t .1))
 
 -- a number that passes a test is not one that fails it
 pub apart : (p : ℕ → Bool) (x k : ℕ) → p x ≡ true → p k ≡ false → eqb x k ≡ false

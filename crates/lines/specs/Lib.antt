@@ -4,6 +4,7 @@
 --     Write        a content line written
 --     RoundTrip    a content line written is read back
 --     Accepted     what is read is a content line, written as it stood
+--     Chars        its classes of characters, one within the other
 --     Names        names that can be carried (refusal 5)
 --     Computing    opens all of these, for examples that compute
 --     Examples     lines that are read, lines that are refused, lines that are written
@@ -12,6 +13,7 @@ pub mod ContentLine
 pub mod Write
 pub mod RoundTrip
 pub mod Accepted
+pub mod Chars
 pub mod Names
 pub mod Computing
 pub mod Examples

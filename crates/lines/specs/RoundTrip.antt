@@ -1,21 +1,19 @@
 -- Content lines written and read back.
 --     content-line-read-back    what is written of a content line is read as that content line
-use mathlib.Core.Path.{_≡_, refl, sym, ap, _∙_}
+use mathlib.Core.Path.{_≡_, refl, sym, _∙_}
 use mathlib.Core.Bool.{Bool, true, false, false≢true}
 use mathlib.Core.List.{List, [], _∷_, map}
-use mathlib.Core.Option.{Option, none, some}
-use Prim.Native.Nat.{ℕ, _+_, _<_}
+use mathlib.Core.Option.{none, some}
+use Prim.Native.Nat.{ℕ}
 use native.Mathlib.Omega.{arith}
 use lib.Dec.{eqb}
-use lib.ListN.{length}
 use Rattle.octets.specs.Pick.{pick, _and_, _or_}
 use Rattle.octets.specs.Scan.{allOf}
 use Rattle.octets.specs.Append.{_⊕_, joined, append-empty, append-cons, append-regroup, length-both}
 use Rattle.octets.specs.Class.{isNameChar}
-use Rattle.octets.specs.Words.{isEmpty, joinedBy, eachAfter}
-use Rattle.octets.specs.Reading.{provided}
-use Rattle.octets.specs.Many.{One, got, bad, All, ok, no, many, writeAll, Each, many-round}
-use Rattle.lines.specs.Extra.{runOf, afterRun, stops, afterByte, every, apart, and-both, pick-first, pick-second, each-of-every, run-front, after-front, after-is, after-not, joined-all, each-after-all}
+use Rattle.octets.specs.Words.{isEmpty, joinedBy}
+use Rattle.octets.specs.Many.{One, got, ok, many, writeAll, Each, many-round}
+use Rattle.lines.specs.Extra.{stops, afterByte, every, apart, and-both, pick-first, pick-second, each-of-every, run-front, after-front, after-is, after-not, joined-all, each-after-all}
 use Rattle.lines.specs.ContentLine.{ParamValue, RawParameter, ContentLine, isQSafeChar, isSafeChar, isValueChar, isName, isParamValue, isRawParameter, isContentLine, paramtext, quotedString, paramValue, nextValue, withValues, withFirst, param, nextParam, withValue, contentLine}
 use Rattle.lines.specs.Write.{writeParamValue, writeParameter, writeContentLine}
 

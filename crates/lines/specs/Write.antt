@@ -1,6 +1,5 @@
 -- Content lines written, without CRLF and not folded: the grammar of RFC 5545, section 3.1, the other way.
 --     writeParamValue, writeParameter, writeContentLine
-use mathlib.Core.Bool.{Bool}
 use mathlib.Core.List.{List, [], _∷_, map}
 use Prim.Native.Nat.{ℕ}
 use Rattle.octets.specs.Pick.{pick}
