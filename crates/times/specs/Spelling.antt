@@ -88,7 +88,7 @@ char-not-small : (b : ℕ) → isTimeChar b ≡ true → isSmall b ≡ false
 unfolding _and_
 char-not-small b h = rw (lt-leb 97 b (omega (arith, char-most b h)))
 
-digit-char : (b : ℕ) → isDigit b ≡ true → isTimeChar b ≡ true
+pub digit-char : (b : ℕ) → isDigit b ≡ true → isTimeChar b ≡ true
 unfolding isTimeChar _or_
 digit-char b h = rw h
 
@@ -151,6 +151,12 @@ unfolding putMark
 put-length zero c s = refl
 put-length (suc n) c [] = refl
 put-length (suc n) c (b ∷ s) = ap suc (put-length n c s)
+
+-- each mark is one character more
+pub marks-length : (ms : List Mark) (s : List ℕ) → length (withMarks ms s) ≡ length ms + length s
+unfolding withMarks
+marks-length [] s = omega arith
+marks-length (m ∷ ms) s = marks-length ms (putMark (m .place) (m .sign) s) ∙ rw put-length (omega arith)
 
 take-put : (n c : ℕ) (s : List ℕ) → n ≤ length s → takeMark n c (putMark n c s) ≡ some s
 unfolding takeMark putMark consRead pick
