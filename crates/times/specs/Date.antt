@@ -1,0 +1,50 @@
+-- DATE (RFC 5545, section 3.3.4; RFC 6321, section 3.6.4): a day of the Gregorian calendar, years 0000 to 9999. 20240504 in text, 2024-05-04 in XML.
+--     isLeapYear, daysInMonth    the Gregorian rule
+--     isDate                     a kept value: eight digits of a real day
+--     readDate, writeDate
+use mathlib.Core.Path.{_≡_, refl, sym, ap, _∙_}
+use mathlib.Core.Bool.{Bool, true, false}
+use mathlib.Core.List.{List, [], _∷_}
+use mathlib.Core.Option.{Option, none, some}
+use Prim.Native.Nat.{ℕ, _%_}
+use lib.Dec.{eqb, leb}
+use lib.ListN.{length, take, drop}
+use Rattle.octets.specs.Pick.{pick, _and_, _or_, within}
+use Rattle.octets.specs.Scan.{allOf}
+use Rattle.octets.specs.Class.{isDigit}
+use Rattle.octets.specs.Decimal.{value}
+use Rattle.octets.specs.Reading.{andThen}
+use Rattle.model.specs.Calendar.{Format, ical, xcal}
+use Rattle.times.specs.Spelling.{Mark, mark, withMarks, withoutMarks, keep}
+
+-- every fourth year, but of the full centuries only every fourth
+unfoldable pub isLeapYear : ℕ → Bool
+isLeapYear y = pick (eqb (y % 100) 0) (eqb (y % 400) 0) (eqb (y % 4) 0)
+
+-- April, June, September, November
+unfoldable pub hasThirtyDays : ℕ → Bool
+hasThirtyDays m = eqb m 4 or eqb m 6 or eqb m 9 or eqb m 11
+
+unfoldable pub daysInMonth : ℕ → ℕ → ℕ
+daysInMonth y m = pick (eqb m 2) (pick (isLeapYear y) 29 28) (pick (hasThirtyDays m) 30 31)
+
+-- a year, a month of 1 to 12 and a day of that month
+unfoldable pub isDay : ℕ → ℕ → ℕ → Bool
+isDay y m d = within 1 12 m and within 1 (daysInMonth y m) d
+
+-- date-value = date-fullyear date-month date-mday
+-- date-fullyear = 4DIGIT;   date-month = 2DIGIT ;01-12;   date-mday = 2DIGIT ;01-28, 01-29, 01-30, 01-31 based on month/year
+unfoldable pub isDate : List ℕ → Bool
+isDate s = eqb (length s) 8 and allOf isDigit s and isDay (value 0 (take 4 s)) (value 0 (take 2 (drop 4 s))) (value 0 (drop 6 s))
+
+-- 45 is -
+abbrev pub dateMarks : List Mark
+dateMarks = mark 4 45 ∷ mark 7 45 ∷ []
+
+unfoldable pub readDate : Format → List ℕ → Option (List ℕ)
+readDate ical s = keep isDate s
+readDate xcal s = andThen (withoutMarks dateMarks s) (keep isDate)
+
+unfoldable pub writeDate : Format → List ℕ → List ℕ
+writeDate ical v = v
+writeDate xcal v = withMarks dateMarks v
