@@ -11,7 +11,6 @@ pub mod Front
 pub mod Parts
 pub mod Item
 pub mod NumberLaws
-pub mod ItemLaws
 pub mod Rule
 pub mod Computing
 pub mod Examples
