@@ -1,20 +1,25 @@
 -- DATE-TIME (RFC 5545, section 3.3.5; RFC 6321, section 3.6.5): 20240504T080000Z in text, 2024-05-04T08:00:00Z in XML.
 --     isDateTime     a kept value
 --     readDateTime, writeDateTime
+--     date-time-read-back, date-time-accepted, date-time-visible, date-time-no-comma, date-time-no-slash; date-time-exact: XML has one spelling of a date-time
 use mathlib.Core.Path.{_≡_, refl, sym, ap, _∙_}
-use mathlib.Core.Bool.{Bool, true, false}
+use mathlib.Core.Bool.{Bool, true, false, false≢true}
 use mathlib.Core.List.{List, [], _∷_}
 use mathlib.Core.Option.{Option, none, some}
-use Prim.Native.Nat.{ℕ}
-use lib.ListN.{length, take, drop}
+use Prim.Native.Nat.{ℕ, suc, _≤_}
+use native.Mathlib.Omega.{arith}
+use lib.ListN.{length, take, drop, length-drop}
 use Rattle.octets.specs.Pick.{pick, _and_, _or_}
 use Rattle.octets.specs.Scan.{allOf}
-use Rattle.octets.specs.Class.{upper}
+use Rattle.octets.specs.Class.{isVisible, upper}
+use Rattle.octets.specs.Words.{holds}
 use Rattle.octets.specs.Reading.{andThen}
 use Rattle.model.specs.Calendar.{Format, ical, xcal}
-use Rattle.times.specs.Spelling.{Mark, mark, withMarks, withoutMarks, keep, begins}
-use Rattle.times.specs.Date.{isDate}
-use Rattle.times.specs.Time.{isTime}
+use Rattle.times.specs.Extra.{and-left, and-right, all-parts}
+use Rattle.times.specs.Spelling.{Mark, mark, withMarks, withoutMarks, keep, begins, fits}
+use Rattle.times.specs.Spelling.{isTimeChar, Chars, chars-begins, chars-visible, chars-upper, chars-no-comma, chars-no-slash, keep-yes, keep-accepted, marked-read-back, marked-accepted, marked-exact, fits-longer}
+use Rattle.times.specs.Date.{isDate, date-chars}
+use Rattle.times.specs.Time.{isTime, time-chars, time-length}
 
 -- date-time = date "T" time;   84 is T
 unfoldable pub isDateTime : List ℕ → Bool
@@ -31,3 +36,53 @@ readDateTime xcal s = andThen (withoutMarks dateTimeMarks s) (keep isDateTime)
 unfoldable pub writeDateTime : Format → List ℕ → List ℕ
 writeDateTime ical v = v
 writeDateTime xcal v = withMarks dateTimeMarks v
+
+-- ---- laws
+
+tail-length : (s : List ℕ) → begins 84 isTime s ≡ true → 7 ≤ length s
+unfolding begins
+tail-length [] h = absurd (false≢true h)
+tail-length (b ∷ s) h = omega (arith, time-length s (and-right _ _ h))
+
+pub date-time-length : (v : List ℕ) → isDateTime v ≡ true → 15 ≤ length v
+unfolding isDateTime
+date-time-length v h = omega (arith, tail-length (drop 8 v) (and-right _ _ h), length-drop 8 v)
+
+t-char : isTimeChar 84 ≡ true
+unfolding isTimeChar _or_ _and_
+t-char = refl
+
+pub date-time-chars : Chars isDateTime
+unfolding isDateTime
+date-time-chars v h =
+    all-parts isTimeChar 8 v (date-chars (take 8 v) (and-left _ _ h)) (chars-begins 84 isTime t-char time-chars (drop 8 v) (and-right _ _ h))
+
+marks-fit : (v : List ℕ) → isDateTime v ≡ true → fits dateTimeMarks (length v) ≡ true
+unfolding fits _and_
+marks-fit v h = fits-longer dateTimeMarks 15 (length v) refl (date-time-length v h)
+
+pub date-time-read-back : (f : Format) (v : List ℕ) → isDateTime v ≡ true → readDateTime f (writeDateTime f v) ≡ some v
+unfolding readDateTime writeDateTime
+date-time-read-back ical v h = rw (chars-upper v (date-time-chars v h)) (keep-yes isDateTime v h)
+date-time-read-back xcal v h = marked-read-back isDateTime dateTimeMarks v h (marks-fit v h)
+
+pub date-time-accepted : (f : Format) (s v : List ℕ) → readDateTime f s ≡ some v → isDateTime v ≡ true
+unfolding readDateTime
+date-time-accepted ical s v h = keep-accepted isDateTime (upper s) v h
+date-time-accepted xcal s v h = marked-accepted isDateTime (withoutMarks dateTimeMarks s) v h
+
+pub date-time-exact : (s v : List ℕ) → readDateTime xcal s ≡ some v → s ≡ writeDateTime xcal v
+unfolding readDateTime writeDateTime
+date-time-exact s v h = marked-exact isDateTime dateTimeMarks s v h
+
+pub date-time-visible : (v : List ℕ) → isDateTime v ≡ true → allOf isVisible (writeDateTime ical v) ≡ true
+unfolding writeDateTime
+date-time-visible v h = chars-visible v (date-time-chars v h)
+
+pub date-time-no-comma : (v : List ℕ) → isDateTime v ≡ true → holds 44 (writeDateTime ical v) ≡ false
+unfolding writeDateTime
+date-time-no-comma v h = chars-no-comma v (date-time-chars v h)
+
+pub date-time-no-slash : (v : List ℕ) → isDateTime v ≡ true → holds 47 (writeDateTime ical v) ≡ false
+unfolding writeDateTime
+date-time-no-slash v h = chars-no-slash v (date-time-chars v h)

@@ -4,7 +4,7 @@
 --     all-upper       characters that are no small letters are the same in capitals
 --     all-parts       both parts of a list pass, so the whole does
 --     and-left, and-right, or-cases       what joined tests say of each
---     provided-test, provided-is, then-some   what a reading that succeeded says
+--     provided-test, provided-is, then-some, cons-some    what a reading that succeeded says
 use mathlib.Core.Path.{_≡_, refl, sym, ap, _∙_}
 use mathlib.Core.Bool.{Bool, true, false, false≢true}
 use mathlib.Core.List.{List, [], _∷_}
@@ -18,7 +18,7 @@ use Rattle.octets.specs.Pick.{pick, _and_, _or_}
 use Rattle.octets.specs.Scan.{allOf}
 use Rattle.octets.specs.Class.{isSmall, upper}
 use Rattle.octets.specs.Words.{holds}
-use Rattle.octets.specs.Reading.{provided, andThen}
+use Rattle.octets.specs.Reading.{provided, andThen, consRead}
 
 -- ---- joined tests
 
@@ -97,3 +97,8 @@ pub then-some : {A B : Type 0} {P : Type 0} (o : Option A) (f : A → Option B) 
 unfolding andThen
 then-some none f v h k = let z : _≡_ {A = ℕ} 0 1 = cc in absurd (omega arith)
 then-some (some a) f v h k = k a refl h
+
+pub cons-some : {A : Type 0} {P : Type 0} (a : A) (o : Option (List A)) (v : List A) → consRead a o ≡ some v → ((l : List A) → o ≡ some l → a ∷ l ≡ v → P) → P
+unfolding consRead
+cons-some a none v h k = let z : _≡_ {A = ℕ} 0 1 = cc in absurd (omega arith)
+cons-some a (some l) v h k = k l refl (cc)

@@ -16,12 +16,12 @@ use native.Mathlib.Omega.{arith}
 use lib.Dec.{eqb, leb}
 use lib.ListN.{length, take, drop}
 use borrow.Author.Tests.{eq-eqb, eqb-true, leb-true, le-leb, lt-leb}
-use Rattle.octets.specs.Pick.{pick, _and_, _or_, within}
+use Rattle.octets.specs.Pick.{pick, _and_, _or_, within, and-yes}
 use Rattle.octets.specs.Scan.{allOf}
 use Rattle.octets.specs.Class.{isDigit, isCapital, isSmall, isVisible, upper}
 use Rattle.octets.specs.Words.{holds, isEmpty}
 use Rattle.octets.specs.Reading.{provided, andThen, consRead}
-use Rattle.times.specs.Extra.{and-left, and-right, or-cases, all-cons, all-weaken, all-holds, all-upper, provided-test, provided-is, then-some}
+use Rattle.times.specs.Extra.{and-left, and-right, or-cases, all-cons, all-weaken, all-holds, all-upper, provided-test, provided-is, then-some, cons-some}
 
 -- 43 is +, 45 is -
 unfoldable pub isTimeChar : ℕ → Bool
@@ -65,3 +65,135 @@ withoutMarks (m ∷ ms) s = andThen (withoutMarks ms s) (takeMark (m .place) (m 
 unfoldable pub fits : List Mark → ℕ → Bool
 fits [] n = true
 fits (m ∷ ms) n = leb (m .place) n and fits ms (suc n)
+
+-- ---- the characters
+
+char-least : (b : ℕ) → isTimeChar b ≡ true → 43 ≤ b
+unfolding isTimeChar
+char-least b h = or-cases _ _ h (λ d. omega (arith, leb-true 48 b (and-left _ _ d)))
+    (λ h. or-cases _ _ h (λ c. omega (arith, leb-true 65 b (and-left _ _ c)))
+    (λ h. or-cases _ _ h (λ e. omega (arith, eqb-true b 43 e)) (λ e. omega (arith, eqb-true b 45 e))))
+
+char-most : (b : ℕ) → isTimeChar b ≡ true → b ≤ 90
+unfolding isTimeChar
+char-most b h = or-cases _ _ h (λ d. omega (arith, leb-true b 57 (and-right _ _ d)))
+    (λ h. or-cases _ _ h (λ c. omega (arith, leb-true b 90 (and-right _ _ c)))
+    (λ h. or-cases _ _ h (λ e. omega (arith, eqb-true b 43 e)) (λ e. omega (arith, eqb-true b 45 e))))
+
+char-visible : (b : ℕ) → isTimeChar b ≡ true → isVisible b ≡ true
+unfolding _and_
+char-visible b h = rw (le-leb 33 b (omega (arith, char-least b h)), le-leb b 126 (omega (arith, char-most b h)))
+
+char-not-small : (b : ℕ) → isTimeChar b ≡ true → isSmall b ≡ false
+unfolding _and_
+char-not-small b h = rw (lt-leb 97 b (omega (arith, char-most b h)))
+
+digit-char : (b : ℕ) → isDigit b ≡ true → isTimeChar b ≡ true
+unfolding isTimeChar _or_
+digit-char b h = rw h
+
+-- a test that passes spellings of these characters only
+abbrev pub Chars : (List ℕ → Bool) → Type 0
+Chars test = (s : List ℕ) → test s ≡ true → allOf isTimeChar s ≡ true
+
+pub chars-digits : Chars (allOf isDigit)
+chars-digits s h = all-weaken isDigit isTimeChar digit-char s h
+
+pub chars-empty : Chars isEmpty
+unfolding allOf
+chars-empty [] h = refl
+chars-empty (b ∷ s) h = absurd (false≢true h)
+
+pub chars-begins : (c : ℕ) (rest : List ℕ → Bool) → isTimeChar c ≡ true → Chars rest → Chars (begins c rest)
+unfolding begins
+chars-begins c rest e r [] h = absurd (false≢true h)
+chars-begins c rest e r (b ∷ s) h = all-cons isTimeChar b s (rw (eqb-true b c (and-left _ _ h)) e) (r s (and-right _ _ h))
+
+pub chars-or : (p q : List ℕ → Bool) → Chars p → Chars q → Chars (λ s. p s or q s)
+chars-or p q f g s h = or-cases (p s) (q s) h (λ e. f s e) (λ e. g s e)
+
+-- what follows for such a spelling
+pub chars-visible : (s : List ℕ) → allOf isTimeChar s ≡ true → allOf isVisible s ≡ true
+chars-visible s h = all-weaken isTimeChar isVisible char-visible s h
+
+pub chars-upper : (s : List ℕ) → allOf isTimeChar s ≡ true → upper s ≡ s
+chars-upper s h = all-upper isTimeChar char-not-small s h
+
+pub chars-no-comma : (s : List ℕ) → allOf isTimeChar s ≡ true → holds 44 s ≡ false
+unfolding isTimeChar _or_ _and_
+chars-no-comma s h = all-holds isTimeChar 44 refl s h
+
+pub chars-no-slash : (s : List ℕ) → allOf isTimeChar s ≡ true → holds 47 s ≡ false
+unfolding isTimeChar _or_ _and_
+chars-no-slash s h = all-holds isTimeChar 47 refl s h
+
+-- ---- what is kept
+
+pub keep-yes : (test : List ℕ → Bool) (v : List ℕ) → test v ≡ true → keep test v ≡ some v
+unfolding keep pick
+keep-yes test v h = rw h
+
+pub keep-is : (test : List ℕ → Bool) (s v : List ℕ) → keep test s ≡ some v → s ≡ v
+unfolding keep
+keep-is test s v h = provided-is (test s) s v h
+
+pub keep-accepted : (test : List ℕ → Bool) (s v : List ℕ) → keep test s ≡ some v → test v ≡ true
+unfolding keep
+keep-accepted test s v h = let e : s ≡ v = provided-is (test s) s v h in rw (← e) (provided-test (test s) s v h)
+
+pub marked-accepted : (test : List ℕ → Bool) (o : Option (List ℕ)) (v : List ℕ) → andThen o (keep test) ≡ some v → test v ≡ true
+marked-accepted test o v h = then-some o (keep test) v h (λ a e k. keep-accepted test a v k)
+
+-- ---- marks that are put in are taken out, and only those
+
+put-length : (n c : ℕ) (s : List ℕ) → length (putMark n c s) ≡ suc (length s)
+unfolding putMark
+put-length zero c s = refl
+put-length (suc n) c [] = refl
+put-length (suc n) c (b ∷ s) = ap suc (put-length n c s)
+
+take-put : (n c : ℕ) (s : List ℕ) → n ≤ length s → takeMark n c (putMark n c s) ≡ some s
+unfolding takeMark putMark consRead pick
+take-put zero c s h = rw (eq-eqb c c refl)
+take-put (suc n) c [] h = absurd (omega arith)
+take-put (suc n) c (b ∷ s) h = rw (take-put n c s (omega arith))
+
+take-exact : (n c : ℕ) (s v : List ℕ) → takeMark n c s ≡ some v → s ≡ putMark n c v
+unfolding takeMark putMark
+take-exact zero c [] v h = let z : _≡_ {A = ℕ} 0 1 = cc in absurd (omega arith)
+take-exact zero c (b ∷ s) v h =
+    let p : b ≡ c = eqb-true b c (provided-test _ s v h) in
+    let q : s ≡ v = provided-is _ s v h in
+    cc
+take-exact (suc n) c [] v h = let z : _≡_ {A = ℕ} 0 1 = cc in absurd (omega arith)
+take-exact (suc n) c (b ∷ s) v h =
+    cons-some b (takeMark n c s) v h (λ l e k. rw (← k) (ap (λ (r : List ℕ). b ∷ r) (take-exact n c s l e)))
+
+pub marks-taken-out : (ms : List Mark) (s : List ℕ) → fits ms (length s) ≡ true → withoutMarks ms (withMarks ms s) ≡ some s
+unfolding withMarks withoutMarks fits andThen
+marks-taken-out [] s h = refl
+marks-taken-out (m ∷ ms) s h =
+    rw (marks-taken-out ms (putMark (m .place) (m .sign) s) (rw put-length (and-right _ _ h)))
+    (take-put (m .place) (m .sign) s (leb-true _ _ (and-left _ _ h)))
+
+pub marks-exact : (ms : List Mark) (s v : List ℕ) → withoutMarks ms s ≡ some v → s ≡ withMarks ms v
+unfolding withMarks withoutMarks
+marks-exact [] s v h = cc
+marks-exact (m ∷ ms) s v h =
+    then-some (withoutMarks ms s) (takeMark (m .place) (m .sign)) v h
+    (λ a e k. marks-exact ms s a e ∙ ap (withMarks ms) (take-exact (m .place) (m .sign) a v k))
+
+-- marks fit a longer spelling too
+pub fits-longer : (ms : List Mark) (n k : ℕ) → fits ms n ≡ true → n ≤ k → fits ms k ≡ true
+unfolding fits
+fits-longer [] n k h l = refl
+fits-longer (m ∷ ms) n k h l =
+    and-yes _ _ (le-leb (m .place) k (omega (arith, leb-true (m .place) n (and-left _ _ h)))) (fits-longer ms (suc n) (suc k) (and-right _ _ h) (omega arith))
+
+-- reading without marks what was written with them, and only that
+pub marked-read-back : (test : List ℕ → Bool) (ms : List Mark) (v : List ℕ) → test v ≡ true → fits ms (length v) ≡ true → andThen (withoutMarks ms (withMarks ms v)) (keep test) ≡ some v
+unfolding andThen
+marked-read-back test ms v h k = rw (marks-taken-out ms v k) (keep-yes test v h)
+
+pub marked-exact : (test : List ℕ → Bool) (ms : List Mark) (s v : List ℕ) → andThen (withoutMarks ms s) (keep test) ≡ some v → s ≡ withMarks ms v
+marked-exact test ms s v h = then-some (withoutMarks ms s) (keep test) v h (λ a e k. marks-exact ms s a e ∙ ap (withMarks ms) (keep-is test a v k))

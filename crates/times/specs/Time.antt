@@ -2,22 +2,26 @@
 --     isClock    the digits of hour, minute and, if given, second, each in its range
 --     isTime     a kept value
 --     readTime, writeTime
+--     time-read-back, time-accepted, time-visible; time-exact: XML has one spelling of a time
 use mathlib.Core.Path.{_≡_, refl, sym, ap, _∙_}
 use mathlib.Core.Bool.{Bool, true, false}
 use mathlib.Core.List.{List, [], _∷_}
 use mathlib.Core.Option.{Option, none, some}
-use Prim.Native.Nat.{ℕ}
+use Prim.Native.Nat.{ℕ, _≤_}
 use lib.Dec.{eqb, leb}
+use borrow.Author.Tests.{leb-true}
 use lib.ListN.{length, take, drop}
 use Rattle.octets.specs.Pick.{pick, _and_, _or_}
 use Rattle.octets.specs.Scan.{allOf}
 use Rattle.octets.specs.Ascii.{ascii}
-use Rattle.octets.specs.Class.{isDigit, upper}
-use Rattle.octets.specs.Words.{same, isEmpty}
+use Rattle.octets.specs.Class.{isDigit, isVisible, upper}
+use Rattle.octets.specs.Words.{same, isEmpty, same-true}
 use Rattle.octets.specs.Decimal.{value}
 use Rattle.octets.specs.Reading.{andThen}
 use Rattle.model.specs.Calendar.{Format, ical, xcal}
-use Rattle.times.specs.Spelling.{Mark, mark, withMarks, withoutMarks, keep}
+use Rattle.times.specs.Extra.{and-left, and-right, or-cases, all-parts}
+use Rattle.times.specs.Spelling.{Mark, mark, withMarks, withoutMarks, keep, fits}
+use Rattle.times.specs.Spelling.{isTimeChar, Chars, chars-digits, chars-empty, chars-visible, chars-upper, keep-yes, keep-accepted, marked-read-back, marked-accepted, marked-exact, fits-longer}
 
 -- time-hour = 2DIGIT ;00-23;   time-minute = 2DIGIT ;00-59;   time-second = 2DIGIT ;00-60
 unfoldable pub isClock : List ℕ → Bool
@@ -38,3 +42,46 @@ readTime xcal s = andThen (withoutMarks timeMarks s) (keep isTime)
 unfoldable pub writeTime : Format → List ℕ → List ℕ
 writeTime ical v = v
 writeTime xcal v = withMarks timeMarks v
+
+-- ---- laws
+
+pub time-length : (v : List ℕ) → isTime v ≡ true → 6 ≤ length v
+unfolding isTime
+time-length v h = leb-true _ _ (and-left _ _ h)
+
+pub clock-chars : Chars isClock
+unfolding isClock
+clock-chars v h = chars-digits v (and-left _ _ h)
+
+z-chars : allOf isTimeChar (ascii "Z") ≡ true
+unfolding isTimeChar allOf pick _or_ _and_
+z-chars = refl
+
+pub time-chars : Chars isTime
+unfolding isTime
+time-chars v h =
+    all-parts isTimeChar 6 v (clock-chars (take 6 v) (and-left _ _ (and-right _ _ h)))
+    (or-cases (isEmpty (drop 6 v)) (same (drop 6 v) (ascii "Z")) (and-right _ _ (and-right _ _ h)) (λ e. chars-empty (drop 6 v) e)
+    (λ e. rw (same-true (drop 6 v) (ascii "Z") e) z-chars))
+
+time-marks-fit : (v : List ℕ) → isTime v ≡ true → fits timeMarks (length v) ≡ true
+unfolding fits _and_
+time-marks-fit v h = fits-longer timeMarks 6 (length v) refl (time-length v h)
+
+pub time-read-back : (f : Format) (v : List ℕ) → isTime v ≡ true → readTime f (writeTime f v) ≡ some v
+unfolding readTime writeTime
+time-read-back ical v h = rw (chars-upper v (time-chars v h)) (keep-yes isTime v h)
+time-read-back xcal v h = marked-read-back isTime timeMarks v h (time-marks-fit v h)
+
+pub time-accepted : (f : Format) (s v : List ℕ) → readTime f s ≡ some v → isTime v ≡ true
+unfolding readTime
+time-accepted ical s v h = keep-accepted isTime (upper s) v h
+time-accepted xcal s v h = marked-accepted isTime (withoutMarks timeMarks s) v h
+
+pub time-exact : (s v : List ℕ) → readTime xcal s ≡ some v → s ≡ writeTime xcal v
+unfolding readTime writeTime
+time-exact s v h = marked-exact isTime timeMarks s v h
+
+pub time-visible : (v : List ℕ) → isTime v ≡ true → allOf isVisible (writeTime ical v) ≡ true
+unfolding writeTime
+time-visible v h = chars-visible v (time-chars v h)
