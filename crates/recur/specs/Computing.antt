@@ -1,6 +1,7 @@
 -- One name that opens every shut definition of this crate and of those it uses, for examples that compute: `unfolding recur-compute`.
 use Prim.Native.Nat.{ℕ}
 use Rattle.octets.specs.Computing.{octets-compute}
+use Rattle.times.specs.Computing.{times-compute}
 use Rattle.recur.specs.Extra.{everyOf}
 use Rattle.recur.specs.Front.{upTo, fromOn, past, begins}
 use Rattle.recur.specs.Parts.{placeIn}
@@ -8,5 +9,5 @@ use Rattle.recur.specs.Item.{isMinus, afterSign}
 use Rattle.recur.specs.Rule.{eachOnce, withPart, inOrder, afterNamed, isOrdered}
 
 unfoldable pub recur-compute : ℕ
-unfolding octets-compute everyOf upTo fromOn past begins placeIn isMinus afterSign eachOnce withPart inOrder afterNamed isOrdered
+unfolding octets-compute times-compute everyOf upTo fromOn past begins placeIn isMinus afterSign eachOnce withPart inOrder afterNamed isOrdered
 recur-compute = 0

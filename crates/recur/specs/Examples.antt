@@ -38,6 +38,21 @@ days : map (readItem ical (ascii "BYDAY")) (ascii "su" ∷ ascii "+2Mo" ∷ asci
 unfolding recur-compute
 days = refl
 
+ends : map (readItem ical (ascii "UNTIL")) (ascii "20240504" ∷ ascii "20240504t080000z" ∷ ascii "20240504T080000" ∷ ascii "20230229" ∷ ascii "2024-05-04" ∷ [])
+    ≡ some (moment (ascii "20240504")) ∷ some (moment (ascii "20240504T080000Z")) ∷ some (moment (ascii "20240504T080000")) ∷ none ∷ none ∷ []
+unfolding recur-compute
+ends = refl
+
+xml-ends : map (readItem xcal (ascii "UNTIL")) (ascii "2024-05-04" ∷ ascii "2024-05-04T08:00:00Z" ∷ ascii "2024-05-04t08:00:00Z" ∷ ascii "20240504" ∷ [])
+    ≡ some (moment (ascii "20240504")) ∷ some (moment (ascii "20240504T080000Z")) ∷ none ∷ none ∷ []
+unfolding recur-compute
+xml-ends = refl
+
+xml-written : map (writeItem xcal) (moment (ascii "20240504") ∷ moment (ascii "20240504T080000Z") ∷ [])
+    ≡ ascii "2024-05-04" ∷ ascii "2024-05-04T08:00:00Z" ∷ []
+unfolding recur-compute
+xml-written = refl
+
 written : map (writeItem ical) (number (whole true 366) ∷ weekday (some (whole true 1)) (ascii "SU") ∷ weekday none (ascii "MO") ∷ word (ascii "DAILY") ∷ [])
     ≡ ascii "-366" ∷ ascii "-1SU" ∷ ascii "MO" ∷ ascii "DAILY" ∷ []
 unfolding recur-compute
@@ -56,6 +71,8 @@ rule = refl
 -- what is a fault and what is none
 rules : map (λ (s : List ℕ). isRead (readRule s)) (
       ascii "FREQ=DAILY;BYSETPOS=1,1"
+      ∷ ascii "UNTIL=20240504;FREQ=DAILY"
+      ∷ ascii "FREQ=DAILY;UNTIL=20240504;COUNT=1"
       ∷ ascii "COUNT=1"
       ∷ ascii "FREQ=DAILY;"
       ∷ ascii "FREQ=DAILY;COUNT"
@@ -66,7 +83,7 @@ rules : map (λ (s : List ℕ). isRead (readRule s)) (
       ∷ ascii "FREQ=DAILY=WEEKLY"
       ∷ ascii ""
       ∷ [])
-    ≡ true ∷ false ∷ false ∷ false ∷ false ∷ false ∷ false ∷ false ∷ false ∷ false ∷ []
+    ≡ true ∷ true ∷ false ∷ false ∷ false ∷ false ∷ false ∷ false ∷ false ∷ false ∷ false ∷ false ∷ []
 unfolding recur-compute
 rules = refl
 

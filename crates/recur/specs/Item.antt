@@ -16,6 +16,8 @@ use Rattle.octets.specs.Words.{isOneOf}
 use Rattle.octets.specs.Decimal.{value, isNumber, digits}
 use Rattle.octets.specs.Reading.{provided, andThen}
 use Rattle.model.specs.Calendar.{Format, ical, xcal, Whole, RuleItem, moment, number, word, weekday}
+use Rattle.times.specs.Date.{isDate, readDate, writeDate}
+use Rattle.times.specs.DateTime.{isDateTime, readDateTime, writeDateTime}
 use Rattle.recur.specs.Front.{upTo, fromOn}
 use Rattle.recur.specs.Parts.{ItemForm, wordOf, enddate, counting, unsigned, signed, weekdaynum, Part, partOf, weekdays}
 
@@ -77,18 +79,30 @@ writeOrdinal (some w) = writeWhole w
 abbrev pub readWeekday : Format → List ℕ → Option RuleItem
 readWeekday f s = andThen (readOrdinal (upTo isAlpha s)) (λ o. andThen (readWord f weekdays (fromOn isAlpha s)) (λ d. some (weekday o d)))
 
+-- ---- the end of a rule: enddate = date / date-time
+
+abbrev pub orElse : {A : Type 0} → Option A → Option A → Option A
+orElse none o = o
+orElse (some a) o = some a
+
+abbrev pub readEnddate : Format → List ℕ → Option (List ℕ)
+readEnddate f s = orElse (readDate f s) (readDateTime f s)
+
+abbrev pub writeEnddate : Format → List ℕ → List ℕ
+writeEnddate f m = pick (isDate m) (writeDate f m) (writeDateTime f m)
+
 -- ---- an item by what it is
 
 abbrev pub readForm : Format → ItemForm → List ℕ → Option RuleItem
 readForm f (wordOf ws) s = andThen (readWord f ws s) (λ w. some (word w))
-readForm f enddate s = none
+readForm f enddate s = andThen (readEnddate f s) (λ m. some (moment m))
 readForm f counting s = andThen (readCounting s) (λ w. some (number w))
 readForm f (unsigned d lo hi) s = andThen (readUnsigned d lo hi s) (λ w. some (number w))
 readForm f (signed d hi) s = andThen (readSigned d hi s) (λ w. some (number w))
 readForm f weekdaynum s = readWeekday f s
 
 abbrev pub writeItem : Format → RuleItem → List ℕ
-writeItem f (moment m) = m
+writeItem f (moment m) = writeEnddate f m
 writeItem f (number w) = writeWhole w
 writeItem f (word w) = w
 writeItem f (weekday o d) = writeOrdinal o ⊕ d
@@ -100,7 +114,7 @@ isWordOf ws (word w) = isOneOf w ws
 isWordOf ws (weekday o d) = false
 
 abbrev pub isEnddate : RuleItem → Bool
-isEnddate (moment m) = false
+isEnddate (moment m) = isDate m or isDateTime m
 isEnddate (number w) = false
 isEnddate (word w) = false
 isEnddate (weekday o d) = false

@@ -11,6 +11,8 @@ pub mod Front
 pub mod Parts
 pub mod Item
 pub mod NumberLaws
+pub mod WordLaws
+pub mod EnddateLaws
 pub mod ItemLaws
 pub mod Rule
 pub mod Computing
