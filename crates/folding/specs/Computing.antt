@@ -2,9 +2,9 @@
 use Prim.Native.Nat.{ℕ}
 use Rattle.octets.specs.Computing.{octets-compute}
 use Rattle.folding.specs.Unfold.{blankAt, foldAt, foldGoesOn, keep, keptFrom, placesFrom, origin}
-use Rattle.folding.specs.Lines.{longer, lineStep, linesAfter, holdsBreak}
+use Rattle.folding.specs.Lines.{longer, lineStep, linesAfter, holdsBreak, noneLoose}
 use Rattle.folding.specs.Fold.{foldFrom}
 
 unfoldable pub folding-compute : ℕ
-unfolding octets-compute blankAt foldAt foldGoesOn keep keptFrom placesFrom origin longer lineStep linesAfter holdsBreak foldFrom
+unfolding octets-compute blankAt foldAt foldGoesOn keep keptFrom placesFrom origin longer lineStep linesAfter holdsBreak noneLoose foldFrom
 folding-compute = 0
