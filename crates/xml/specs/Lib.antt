@@ -6,6 +6,7 @@
 --     WellFormed  whether a document is within the profile, and where it is not
 --     Nodes       the content of a document as a tree
 --     Escape      writing: character data, tags, elements, the document
+--     Reads       laws: tags and character data that are written are read back
 --     Computing   opens all of these, for examples that compute
 --     Examples    documents read, and each kind of fault
 pub mod Pieces
@@ -15,5 +16,6 @@ pub mod Marks
 pub mod WellFormed
 pub mod Nodes
 pub mod Escape
+pub mod Reads
 pub mod Computing
 pub mod Examples
