@@ -1,4 +1,5 @@
 -- The schema as tables: what may stand where, how often, with which parameters and types.
+--     Extra       laws of tables
 --     Types       the value types by name
 --     Parameters  parameters: type, whether listed, whether quoted, closed sets
 --     Components  components: subcomponents, and how often each property stands
@@ -6,6 +7,7 @@
 --     Counts      the tallies of a component compared with its list (refusal 9)
 --     Computing   opens all of these, for examples that compute
 --     Examples    the tables computed
+pub mod Extra
 pub mod Types
 pub mod Parameters
 pub mod Components
