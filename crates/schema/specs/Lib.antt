@@ -4,6 +4,7 @@
 --     Parameters  parameters: type, whether listed, whether quoted, closed sets
 --     Components  components: subcomponents, and how often each property stands
 --     Properties  properties: types, parameters, whether listed, closed sets
+--     Rows        laws of these tables
 --     Counts      the tallies of a component compared with its list (refusal 9)
 --     Computing   opens all of these, for examples that compute
 --     Examples    the tables computed
@@ -12,6 +13,7 @@ pub mod Types
 pub mod Parameters
 pub mod Components
 pub mod Properties
+pub mod Rows
 pub mod Counts
 pub mod Computing
 pub mod Examples
