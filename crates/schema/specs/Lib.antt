@@ -5,6 +5,7 @@
 --     Components  components: subcomponents, and how often each property stands
 --     Properties  properties: types, parameters, whether listed, closed sets
 --     Rows        laws of these tables
+--     Closed      laws of closed sets
 --     Counts      the tallies of a component compared with its list (refusal 9)
 --     Computing   opens all of these, for examples that compute
 --     Examples    the tables computed
@@ -14,6 +15,7 @@ pub mod Parameters
 pub mod Components
 pub mod Properties
 pub mod Rows
+pub mod Closed
 pub mod Counts
 pub mod Computing
 pub mod Examples

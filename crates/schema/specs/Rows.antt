@@ -2,7 +2,7 @@
 --     known-property-passes, known-parameter-passes, known-component-passes   what every name of the table passes, a known name passes
 --     unrecognised-property, unrecognised-parameter     what a name of no row has
 --     property-name.., parameter-name.., component-name..    names are made of name characters, in capitals
---     isPlain, parameter-words-plain, property-words-plain   the words of closed sets are in capitals, of characters that nothing escapes or quotes
+--     stand-known, subcomponents-known   what may stand in a component is known
 use mathlib.Core.Path.{_≡_, refl, sym, ap, _∙_}
 use mathlib.Core.Bool.{Bool, true, false, false≢true}
 use mathlib.Core.List.{List, [], _∷_, map}
@@ -13,7 +13,7 @@ use lib.Dec.{eqb, ltb}
 use lib.ListN.{length}
 use Rattle.octets.specs.Ascii.{ascii}
 use Rattle.octets.specs.Append.{_⊕_}
-use Rattle.octets.specs.Pick.{pick, _and_, _or_, and-no-left, and-no-right}
+use Rattle.octets.specs.Pick.{pick, _and_, _or_, pick-either, and-no-left, and-no-right}
 use Rattle.octets.specs.Scan.{allOf}
 use Rattle.octets.specs.Class.{isNameChar, upper, lower}
 use Rattle.octets.specs.Reading.{andThen, isRead, readOr}
@@ -23,7 +23,7 @@ use Rattle.model.specs.Calendar.{ValueType, CAL-ADDRESS, TEXT, URI, UNKNOWN}
 use Rattle.schema.specs.Extra.{every, and-left, and-right, row-named, row-passes, row-none, known-passes, any-passes, word-passes}
 use Rattle.schema.specs.Types.{sameType, isTypeOf, valueTypes, same-type-self, same-type-true, type-any}
 use Rattle.schema.specs.Parameters.{parameterTable, parameterRow, parameterNames, isKnownParameter, unrecognisedParameter, parameterType, isQuotedParameter, parameterWords}
-use Rattle.schema.specs.Components.{componentTable, componentRow, componentNames, subcomponentsOf, standingIn, isAlarm, mayStand, unknownComponent, audioprop, dispprop, emailprop, occurrencesOf}
+use Rattle.schema.specs.Components.{Occurrence, componentTable, componentRow, componentNames, subcomponentsOf, standingIn, isAlarm, mayStand, unknownComponent, audioprop, dispprop, emailprop, occurrencesOf}
 use Rattle.schema.specs.Properties.{propertyTable, propertyRow, propertyNames, isKnownProperty, unrecognisedProperty, defaultType, permittedTypes, permitsParameter, propertyWords, wordsTable, statusTable, WordsRow}
 
 -- ---- names
@@ -110,3 +110,24 @@ quoted-type w = agree _ _ (any-passes (λ r. r .name) w (λ r. pick (r .quoted) 
     agree true b k = sym k
     agree false true k = absurd (false≢true k)
     agree false false k = refl
+
+-- ---- what stands in a component
+
+everyKnown : List Occurrence → Bool
+everyKnown os = every isKnownProperty (map (λ o. o .property) os)
+
+all-known : (c : List ℕ) → every isKnownProperty (standingIn c) ≡ true
+unfolding octets-compute componentRow isKnownProperty every everyKnown
+all-known c = pick-either (λ os. everyKnown os ≡ true) (isAlarm c) (audioprop ⊕ dispprop ⊕ emailprop) (occurrencesOf c) refl
+    (any-passes (λ r. r .name) c (λ r. everyKnown (r .occurrences)) unknownComponent componentTable refl refl)
+
+all-components : (c : List ℕ) → every (λ w. isOneOf w componentNames) (subcomponentsOf c) ≡ true
+unfolding octets-compute componentRow every
+all-components c = any-passes (λ r. r .name) c (λ r. every (λ w. isOneOf w componentNames) (r .subcomponents)) unknownComponent componentTable refl refl
+
+pub stand-known : (c p : List ℕ) → mayStand c p ≡ true → isKnownProperty p ≡ true
+unfolding mayStand
+stand-known c p h = word-passes isKnownProperty (standingIn c) p (all-known c) h
+
+pub subcomponents-known : (c k : List ℕ) → isOneOf k (subcomponentsOf c) ≡ true → isOneOf k componentNames ≡ true
+subcomponents-known c k h = word-passes (λ w. isOneOf w componentNames) (subcomponentsOf c) k (all-components c) h
