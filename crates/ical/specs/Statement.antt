@@ -30,5 +30,5 @@ unfoldable pub propertyOf : List ℕ → ContentLine → Property
 propertyOf k l = record {
   name = upper (l .name);
   parameters = readOr [] (readParameters (l .parameters));
-  values = readOr [] (readValues k (upper (l .name)) (readOr TEXT (statedType (upper (l .name)) (l .parameters))) (l .value))
+  values = readOr [] (readValues k (upper (l .name)) (readOr TEXT (statedType (upper (l .name)) (l .parameters))) (l .value));
 }

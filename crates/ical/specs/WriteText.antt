@@ -50,7 +50,7 @@ unfoldable pub contentLineOf : Property → ContentLine
 contentLineOf p = record {
   name = p .name;
   parameters = withValue (p .name) (typeOfAll (p .values)) (map rawOf (p .parameters));
-  value = writeValues (p .values)
+  value = writeValues (p .values);
 }
 
 abbrev pub propertyLine : Property → List ℕ

@@ -41,24 +41,24 @@ pub record RulePart : Type 0 where
   pub items : List RuleItem
 
 pub data Value : Type 0 where
-  binary : List ℕ → Value                                       -- base64 characters
+  binary : List ℕ → Value  -- base64 characters
   boolean : Bool → Value
   calAddress : List ℕ → Value
-  date : List ℕ → Value                                         -- 20240504
-  dateTime : List ℕ → Value                                     -- 20240504T080000, 20240504T080000Z
-  duration : List ℕ → Value                                     -- -PT15M; no plus
+  date : List ℕ → Value  -- 20240504
+  dateTime : List ℕ → Value  -- 20240504T080000, 20240504T080000Z
+  duration : List ℕ → Value  -- -PT15M; no plus
   float : Decimal → Value
   integer : Whole → Value
-  periodExplicit : List ℕ → List ℕ → Value                      -- start and end, each a date-time
-  periodStart : List ℕ → List ℕ → Value                         -- start and duration
-  recur : List RulePart → Value                                 -- the parts that are given, in the schema's order
-  text : List ℕ → Value                                         -- unescaped
-  time : List ℕ → Value                                         -- 080000, 080000Z
+  periodExplicit : List ℕ → List ℕ → Value  -- start and end, each a date-time
+  periodStart : List ℕ → List ℕ → Value  -- start and duration
+  recur : List RulePart → Value  -- the parts that are given, in the schema's order
+  text : List ℕ → Value  -- unescaped
+  time : List ℕ → Value  -- 080000, 080000Z
   uri : List ℕ → Value
-  utcOffset : List ℕ → Value                                    -- +0100, -013000
-  unknown : List ℕ → Value                                      -- raw
-  geo : Decimal → Decimal → Value                               -- latitude and longitude
-  requestStatus : List ℕ → List ℕ → Option (List ℕ) → Value     -- code, description, data: TEXT each, unescaped
+  utcOffset : List ℕ → Value  -- +0100, -013000
+  unknown : List ℕ → Value  -- raw
+  geo : Decimal → Decimal → Value  -- latitude and longitude
+  requestStatus : List ℕ → List ℕ → Option (List ℕ) → Value  -- code, description, data: TEXT each, unescaped
 
 -- the type that a value has: GEO's values are FLOAT, REQUEST-STATUS's TEXT
 abbrev pub typeOf : Value → ValueType

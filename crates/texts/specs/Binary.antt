@@ -82,9 +82,9 @@ visible-base64 : (b : ℕ) → isBase64 b ≡ true → isVisible b ≡ true
 unfolding _and_
 visible-base64 b h =
     or-cases (isAlpha b) _ h
-        (λ k. or-cases (isCapital b) (isSmall b) k (visible-within 65 90 b (omega arith) (omega arith)) (visible-within 97 122 b (omega arith) (omega arith)))
-        (λ k. or-cases (isDigit b) _ k (visible-within 48 57 b (omega arith) (omega arith))
-            (λ k. or-cases (eqb b 43) (eqb b 47) k (visible-is 43 b refl) (visible-is 47 b refl)))
+    (λ k. or-cases (isCapital b) (isSmall b) k (visible-within 65 90 b (omega arith) (omega arith)) (visible-within 97 122 b (omega arith) (omega arith)))
+    (λ k. or-cases (isDigit b) _ k (visible-within 48 57 b (omega arith) (omega arith))
+    (λ k. or-cases (eqb b 43) (eqb b 47) k (visible-is 43 b refl) (visible-is 47 b refl)))
 
 visible-in : (n last b : ℕ) → inGroup n last b ≡ true → isVisible b ≡ true
 unfolding pick _and_

@@ -22,6 +22,7 @@ escape-without x b p q h = newline (eqb b 10) refl
     other : (t : Bool) → eqb x b ≡ false → holds x (pick t (92 ∷ b ∷ []) (b ∷ [])) ≡ false
     other true n = rw (p, n)
     other false n = rw n
+
     newline : (t : Bool) → eqb b 10 ≡ t → holds x (pick t (92 ∷ 110 ∷ []) (pick (isEscaped b) (92 ∷ b ∷ []) (b ∷ []))) ≡ false
     newline true e = rw (p, q)
     newline false e = other (isEscaped b) (h e)
@@ -61,9 +62,11 @@ text-each p m n (b ∷ s) h = go (p b) refl h (text-each p m n s)
     other : (t : Bool) → p b ≡ true → allOf p (pick t (92 ∷ b ∷ []) (b ∷ [])) ≡ true
     other true e = rw (m, e)
     other false e = rw e
+
     escaped : (t : Bool) → p b ≡ true → allOf p (pick t (92 ∷ 110 ∷ []) (pick (isEscaped b) (92 ∷ b ∷ []) (b ∷ []))) ≡ true
     escaped true e = rw (m, n)
     escaped false e = other (isEscaped b) e
+
     go : (t : Bool) → p b ≡ t → pick t (allOf p s) false ≡ true → (allOf p s ≡ true → allOf p (writeText s) ≡ true) → allOf p (escapeText b ⊕ writeText s) ≡ true
     go true e k ih = all-both p (escapeText b) (writeText s) (escaped (eqb b 10) e) (ih k)
     go false e k ih = absurd (false≢true k)

@@ -37,8 +37,8 @@ lists-written = refl
 statuses-read :
     map readRequestStatus (ascii "2.0;Success" ∷ ascii "2.0;x;" ∷ ascii "2.0;" ∷ ascii "3.1;a\\;b;c\\,\\n" ∷ ascii "2.0" ∷ ascii "2.0;a;b;c" ∷ ascii "2.0;a,b" ∷ ascii ";" ∷ [])
     ≡ (some (requestStatus (ascii "2.0") (ascii "Success") none) ∷ some (requestStatus (ascii "2.0") (ascii "x") (some []))
-        ∷ some (requestStatus (ascii "2.0") [] none) ∷ some (requestStatus (ascii "3.1") (ascii "a;b") (some (ascii "c,\n")))
-        ∷ none ∷ none ∷ none ∷ some (requestStatus [] [] none) ∷ [])
+    ∷ some (requestStatus (ascii "2.0") [] none) ∷ some (requestStatus (ascii "3.1") (ascii "a;b") (some (ascii "c,\n")))
+    ∷ none ∷ none ∷ none ∷ some (requestStatus [] [] none) ∷ [])
 unfolding texts-compute
 statuses-read = refl
 
@@ -48,7 +48,7 @@ status-written = refl
 
 uris :
     map isUri (ascii "mailto:a@example.com" ∷ ascii "a+-.9:" ∷ ascii "x:%zz:/?#[]@!$&'()*+,;=~" ∷ [] ∷ ascii ":a" ∷ ascii "9a:b" ∷ ascii "abc" ∷ ascii "a_b:c"
-        ∷ ascii "a:b c" ∷ ascii "a:\"" ∷ ascii "a:<" ∷ ascii "a:\\" ∷ ascii "a:^" ∷ ascii "a:`" ∷ ascii "a:{" ∷ ascii "a:|" ∷ (97 ∷ 58 ∷ 195 ∷ 169 ∷ []) ∷ [])
+    ∷ ascii "a:b c" ∷ ascii "a:\"" ∷ ascii "a:<" ∷ ascii "a:\\" ∷ ascii "a:^" ∷ ascii "a:`" ∷ ascii "a:{" ∷ ascii "a:|" ∷ (97 ∷ 58 ∷ 195 ∷ 169 ∷ []) ∷ [])
     ≡ (true ∷ true ∷ true ∷ false ∷ false ∷ false ∷ false ∷ false ∷ false ∷ false ∷ false ∷ false ∷ false ∷ false ∷ false ∷ false ∷ false ∷ [])
 unfolding texts-compute
 uris = refl
@@ -60,9 +60,9 @@ uris-read = refl
 -- RFC 4648, section 10, has the first seven
 binaries :
     map isBinary ([] ∷ ascii "Zg==" ∷ ascii "Zm8=" ∷ ascii "Zm9v" ∷ ascii "Zm9vYg==" ∷ ascii "Zm9vYmE=" ∷ ascii "Zm9vYmFy" ∷ ascii "+/+/"
-        ∷ ascii "Zh==" ∷ ascii "Zm9=" ∷ ascii "Z===" ∷ ascii "Zg=" ∷ ascii "Zg" ∷ ascii "====" ∷ ascii "Zg==Zg==" ∷ ascii "Zm8=Zm9v" ∷ ascii "Zg=a" ∷ ascii "Zm9_" ∷ [])
+    ∷ ascii "Zh==" ∷ ascii "Zm9=" ∷ ascii "Z===" ∷ ascii "Zg=" ∷ ascii "Zg" ∷ ascii "====" ∷ ascii "Zg==Zg==" ∷ ascii "Zm8=Zm9v" ∷ ascii "Zg=a" ∷ ascii "Zm9_" ∷ [])
     ≡ (true ∷ true ∷ true ∷ true ∷ true ∷ true ∷ true ∷ true
-        ∷ false ∷ false ∷ false ∷ false ∷ false ∷ false ∷ false ∷ false ∷ false ∷ false ∷ [])
+    ∷ false ∷ false ∷ false ∷ false ∷ false ∷ false ∷ false ∷ false ∷ false ∷ false ∷ [])
 unfolding texts-compute
 binaries = refl
 

@@ -42,6 +42,7 @@ param-opens always s h = go (always or needsQuotes s)
     bare : (l : List ℕ) → holds 34 l ≡ false → starts (34 ∷ []) l ≡ false
     bare [] k = refl
     bare (b ∷ l) k = rw (or-false-left (eqb 34 b) _ k)
+
     go : (t : Bool) → starts (34 ∷ []) (pick t (quoted s) s) ≡ t
     go true = refl
     go false = bare s h

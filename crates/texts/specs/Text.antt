@@ -111,12 +111,15 @@ escape-read c b r = newline (eqb b 10) refl
     plain : eqb b 10 ≡ false → eqb b 44 ≡ false → eqb b 59 ≡ false → (t : Bool) → eqb b 92 ≡ t → splitFrom false c (escapeText b ⊕ r) ≡ ontoRead b (splitFrom false c r)
     plain k m n true e = rw (eqb-true b 92 e)
     plain k m n false e = rw (k, m, n, e) (rw (e, m, n))
+
     semicolon : eqb b 10 ≡ false → eqb b 44 ≡ false → (t : Bool) → eqb b 59 ≡ t → splitFrom false c (escapeText b ⊕ r) ≡ ontoRead b (splitFrom false c r)
     semicolon k m true e = rw (eqb-true b 59 e)
     semicolon k m false e = plain k m e (eqb b 92) refl
+
     comma : eqb b 10 ≡ false → (t : Bool) → eqb b 44 ≡ t → splitFrom false c (escapeText b ⊕ r) ≡ ontoRead b (splitFrom false c r)
     comma k true e = rw (eqb-true b 44 e)
     comma k false e = semicolon k e (eqb b 59) refl
+
     newline : (t : Bool) → eqb b 10 ≡ t → splitFrom false c (escapeText b ⊕ r) ≡ ontoRead b (splitFrom false c r)
     newline true e = rw (eqb-true b 10 e)
     newline false e = comma e (eqb b 44) refl

@@ -74,9 +74,9 @@ plain-scheme : (b : ℕ) → isSchemeChar b ≡ true → isPlain b ≡ true
 unfolding pick _and_
 plain-scheme b h =
     or-cases (isAlpha b) _ h
-        (λ k. or-cases (isCapital b) (isSmall b) k (plain-within 65 90 b (omega arith) (omega arith)) (plain-within 97 122 b (omega arith) (omega arith)))
-        (λ k. or-cases (isDigit b) _ k (plain-within 48 57 b (omega arith) (omega arith))
-            (λ k. or-cases (eqb b 43) _ k (plain-is 43 b refl) (λ k. or-cases (eqb b 45) (eqb b 46) k (plain-is 45 b refl) (plain-is 46 b refl))))
+    (λ k. or-cases (isCapital b) (isSmall b) k (plain-within 65 90 b (omega arith) (omega arith)) (plain-within 97 122 b (omega arith) (omega arith)))
+    (λ k. or-cases (isDigit b) _ k (plain-within 48 57 b (omega arith) (omega arith))
+    (λ k. or-cases (eqb b 43) _ k (plain-is 43 b refl) (λ k. or-cases (eqb b 45) (eqb b 46) k (plain-is 45 b refl) (plain-is 46 b refl))))
 
 plain-char : (b : ℕ) → isUriChar b ≡ true → isPlain b ≡ true
 unfolding pick

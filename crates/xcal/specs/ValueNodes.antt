@@ -51,12 +51,20 @@ valueSlots n =
     (pick (same n (ascii "REQUEST-STATUS")) (must (ascii "code") ∷ must (ascii "description") ∷ may (ascii "data") ∷ [])
     (record { names = typeElements; several = isListedProperty n; required = true } ∷ []))
 
--- the type of a property's value: that of its first child that is named as a type, or the default
+-- GEO and REQUEST-STATUS have children of their own, of which none is named as a type
+abbrev pub hasOwnChildren : List ℕ → Bool
+hasOwnChildren n = same n (ascii "GEO") or same n (ascii "REQUEST-STATUS")
+
+-- the type that the first child that is named as a type names, or t
+unfoldable pub firstType : ValueType → Nodes → ValueType
+firstType t noNodes = t
+firstType t (literal p b more) = firstType t more
+firstType t (referred p bs more) = firstType t more
+firstType t (element p m x kids more) = readOr (firstType t more) (elementType m)
+
+-- the type of a property's value
 unfoldable pub typeOfNodes : List ℕ → Nodes → ValueType
-typeOfNodes n noNodes = defaultType n
-typeOfNodes n (literal p b more) = typeOfNodes n more
-typeOfNodes n (referred p bs more) = typeOfNodes n more
-typeOfNodes n (element p m x kids more) = readOr (typeOfNodes n more) (elementType m)
+typeOfNodes n kids = pick (hasOwnChildren n) (defaultType n) (firstType (defaultType n) kids)
 
 -- ---- PERIOD (section 3.6.9) and RECUR (section 3.6.10)
 
