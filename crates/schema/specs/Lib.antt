@@ -7,6 +7,7 @@
 --     Rows        laws of these tables
 --     Closed      laws of closed sets
 --     Counts      the tallies of a component compared with its list (refusal 9)
+--     Tallies     laws of counting
 --     Computing   opens all of these, for examples that compute
 --     Examples    the tables computed
 pub mod Extra
@@ -17,5 +18,6 @@ pub mod Properties
 pub mod Rows
 pub mod Closed
 pub mod Counts
+pub mod Tallies
 pub mod Computing
 pub mod Examples
