@@ -6,13 +6,12 @@ use mathlib.Core.Path.{_≡_, refl, sym, ap, _∙_}
 use mathlib.Core.Bool.{Bool, true, false, false≢true}
 use mathlib.Core.List.{List, [], _∷_, map}
 use mathlib.Core.Option.{Option, none, some}
-use Prim.Native.Nat.{ℕ, suc, _≤_}
+use Prim.Native.Nat.{ℕ, _≤_}
 use native.Mathlib.Omega.{arith}
-use lib.Dec.{eqb, leb}
 use borrow.Author.Tests.{leb-true}
 use Rattle.octets.specs.Ascii.{ascii}
 use Rattle.octets.specs.Append.{_⊕_}
-use Rattle.octets.specs.Pick.{pick, _and_, _or_, or-left, or-right}
+use Rattle.octets.specs.Pick.{pick, _or_, or-left, or-right}
 use Rattle.octets.specs.Reading.{andThen, readOr}
 use Rattle.octets.specs.Words.{same, isOneOf, rowOf, same-self, same-true}
 use Rattle.octets.specs.Computing.{octets-compute}
