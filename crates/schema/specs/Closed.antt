@@ -2,8 +2,8 @@
 --     isPlain                  a word in capitals, of characters that nothing escapes or quotes
 --     parameter-words-plain, property-words-plain   the words of closed sets are such
 --     parameter-words-text, property-words-text     what has a closed set takes one TEXT
-use mathlib.Core.Path.{_≡_, refl, sym, ap, _∙_}
-use mathlib.Core.Bool.{Bool, true, false, false≢true}
+use mathlib.Core.Path.{_≡_, refl}
+use mathlib.Core.Bool.{Bool, true, false, not, false≢true}
 use mathlib.Core.List.{List, [], _∷_, map}
 use mathlib.Core.Option.{Option, none, some}
 use Prim.Native.Nat.{ℕ}
@@ -11,19 +11,17 @@ use native.Mathlib.Omega.{arith}
 use lib.Dec.{eqb, ltb}
 use lib.ListN.{length}
 use Rattle.octets.specs.Ascii.{ascii}
-use Rattle.octets.specs.Append.{_⊕_}
-use Rattle.octets.specs.Pick.{pick, _and_, _or_, pick-either, and-no-left, and-no-right}
+use Rattle.octets.specs.Pick.{pick, _and_, _or_, pick-either}
 use Rattle.octets.specs.Scan.{allOf}
-use Rattle.octets.specs.Class.{isNameChar, upper, lower}
-use Rattle.octets.specs.Reading.{andThen, isRead, readOr}
-use Rattle.octets.specs.Words.{same, isEmpty, isOneOf, rowOf, same-true, same-self}
+use Rattle.octets.specs.Class.{isNameChar, upper}
+use Rattle.octets.specs.Reading.{andThen, isRead}
+use Rattle.octets.specs.Words.{same, isEmpty, isOneOf, rowOf}
 use Rattle.octets.specs.Computing.{octets-compute}
-use Rattle.model.specs.Calendar.{ValueType, CAL-ADDRESS, TEXT, URI, UNKNOWN}
-use Rattle.schema.specs.Extra.{every, and-left, and-right, row-named, row-passes, row-none, known-passes, any-passes, word-passes}
-use Rattle.schema.specs.Types.{sameType, isTypeOf, valueTypes, same-type-self, same-type-true, type-any}
-use Rattle.schema.specs.Parameters.{isListedParameter, parameterTable, parameterRow, parameterNames, isKnownParameter, unrecognisedParameter, parameterType, isQuotedParameter, parameterWords}
-use Rattle.schema.specs.Components.{Occurrence, componentTable, componentRow, componentNames, subcomponentsOf, standingIn, isAlarm, mayStand, unknownComponent, audioprop, dispprop, emailprop, occurrencesOf}
-use Rattle.schema.specs.Properties.{isListedProperty, propertyTable, propertyRow, propertyNames, isKnownProperty, unrecognisedProperty, defaultType, permittedTypes, permitsParameter, propertyWords, wordsTable, statusTable, WordsRow}
+use Rattle.model.specs.Calendar.{ValueType, TEXT}
+use Rattle.schema.specs.Extra.{every, and-left, and-right, row-passes, row-none, any-passes, word-passes}
+use Rattle.schema.specs.Types.{sameType, same-type-true}
+use Rattle.schema.specs.Parameters.{isListedParameter, parameterTable, parameterRow, unrecognisedParameter, parameterType, parameterWords}
+use Rattle.schema.specs.Properties.{isListedProperty, propertyRow, defaultType, permittedTypes, propertyWords, wordsTable, statusTable, WordsRow}
 
 -- ---- closed sets
 
@@ -77,31 +75,27 @@ property-words-plain c p ws w e h = plain-of (propertyWords c p) ws w (propertie
 
 -- ---- their types
 
-untold : Bool → Bool
-untold b = pick b false true
+is-not : (b : Bool) → not b ≡ true → b ≡ false
+is-not true h = absurd (false≢true h)
+is-not false h = refl
 
-is-untold : (b : Bool) → untold b ≡ true → b ≡ false
-unfolding untold pick
-is-untold true h = absurd (false≢true h)
-is-untold false h = refl
-
-row-text : (q : List ℕ) → pick (isRead (parameterWords q)) (sameType (parameterType q) TEXT and untold (isListedParameter q)) true ≡ true
-unfolding octets-compute parameterRow sameType every untold
-row-text q = any-passes (λ r. r .name) q (λ r. pick (isRead (r .words)) (sameType (r .type) TEXT and untold (r .listed)) true) unrecognisedParameter parameterTable refl refl
+row-text : (q : List ℕ) → pick (isRead (parameterWords q)) (sameType (parameterType q) TEXT and not (isListedParameter q)) true ≡ true
+unfolding octets-compute parameterRow sameType every
+row-text q = any-passes (λ r. r .name) q (λ r. pick (isRead (r .words)) (sameType (r .type) TEXT and not (r .listed)) true) unrecognisedParameter parameterTable refl refl
 
 pub parameter-words-text : (q : List ℕ) (ws : List (List ℕ)) → parameterWords q ≡ some ws → (parameterType q ≡ TEXT) × (isListedParameter q ≡ false)
 unfolding isRead pick
-parameter-words-text q ws e = (same-type-true _ _ (and-left _ _ both), is-untold _ (and-right _ _ both))
+parameter-words-text q ws e = (same-type-true _ _ (and-left _ _ both), is-not _ (and-right _ _ both))
   where
-    both : (sameType (parameterType q) TEXT and untold (isListedParameter q)) ≡ true
+    both : (sameType (parameterType q) TEXT and not (isListedParameter q)) ≡ true
     both = rw e at (row-text q)
 
 -- a property that takes one TEXT, and nothing else
-takesText : List ℕ → Bool
-takesText p = sameType (defaultType p) TEXT and isEmpty (propertyRow p .others) and untold (isListedProperty p)
+isOneText : List ℕ → Bool
+isOneText p = sameType (defaultType p) TEXT and isEmpty (propertyRow p .others) and not (isListedProperty p)
 
-closed-texts : every takesText (ascii "STATUS" ∷ map (λ r. r .name) wordsTable) ≡ true
-unfolding octets-compute takesText untold propertyRow sameType every
+closed-texts : every isOneText (ascii "STATUS" ∷ map (λ r. r .name) wordsTable) ≡ true
+unfolding octets-compute isOneText propertyRow sameType every
 closed-texts = refl
 
 -- a property with a closed set is STATUS or a row of the table
@@ -118,14 +112,14 @@ closed-named c p ws e = go (same p (ascii "STATUS")) e
     go false k = rows _ refl k
 
 pub property-words-text : (c p : List ℕ) (ws : List (List ℕ)) → propertyWords c p ≡ some ws → (permittedTypes p ≡ TEXT ∷ []) × (isListedProperty p ≡ false)
-unfolding takesText
+unfolding isOneText
 property-words-text c p ws e =
     let d : defaultType p ≡ TEXT = same-type-true _ _ (and-left _ _ passed) in
     let o : propertyRow p .others ≡ [] = emptied (propertyRow p .others) (and-left _ _ (and-right _ _ passed)) in
-    (cc, is-untold _ (and-right _ _ (and-right _ _ passed)))
+    (cc, is-not _ (and-right _ _ (and-right _ _ passed)))
   where
-    passed : takesText p ≡ true
-    passed = word-passes takesText _ p closed-texts (closed-named c p ws e)
+    passed : isOneText p ≡ true
+    passed = word-passes isOneText _ p closed-texts (closed-named c p ws e)
     emptied : (l : List ValueType) → isEmpty l ≡ true → l ≡ []
     emptied [] h = refl
     emptied (x ∷ l) h = absurd (false≢true h)

@@ -1,8 +1,8 @@
 -- The tables computed: each agrees with the others, and what they answer.
 use mathlib.Core.Path.{_≡_, refl}
-use mathlib.Core.Bool.{Bool, true, false}
+use mathlib.Core.Bool.{Bool, true, false, not}
 use mathlib.Core.List.{List, [], _∷_, map}
-use mathlib.Core.Option.{Option, none, some}
+use mathlib.Core.Option.{none, some}
 use Prim.Native.Nat.{ℕ}
 use lib.Dec.{eqb}
 use lib.ListN.{length}
@@ -10,10 +10,10 @@ use Rattle.octets.specs.Ascii.{ascii}
 use Rattle.octets.specs.Pick.{pick, _and_}
 use Rattle.octets.specs.Append.{joined}
 use Rattle.octets.specs.Words.{isOneOf, count}
-use Rattle.model.specs.Calendar.{ValueType, BINARY, BOOLEAN, CAL-ADDRESS, DATE, DATE-TIME, DURATION, FLOAT, INTEGER, PERIOD, RECUR, TEXT, TIME, URI, UTC-OFFSET, UNKNOWN, text, Property}
-use Rattle.schema.specs.Types.{typeName, valueTypes, typeNamed, isTypeOf}
+use Rattle.model.specs.Calendar.{BOOLEAN, CAL-ADDRESS, DATE, DATE-TIME, DURATION, FLOAT, PERIOD, TEXT, URI, UTC-OFFSET, UNKNOWN, text, Property}
+use Rattle.schema.specs.Types.{typeName, valueTypes, typeNamed}
 use Rattle.schema.specs.Parameters.{parameterNames, parameterType, isListedParameter, isQuotedParameter, parameterWords}
-use Rattle.schema.specs.Components.{componentNames, subcomponentsOf, standingIn, mayStand}
+use Rattle.schema.specs.Components.{alarmTable, componentNames, subcomponentsOf, standingIn, mayStand}
 use Rattle.schema.specs.Properties.{propertyTable, propertyNames, isKnownProperty, defaultType, permittedTypes, isListedProperty, permitsParameter, propertyWords}
 use Rattle.schema.specs.Counts.{complete}
 use Rattle.schema.specs.Computing.{schema-compute}
@@ -26,11 +26,14 @@ unfolding schema-compute
 allIn [] ws = true
 allIn (v ∷ vs) ws = isOneOf v ws and allIn vs ws
 
--- the words of a list that a test does not pass
-failing : (List ℕ → Bool) → List (List ℕ) → List (List ℕ)
+-- the words of a list that a test passes, and the others
+passing : (List ℕ → Bool) → List (List ℕ) → List (List ℕ)
 unfolding schema-compute
-failing f [] = []
-failing f (w ∷ ws) = pick (f w) (failing f ws) (w ∷ failing f ws)
+passing f [] = []
+passing f (w ∷ ws) = pick (f w) (w ∷ passing f ws) (passing f ws)
+
+failing : (List ℕ → Bool) → List (List ℕ) → List (List ℕ)
+failing f ws = passing (λ w. not (f w)) ws
 
 -- no word stands twice
 distinct : List (List ℕ) → Bool
@@ -45,27 +48,36 @@ names-distinct : map distinct (componentNames ∷ propertyNames ∷ parameterNam
 unfolding schema-compute distinct
 names-distinct = refl
 
--- no list but a VALARM's, which is three, has a property twice
+-- no list has a property twice; what a VALARM may have is three lists
 lists-distinct : failing (λ c. distinct (standingIn c)) componentNames ≡ ascii "VALARM" ∷ []
-unfolding schema-compute distinct failing
+unfolding schema-compute distinct passing failing
 lists-distinct = refl
+
+alarm-lists-distinct : map (λ r. distinct (map (λ o. o .property) (r .occurrences))) alarmTable ≡ true ∷ true ∷ true ∷ []
+unfolding schema-compute distinct
+alarm-lists-distinct = refl
+
+-- ACTION's words are those that name a list
+alarm-actions : propertyWords (ascii "VALARM") (ascii "ACTION") ≡ some (map (λ r. r .action) alarmTable)
+unfolding schema-compute
+alarm-actions = refl
 
 -- every property of a list is a row; every row but DUE stands in a list
 lists-known : failing isKnownProperty (joined (map standingIn componentNames)) ≡ []
-unfolding schema-compute failing
+unfolding schema-compute passing failing
 lists-known = refl
 
 rows-stand : failing (λ p. isOneOf p (joined (map standingIn componentNames))) propertyNames ≡ ascii "DUE" ∷ []
-unfolding schema-compute failing
+unfolding schema-compute passing failing
 rows-stand = refl
 
 -- every parameter of a row is a parameter's row; every one of those is permitted somewhere
 parameters-known : failing (λ q. isOneOf q parameterNames) (joined (map (λ r. r .parameters) propertyTable)) ≡ []
-unfolding schema-compute failing
+unfolding schema-compute passing failing
 parameters-known = refl
 
 parameters-used : failing (λ q. isOneOf q (joined (map (λ r. r .parameters) propertyTable))) parameterNames ≡ []
-unfolding schema-compute failing
+unfolding schema-compute passing failing
 parameters-used = refl
 
 subcomponents-known : allIn (joined (map subcomponentsOf componentNames)) componentNames ≡ true
@@ -88,19 +100,19 @@ permitted : map permittedTypes (ascii "RDATE" ∷ ascii "TRIGGER" ∷ ascii "X-A
 unfolding schema-compute
 permitted = refl
 
-listed-properties : failing (λ p. pick (isListedProperty p) false true) propertyNames ≡
+listed-properties : passing (λ p. isListedProperty p) propertyNames ≡
     ascii "CATEGORIES" ∷ ascii "RESOURCES" ∷ ascii "FREEBUSY" ∷ ascii "EXDATE" ∷ ascii "RDATE" ∷ []
-unfolding schema-compute failing
+unfolding schema-compute passing
 listed-properties = refl
 
-listed-parameters : failing (λ q. pick (isListedParameter q) false true) (ascii "X-A" ∷ parameterNames) ≡
+listed-parameters : passing (λ q. isListedParameter q) (ascii "X-A" ∷ parameterNames) ≡
     ascii "X-A" ∷ ascii "DELEGATED-FROM" ∷ ascii "DELEGATED-TO" ∷ ascii "MEMBER" ∷ []
-unfolding schema-compute failing
+unfolding schema-compute passing
 listed-parameters = refl
 
-quoted-parameters : failing (λ q. pick (isQuotedParameter q) false true) (ascii "X-A" ∷ parameterNames) ≡
+quoted-parameters : passing (λ q. isQuotedParameter q) (ascii "X-A" ∷ parameterNames) ≡
     ascii "ALTREP" ∷ ascii "DELEGATED-FROM" ∷ ascii "DELEGATED-TO" ∷ ascii "DIR" ∷ ascii "MEMBER" ∷ ascii "SENT-BY" ∷ []
-unfolding schema-compute failing
+unfolding schema-compute passing
 quoted-parameters = refl
 
 parameter-types : map parameterType (ascii "ALTREP" ∷ ascii "MEMBER" ∷ ascii "RSVP" ∷ ascii "ROLE" ∷ ascii "VALUE" ∷ ascii "X-A" ∷ []) ≡
@@ -137,13 +149,13 @@ subcomponents : map subcomponentsOf (ascii "VTIMEZONE" ∷ ascii "VTODO" ∷ asc
 unfolding schema-compute
 subcomponents = refl
 
-in-valarm : failing (λ p. pick (mayStand (ascii "VALARM") p) false true) propertyNames ≡
+in-valarm : passing (λ p. mayStand (ascii "VALARM") p) propertyNames ≡
     ascii "ATTACH" ∷ ascii "DESCRIPTION" ∷ ascii "SUMMARY" ∷ ascii "DURATION" ∷ ascii "ATTENDEE" ∷ ascii "ACTION" ∷ ascii "REPEAT" ∷ ascii "TRIGGER" ∷ []
-unfolding schema-compute failing
+unfolding schema-compute passing
 in-valarm = refl
 
-due-nowhere : failing (λ c. pick (mayStand c (ascii "DUE")) false true) componentNames ≡ []
-unfolding schema-compute failing
+due-nowhere : passing (λ c. mayStand c (ascii "DUE")) componentNames ≡ []
+unfolding schema-compute passing
 due-nowhere = refl
 
 -- ---- how often

@@ -8,13 +8,13 @@
 -- In the schema `parameters?, a | b` is read as parameters, and then one of the alternatives.
 use mathlib.Core.Bool.{Bool, true, false}
 use mathlib.Core.List.{List, [], _∷_, map}
-use mathlib.Core.Option.{Option, none, some}
+use mathlib.Core.Option.{Option, some}
 use Prim.Native.Nat.{ℕ}
 use Rattle.octets.specs.Ascii.{ascii}
 use Rattle.octets.specs.Pick.{pick, _and_}
 use Rattle.octets.specs.Reading.{andThen, readOr}
 use Rattle.octets.specs.Words.{same, isOneOf, rowOf}
-use Rattle.model.specs.Calendar.{ValueType, BINARY, BOOLEAN, CAL-ADDRESS, DATE, DATE-TIME, DURATION, FLOAT, INTEGER, PERIOD, RECUR, TEXT, TIME, URI, UTC-OFFSET, UNKNOWN}
+use Rattle.model.specs.Calendar.{ValueType, BINARY, CAL-ADDRESS, DATE, DATE-TIME, DURATION, FLOAT, INTEGER, PERIOD, RECUR, TEXT, URI, UTC-OFFSET, UNKNOWN}
 use Rattle.schema.specs.Types.{valueTypes, sameType}
 use Rattle.schema.specs.Parameters.{isKnownParameter}
 

@@ -3,28 +3,25 @@
 --     unrecognised-property, unrecognised-parameter     what a name of no row has
 --     property-name.., parameter-name.., component-name..    names are made of name characters, in capitals
 --     stand-known, subcomponents-known   what may stand in a component is known
-use mathlib.Core.Path.{_≡_, refl, sym, ap, _∙_}
-use mathlib.Core.Bool.{Bool, true, false, false≢true}
-use mathlib.Core.List.{List, [], _∷_, map}
-use mathlib.Core.Option.{Option, none, some}
+use mathlib.Core.Path.{_≡_, refl, sym}
+use mathlib.Core.Bool.{Bool, true, false, not, false≢true}
+use mathlib.Core.List.{List, _∷_, map}
 use Prim.Native.Nat.{ℕ}
-use native.Mathlib.Omega.{arith}
-use lib.Dec.{eqb, ltb}
+use lib.Dec.{ltb}
 use lib.ListN.{length}
-use Rattle.octets.specs.Ascii.{ascii}
 use Rattle.octets.specs.Append.{_⊕_}
 use Rattle.octets.specs.Pick.{pick, _and_, _or_, pick-either, and-no-left, and-no-right}
 use Rattle.octets.specs.Scan.{allOf}
 use Rattle.octets.specs.Class.{isNameChar, upper, lower}
-use Rattle.octets.specs.Reading.{andThen, isRead, readOr}
-use Rattle.octets.specs.Words.{same, isOneOf, rowOf, same-true, same-self}
+use Rattle.octets.specs.Reading.{readOr}
+use Rattle.octets.specs.Words.{same, isOneOf, same-true}
 use Rattle.octets.specs.Computing.{octets-compute}
-use Rattle.model.specs.Calendar.{ValueType, CAL-ADDRESS, TEXT, URI, UNKNOWN}
-use Rattle.schema.specs.Extra.{every, and-left, and-right, row-named, row-passes, row-none, known-passes, any-passes, word-passes}
-use Rattle.schema.specs.Types.{sameType, isTypeOf, valueTypes, same-type-self, same-type-true, type-any}
-use Rattle.schema.specs.Parameters.{parameterTable, parameterRow, parameterNames, isKnownParameter, unrecognisedParameter, parameterType, isQuotedParameter, parameterWords}
+use Rattle.model.specs.Calendar.{ValueType, CAL-ADDRESS, URI, UNKNOWN}
+use Rattle.schema.specs.Extra.{every, and-left, and-right, row-none, known-passes, any-passes, word-passes}
+use Rattle.schema.specs.Types.{sameType, isTypeOf, same-type-self, type-any}
+use Rattle.schema.specs.Parameters.{parameterTable, parameterRow, parameterNames, isKnownParameter, unrecognisedParameter, parameterType, isQuotedParameter}
 use Rattle.schema.specs.Components.{Occurrence, componentTable, componentRow, componentNames, subcomponentsOf, standingIn, isAlarm, mayStand, unknownComponent, audioprop, dispprop, emailprop, occurrencesOf}
-use Rattle.schema.specs.Properties.{propertyTable, propertyRow, propertyNames, isKnownProperty, unrecognisedProperty, defaultType, permittedTypes, permitsParameter, propertyWords, wordsTable, statusTable, WordsRow}
+use Rattle.schema.specs.Properties.{propertyTable, propertyRow, propertyNames, isKnownProperty, unrecognisedProperty, defaultType, permittedTypes, permitsParameter}
 
 -- ---- names
 
@@ -93,20 +90,20 @@ default-permitted w = rw (same-type-self (defaultType w))
 -- no known property has an `unknown` value
 pub known-types : (w : List ℕ) → isKnownProperty w ≡ true → isTypeOf UNKNOWN (permittedTypes w) ≡ false
 unfolding octets-compute isKnownProperty propertyRow isTypeOf sameType every
-known-types w h = go _ (known-passes (λ r. r .name) w (λ r. pick (isTypeOf UNKNOWN (r .default ∷ r .others)) false true) unrecognisedProperty propertyTable refl h)
+known-types w h = go _ (known-passes (λ r. r .name) w (λ r. not (isTypeOf UNKNOWN (r .default ∷ r .others))) unrecognisedProperty propertyTable refl h)
   where
-    go : (t : Bool) → pick t false true ≡ true → t ≡ false
+    go : (t : Bool) → not t ≡ true → t ≡ false
     go true k = absurd (false≢true k)
     go false k = refl
 
 -- the quoted parameters are those whose values are a URI or a calendar address
 pub quoted-type : (w : List ℕ) → isQuotedParameter w ≡ (sameType (parameterType w) URI or sameType (parameterType w) CAL-ADDRESS)
 unfolding octets-compute parameterRow sameType every
-quoted-type w = agree _ _ (any-passes (λ r. r .name) w (λ r. pick (r .quoted) (isAddress (r .type)) (pick (isAddress (r .type)) false true)) unrecognisedParameter parameterTable refl refl)
+quoted-type w = agree _ _ (any-passes (λ r. r .name) w (λ r. pick (r .quoted) (isAddress (r .type)) (not (isAddress (r .type)))) unrecognisedParameter parameterTable refl refl)
   where
     isAddress : ValueType → Bool
     isAddress t = sameType t URI or sameType t CAL-ADDRESS
-    agree : (a b : Bool) → pick a b (pick b false true) ≡ true → a ≡ b
+    agree : (a b : Bool) → pick a b (not b) ≡ true → a ≡ b
     agree true b k = sym k
     agree false true k = absurd (false≢true k)
     agree false false k = refl
