@@ -3,7 +3,7 @@
 --     isUtcOffset     a kept value
 --     readUtcOffset, writeUtcOffset
 --     utc-offset-read-back, utc-offset-accepted, utc-offset-visible, utc-offset-no-comma; utc-offset-exact: XML has one spelling of an offset
-use mathlib.Core.Path.{_≡_, refl, sym, ap, _∙_}
+use mathlib.Core.Path.{_≡_, refl, ap}
 use mathlib.Core.Bool.{Bool, true, false, false≢true}
 use mathlib.Core.List.{List, [], _∷_}
 use mathlib.Core.Option.{Option, none, some}
@@ -11,7 +11,7 @@ use Prim.Native.Nat.{ℕ, suc, _+_}
 use native.Mathlib.Omega.{arith}
 use lib.Dec.{eqb, ltb}
 use borrow.Author.Tests.{eqb-true}
-use lib.ListN.{length, take, drop}
+use lib.ListN.{length}
 use Rattle.octets.specs.Pick.{pick, _and_, _or_}
 use Rattle.octets.specs.Scan.{allOf}
 use Rattle.octets.specs.Class.{isVisible}
