@@ -7,7 +7,7 @@
 --     dur-minute = 1*DIGIT "M" [dur-second]
 --     dur-second = 1*DIGIT "S"
 --     dur-day    = 1*DIGIT "D"
--- Each rule is a test of the same name: the spelling, to its end, is one of that rule.
+-- Each rule is a test of the same name (dur-day is in dur-date): the spelling, to its end, is one of that rule.
 --     isDuration      a kept value
 --     readDuration, writeDuration
 --     duration-read-back, duration-accepted, duration-visible, duration-no-comma, duration-no-slash

@@ -7,6 +7,8 @@
 --     withMarks       marks put into a spelling, the first one first
 --     withoutMarks    marks taken out, each of which must stand in its place
 --     fits            marks whose places are in a spelling of n characters
+--     chars-visible, chars-upper, chars-without    what follows for a spelling of such characters
+--     marked-read-back, marked-accepted, marked-exact    what is read with marks, for any test
 use mathlib.Core.Path.{_≡_, refl, ap, _∙_}
 use mathlib.Core.Bool.{Bool, true, false, false≢true}
 use mathlib.Core.List.{List, [], _∷_}
@@ -119,13 +121,16 @@ chars-visible s h = all-weaken isTimeChar isVisible char-visible s h
 pub chars-upper : (s : List ℕ) → allOf isTimeChar s ≡ true → upper s ≡ s
 chars-upper s h = all-upper isTimeChar char-not-small s h
 
+pub chars-without : (c : ℕ) → isTimeChar c ≡ false → (s : List ℕ) → allOf isTimeChar s ≡ true → holds c s ≡ false
+chars-without c e s h = all-holds isTimeChar c e s h
+
 pub chars-no-comma : (s : List ℕ) → allOf isTimeChar s ≡ true → holds 44 s ≡ false
 unfolding isTimeChar _or_ _and_
-chars-no-comma s h = all-holds isTimeChar 44 refl s h
+chars-no-comma s h = chars-without 44 refl s h
 
 pub chars-no-slash : (s : List ℕ) → allOf isTimeChar s ≡ true → holds 47 s ≡ false
 unfolding isTimeChar _or_ _and_
-chars-no-slash s h = all-holds isTimeChar 47 refl s h
+chars-no-slash s h = chars-without 47 refl s h
 
 -- ---- what is kept
 
