@@ -3,10 +3,12 @@
 --     andThen      a reading that goes on with what another one read
 --     readEach     each of a list read, or none
 --     isRead       whether it was read
+--     orNothing    what was read, written
 use mathlib.Core.Path.{_≡_, refl, ap}
 use mathlib.Core.Bool.{Bool, true, false}
 use mathlib.Core.List.{List, [], _∷_}
 use mathlib.Core.Option.{Option, none, some}
+use Prim.Native.Nat.{ℕ}
 use Rattle.octets.specs.Pick.{pick}
 
 module _ {A : Type 0} where
@@ -24,6 +26,11 @@ module _ {A : Type 0} where
   unfoldable pub readOr : A → Option A → A
   readOr d none = d
   readOr d (some a) = a
+
+  -- what was read, written; nothing where nothing was read
+  abbrev pub orNothing : (A → List ℕ) → Option A → List ℕ
+  orNothing f none = []
+  orNothing f (some a) = f a
 
   -- one more in front of what was read
   unfoldable pub consRead : A → Option (List A) → Option (List A)
