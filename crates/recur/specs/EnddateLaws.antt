@@ -1,16 +1,15 @@
 -- UNTIL's date or date-time is read back, and what is read is one.
 --     enddate-read-back, enddate-accepted    in both formats
 --     enddate-characters                     in text it has digits, capitals and signs
-use mathlib.Core.Path.{_≡_, refl, sym, ap, _∙_}
-use mathlib.Core.Bool.{Bool, true, false, false≢true}
+use mathlib.Core.Path.{_≡_, refl, ap, _∙_}
+use mathlib.Core.Bool.{Bool, true, false}
 use mathlib.Core.List.{List, [], _∷_}
 use mathlib.Core.Option.{Option, none, some}
-use Prim.Native.Nat.{ℕ, zero, suc, _+_, _≤_}
+use Prim.Native.Nat.{ℕ, zero, suc, _+_}
 use native.Mathlib.Omega.{arith}
 use lib.ListN.{length}
 use Rattle.octets.specs.Pick.{pick, _or_, or-left, or-right}
 use Rattle.octets.specs.Scan.{allOf}
-use Rattle.octets.specs.Reading.{provided}
 use Rattle.model.specs.Calendar.{Format, ical, xcal}
 use Rattle.times.specs.Spelling.{isTimeChar, keep, Mark, putMark, withMarks}
 use Rattle.times.specs.Date.{isDate, readDate, writeDate, dateMarks, date-read-back, date-accepted, date-exact, date-length, date-chars}

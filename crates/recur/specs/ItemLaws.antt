@@ -2,19 +2,19 @@
 --     item-read-back     in both formats
 --     item-accepted      in both formats
 --     item-characters    an item is written in text with digits, capitals and signs
-use mathlib.Core.Path.{_≡_, refl, sym, ap, _∙_}
+use mathlib.Core.Path.{_≡_, refl}
 use mathlib.Core.Bool.{Bool, true, false, false≢true}
-use mathlib.Core.List.{List, [], _∷_}
+use mathlib.Core.List.{List}
 use mathlib.Core.Option.{Option, none, some}
 use Prim.Native.Nat.{ℕ}
-use Rattle.octets.specs.Pick.{pick, _and_, within}
+use Rattle.octets.specs.Pick.{pick, within}
 use Rattle.octets.specs.Scan.{allOf}
 use Rattle.octets.specs.Class.{isCapital}
 use Rattle.octets.specs.Words.{isOneOf}
 use Rattle.octets.specs.Reading.{andThen}
 use Rattle.octets.specs.Computing.{octets-compute}
 use Rattle.times.specs.Spelling.{isTimeChar}
-use Rattle.model.specs.Calendar.{Format, ical, xcal, Whole, RuleItem, moment, number, word, weekday}
+use Rattle.model.specs.Calendar.{Format, ical, Whole, RuleItem, moment, number, word, weekday}
 use Rattle.recur.specs.Extra.{everyOf, and-left, and-right, pick-second, andThen-some, row-all}
 use Rattle.recur.specs.Parts.{ItemForm, wordOf, enddate, counting, unsigned, signed, weekdaynum, Part, partTable, partOf, weekdays}
 use Rattle.recur.specs.Item.{readWord, readCounting, readUnsigned, readSigned, readEnddate, isOrdinal, isUnsigned, readForm, writeItem, isOfForm, readItem, isFor, isItem}

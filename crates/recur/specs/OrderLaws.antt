@@ -9,11 +9,10 @@ use mathlib.Core.Bool.{Bool, true, false, false≢true}
 use mathlib.Core.List.{List, [], _∷_, map}
 use mathlib.Core.Option.{Option, none, some}
 use Prim.Native.Nat.{ℕ}
-use native.Mathlib.Omega.{arith}
-use Rattle.octets.specs.Pick.{pick, _and_, _or_}
-use Rattle.octets.specs.Words.{same, same-self, same-true, isEmpty, isOneOf, rowOf}
+use Rattle.octets.specs.Pick.{pick, _or_}
+use Rattle.octets.specs.Words.{same, same-self, same-true, isOneOf, rowOf}
 use Rattle.model.specs.Calendar.{RulePart}
-use Rattle.recur.specs.Extra.{everyOf, and-left, and-right, or-none, pick-first, pick-second, row-all, row-is}
+use Rattle.recur.specs.Extra.{everyOf, or-none, pick-second, row-all, row-is}
 use Rattle.recur.specs.Rule.{nameOf, partNamed, eachOnce, withPart, inOrder, afterNamed, isOrdered}
 
 -- ---- parts in order

@@ -2,7 +2,7 @@
 --     part-read-back
 --     part-accepted
 --     part-characters    its characters pass a test that the characters of items, = and the comma pass
-use mathlib.Core.Path.{_≡_, refl, sym, ap, _∙_}
+use mathlib.Core.Path.{_≡_, refl, sym}
 use mathlib.Core.Bool.{Bool, true, false, false≢true}
 use mathlib.Core.List.{List, [], _∷_, map}
 use mathlib.Core.Option.{Option, none, some}
@@ -12,7 +12,7 @@ use lib.Dec.{eqb, leb}
 use borrow.Author.Tests.{leb-true, ne-eqb}
 use Rattle.octets.specs.Pick.{pick, _and_, and-yes}
 use Rattle.octets.specs.Scan.{allOf}
-use Rattle.octets.specs.Append.{_⊕_, append-none}
+use Rattle.octets.specs.Append.{append-none}
 use Rattle.octets.specs.Class.{isCapital, upper}
 use Rattle.octets.specs.Words.{isEmpty, holds, noneHolds, onto, cutAt, joinedBy, eachAfter, cut-joined}
 use Rattle.octets.specs.Reading.{andThen, consRead, readEach}

@@ -2,24 +2,24 @@
 --     rule-read-back
 --     rule-accepted
 --     rule-visible      the text of a rule is visible characters
-use mathlib.Core.Path.{_≡_, refl, sym, ap, _∙_}
-use mathlib.Core.Bool.{Bool, true, false, not, false≢true}
+use mathlib.Core.Path.{_≡_, refl, _∙_}
+use mathlib.Core.Bool.{Bool, true, false, false≢true}
 use mathlib.Core.List.{List, [], _∷_, map}
-use mathlib.Core.Option.{Option, none, some}
+use mathlib.Core.Option.{some}
 use Prim.Native.Nat.{ℕ}
 use lib.Dec.{eqb}
 use Rattle.octets.specs.Ascii.{ascii}
 use Rattle.octets.specs.Pick.{pick, _and_, _or_, and-yes, or-left}
 use Rattle.octets.specs.Scan.{allOf}
 use Rattle.octets.specs.Class.{isVisible}
-use Rattle.octets.specs.Words.{isOneOf, holds, cutAt, joinedBy, rowOf, cut-joined}
+use Rattle.octets.specs.Words.{holds, cutAt, rowOf, cut-joined}
 use Rattle.octets.specs.Reading.{andThen, readEach, isRead}
 use Rattle.octets.specs.Computing.{octets-compute}
 use Rattle.times.specs.Spelling.{isTimeChar, chars-visible}
 use Rattle.model.specs.Calendar.{RulePart}
 use Rattle.recur.specs.Extra.{everyOf, and-left, and-right, provided-some, andThen-some, all-weaker, all-lacks, each-read-back, each-accepted, none-holds, all-joined}
 use Rattle.recur.specs.Parts.{partNames}
-use Rattle.recur.specs.Rule.{readPart, writePart, isPart, nameOf, partNamed, hasPart, isComplete, eachOnce, inOrder, isOrdered, ruled, readRule, writeRule, isRule}
+use Rattle.recur.specs.Rule.{readPart, writePart, isPart, nameOf, isComplete, eachOnce, inOrder, isOrdered, ruled, readRule, writeRule, isRule}
 use Rattle.recur.specs.OrderLaws.{once-ordered, order-back, ordered-order, every-order, named-order}
 use Rattle.recur.specs.PartLaws.{part-read-back, part-accepted, part-characters}
 

@@ -3,7 +3,7 @@
 --     weekday-read-back, weekday-accepted    BYDAY
 --     upper-capitals                         capitals stay as they are
 --     word-characters, number-characters, weekday-characters    they are written with digits, capitals and signs
-use mathlib.Core.Path.{_≡_, refl, sym, ap, _∙_}
+use mathlib.Core.Path.{_≡_, refl}
 use mathlib.Core.Bool.{Bool, true, false}
 use mathlib.Core.List.{List, [], _∷_}
 use mathlib.Core.Option.{Option, none, some}
@@ -20,7 +20,7 @@ use Rattle.octets.specs.Reading.{andThen}
 use Rattle.octets.specs.Computing.{octets-compute}
 use Rattle.times.specs.Spelling.{isTimeChar}
 use Rattle.model.specs.Calendar.{Format, ical, xcal, Whole, RuleItem, weekday}
-use Rattle.recur.specs.Extra.{everyOf, and-left, and-right, pick-first, provided-some, andThen-some, all-weaker, all-both, one-of-all}
+use Rattle.recur.specs.Extra.{everyOf, and-right, pick-first, provided-some, andThen-some, all-weaker, all-both, one-of-all}
 use Rattle.recur.specs.Front.{upTo, fromOn, begins, upTo-front, fromOn-front}
 use Rattle.recur.specs.Parts.{weekdays}
 use Rattle.recur.specs.Item.{inCapitals, readWord, afterSign, readSigned, writeWhole, readOrdinal, writeOrdinal, isOrdinal, readWeekday, isWeekdaynum}
