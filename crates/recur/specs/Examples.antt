@@ -66,18 +66,18 @@ items = refl
 -- a whole rule: its parts are put in the schema's order
 rule : readRule (ascii "byday=-1SU,mo;FREQ=monthly;Count=010")
     ≡ some (
-      rulePart (ascii "FREQ") (word (ascii "MONTHLY") ∷ [])
-      ∷ rulePart (ascii "COUNT") (number (whole false 10) ∷ [])
-      ∷ rulePart (ascii "BYDAY") (weekday (some (whole true 1)) (ascii "SU") ∷ weekday none (ascii "MO") ∷ [])
-      ∷ [])
+    rulePart (ascii "FREQ") (word (ascii "MONTHLY") ∷ [])
+    ∷ rulePart (ascii "COUNT") (number (whole false 10) ∷ [])
+    ∷ rulePart (ascii "BYDAY") (weekday (some (whole true 1)) (ascii "SU") ∷ weekday none (ascii "MO") ∷ [])
+    ∷ [])
 unfolding recur-compute
 rule = refl
 
 rule-written : writeRule (
-      rulePart (ascii "FREQ") (word (ascii "YEARLY") ∷ [])
-      ∷ rulePart (ascii "UNTIL") (moment (ascii "20240504") ∷ [])
-      ∷ rulePart (ascii "BYMONTH") (number (whole false 1) ∷ number (whole false 12) ∷ [])
-      ∷ [])
+    rulePart (ascii "FREQ") (word (ascii "YEARLY") ∷ [])
+    ∷ rulePart (ascii "UNTIL") (moment (ascii "20240504") ∷ [])
+    ∷ rulePart (ascii "BYMONTH") (number (whole false 1) ∷ number (whole false 12) ∷ [])
+    ∷ [])
     ≡ ascii "FREQ=YEARLY;UNTIL=20240504;BYMONTH=1,12"
 unfolding recur-compute
 rule-written = refl
@@ -93,32 +93,32 @@ until = rulePart (ascii "UNTIL") (moment (ascii "20240504") ∷ [])
 
 -- parts in another order, a part twice, UNTIL and COUNT, no FREQ, no item
 kept-rules : map isRule (
-      (freq ∷ count ∷ [])
-      ∷ (count ∷ freq ∷ [])
-      ∷ (freq ∷ freq ∷ [])
-      ∷ (freq ∷ until ∷ count ∷ [])
-      ∷ (count ∷ [])
-      ∷ (freq ∷ rulePart (ascii "BYHOUR") [] ∷ [])
-      ∷ [])
+    (freq ∷ count ∷ [])
+    ∷ (count ∷ freq ∷ [])
+    ∷ (freq ∷ freq ∷ [])
+    ∷ (freq ∷ until ∷ count ∷ [])
+    ∷ (count ∷ [])
+    ∷ (freq ∷ rulePart (ascii "BYHOUR") [] ∷ [])
+    ∷ [])
     ≡ true ∷ false ∷ false ∷ false ∷ false ∷ false ∷ []
 unfolding recur-compute freq count until
 kept-rules = refl
 
 -- what is a fault and what is none
 rules : map (λ (s : List ℕ). isRead (readRule s)) (
-      ascii "FREQ=DAILY;BYSETPOS=1,1"
-      ∷ ascii "UNTIL=20240504;FREQ=DAILY"
-      ∷ ascii "FREQ=DAILY;UNTIL=20240504;COUNT=1"
-      ∷ ascii "COUNT=1"
-      ∷ ascii "FREQ=DAILY;"
-      ∷ ascii "FREQ=DAILY;COUNT"
-      ∷ ascii "FREQ=DAILY;BYDAY=SU,"
-      ∷ ascii "FREQ=DAILY;FREQ=DAILY"
-      ∷ ascii "FREQ=DAILY;RSCALE=GREGORIAN"
-      ∷ ascii "FREQ=DAILY,WEEKLY"
-      ∷ ascii "FREQ=DAILY=WEEKLY"
-      ∷ ascii ""
-      ∷ [])
+    ascii "FREQ=DAILY;BYSETPOS=1,1"
+    ∷ ascii "UNTIL=20240504;FREQ=DAILY"
+    ∷ ascii "FREQ=DAILY;UNTIL=20240504;COUNT=1"
+    ∷ ascii "COUNT=1"
+    ∷ ascii "FREQ=DAILY;"
+    ∷ ascii "FREQ=DAILY;COUNT"
+    ∷ ascii "FREQ=DAILY;BYDAY=SU,"
+    ∷ ascii "FREQ=DAILY;FREQ=DAILY"
+    ∷ ascii "FREQ=DAILY;RSCALE=GREGORIAN"
+    ∷ ascii "FREQ=DAILY,WEEKLY"
+    ∷ ascii "FREQ=DAILY=WEEKLY"
+    ∷ ascii ""
+    ∷ [])
     ≡ true ∷ true ∷ false ∷ false ∷ false ∷ false ∷ false ∷ false ∷ false ∷ false ∷ false ∷ false ∷ []
 unfolding recur-compute
 rules = refl

@@ -1,11 +1,11 @@
 -- What this crate wants of lists, tests and readings in general.
---     everyOf                        whether each of a list passes a test
---     and-left, and-right            both of joined tests hold
---     provided-some, andThen-some, consRead-some    what was read, was read from something
---     all-weaker, all-both, all-lacks   bytes of a class
---     one-of-all, row-all, row-is    a word of a list, a row of a table
---     each-read-back, each-accepted  each of a list
---     none-holds, all-joined         what is written of each of a list, joined
+--     everyOf                                  whether each of a list passes a test
+--     and-left, and-right, or-none, pick-first, pick-second    what joined tests say of each
+--     provided-some, andThen-some, consRead-some    a reading that succeeded
+--     all-weaker, all-both, all-lacks          bytes of a class
+--     one-of-all, row-all, row-is              a word of a list, a row of a table
+--     each-read-back, each-accepted            each of a list, read and written
+--     none-holds, all-joined                   what is written of each of a list, joined
 use mathlib.Core.Path.{_≡_, refl, sym, ap, _∙_}
 use mathlib.Core.Bool.{Bool, true, false, false≢true}
 use mathlib.Core.List.{List, [], _∷_, map}

@@ -58,8 +58,8 @@ numeral-within : (lo hi : ℕ) (s : List ℕ) → isNumeral lo hi s ≡ true →
 numeral-within lo hi s h =
     let p : isNumber hi s ≡ true = and-left (isNumber hi s) (leb lo (value 0 s)) h in
     and-yes (leb lo (value 0 s)) (leb (value 0 s) hi)
-      (and-right (isNumber hi s) (leb lo (value 0 s)) h)
-      (and-right (allOf isDigit s) (leb (value 0 s) hi) (and-right (ltb 0 (length s)) (allOf isDigit s and leb (value 0 s) hi) p))
+    (and-right (isNumber hi s) (leb lo (value 0 s)) h)
+    (and-right (allOf isDigit s) (leb (value 0 s) hi) (and-right (ltb 0 (length s)) (allOf isDigit s and leb (value 0 s) hi) p))
 
 -- ---- signs
 

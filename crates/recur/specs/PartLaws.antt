@@ -20,7 +20,7 @@ use Rattle.octets.specs.Computing.{octets-compute}
 use Rattle.times.specs.Spelling.{isTimeChar}
 use Rattle.model.specs.Calendar.{ical, RuleItem, RulePart}
 use Rattle.recur.specs.Extra.{everyOf, and-left, and-right, pick-first, andThen-some, consRead-some, all-weaker, all-both, all-lacks, row-all, row-is, each-read-back, each-accepted, none-holds, all-joined}
-use Rattle.recur.specs.Front.{upTo, past, begins, upTo-front, past-front}
+use Rattle.recur.specs.Front.{upTo, past, beginsBy, upTo-front, past-front}
 use Rattle.recur.specs.Parts.{Part, partTable, partOf, isListPart}
 use Rattle.recur.specs.Item.{readItem, writeItem, isFor, isItem}
 use Rattle.recur.specs.WordLaws.{upper-capitals, capital-char}
@@ -66,7 +66,7 @@ unfolding pick _and_ joinedBy eachAfter
 items-cut n [] h = absurd (false≢true h)
 items-cut n (i ∷ is) h =
     go (isListPart n) is (and-left (isAmount (isListPart n) (i ∷ is)) (everyOf (isItem n) (i ∷ is)) h)
-      (none-holds (isItem n) (writeItem ical) 44 (item-lacks-comma n) (i ∷ is) (part-items (rulePart n (i ∷ is)) h))
+    (none-holds (isItem n) (writeItem ical) 44 (item-lacks-comma n) (i ∷ is) (part-items (rulePart n (i ∷ is)) h))
   where
     go : (t : Bool) (l : List RuleItem) → isAmount t (i ∷ l) ≡ true → noneHolds 44 (map (writeItem ical) (i ∷ l)) ≡ true →
         pick t (cutAt 44 (joinedBy 44 (map (writeItem ical) (i ∷ l)))) (joinedBy 44 (map (writeItem ical) (i ∷ l)) ∷ []) ≡ map (writeItem ical) (i ∷ l)
@@ -75,7 +75,7 @@ items-cut n (i ∷ is) h =
     go false (j ∷ l) a k = absurd (false≢true a)
 
 pub part-read-back : (p : RulePart) → isPart p ≡ true → readPart (writePart p) ≡ some p
-unfolding begins andThen
+unfolding beginsBy andThen
 part-read-back p h =
     let n = p .part in
     let v = joinedBy 44 (map (writeItem ical) (p .items)) in
@@ -129,9 +129,9 @@ part-accepted s p h =
     let e = andThen-some (readEach (readItem ical n) (itemsOf n v)) (λ is. some (rulePart n is)) p h in
     let z : rulePart n (e .0) ≡ p = cc (e .2) in
     rw (← z)
-      (and-yes (isAmount (isListPart n) (e .0)) (everyOf (isItem n) (e .0))
-        (items-amount n v (e .0) (e .1))
-        (each-accepted (readItem ical n) (isItem n) (item-accepted ical n) (itemsOf n v) (e .0) (e .1)))
+    (and-yes (isAmount (isListPart n) (e .0)) (everyOf (isItem n) (e .0))
+    (items-amount n v (e .0) (e .1))
+    (each-accepted (readItem ical n) (isItem n) (item-accepted ical n) (itemsOf n v) (e .0) (e .1)))
 
 -- ---- the characters
 
@@ -141,4 +141,4 @@ unfolding allOf pick
 part-characters q k e c p h =
     let n = p .part in
     all-both q n (61 ∷ joinedBy 44 (map (writeItem ical) (p .items))) (k n (all-weaker isCapital isTimeChar capital-char n (part-name n (p .items) h)))
-      (rw e (all-joined (isItem n) (writeItem ical) q 44 c (λ i g. k (writeItem ical i) (item-characters n i g)) (p .items) (part-items p h)))
+    (rw e (all-joined (isItem n) (writeItem ical) q 44 c (λ i g. k (writeItem ical i) (item-characters n i g)) (p .items) (part-items p h)))

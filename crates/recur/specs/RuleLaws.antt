@@ -48,7 +48,7 @@ part-lacks : (p : RulePart) → isPart p ≡ true → holds 59 (writePart p) ≡
 unfolding isPartChar isTimeChar octets-compute
 part-lacks p h =
     all-lacks isPartChar 59 refl (writePart p)
-      (part-characters isPartChar (all-weaker isTimeChar isPartChar (λ b e. or-left (isTimeChar b) (eqb b 61 or eqb b 44) e)) refl refl p h)
+    (part-characters isPartChar (all-weaker isTimeChar isPartChar (λ b e. or-left (isTimeChar b) (eqb b 61 or eqb b 44) e)) refl refl p h)
 
 rule-cut : (r : List RulePart) → isRule r ≡ true → cutAt 59 (writeRule r) ≡ map writePart r
 unfolding rowOf isRead _and_ isOrdered
@@ -85,10 +85,10 @@ rule-accepted s r h =
     let f = provided-some (eachOnce (map nameOf ps) and isComplete ps) (inOrder partNames ps) r (e .2) in
     let q = inOrder partNames ps in
     rw (← (f .1))
-      (and-yes (isOrdered partNames q) (isComplete q and everyOf isPart q) (ordered-order partNames ps names-once)
-        (and-yes (isComplete q) (everyOf isPart q)
-          (same-complete ps ∙ and-right (eachOnce (map nameOf ps)) (isComplete ps) (f .0))
-          (every-order isPart partNames ps (each-accepted readPart isPart part-accepted (cutAt 59 s) ps (e .1)))))
+    (and-yes (isOrdered partNames q) (isComplete q and everyOf isPart q) (ordered-order partNames ps names-once)
+    (and-yes (isComplete q) (everyOf isPart q)
+    (same-complete ps ∙ and-right (eachOnce (map nameOf ps)) (isComplete ps) (f .0))
+    (every-order isPart partNames ps (each-accepted readPart isPart part-accepted (cutAt 59 s) ps (e .1)))))
 
 -- ---- visible
 

@@ -21,7 +21,7 @@ use Rattle.octets.specs.Computing.{octets-compute}
 use Rattle.times.specs.Spelling.{isTimeChar}
 use Rattle.model.specs.Calendar.{Format, ical, xcal, Whole, RuleItem, weekday}
 use Rattle.recur.specs.Extra.{everyOf, and-right, pick-first, provided-some, andThen-some, all-weaker, all-both, one-of-all}
-use Rattle.recur.specs.Front.{upTo, fromOn, begins, upTo-front, fromOn-front}
+use Rattle.recur.specs.Front.{upTo, fromOn, beginsBy, upTo-front, fromOn-front}
 use Rattle.recur.specs.Parts.{weekdays}
 use Rattle.recur.specs.Item.{inCapitals, readWord, afterSign, readSigned, writeWhole, readOrdinal, writeOrdinal, isOrdinal, readWeekday, isWeekdaynum}
 use Rattle.recur.specs.NumberLaws.{isEnough, isNumberChar, signed-read-back, signed-accepted, whole-characters}
@@ -55,12 +55,13 @@ number-alpha b h = go (isDigit b) refl h
   where
     below : b < 65 → isAlpha b ≡ false
     below l = or-no (isCapital b) (isSmall b) (and-no-left (leb 65 b) (leb b 90) (lt-leb 65 b l)) (and-no-left (leb 97 b) (leb b 122) (lt-leb 97 b (omega arith)))
+
     go : (t : Bool) → isDigit b ≡ t → (t or eqb b 45) ≡ true → isAlpha b ≡ false
     go true e k = below (let g : b ≤ 57 = leb-true b 57 (and-right (leb 48 b) (leb b 57) e) in omega arith)
     go false e k = below (let g : b ≡ 45 = eqb-true b 45 k in omega arith)
 
-weekdays-begin : everyOf (begins isAlpha) weekdays ≡ true
-unfolding everyOf begins octets-compute
+weekdays-begin : everyOf (beginsBy isAlpha) weekdays ≡ true
+unfolding everyOf beginsBy octets-compute
 weekdays-begin = refl
 
 weekdays-capital : everyOf (allOf isCapital) weekdays ≡ true
@@ -96,7 +97,7 @@ pub weekday-read-back : (f : Format) (o : Option Whole) (d : List ℕ) → isOrd
 unfolding andThen
 weekday-read-back f o d p q =
     let c = ordinal-characters o in
-    let b = one-of-all (begins isAlpha) d weekdays weekdays-begin q in
+    let b = one-of-all (beginsBy isAlpha) d weekdays weekdays-begin q in
     rw (
       upTo-front isAlpha isNumberChar number-alpha (writeOrdinal o) d c b,
       fromOn-front isAlpha isNumberChar number-alpha (writeOrdinal o) d c b,
