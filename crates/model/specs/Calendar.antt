@@ -5,7 +5,7 @@
 -- Names: RFC 5545, sections 3.2 (parameters), 3.3 (value types), 3.6 (components).
 use mathlib.Core.Bool.{Bool}
 use mathlib.Core.List.{List}
-use mathlib.Core.Option.{Option}
+use mathlib.Core.Option.{Option, none, some}
 use Prim.Native.Nat.{ℕ}
 
 -- the value types of RFC 5545, section 3.3, in its order, and `unknown` of RFC 6321, section 5
@@ -41,24 +41,24 @@ pub record RulePart : Type 0 where
   pub items : List RuleItem
 
 pub data Value : Type 0 where
-  binary : List ℕ → Value                                       -- base64 characters
+  binary : List ℕ → Value  -- base64 characters
   boolean : Bool → Value
   calAddress : List ℕ → Value
-  date : List ℕ → Value                                         -- 20240504
-  dateTime : List ℕ → Value                                     -- 20240504T080000, 20240504T080000Z
-  duration : List ℕ → Value                                     -- -PT15M; no plus
+  date : List ℕ → Value  -- 20240504
+  dateTime : List ℕ → Value  -- 20240504T080000, 20240504T080000Z
+  duration : List ℕ → Value  -- -PT15M; no plus
   float : Decimal → Value
   integer : Whole → Value
-  periodExplicit : List ℕ → List ℕ → Value                      -- start and end, each a date-time
-  periodStart : List ℕ → List ℕ → Value                         -- start and duration
-  recur : List RulePart → Value                                 -- the parts that are given, in the schema's order
-  text : List ℕ → Value                                         -- unescaped
-  time : List ℕ → Value                                         -- 080000, 080000Z
+  periodExplicit : List ℕ → List ℕ → Value  -- start and end, each a date-time
+  periodStart : List ℕ → List ℕ → Value  -- start and duration
+  recur : List RulePart → Value  -- the parts that are given, in the schema's order
+  text : List ℕ → Value  -- unescaped
+  time : List ℕ → Value  -- 080000, 080000Z
   uri : List ℕ → Value
-  utcOffset : List ℕ → Value                                    -- +0100, -013000
-  unknown : List ℕ → Value                                      -- raw
-  geo : Decimal → Decimal → Value                               -- latitude and longitude
-  requestStatus : List ℕ → List ℕ → Option (List ℕ) → Value     -- code, description, data: TEXT each, unescaped
+  utcOffset : List ℕ → Value  -- +0100, -013000
+  unknown : List ℕ → Value  -- raw
+  geo : Decimal → Decimal → Value  -- latitude and longitude
+  requestStatus : List ℕ → List ℕ → Option (List ℕ) → Value  -- code, description, data: TEXT each, unescaped
 
 -- the type that a value has: GEO's values are FLOAT, REQUEST-STATUS's TEXT
 abbrev pub typeOf : Value → ValueType
@@ -80,6 +80,27 @@ typeOf (utcOffset s) = UTC-OFFSET
 typeOf (unknown s) = UNKNOWN
 typeOf (geo la lo) = FLOAT
 typeOf (requestStatus c d x) = TEXT
+
+-- the characters of a TEXT
+abbrev pub textIn : Value → Option (List ℕ)
+textIn (binary s) = none
+textIn (boolean b) = none
+textIn (calAddress s) = none
+textIn (date s) = none
+textIn (dateTime s) = none
+textIn (duration s) = none
+textIn (float d) = none
+textIn (integer w) = none
+textIn (periodExplicit s e) = none
+textIn (periodStart s d) = none
+textIn (recur ps) = none
+textIn (text s) = some s
+textIn (time s) = none
+textIn (uri s) = none
+textIn (utcOffset s) = none
+textIn (unknown s) = none
+textIn (geo la lo) = none
+textIn (requestStatus c d x) = none
 
 -- a parameter: its name in capitals, its values in order (text, uri, cal-address, boolean, unknown). VALUE is none: the type stands on the value
 pub record Parameter : Type 0 where

@@ -1,4 +1,7 @@
--- The refusals (document 01, "Refusal numbers"), and the answer of a reading.
+-- The refusals and their numbers, and the answer of a reading.
+--     Refusal, numberOf   the eleven refusals
+--     Verdict             what a check finds;   _otherwise_ is one check after another
+--     Answer              what reading an input gives
 use Prim.Native.Nat.{ℕ}
 use mathlib.Core.List.{List, [], _∷_}
 use Rattle.model.specs.Calendar.{Calendar}

@@ -5,6 +5,7 @@
 --     Append   one list after another, shut
 --     Class    classes of bytes, letter case
 --     Words    byte lists compared, counted, looked up, cut at a separator and joined
+--     Lists    lists of anything, tested
 --     Decimal  decimal digits and what they are worth
 --     Reading  readings that may fail, of one thing and of each of a list
 --     Many     repetition: items read from the front until there is none
@@ -15,6 +16,7 @@ pub mod Scan
 pub mod Append
 pub mod Class
 pub mod Words
+pub mod Lists
 pub mod Decimal
 pub mod Reading
 pub mod Many

@@ -1,0 +1,10 @@
+-- One name that opens every shut definition of this crate, for examples that compute: `unfolding folding-compute`.
+use Prim.Native.Nat.{ℕ}
+use Rattle.octets.specs.Computing.{octets-compute}
+use Rattle.folding.specs.Unfold.{blankAt, foldAt, foldGoesOn, keep, keptFrom, placesFrom, origin}
+use Rattle.folding.specs.Lines.{longer, lineStep, linesAfter, holdsBreak, noneLoose}
+use Rattle.folding.specs.Fold.{foldFrom}
+
+unfoldable pub folding-compute : ℕ
+unfolding octets-compute blankAt foldAt foldGoesOn keep keptFrom placesFrom origin longer lineStep linesAfter holdsBreak noneLoose foldFrom
+folding-compute = 0

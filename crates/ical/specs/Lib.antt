@@ -1,0 +1,17 @@
+-- iCalendar text (RFC 5545).
+--     Parameters    the parameters of a content line, typed
+--     Values        the values of a property, by its type
+--     Statement     the property that a content line states
+--     Nesting       which lines are refused: one pass with the open components
+--     Tree          the components that the lines state
+--     ReadText      the answer for a text
+--     WriteText     the canonical text of a calendar
+--     Computing     opens all of these, for examples that compute
+pub mod Parameters
+pub mod Values
+pub mod Statement
+pub mod Nesting
+pub mod Tree
+pub mod ReadText
+pub mod WriteText
+pub mod Computing

@@ -1,0 +1,19 @@
+-- Content lines of RFC 5545, section 3.1, on the bytes of one unfolded line.
+--     Extra        runs at the front of a list, a byte at the front, a test of each item, what a repetition has read
+--     ContentLine  the grammar, read by recursive descent
+--     Write        a content line written
+--     RoundTrip    a content line written is read back
+--     Accepted     what is read is a content line, written as it stood
+--     Chars        its classes of characters, one within the other
+--     Names        names that can be carried (refusal 5)
+--     Computing    opens all of these, for examples that compute
+--     Examples     lines that are read, lines that are refused, lines that are written
+pub mod Extra
+pub mod ContentLine
+pub mod Write
+pub mod RoundTrip
+pub mod Accepted
+pub mod Chars
+pub mod Names
+pub mod Computing
+pub mod Examples

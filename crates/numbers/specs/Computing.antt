@@ -1,0 +1,11 @@
+-- One name that opens every shut definition of this crate and of those that it uses, for examples that compute: `unfolding numbers-compute`.
+use Prim.Native.Nat.{ℕ}
+use Rattle.octets.specs.Computing.{octets-compute}
+use Rattle.numbers.specs.Sign.{hasMinus, unsigned, leadsInDigit}
+use Rattle.numbers.specs.Float.{fraction, pointed, noLeading, kept, noTrailing, orZero, afterPoint, leadsInZero, endsInZero}
+use Rattle.numbers.specs.Worth.{zeros}
+use Rattle.numbers.specs.Geo.{longitude, coordinates}
+
+unfoldable pub numbers-compute : ℕ
+unfolding octets-compute hasMinus unsigned leadsInDigit fraction pointed noLeading kept noTrailing orZero afterPoint leadsInZero endsInZero zeros longitude coordinates
+numbers-compute = 0

@@ -1,0 +1,126 @@
+-- What digits are worth, with zeros in front of them and after them.
+--     zeros k            k zeros, 48 each
+--     digits-same        as many digits that are worth the same are the same
+--     leading-zeros, trailing-zeros    zeros make no difference to the digits without them
+--     front-value, back-value          zeros in front of digits are worth nothing, each one after them a factor of 10
+--     leading-split, trailing-split    digits are their zeros and the digits without these
+use mathlib.Core.Path.{_≡_, refl, ap, _∙_}
+use mathlib.Core.Bool.{Bool, true, false}
+use mathlib.Core.List.{List, [], _∷_}
+use Prim.Native.Nat.{ℕ, zero, suc, _+_, _-_, _*_, _^_}
+use native.Mathlib.Nat.{pow-zero, pow-succ', zero-mul}
+use native.Mathlib.Omega.{arith}
+use lib.Dec.{eqb}
+use lib.ListN.{length}
+use borrow.Author.Tests.{eqb-true}
+use Rattle.octets.specs.Pick.{pick, _and_}
+use Rattle.octets.specs.Scan.{allOf}
+use Rattle.octets.specs.Append.{_⊕_, length-both}
+use Rattle.octets.specs.Class.{isDigit}
+use Rattle.octets.specs.Decimal.{value, digitOf}
+use Rattle.numbers.specs.Extra.{all-cons, all-append, digit-range}
+use Rattle.numbers.specs.Float.{noLeading, noTrailing, kept}
+
+unfoldable pub zeros : ℕ → List ℕ
+zeros zero = []
+zeros (suc k) = 48 ∷ zeros k
+
+pub zeros-digits : (k : ℕ) → allOf isDigit (zeros k) ≡ true
+unfolding zeros allOf pick _and_
+zeros-digits zero = refl
+zeros-digits (suc k) = zeros-digits k
+
+pub zeros-length : (k : ℕ) → length (zeros k) ≡ k
+unfolding zeros
+zeros-length zero = refl
+zeros-length (suc k) = ap suc (zeros-length k)
+
+pub value-append : (s t : List ℕ) (n : ℕ) → value n (s ⊕ t) ≡ value (value n s) t
+unfolding value _⊕_
+value-append [] t n = refl
+value-append (b ∷ s) t n = value-append s t (n * 10 + digitOf b)
+
+pub value-zeros : (k n : ℕ) → value n (zeros k) ≡ n * 10 ^ k
+unfolding zeros value pick _and_
+value-zeros zero n = rw pow-zero (omega arith)
+value-zeros (suc k) n = value-zeros k (n * 10 + 0) ∙ rw (pow-succ' 10 k) (omega arith)
+
+pub leading-zeros : (k : ℕ) (s : List ℕ) → noLeading (zeros k ⊕ s) ≡ noLeading s
+unfolding zeros noLeading _⊕_ pick
+leading-zeros zero s = refl
+leading-zeros (suc k) s = leading-zeros k s
+
+pub only-zeros : (k : ℕ) → noTrailing (zeros k) ≡ []
+unfolding zeros noTrailing kept pick
+only-zeros zero = refl
+only-zeros (suc k) = rw (only-zeros k)
+
+pub trailing-zeros : (s : List ℕ) (k : ℕ) → noTrailing (s ⊕ zeros k) ≡ noTrailing s
+unfolding noTrailing _⊕_
+trailing-zeros [] k = only-zeros k
+trailing-zeros (b ∷ s) k = rw (trailing-zeros s k)
+
+-- ---- as many digits that are worth the same are the same
+
+digit-same : (b c x y : ℕ) → isDigit b ≡ true → isDigit c ≡ true → x * 10 + digitOf b ≡ y * 10 + digitOf c → (x ≡ y) × (b ≡ c)
+unfolding pick
+digit-same b c x y h k e =
+    let p = digit-range b h in
+    let q = digit-range c k in
+    let f : x * 10 + (b - 48) ≡ y * 10 + (c - 48) = rw (h, k) at e in
+    (omega arith, omega arith)
+
+pub digits-same : (s t : List ℕ) (x y : ℕ) → length s ≡ length t → allOf isDigit s ≡ true → allOf isDigit t ≡ true → value x s ≡ value y t → (x ≡ y) × (s ≡ t)
+unfolding value
+digits-same [] [] x y l h k e = (e, refl)
+digits-same [] (c ∷ t) x y l h k e = absurd (omega arith)
+digits-same (b ∷ s) [] x y l h k e = absurd (omega arith)
+digits-same (b ∷ s) (c ∷ t) x y l h k e =
+    let p = all-cons isDigit b s h in
+    let q = all-cons isDigit c t k in
+    let r = digits-same s t (x * 10 + digitOf b) (y * 10 + digitOf c) (omega arith) (p .1) (q .1) e in
+    let u = digit-same b c x y (p .0) (q .0) (r .0) in
+    (u .0, cc (u .1, r .1))
+
+-- digits with zeros in front of them, and after them
+pub front-length : (n : ℕ) (s : List ℕ) → length (zeros n ⊕ s) ≡ n + length s
+front-length n s = rw (length-both (zeros n) s, zeros-length n)
+
+pub front-value : (n : ℕ) (s : List ℕ) → value 0 (zeros n ⊕ s) ≡ value 0 s
+front-value n s = rw (value-append (zeros n) s 0, value-zeros n 0, zero-mul)
+
+pub front-digits : (n : ℕ) (s : List ℕ) → allOf isDigit s ≡ true → allOf isDigit (zeros n ⊕ s) ≡ true
+front-digits n s h = all-append isDigit (zeros n) s (zeros-digits n) h
+
+pub back-length : (s : List ℕ) (n : ℕ) → length (s ⊕ zeros n) ≡ length s + n
+back-length s n = rw (length-both s (zeros n), zeros-length n)
+
+pub back-value : (s t : List ℕ) (n : ℕ) → value (value 0 s) (t ⊕ zeros n) ≡ value 0 (s ⊕ t) * 10 ^ n
+back-value s t n = rw (value-append t (zeros n) (value 0 s), value-zeros n (value (value 0 s) t), value-append s t 0)
+
+pub back-digits : (s : List ℕ) (n : ℕ) → allOf isDigit s ≡ true → allOf isDigit (s ⊕ zeros n) ≡ true
+back-digits s n h = all-append isDigit s (zeros n) h (zeros-digits n)
+
+-- ---- digits are their zeros and the digits without these
+
+pub leading-split : (s : List ℕ) → (k : ℕ) × (s ≡ zeros k ⊕ noLeading s)
+unfolding zeros noLeading _⊕_ pick
+leading-split [] = (0, refl)
+leading-split (b ∷ s) = go (eqb b 48) refl (leading-split s)
+  where
+    go : (t : Bool) → eqb b 48 ≡ t → (k : ℕ) × (s ≡ zeros k ⊕ noLeading s) → (k : ℕ) × (b ∷ s ≡ zeros k ⊕ pick t (noLeading s) (b ∷ s))
+    go true e r = let z = eqb-true b 48 e in (suc (r .0), cc (z, r .1))
+    go false e r = (0, refl)
+
+pub trailing-split : (s : List ℕ) → (k : ℕ) × (s ≡ noTrailing s ⊕ zeros k)
+unfolding zeros noTrailing kept _⊕_ pick
+trailing-split [] = (0, refl)
+trailing-split (b ∷ s) = go (noTrailing s) (trailing-split s)
+  where
+    last : (t : Bool) (k : ℕ) → eqb b 48 ≡ t → s ≡ zeros k → (j : ℕ) × (b ∷ s ≡ pick t [] (b ∷ []) ⊕ zeros j)
+    last true k e r = let z = eqb-true b 48 e in (suc k, cc (z, r))
+    last false k e r = (k, cc r)
+
+    go : (t : List ℕ) → (k : ℕ) × (s ≡ t ⊕ zeros k) → (j : ℕ) × (b ∷ s ≡ kept b t ⊕ zeros j)
+    go [] r = last (eqb b 48) (r .0) refl (r .1)
+    go (c ∷ t) r = (r .0, cc (r .1))

@@ -1,0 +1,10 @@
+-- One name that opens every shut definition of this crate, for examples that compute: `unfolding texts-compute`.
+use Prim.Native.Nat.{ℕ}
+use Rattle.octets.specs.Computing.{octets-compute}
+use Rattle.texts.specs.Text.{ontoRead, splitFrom, writeText, frontRead}
+use Rattle.texts.specs.Uri.{uriFrom, isUri}
+use Rattle.texts.specs.Binary.{binaryFrom, withoutSpace}
+
+unfoldable pub texts-compute : ℕ
+unfolding octets-compute ontoRead splitFrom writeText frontRead uriFrom isUri binaryFrom withoutSpace
+texts-compute = 0

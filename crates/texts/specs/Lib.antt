@@ -1,0 +1,23 @@
+-- Values that are characters.
+--     Extra           general laws of tests, readings and bytes
+--     Text            TEXT, escaped and unescaped, and the splitter of escaped text
+--     Escaped         the bytes of escaped text: one line
+--     TextList        lists of TEXT: CATEGORIES, RESOURCES
+--     RequestStatus   REQUEST-STATUS, two or three TEXT
+--     Uri             URI and CAL-ADDRESS
+--     Binary          BINARY, base64 characters
+--     Unknown         values of the type unknown
+--     Quoting         parameter values between double quotes
+--     Computing       opens all of these, for examples that compute
+--     Examples        computed examples
+pub mod Extra
+pub mod Text
+pub mod Escaped
+pub mod TextList
+pub mod RequestStatus
+pub mod Uri
+pub mod Binary
+pub mod Unknown
+pub mod Quoting
+pub mod Computing
+pub mod Examples

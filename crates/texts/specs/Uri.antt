@@ -1,0 +1,119 @@
+-- URI of RFC 5545, section 3.3.13, and CAL-ADDRESS of 3.3.3, which is a URI: the characters are kept as they stand, in text and in xCal alike.
+--     isUri s      a scheme, a colon, then characters of a URI
+--     readUri s    the characters
+--     uri-read-back, uri-kept, uri-accepted, uri-visible, uri-unquoted
+use mathlib.Core.Path.{_≡_, refl, _∙_}
+use mathlib.Core.Bool.{Bool, true, false, false≢true}
+use mathlib.Core.List.{List, [], _∷_}
+use mathlib.Core.Option.{Option, none, some}
+use Prim.Native.Nat.{ℕ, _≤_}
+use native.Mathlib.Omega.{arith}
+use lib.Dec.{eqb}
+use borrow.Author.Tests.{eqb-true, ne-eqb, le-leb}
+use Rattle.octets.specs.Pick.{pick, pick-yes, _and_, _or_, within, within-yes, or-left}
+use Rattle.octets.specs.Scan.{allOf}
+use Rattle.octets.specs.Class.{isAlpha, isCapital, isSmall, isDigit, isVisible}
+use Rattle.octets.specs.Words.{holds}
+use Rattle.octets.specs.Reading.{provided}
+use Rattle.texts.specs.Extra.{or-false-left, and-true-left, and-true-right, or-cases, within-low, within-high, provided-test, provided-is, all-weaker, all-without}
+
+--   uri    = <As defined in Section 3 of [RFC3986]>: scheme ":" ..
+--   scheme = ALPHA *( ALPHA / DIGIT / "+" / "-" / "." )
+abbrev pub isSchemeChar : ℕ → Bool
+isSchemeChar b = isAlpha b or isDigit b or eqb b 43 or eqb b 45 or eqb b 46
+
+-- " < > \ ^ ` { | }, which no URI holds
+abbrev pub isOutside : ℕ → Bool
+isOutside b = eqb b 34 or eqb b 60 or eqb b 62 or eqb b 92 or eqb b 94 or eqb b 96 or eqb b 123 or eqb b 124 or eqb b 125
+
+abbrev pub isUriChar : ℕ → Bool
+isUriChar b = pick (isOutside b) false (isVisible b)
+
+-- b may stand before the colon, where it may be the colon, or past it
+abbrev pub inUri : Bool → ℕ → Bool
+inUri past b = pick past (isUriChar b) (eqb b 58 or isSchemeChar b)
+
+-- what follows the first letter, to its end: `past` says whether the colon was met
+unfoldable pub uriFrom : Bool → List ℕ → Bool
+uriFrom past [] = past
+uriFrom past (b ∷ s) = inUri past b and uriFrom (past or eqb b 58) s
+
+unfoldable pub isUri : List ℕ → Bool
+isUri [] = false
+isUri (b ∷ s) = isAlpha b and uriFrom false s
+
+abbrev pub readUri : List ℕ → Option (List ℕ)
+readUri s = provided (isUri s) s
+
+-- ---- laws
+
+pub uri-read-back : (v : List ℕ) → isUri v ≡ true → readUri v ≡ some v
+uri-read-back v h = pick-yes (isUri v) (some v) none h
+
+pub uri-kept : (s v : List ℕ) → readUri s ≡ some v → s ≡ v
+uri-kept s v h = provided-is (isUri s) s v h
+
+pub uri-accepted : (s v : List ℕ) → readUri s ≡ some v → isUri v ≡ true
+uri-accepted s v h = rw (← (uri-kept s v h)) (provided-test (isUri s) s v h)
+
+-- a character that shows and is no double quote
+abbrev isPlain : ℕ → Bool
+isPlain b = pick (eqb b 34) false (isVisible b)
+
+plain-between : (b : ℕ) → 35 ≤ b → b ≤ 126 → isPlain b ≡ true
+unfolding pick
+plain-between b l h = rw (ne-eqb b 34 (λ e. omega arith)) (within-yes 33 126 b (le-leb 33 b (omega arith)) (le-leb b 126 (omega arith)))
+
+plain-within : (lo hi b : ℕ) → 35 ≤ lo → hi ≤ 126 → within lo hi b ≡ true → isPlain b ≡ true
+plain-within lo hi b l h w = let p : lo ≤ b = within-low lo hi b w in let q : b ≤ hi = within-high lo hi b w in plain-between b (omega arith) (omega arith)
+
+plain-is : (n b : ℕ) → isPlain n ≡ true → eqb b n ≡ true → isPlain b ≡ true
+plain-is n b h e = rw (eqb-true b n e) h
+
+plain-scheme : (b : ℕ) → isSchemeChar b ≡ true → isPlain b ≡ true
+unfolding pick _and_
+plain-scheme b h =
+    or-cases (isAlpha b) _ h
+    (λ k. or-cases (isCapital b) (isSmall b) k (plain-within 65 90 b (omega arith) (omega arith)) (plain-within 97 122 b (omega arith) (omega arith)))
+    (λ k. or-cases (isDigit b) _ k (plain-within 48 57 b (omega arith) (omega arith))
+    (λ k. or-cases (eqb b 43) _ k (plain-is 43 b refl) (λ k. or-cases (eqb b 45) (eqb b 46) k (plain-is 45 b refl) (plain-is 46 b refl))))
+
+plain-char : (b : ℕ) → isUriChar b ≡ true → isPlain b ≡ true
+unfolding pick
+plain-char b h = go (isOutside b) refl h
+  where
+    go : (t : Bool) → isOutside b ≡ t → pick t false (isVisible b) ≡ true → isPlain b ≡ true
+    go true e k = absurd (false≢true k)
+    go false e k = rw (or-false-left (eqb b 34) _ e) k
+
+plain-in : (past : Bool) (b : ℕ) → inUri past b ≡ true → isPlain b ≡ true
+unfolding pick _and_
+plain-in true b h = plain-char b h
+plain-in false b h = or-cases (eqb b 58) (isSchemeChar b) h (plain-is 58 b refl) (plain-scheme b)
+
+plain-from : (s : List ℕ) (past : Bool) → uriFrom past s ≡ true → allOf isPlain s ≡ true
+unfolding uriFrom allOf
+plain-from [] past h = refl
+plain-from (b ∷ s) past h =
+    pick-yes (isPlain b) (allOf isPlain s) false (plain-in past b (and-true-left (inUri past b) _ h)) ∙ plain-from s (past or eqb b 58) (and-true-right (inUri past b) _ h)
+
+uri-plain : (v : List ℕ) → isUri v ≡ true → allOf isPlain v ≡ true
+unfolding isUri allOf
+uri-plain [] h = refl
+uri-plain (b ∷ s) h = pick-yes (isPlain b) (allOf isPlain s) false (plain-scheme b (or-left (isAlpha b) _ (and-true-left (isAlpha b) _ h))) ∙ plain-from s false (and-true-right (isAlpha b) _ h)
+
+plain-visible : (b : ℕ) → isPlain b ≡ true → isVisible b ≡ true
+unfolding pick
+plain-visible b h = go (eqb b 34) h
+  where
+    go : (t : Bool) → pick t false (isVisible b) ≡ true → isVisible b ≡ true
+    go true k = absurd (false≢true k)
+    go false k = k
+
+pub uri-visible : (v : List ℕ) → isUri v ≡ true → allOf isVisible v ≡ true
+uri-visible v h = all-weaker isPlain isVisible plain-visible v (uri-plain v h)
+
+-- no double quote
+pub uri-unquoted : (v : List ℕ) → isUri v ≡ true → holds 34 v ≡ false
+unfolding pick
+uri-unquoted v h = all-without isPlain 34 refl v (uri-plain v h)

@@ -1,0 +1,108 @@
+-- The elements of components, up to the root (RFC 6321, sections 3.2 and 3.3): what they state, and where they are refused.
+--     componentsVerdict, componentVerdict   the verdict on the children of `components`, and of a component
+--     rootVerdict                           the verdict on the root element
+--     readComponents                        the components that elements state
+use mathlib.Core.Bool.{Bool, true, false, not}
+use mathlib.Core.List.{List, [], _∷_}
+use Prim.Native.Nat.{ℕ}
+use Rattle.octets.specs.Ascii.{ascii}
+use Rattle.octets.specs.Pick.{pick, _and_, _or_}
+use Rattle.octets.specs.Class.{upper, isSpace}
+use Rattle.octets.specs.Words.{same, isOneOf, isEmpty}
+use Rattle.model.specs.Calendar.{Components, noMore, component}
+use Rattle.model.specs.Refusal.{NAME, FRAME, COUNT, Verdict, fine, refuse, _otherwise_}
+use Rattle.schema.specs.Components.{subcomponentsOf}
+use Rattle.schema.specs.Counts.{complete}
+use Rattle.xml.specs.Nodes.{Nodes, noNodes, element, literal, referred, hasElement}
+use Rattle.xcal.specs.Layout.{hasCapital, unexpected}
+use Rattle.xcal.specs.PropertyNodes.{propertiesVerdict, readProperties}
+
+-- the children of the first child of a name
+unfoldable pub insideOf : List ℕ → Nodes → Nodes
+insideOf n noNodes = noNodes
+insideOf n (literal p b more) = insideOf n more
+insideOf n (referred p bs more) = insideOf n more
+insideOf n (element p m x kids more) = pick (same m n) kids (insideOf n more)
+
+-- the counts of a component with these children are as the schema has them
+abbrev pub isComplete : List ℕ → Nodes → Bool
+isComplete k kids = complete k (readProperties (insideOf (ascii "properties") kids)) (hasElement (insideOf (ascii "components") kids))
+
+-- what has come of a component's two children
+pub record Come : Type 0 where
+  pub properties : Bool
+  pub components : Bool
+
+-- at a component's end tag: `properties` must have come, and in VCALENDAR `components`; then the counts
+unfoldable pub endOfComponent : List ℕ → Bool → Come → ℕ → Verdict
+endOfComponent k counts c e =
+    pick (not (c .properties) or (same k (ascii "VCALENDAR") and not (c .components))) (refuse FRAME e)
+    (pick counts fine (refuse COUNT e))
+
+-- at the end tag of `components`: it may be empty in VCALENDAR; in VTIMEZONE the count refuses that
+unfoldable pub endOfComponents : List ℕ → Bool → ℕ → Verdict
+endOfComponents k any e = pick (any or same k (ascii "VCALENDAR") or same k (ascii "VTIMEZONE")) fine (refuse FRAME e)
+
+unfoldable mutual
+  -- the children of a component k: counts says whether its properties and subcomponents are as often as they must; e is its end tag
+  pub componentVerdict : Nodes → List ℕ → Bool → Come → ℕ → Verdict
+  componentVerdict noNodes k counts c e = endOfComponent k counts c e
+  componentVerdict (literal p b more) k counts c e = pick (isSpace b) (componentVerdict more k counts c e) (refuse FRAME p)
+  componentVerdict (referred p bs more) k counts c e = refuse FRAME p
+  componentVerdict (element p m x kids more) k counts c e =
+      pick (same m (ascii "properties") and not (c .properties) and not (c .components))
+      (propertiesVerdict k kids otherwise componentVerdict more k counts (record { properties = true; components = false }) e)
+      (pick (same m (ascii "components") and not (c .components) and not (isEmpty (subcomponentsOf k)))
+      (componentsVerdict kids k false x otherwise componentVerdict more k counts (record { properties = c .properties; components = true }) e)
+      (unexpected p m))
+
+  -- the children of `components` in a component k; any says whether one has come; e is the end tag of `components`
+  pub componentsVerdict : Nodes → List ℕ → Bool → ℕ → Verdict
+  componentsVerdict noNodes k any e = endOfComponents k any e
+  componentsVerdict (literal p b more) k any e = pick (isSpace b) (componentsVerdict more k any e) (refuse FRAME p)
+  componentsVerdict (referred p bs more) k any e = refuse FRAME p
+  componentsVerdict (element p m x kids more) k any e =
+      pick (not (hasCapital m) and isOneOf (upper m) (subcomponentsOf k))
+      (componentVerdict kids (upper m) (isComplete (upper m) kids) (record { properties = false; components = false }) x otherwise componentsVerdict more k true e)
+      (unexpected p m)
+
+-- ---- the root
+
+-- the children of `icalendar`: one or more `vcalendar`
+unfoldable pub streamVerdict : Nodes → Bool → ℕ → Verdict
+streamVerdict noNodes any e = pick any fine (refuse FRAME e)
+streamVerdict (literal p b more) any e = pick (isSpace b) (streamVerdict more any e) (refuse FRAME p)
+streamVerdict (referred p bs more) any e = refuse FRAME p
+streamVerdict (element p m x kids more) any e =
+    pick (same m (ascii "vcalendar"))
+    (componentVerdict kids (ascii "VCALENDAR") (isComplete (ascii "VCALENDAR") kids) (record { properties = false; components = false }) x otherwise streamVerdict more true e)
+    (unexpected p m)
+
+unfoldable pub rootVerdict : Nodes → Verdict
+rootVerdict noNodes = fine
+rootVerdict (literal p b more) = fine
+rootVerdict (referred p bs more) = fine
+rootVerdict (element p m x kids more) = pick (same m (ascii "icalendar")) (streamVerdict kids false x) (unexpected p m)
+
+-- ---- what they state
+
+unfoldable mutual
+  pub readComponents : Nodes → Components
+  readComponents noNodes = noMore
+  readComponents (literal p b more) = readComponents more
+  readComponents (referred p bs more) = readComponents more
+  readComponents (element p m x kids more) =
+      component (upper m) (readProperties (insideOf (ascii "properties") kids)) (readInner kids) (readComponents more)
+
+  -- what stands in the `components` of a component
+  pub readInner : Nodes → Components
+  readInner noNodes = noMore
+  readInner (literal p b more) = readInner more
+  readInner (referred p bs more) = readInner more
+  readInner (element p m x kids more) = pick (same m (ascii "components")) (readComponents kids) (readInner more)
+
+unfoldable pub readRoot : Nodes → Components
+readRoot noNodes = noMore
+readRoot (literal p b more) = noMore
+readRoot (referred p bs more) = noMore
+readRoot (element p m x kids more) = readComponents kids

@@ -1,0 +1,17 @@
+-- xCal (RFC 6321).
+--     Layout       children in a fixed order, and names with capitals
+--     ValueNodes       the elements of a value: what they state and where they are refused
+--     ParameterNodes   the elements of the parameters
+--     PropertyNodes    the elements of a property
+--     ComponentNodes   the elements of components, up to the root
+--     ReadDocument     the answer for a document
+--     WriteXml         the canonical XML of a calendar
+--     Computing        opens all of these, for examples that compute
+pub mod Layout
+pub mod ValueNodes
+pub mod ParameterNodes
+pub mod PropertyNodes
+pub mod ComponentNodes
+pub mod ReadDocument
+pub mod WriteXml
+pub mod Computing

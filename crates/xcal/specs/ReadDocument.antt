@@ -1,0 +1,29 @@
+-- The answer for an xCal document: the calendar that it states, or its refusal with its place.
+--     documentVerdict   refusals 1, 3 and 11 over the whole document, then the first fault in it
+--     readDocument      the answer
+use mathlib.Core.List.{List}
+use mathlib.Core.Option.{Option, none, some}
+use Prim.Native.Nat.{ℕ}
+use lib.Dec.{leb}
+use lib.ListN.{length}
+use Rattle.octets.specs.Pick.{pick}
+use Rattle.model.specs.Refusal.{LENGTH, CHARACTER, Verdict, fine, refuse, _otherwise_, Answer, answer}
+use Rattle.utf8.specs.Utf8.{firstBad}
+use Rattle.xml.specs.WellFormed.{xmlVerdict}
+use Rattle.xml.specs.Nodes.{documentNodes}
+use Rattle.xcal.specs.ComponentNodes.{rootVerdict, readRoot}
+
+-- refusal 3
+abbrev pub characters : Option ℕ → Verdict
+characters none = fine
+characters (some p) = refuse CHARACTER p
+
+-- 65535 is the input limit
+unfoldable pub documentVerdict : List ℕ → Verdict
+documentVerdict s =
+    pick (leb (length s) 65535)
+    (characters (firstBad s) otherwise xmlVerdict s otherwise rootVerdict (documentNodes s))
+    (refuse LENGTH 0)
+
+unfoldable pub readDocument : List ℕ → Answer
+readDocument s = answer (documentVerdict s) (readRoot (documentNodes s))
