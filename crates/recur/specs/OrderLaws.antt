@@ -9,11 +9,12 @@ use mathlib.Core.Bool.{Bool, true, false, false≢true}
 use mathlib.Core.List.{List, [], _∷_, map}
 use mathlib.Core.Option.{Option, none, some}
 use Prim.Native.Nat.{ℕ}
-use Rattle.octets.specs.Pick.{pick, _or_}
+use Rattle.octets.specs.Pick.{pick, _and_, _or_}
 use Rattle.octets.specs.Words.{same, same-self, same-true, isOneOf, rowOf}
+use Rattle.octets.specs.Lists.{every, distinct}
 use Rattle.model.specs.Calendar.{RulePart}
-use Rattle.recur.specs.Extra.{everyOf, or-none, pick-second, row-all, row-is}
-use Rattle.recur.specs.Rule.{nameOf, partNamed, eachOnce, withPart, inOrder, afterNamed, isOrdered}
+use Rattle.recur.specs.Extra.{or-none, pick-second, row-all, row-is}
+use Rattle.recur.specs.Rule.{nameOf, partNamed, withPart, inOrder, afterNamed, isOrdered}
 
 -- ---- parts in order
 
@@ -36,15 +37,15 @@ unfolding isOneOf rowOf pick _or_
 lacks-none n [] h = refl
 lacks-none n (p ∷ ps) h = let e = or-none (same n (p .part)) (isOneOf n (map nameOf ps)) h in rw (e .0) (lacks-none n ps (e .1))
 
-pub once-ordered : (ns : List (List ℕ)) (ps : List RulePart) → eachOnce ns ≡ true → isOrdered ns ps ≡ true → eachOnce (map nameOf ps) ≡ true
-unfolding eachOnce isOrdered afterNamed pick
+pub once-ordered : (ns : List (List ℕ)) (ps : List RulePart) → distinct ns ≡ true → isOrdered ns ps ≡ true → distinct (map nameOf ps) ≡ true
+unfolding distinct isOrdered afterNamed pick
 once-ordered [] [] h o = refl
 once-ordered [] (p ∷ ps) h o = absurd (false≢true o)
 once-ordered (n ∷ ns) [] h o = refl
-once-ordered (n ∷ ns) (p ∷ ps) h o = go (same n (p .part)) refl o (pick-second (isOneOf n ns) (eachOnce ns) h) (λ l. once-ordered ns l)
+once-ordered (n ∷ ns) (p ∷ ps) h o = go (same n (p .part)) refl o (pick-second (isOneOf n ns) (distinct ns) h) (λ l. once-ordered ns l)
   where
-    go : (t : Bool) → same n (p .part) ≡ t → isOrdered ns (pick t ps (p ∷ ps)) ≡ true → (isOneOf n ns ≡ false) × (eachOnce ns ≡ true) →
-        ((l : List RulePart) → eachOnce ns ≡ true → isOrdered ns l ≡ true → eachOnce (map nameOf l) ≡ true) → eachOnce (map nameOf (p ∷ ps)) ≡ true
+    go : (t : Bool) → same n (p .part) ≡ t → isOrdered ns (pick t ps (p ∷ ps)) ≡ true → (isOneOf n ns ≡ false) × (distinct ns ≡ true) →
+        ((l : List RulePart) → distinct ns ≡ true → isOrdered ns l ≡ true → distinct (map nameOf l) ≡ true) → distinct (map nameOf (p ∷ ps)) ≡ true
     go true e k f ih = rw (← (same-true n (p .part) e), ordered-lacks n ns ps (f .0) k) (ih ps (f .1) k)
     go false e k f ih = ih (p ∷ ps) (f .1) k
 
@@ -63,15 +64,15 @@ order-skip (n ∷ ns) p ps h =
     let e = or-none (same (p .part) n) (isOneOf (p .part) ns) h in
     rw (same-turned (p .part) n (e .0), order-skip ns p ps (e .1))
 
-pub order-back : (ns : List (List ℕ)) (ps : List RulePart) → eachOnce ns ≡ true → isOrdered ns ps ≡ true → inOrder ns ps ≡ ps
-unfolding inOrder eachOnce isOrdered afterNamed withPart rowOf isOneOf pick
+pub order-back : (ns : List (List ℕ)) (ps : List RulePart) → distinct ns ≡ true → isOrdered ns ps ≡ true → inOrder ns ps ≡ ps
+unfolding inOrder distinct isOrdered afterNamed withPart rowOf isOneOf pick
 order-back [] [] h o = refl
 order-back [] (p ∷ ps) h o = absurd (false≢true o)
-order-back (n ∷ ns) [] h o = order-back ns [] (pick-second (isOneOf n ns) (eachOnce ns) h .1) o
-order-back (n ∷ ns) (p ∷ ps) h o = go (same n (p .part)) refl o (pick-second (isOneOf n ns) (eachOnce ns) h) (λ l. order-back ns l)
+order-back (n ∷ ns) [] h o = order-back ns [] (pick-second (isOneOf n ns) (distinct ns) h .1) o
+order-back (n ∷ ns) (p ∷ ps) h o = go (same n (p .part)) refl o (pick-second (isOneOf n ns) (distinct ns) h) (λ l. order-back ns l)
   where
-    go : (t : Bool) → same n (p .part) ≡ t → isOrdered ns (pick t ps (p ∷ ps)) ≡ true → (isOneOf n ns ≡ false) × (eachOnce ns ≡ true) →
-        ((l : List RulePart) → eachOnce ns ≡ true → isOrdered ns l ≡ true → inOrder ns l ≡ l) →
+    go : (t : Bool) → same n (p .part) ≡ t → isOrdered ns (pick t ps (p ∷ ps)) ≡ true → (isOneOf n ns ≡ false) × (distinct ns ≡ true) →
+        ((l : List RulePart) → distinct ns ≡ true → isOrdered ns l ≡ true → inOrder ns l ≡ l) →
         withPart (pick t (some p) (partNamed n ps)) (inOrder ns (p ∷ ps)) ≡ p ∷ ps
     go true e k f ih = ap (λ (l : List RulePart). p ∷ l) (order-skip ns p ps (rw (← (same-true n (p .part) e)) (f .0)) ∙ ih ps (f .1) k)
     go false e k f ih =
@@ -85,36 +86,36 @@ unfolding isOneOf afterNamed pick
 lacks-after n [] h = refl
 lacks-after n (p ∷ ps) h = rw (or-none (same n (p .part)) (isOneOf n (map nameOf ps)) h .0)
 
-pub ordered-order : (ns : List (List ℕ)) (ps : List RulePart) → eachOnce ns ≡ true → isOrdered ns (inOrder ns ps) ≡ true
-unfolding inOrder eachOnce isOrdered afterNamed withPart pick
+pub ordered-order : (ns : List (List ℕ)) (ps : List RulePart) → distinct ns ≡ true → isOrdered ns (inOrder ns ps) ≡ true
+unfolding inOrder distinct isOrdered afterNamed withPart pick
 ordered-order [] ps h = refl
-ordered-order (n ∷ ns) ps h = go (partNamed n ps) refl (pick-second (isOneOf n ns) (eachOnce ns) h) (ordered-order ns ps)
+ordered-order (n ∷ ns) ps h = go (partNamed n ps) refl (pick-second (isOneOf n ns) (distinct ns) h) (ordered-order ns ps)
   where
-    go : (o : Option RulePart) → partNamed n ps ≡ o → (isOneOf n ns ≡ false) × (eachOnce ns ≡ true) → (eachOnce ns ≡ true → isOrdered ns (inOrder ns ps) ≡ true) →
+    go : (o : Option RulePart) → partNamed n ps ≡ o → (isOneOf n ns ≡ false) × (distinct ns ≡ true) → (distinct ns ≡ true → isOrdered ns (inOrder ns ps) ≡ true) →
         isOrdered ns (afterNamed n (withPart o (inOrder ns ps))) ≡ true
     go none e f ih = rw (lacks-after n (inOrder ns ps) (ordered-lacks n ns (inOrder ns ps) (f .0) (ih (f .1)))) (ih (f .1))
     go (some p) e f ih = rw (← (row-is nameOf n ps p e), same-self n) (ih (f .1))
 
-pub every-order : (q : RulePart → Bool) (ns : List (List ℕ)) (ps : List RulePart) → everyOf q ps ≡ true → everyOf q (inOrder ns ps) ≡ true
-unfolding inOrder withPart everyOf pick
+pub every-order : (q : RulePart → Bool) (ns : List (List ℕ)) (ps : List RulePart) → every q ps ≡ true → every q (inOrder ns ps) ≡ true
+unfolding inOrder withPart every _and_
 every-order q [] ps h = refl
 every-order q (n ∷ ns) ps h = go (partNamed n ps) refl (every-order q ns ps h)
   where
-    go : (o : Option RulePart) → partNamed n ps ≡ o → everyOf q (inOrder ns ps) ≡ true → everyOf q (withPart o (inOrder ns ps)) ≡ true
+    go : (o : Option RulePart) → partNamed n ps ≡ o → every q (inOrder ns ps) ≡ true → every q (withPart o (inOrder ns ps)) ≡ true
     go none e ih = ih
     go (some p) e ih = rw (row-all nameOf q n ps p h e) ih
 
 -- the other names: none is found after them that was not found before
-order-none : (n : List ℕ) (ns : List (List ℕ)) (ps : List RulePart) → eachOnce ns ≡ true → isOneOf n ns ≡ false → partNamed n (inOrder ns ps) ≡ none
+order-none : (n : List ℕ) (ns : List (List ℕ)) (ps : List RulePart) → distinct ns ≡ true → isOneOf n ns ≡ false → partNamed n (inOrder ns ps) ≡ none
 order-none n ns ps h o = lacks-none n (inOrder ns ps) (ordered-lacks n ns (inOrder ns ps) o (ordered-order ns ps h))
 
-pub named-order : (n : List ℕ) (ns : List (List ℕ)) (ps : List RulePart) → eachOnce ns ≡ true → isOneOf n ns ≡ true → partNamed n (inOrder ns ps) ≡ partNamed n ps
-unfolding inOrder withPart eachOnce isOneOf rowOf pick _or_
+pub named-order : (n : List ℕ) (ns : List (List ℕ)) (ps : List RulePart) → distinct ns ≡ true → isOneOf n ns ≡ true → partNamed n (inOrder ns ps) ≡ partNamed n ps
+unfolding inOrder withPart distinct isOneOf rowOf pick _or_
 named-order n [] ps h o = absurd (false≢true o)
-named-order n (m ∷ ns) ps h o = go (partNamed m ps) refl (same n m) refl o (pick-second (isOneOf m ns) (eachOnce ns) h) (named-order n ns ps)
+named-order n (m ∷ ns) ps h o = go (partNamed m ps) refl (same n m) refl o (pick-second (isOneOf m ns) (distinct ns) h) (named-order n ns ps)
   where
-    go : (r : Option RulePart) → partNamed m ps ≡ r → (t : Bool) → same n m ≡ t → (t or isOneOf n ns) ≡ true → (isOneOf m ns ≡ false) × (eachOnce ns ≡ true) →
-        (eachOnce ns ≡ true → isOneOf n ns ≡ true → partNamed n (inOrder ns ps) ≡ partNamed n ps) → partNamed n (withPart r (inOrder ns ps)) ≡ partNamed n ps
+    go : (r : Option RulePart) → partNamed m ps ≡ r → (t : Bool) → same n m ≡ t → (t or isOneOf n ns) ≡ true → (isOneOf m ns ≡ false) × (distinct ns ≡ true) →
+        (distinct ns ≡ true → isOneOf n ns ≡ true → partNamed n (inOrder ns ps) ≡ partNamed n ps) → partNamed n (withPart r (inOrder ns ps)) ≡ partNamed n ps
     go none e true s k f ih = let z : n ≡ m = same-true n m s in rw z (order-none m ns ps (f .1) (f .0) ∙ sym e)
     go none e false s k f ih = ih (f .1) k
     go (some p) e true s k f ih =

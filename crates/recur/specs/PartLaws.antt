@@ -15,11 +15,12 @@ use Rattle.octets.specs.Scan.{allOf}
 use Rattle.octets.specs.Append.{append-none}
 use Rattle.octets.specs.Class.{isCapital, upper}
 use Rattle.octets.specs.Words.{isEmpty, holds, noneHolds, onto, cutAt, joinedBy, eachAfter, cut-joined}
+use Rattle.octets.specs.Lists.{every}
 use Rattle.octets.specs.Reading.{andThen, consRead, readEach}
 use Rattle.octets.specs.Computing.{octets-compute}
 use Rattle.times.specs.Spelling.{isTimeChar}
 use Rattle.model.specs.Calendar.{ical, RuleItem, RulePart}
-use Rattle.recur.specs.Extra.{everyOf, and-left, and-right, pick-first, andThen-some, consRead-some, all-weaker, all-both, all-lacks, row-all, row-is, each-read-back, each-accepted, none-holds, all-joined}
+use Rattle.recur.specs.Extra.{and-left, and-right, and-both, andThen-some, consRead-some, all-weaker, all-both, all-lacks, row-all, row-is, each-read-back, each-accepted, none-holds, all-joined}
 use Rattle.recur.specs.Front.{upTo, past, beginsBy, upTo-front, past-front}
 use Rattle.recur.specs.Parts.{Part, partTable, partOf, isListPart}
 use Rattle.recur.specs.Item.{readItem, writeItem, isFor, isItem}
@@ -29,8 +30,8 @@ use Rattle.recur.specs.Rule.{rulePart, isEquals, itemsOf, readPart, writ
 
 -- ---- names
 
-names-capital : everyOf (λ (r : Part). allOf isCapital (r .name)) partTable ≡ true
-unfolding everyOf octets-compute
+names-capital : every (λ (r : Part). allOf isCapital (r .name)) partTable ≡ true
+unfolding every octets-compute
 names-capital = refl
 
 -- what has an item is a name in capitals
@@ -43,13 +44,13 @@ item-name n i h = go (partOf n) refl h
         rw (row-is (λ (r : Part). r .name) n partTable r e) (row-all (λ (r : Part). r .name) (λ (r : Part). allOf isCapital (r .name)) n partTable r names-capital e)
 
 part-name : (n : List ℕ) (is : List RuleItem) → isPart (rulePart n is) ≡ true → allOf isCapital n ≡ true
-unfolding _and_ everyOf
+unfolding _and_ every
 part-name n [] h = absurd (false≢true h)
 part-name n (i ∷ is) h =
-    item-name n i (pick-first (isItem n i) (everyOf (isItem n) is) (and-right (isAmount (isListPart n) (i ∷ is)) (everyOf (isItem n) (i ∷ is)) h) .0)
+    item-name n i (and-both (isItem n i) (every (isItem n) is) (and-right (isAmount (isListPart n) (i ∷ is)) (every (isItem n) (i ∷ is)) h) .0)
 
-part-items : (p : RulePart) → isPart p ≡ true → everyOf (isItem (p .part)) (p .items) ≡ true
-part-items p h = and-right (isAmount (isListPart (p .part)) (p .items)) (everyOf (isItem (p .part)) (p .items)) h
+part-items : (p : RulePart) → isPart p ≡ true → every (isItem (p .part)) (p .items) ≡ true
+part-items p h = and-right (isAmount (isListPart (p .part)) (p .items)) (every (isItem (p .part)) (p .items)) h
 
 capital-equals : (b : ℕ) → isCapital b ≡ true → isEquals b ≡ false
 capital-equals b h = ne-eqb b 61 (λ e. let g : 65 ≤ b = leb-true 65 b (and-left (leb 65 b) (leb b 90) h) in omega arith)
@@ -65,7 +66,7 @@ items-cut : (n : List ℕ) (is : List RuleItem) → isPart (rulePart n is) ≡ t
 unfolding pick _and_ joinedBy eachAfter
 items-cut n [] h = absurd (false≢true h)
 items-cut n (i ∷ is) h =
-    go (isListPart n) is (and-left (isAmount (isListPart n) (i ∷ is)) (everyOf (isItem n) (i ∷ is)) h)
+    go (isListPart n) is (and-left (isAmount (isListPart n) (i ∷ is)) (every (isItem n) (i ∷ is)) h)
     (none-holds (isItem n) (writeItem ical) 44 (item-lacks-comma n) (i ∷ is) (part-items (rulePart n (i ∷ is)) h))
   where
     go : (t : Bool) (l : List RuleItem) → isAmount t (i ∷ l) ≡ true → noneHolds 44 (map (writeItem ical) (i ∷ l)) ≡ true →
@@ -129,7 +130,7 @@ part-accepted s p h =
     let e = andThen-some (readEach (readItem ical n) (itemsOf n v)) (λ is. some (rulePart n is)) p h in
     let z : rulePart n (e .0) ≡ p = cc (e .2) in
     rw (← z)
-    (and-yes (isAmount (isListPart n) (e .0)) (everyOf (isItem n) (e .0))
+    (and-yes (isAmount (isListPart n) (e .0)) (every (isItem n) (e .0))
     (items-amount n v (e .0) (e .1))
     (each-accepted (readItem ical n) (isItem n) (item-accepted ical n) (itemsOf n v) (e .0) (e .1)))
 

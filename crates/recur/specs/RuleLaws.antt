@@ -13,30 +13,31 @@ use Rattle.octets.specs.Pick.{pick, _and_, _or_, and-yes, or-left}
 use Rattle.octets.specs.Scan.{allOf}
 use Rattle.octets.specs.Class.{isVisible}
 use Rattle.octets.specs.Words.{holds, cutAt, rowOf, cut-joined}
+use Rattle.octets.specs.Lists.{every, distinct}
 use Rattle.octets.specs.Reading.{andThen, readEach, isRead}
 use Rattle.octets.specs.Computing.{octets-compute}
 use Rattle.times.specs.Spelling.{isTimeChar, chars-visible}
 use Rattle.model.specs.Calendar.{RulePart}
-use Rattle.recur.specs.Extra.{everyOf, and-left, and-right, provided-some, andThen-some, all-weaker, all-lacks, each-read-back, each-accepted, none-holds, all-joined}
+use Rattle.recur.specs.Extra.{and-left, and-right, provided-some, andThen-some, all-weaker, all-lacks, each-read-back, each-accepted, none-holds, all-joined}
 use Rattle.recur.specs.Parts.{partNames}
-use Rattle.recur.specs.Rule.{readPart, writePart, isPart, nameOf, isComplete, eachOnce, inOrder, isOrdered, ruled, readRule, writeRule, isRule}
+use Rattle.recur.specs.Rule.{readPart, writePart, isPart, nameOf, isComplete, inOrder, isOrdered, ruled, readRule, writeRule, isRule}
 use Rattle.recur.specs.OrderLaws.{once-ordered, order-back, ordered-order, every-order, named-order}
 use Rattle.recur.specs.PartLaws.{part-read-back, part-accepted, part-characters}
 
-names-once : eachOnce partNames ≡ true
-unfolding eachOnce octets-compute
+names-once : distinct partNames ≡ true
+unfolding distinct octets-compute
 names-once = refl
 
 -- ---- what a rule is
 
 rule-ordered : (r : List RulePart) → isRule r ≡ true → isOrdered partNames r ≡ true
-rule-ordered r h = and-left (isOrdered partNames r) (isComplete r and everyOf isPart r) h
+rule-ordered r h = and-left (isOrdered partNames r) (isComplete r and every isPart r) h
 
 rule-complete : (r : List RulePart) → isRule r ≡ true → isComplete r ≡ true
-rule-complete r h = and-left (isComplete r) (everyOf isPart r) (and-right (isOrdered partNames r) (isComplete r and everyOf isPart r) h)
+rule-complete r h = and-left (isComplete r) (every isPart r) (and-right (isOrdered partNames r) (isComplete r and every isPart r) h)
 
-rule-parts : (r : List RulePart) → isRule r ≡ true → everyOf isPart r ≡ true
-rule-parts r h = and-right (isComplete r) (everyOf isPart r) (and-right (isOrdered partNames r) (isComplete r and everyOf isPart r) h)
+rule-parts : (r : List RulePart) → isRule r ≡ true → every isPart r ≡ true
+rule-parts r h = and-right (isComplete r) (every isPart r) (and-right (isOrdered partNames r) (isComplete r and every isPart r) h)
 
 -- ---- read back
 
@@ -82,12 +83,12 @@ pub rule-accepted : (s : List ℕ) (r : List RulePart) → readRule s ≡ some r
 rule-accepted s r h =
     let e = andThen-some (readEach readPart (cutAt 59 s)) ruled r h in
     let ps = e .0 in
-    let f = provided-some (eachOnce (map nameOf ps) and isComplete ps) (inOrder partNames ps) r (e .2) in
+    let f = provided-some (distinct (map nameOf ps) and isComplete ps) (inOrder partNames ps) r (e .2) in
     let q = inOrder partNames ps in
     rw (← (f .1))
-    (and-yes (isOrdered partNames q) (isComplete q and everyOf isPart q) (ordered-order partNames ps names-once)
-    (and-yes (isComplete q) (everyOf isPart q)
-    (same-complete ps ∙ and-right (eachOnce (map nameOf ps)) (isComplete ps) (f .0))
+    (and-yes (isOrdered partNames q) (isComplete q and every isPart q) (ordered-order partNames ps names-once)
+    (and-yes (isComplete q) (every isPart q)
+    (same-complete ps ∙ and-right (distinct (map nameOf ps)) (isComplete ps) (f .0))
     (every-order isPart partNames ps (each-accepted readPart isPart part-accepted (cutAt 59 s) ps (e .1)))))
 
 -- ---- visible

@@ -16,11 +16,12 @@ use Rattle.octets.specs.Scan.{allOf}
 use Rattle.octets.specs.Append.{_⊕_}
 use Rattle.octets.specs.Class.{isDigit, isCapital, isSmall, isAlpha, upper}
 use Rattle.octets.specs.Words.{isOneOf}
+use Rattle.octets.specs.Lists.{every}
 use Rattle.octets.specs.Reading.{andThen}
 use Rattle.octets.specs.Computing.{octets-compute}
 use Rattle.times.specs.Spelling.{isTimeChar}
 use Rattle.model.specs.Calendar.{Format, ical, xcal, Whole, RuleItem, weekday}
-use Rattle.recur.specs.Extra.{everyOf, and-right, pick-first, provided-some, andThen-some, all-weaker, all-both, one-of-all}
+use Rattle.recur.specs.Extra.{and-right, pick-first, provided-some, andThen-some, all-weaker, all-both, one-of-all}
 use Rattle.recur.specs.Front.{upTo, fromOn, beginsBy, upTo-front, fromOn-front}
 use Rattle.recur.specs.Parts.{weekdays}
 use Rattle.recur.specs.Item.{inCapitals, readWord, afterSign, readSigned, writeWhole, readOrdinal, writeOrdinal, isOrdinal, readWeekday, isWeekdaynum}
@@ -39,7 +40,7 @@ upper-capitals (b ∷ s) h = go (pick-first (isCapital b) (allOf isCapital s) h)
     go : (isCapital b ≡ true) × (allOf isCapital s ≡ true) → (allOf isCapital s ≡ true → upper s ≡ s) → upper (b ∷ s) ≡ b ∷ s
     go e ih = rw (capital-small b (e .0), ih (e .1))
 
-pub word-read-back : (f : Format) (ws : List (List ℕ)) (w : List ℕ) → everyOf (allOf isCapital) ws ≡ true → isOneOf w ws ≡ true → readWord f ws w ≡ some w
+pub word-read-back : (f : Format) (ws : List (List ℕ)) (w : List ℕ) → every (allOf isCapital) ws ≡ true → isOneOf w ws ≡ true → readWord f ws w ≡ some w
 unfolding pick
 word-read-back ical ws w c h = rw (upper-capitals w (one-of-all (allOf isCapital) w ws c h), h)
 word-read-back xcal ws w c h = rw h
@@ -60,12 +61,12 @@ number-alpha b h = go (isDigit b) refl h
     go true e k = below (let g : b ≤ 57 = leb-true b 57 (and-right (leb 48 b) (leb b 57) e) in omega arith)
     go false e k = below (let g : b ≡ 45 = eqb-true b 45 k in omega arith)
 
-weekdays-begin : everyOf (beginsBy isAlpha) weekdays ≡ true
-unfolding everyOf beginsBy octets-compute
+weekdays-begin : every (beginsBy isAlpha) weekdays ≡ true
+unfolding every beginsBy octets-compute
 weekdays-begin = refl
 
-weekdays-capital : everyOf (allOf isCapital) weekdays ≡ true
-unfolding everyOf octets-compute
+weekdays-capital : every (allOf isCapital) weekdays ≡ true
+unfolding every octets-compute
 weekdays-capital = refl
 
 ordinal-characters : (o : Option Whole) → allOf isNumberChar (writeOrdinal o) ≡ true
@@ -126,7 +127,7 @@ number-char b h = go (isDigit b) h
     go true k = refl
     go false k = or-right (isCapital b) (eqb b 43 or eqb b 45) (or-right (eqb b 43) (eqb b 45) k)
 
-pub word-characters : (ws : List (List ℕ)) (w : List ℕ) → everyOf (allOf isCapital) ws ≡ true → isOneOf w ws ≡ true → allOf isTimeChar w ≡ true
+pub word-characters : (ws : List (List ℕ)) (w : List ℕ) → every (allOf isCapital) ws ≡ true → isOneOf w ws ≡ true → allOf isTimeChar w ≡ true
 word-characters ws w c h = all-weaker isCapital isTimeChar capital-char w (one-of-all (allOf isCapital) w ws c h)
 
 pub number-characters : (w : Whole) → allOf isTimeChar (writeWhole w) ≡ true
