@@ -6,7 +6,8 @@ use lib.ListN.{replicate}
 use Rattle.octets.specs.Ascii.{ascii}
 use Rattle.folding.specs.Unfold.{unfolded, places, origin, crlf}
 use Rattle.folding.specs.Lines.{Line, whole, loose, lines}
-use Rattle.folding.specs.Fold.{foldedLine, foldedText}
+use Rattle.folding.specs.Fold.{foldedLine}
+use Rattle.folding.specs.Text.{foldedText}
 use Rattle.folding.specs.Computing.{folding-compute}
 
 -- a fold with a space, one with a TAB, a line's end; folds before the first line and after the last one; a letter in two parts; unfolding is not repeated

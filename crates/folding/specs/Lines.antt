@@ -108,7 +108,7 @@ after-append (x ∷ y ∷ a) b p zero l h =
   where
     go : (t : Bool) → noneLoose (lineStep t p x (linesAfter (y ∷ a) (p + 1))) ≡ true →
         ((k : ℕ) → k ≤ suc (length a) → noneLoose (linesAfter (y ∷ a) (p + 1) k) ≡ true →
-          linesAfter ((y ∷ a) ⊕ b) (p + 1) k ≡ linesAfter (y ∷ a) (p + 1) k ⊕ linesFrom (p + suc (suc (length a))) b) →
+        linesAfter ((y ∷ a) ⊕ b) (p + 1) k ≡ linesAfter (y ∷ a) (p + 1) k ⊕ linesFrom (p + suc (suc (length a))) b) →
         lineStep t p x (linesAfter ((y ∷ a) ⊕ b) (p + 1)) ≡ lineStep t p x (linesAfter (y ∷ a) (p + 1)) ⊕ linesFrom (p + suc (suc (length a))) b
     go true h ih = ap (λ (ls : List Line). whole p [] ∷ ls) (ih 1 (omega arith) h)
     go false h ih =
