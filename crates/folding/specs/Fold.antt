@@ -3,10 +3,10 @@
 --     foldedLine s     the content line s as it is written, with its CRLF
 --     unfold-folded    it unfolds to s and CRLF
 --     folded-fits      its lines have at most 75 octets;   folded-short: a short line is not folded;   fold-character: a character is not parted;   fold-line: line by line
-use mathlib.Core.Path.{_≡_, refl, sym, ap, _∙_}
+use mathlib.Core.Path.{_≡_, refl, ap, _∙_}
 use mathlib.Core.Bool.{Bool, true, false, false≢true}
 use mathlib.Core.List.{List, [], _∷_}
-use Prim.Native.Nat.{ℕ, zero, suc, _+_, _≤_, _<_}
+use Prim.Native.Nat.{ℕ, suc, _+_, _≤_, _<_}
 use native.Mathlib.Omega.{arith}
 use lib.Dec.{eqb, leb, ltb}
 use lib.ListN.{length, take, drop}
@@ -17,7 +17,7 @@ use Rattle.octets.specs.Append.{_⊕_}
 use Rattle.octets.specs.Words.{starts, holds}
 use Rattle.folding.specs.Extra.{or-false, and-true}
 use Rattle.folding.specs.Unfold.{crlf, blankAt, unfolded, unfolded-byte, unfolded-fold, unfolded-end}
-use Rattle.folding.specs.Lines.{Line, whole, loose, longer, lineStep, linesAfter, linesFrom, lines, lines-some}
+use Rattle.folding.specs.Lines.{Line, whole, loose, longer, lineStep, linesAfter, linesFrom, lines-some}
 
 abbrev pub longest : ℕ
 longest = 75
@@ -54,9 +54,9 @@ unfoldable pub taken : ℕ → List ℕ → ℕ
 taken c [] = 0
 taken c (b ∷ s) = pick (isOver c b) 0 (suc (taken (c + 1) s))
 
-unfoldable pub goOn : List ℕ → List ℕ
-goOn [] = crlf
-goOn (b ∷ s) = 13 ∷ 10 ∷ 32 ∷ foldFrom 1 (b ∷ s)
+unfoldable pub continued : List ℕ → List ℕ
+continued [] = crlf
+continued (b ∷ s) = 13 ∷ 10 ∷ 32 ∷ foldFrom 1 (b ∷ s)
 
 -- every octet that begins a character has the other octets of that character after it
 unfoldable pub inFull : List ℕ → Bool
@@ -194,13 +194,13 @@ fold-character b t r c w h =
     ap (λ (l : List ℕ). breakBefore c b ⊕ (b ∷ l)) (fold-tail t r (columnAt c b + 1) h (omega arith) ∙ ap (λ (n : ℕ). t ⊕ foldFrom n r) (omega arith))
 
 -- line by line
-pub fold-line : (s : List ℕ) (c : ℕ) → foldFrom c s ≡ take (taken c s) s ⊕ goOn (drop (taken c s) s)
-unfolding foldFrom taken goOn pick _⊕_
+pub fold-line : (s : List ℕ) (c : ℕ) → foldFrom c s ≡ take (taken c s) s ⊕ continued (drop (taken c s) s)
+unfolding foldFrom taken continued pick _⊕_
 fold-line [] c = refl
 fold-line (b ∷ s) c = go (isOver c b) (fold-line s (c + 1))
   where
-    go : (t : Bool) → foldFrom (c + 1) s ≡ take (taken (c + 1) s) s ⊕ goOn (drop (taken (c + 1) s) s) →
+    go : (t : Bool) → foldFrom (c + 1) s ≡ take (taken (c + 1) s) s ⊕ continued (drop (taken (c + 1) s) s) →
         pick t (13 ∷ 10 ∷ 32 ∷ []) [] ⊕ (b ∷ foldFrom (pick t 1 c + 1) s) ≡
-        take (pick t 0 (suc (taken (c + 1) s))) (b ∷ s) ⊕ goOn (drop (pick t 0 (suc (taken (c + 1) s))) (b ∷ s))
+        take (pick t 0 (suc (taken (c + 1) s))) (b ∷ s) ⊕ continued (drop (pick t 0 (suc (taken (c + 1) s))) (b ∷ s))
     go true ih = rw (not-over 1 b (omega arith))
     go false ih = ap (λ (l : List ℕ). b ∷ l) ih

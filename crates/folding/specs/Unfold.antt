@@ -15,7 +15,7 @@ use lib.ListN.{length, getD, List·getD-eq-default}
 use Rattle.octets.specs.Pick.{_and_, _or_}
 use Rattle.octets.specs.Append.{_⊕_}
 use Rattle.octets.specs.Words.{starts}
-use Rattle.folding.specs.Extra.{or-false, and-true}
+use Rattle.folding.specs.Extra.{or-false}
 
 -- CRLF = %x0D %x0A
 abbrev pub crlf : List ℕ

@@ -100,6 +100,21 @@ shifted (a ∷ s) zero i j h = go (isSequence a s) h (shifted s (more a) (i + 1)
     go true h ih = ih h
     go false h ih = absurd (let z : _≡_ {A = ℕ} 0 1 = cc in omega arith)
 
+-- what is found lies in the list
+bad-within : (s : List ℕ) (k i j : ℕ) → badFrom k i s ≡ some j → (i ≤ j) × (j < i + length s)
+unfolding badFrom pick
+bad-within [] k i j h = absurd (let z : _≡_ {A = ℕ} 0 1 = cc in omega arith)
+bad-within (b ∷ s) (suc k) i j h = let e = bad-within s k (i + 1) j h in (omega arith, omega arith)
+bad-within (a ∷ s) zero i j h = go (isSequence a s) h (bad-within s (more a) (i + 1) j)
+  where
+    go : (t : Bool) → pick t (badFrom (more a) (i + 1) s) (some i) ≡ some j → (badFrom (more a) (i + 1) s ≡ some j → (i + 1 ≤ j) × (j < i + 1 + length s)) →
+        (i ≤ j) × (j < i + suc (length s))
+    go true h ih = let e = ih h in (omega arith, omega arith)
+    go false h ih = let e : i ≡ j = cc in (omega arith, omega arith)
+
+pub bad-inside : (s : List ℕ) (j : ℕ) → firstBad s ≡ some j → j < length s
+bad-inside s j h = let e = bad-within s 0 0 j h in omega arith
+
 -- tail bytes that are there are there whatever follows
 tails-append : (a b : List ℕ) (n lo hi : ℕ) (l : Bool) → tails n lo hi l a ≡ true → (n ≤ length a) × (tails n lo hi l (a ⊕ b) ≡ true)
 unfolding tails _⊕_ _and_
