@@ -22,6 +22,7 @@ use Rattle.octets.specs.Class.{isAlpha, isNameChar, isSpace}
 use Rattle.octets.specs.Words.{starts, holds}
 use Rattle.octets.specs.Reading.{andThen}
 use Rattle.utf8.specs.Spell.{spell}
+use Rattle.xml.specs.Extra.{and-left, and-right, span-word}
 use Rattle.xml.specs.Pieces.{from, first, exactly, S?, Name, nameOf, both, _then_}
 use Rattle.xml.specs.Token.{Token, STag, ETag, CharByte, Reference, Fault, startBy, endBy, tag, reference, literalByte, token}
 use Rattle.xml.specs.Marks.{Mark, opens, closes, char, refers, marksBy, scan, marks}
@@ -40,25 +41,6 @@ scan-skip [] r p = ap (λ (q : ℕ). scan r q 0) (omega arith)
 scan-skip (x ∷ a) r p = scan-skip a r (p + 1) ∙ ap (λ (q : ℕ). scan r q 0) (omega arith)
 
 -- ---- tags
-
-span-word : (p : ℕ → Bool) (w : List ℕ) (x : ℕ) (r : List ℕ) → allOf p w ≡ true → p x ≡ false → spanLen p (w ++ (x ∷ r)) ≡ length w
-unfolding spanLen allOf pick
-span-word p [] x r h e = rw e
-span-word p (b ∷ w) x r h e = go (p b) refl h (λ k. span-word p w x r k e)
-  where
-    go : (t : Bool) → p b ≡ t → pick t (allOf p w) false ≡ true → (allOf p w ≡ true → spanLen p (w ++ (x ∷ r)) ≡ length w) → pick (p b) (suc (spanLen p (w ++ (x ∷ r)))) 0 ≡ suc (length w)
-    go true q k ih = rw q (ap suc (ih k))
-    go false q k ih = absurd (false≢true k)
-
-and-left : (a b : Bool) → (a and b) ≡ true → a ≡ true
-unfolding _and_
-and-left true b h = refl
-and-left false b h = h
-
-and-right : (a b : Bool) → (a and b) ≡ true → b ≡ true
-unfolding _and_
-and-right true b h = h
-and-right false b h = absurd (false≢true h)
 
 -- a name is followed by `>`
 module _ (a : ℕ) (w r : List ℕ) (h : isName (a ∷ w) ≡ true) where
