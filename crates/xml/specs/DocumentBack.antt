@@ -1,28 +1,27 @@
--- A document that is written is within the profile and is read back.
+-- A document that is written is within the profile and is read back (the rules, "Canonical XML", "XML profile for reading").
 --     document-marks        its marks
 --     document-read-back    its nodes: the root, with the content
 --     document-well-formed  it is within the profile, where at most 15 elements stand inside one another below the root
-use mathlib.Core.Path.{_≡_, refl, sym, ap, _∙_}
-use mathlib.Core.Bool.{Bool, true, false, not, false≢true}
+use mathlib.Core.Path.{_≡_, refl, ap, _∙_}
+use mathlib.Core.Bool.{Bool, true, false, false≢true}
 use mathlib.Core.List.{List, [], _∷_, _++_}
 use Prim.Native.Nat.{ℕ, zero, suc, _+_, _≤_, _<_}
 use native.Mathlib.Omega.{arith}
-use lib.Dec.{eqb, ltb}
 use lib.ListN.{length}
 use borrow.Author.Tests.{lt-ltb}
 use Rattle.octets.specs.Ascii.{ascii}
 use Rattle.octets.specs.Pick.{pick, _and_, _or_}
 use Rattle.octets.specs.Append.{_⊕_}
-use Rattle.octets.specs.Words.{same, same-self, isEmpty}
-use Rattle.model.specs.Refusal.{XML, Verdict, fine, refuse}
+use Rattle.octets.specs.Words.{same, same-self}
+use Rattle.model.specs.Refusal.{fine}
 use Rattle.xml.specs.Extra.{and-left, and-right}
 use Rattle.xml.specs.Marks.{Mark, opens, closes, char, refers, marks, documentMarks}
 use Rattle.xml.specs.WellFormed.{hasRoom, closesTop, move, followed, check, xmlVerdict}
-use Rattle.xml.specs.Nodes.{Nodes, noNodes, element, endPlaceBy, endPlace, nodesBy, nodes, rootBy, rootNode, documentNodes}
-use Rattle.xml.specs.Escape.{escapedByte, escaped, startTag, endTag, documentOf}
-use Rattle.xml.specs.Reads.{isName, isEscaped, characterMarks, Follows, marks-end}
+use Rattle.xml.specs.Nodes.{noNodes, element, endPlaceBy, endPlace, nodesBy, nodes, rootBy, rootNode, documentNodes}
+use Rattle.xml.specs.Escape.{escapedByte, escaped, endTag, documentOf}
+use Rattle.xml.specs.Reads.{isName, isEscaped, characterMarks, marks-end, follows-end}
 use Rattle.xml.specs.Content.{Content, nothing, child, characters, written, isWritable, innerPlace, endTagPlace, nextPlace, placed, contentMarks}
-use Rattle.xml.specs.ReadBack.{content-marks, content-end, content-placed, follows-end, element-marks, characters-marks, no-marks}
+use Rattle.xml.specs.ReadBack.{content-marks, content-end, content-placed, element-marks, characters-marks, no-marks}
 use Rattle.xml.specs.Computing.{xml-compute}
 
 -- the root's start tag stands after the declaration, which takes 39 bytes, and takes 56 bytes

@@ -1,28 +1,23 @@
--- Content that is written is read back: as marks, as nodes, as a whole document, which is well formed.
---     content-marks        the marks of written content, at any place, before anything that may follow
---     content-nodes        its nodes
---     characters-read-back, no-element-read: character data before an end tag is read as those characters, and no element
---     document-read-back   the nodes of a document that is written
---     document-well-formed such a document is within the profile, with at most 15 elements inside one another below the root
+-- Content that is written is read back, as marks and as nodes (the rules, "Canonical XML", "XML profile for reading").
+--     content-marks         the marks of written content, at any place, before anything that may follow
+--     content-nodes         its nodes, before an end tag
+--     characters-of         the bytes of the nodes of character data are that data;   no-element: none of them is an element
+--     characters-read-back, no-element-read: the same of what is written, before an end tag
 use mathlib.Core.Path.{_≡_, refl, sym, ap, _∙_}
 use mathlib.Core.Bool.{Bool, true, false, not, false≢true}
 use mathlib.Core.List.{List, [], _∷_, _++_, append-assoc}
-use Prim.Native.Nat.{ℕ, zero, suc, _+_, _≤_, _<_}
+use Prim.Native.Nat.{ℕ, zero, suc, _+_}
 use native.Mathlib.Omega.{arith}
-use lib.Dec.{eqb, ltb}
-use lib.ListN.{length, length-append}
-use borrow.Author.Tests.{lt-ltb, not-true}
-use Rattle.octets.specs.Ascii.{ascii}
-use Rattle.octets.specs.Pick.{pick, _and_, _or_}
-use Rattle.octets.specs.Append.{_⊕_, append-is, append-empty, append-regroup, append-none, length-both}
-use Rattle.octets.specs.Words.{same, same-self, holds, isEmpty}
-use Rattle.model.specs.Refusal.{XML, Verdict, fine, refuse}
+use lib.ListN.{length}
+use borrow.Author.Tests.{not-true}
+use Rattle.octets.specs.Pick.{pick, _and_}
+use Rattle.octets.specs.Append.{_⊕_, append-empty, append-regroup, append-none, length-both}
+use Rattle.octets.specs.Words.{holds}
 use Rattle.xml.specs.Extra.{and-left, and-right}
-use Rattle.xml.specs.Marks.{Mark, opens, closes, char, refers, marks, documentMarks}
-use Rattle.xml.specs.WellFormed.{hasRoom, closesTop, move, followed, check, xmlVerdict}
-use Rattle.xml.specs.Nodes.{Nodes, noNodes, element, literal, referred, endPlaceBy, endPlace, nodesBy, nodes, rootBy, rootNode, documentNodes, charactersOf, hasElement}
-use Rattle.xml.specs.Escape.{escapedByte, escaped, startTag, endTag, elementOf, documentOf}
-use Rattle.xml.specs.Reads.{isName, isEscaped, characterMark, characterMarks, Follows, follows-characters, follows-tag, marks-start, marks-end, marks-characters}
+use Rattle.xml.specs.Marks.{Mark, opens, closes, char, refers, marks}
+use Rattle.xml.specs.Nodes.{Nodes, noNodes, element, literal, referred, endPlaceBy, endPlace, nodesBy, nodes, charactersOf, hasElement}
+use Rattle.xml.specs.Escape.{escapedByte, escaped, startTag, endTag, elementOf}
+use Rattle.xml.specs.Reads.{isName, isEscaped, characterMarks, Follows, follows-characters, follows-tag, follows-end, marks-start, marks-end, marks-characters, characters-then-end}
 use Rattle.xml.specs.Content.{Content, nothing, child, characters, written, isWritable, innerPlace, endTagPlace, nextPlace, characterNodes, placed, contentMarks}
 
 follows-content : (c : Content) (r : List ℕ) → Follows r → Follows (written c ⊕ r)
@@ -41,10 +36,6 @@ element-length nm s t p = omega (arith, length-both (elementOf nm s) t, length-b
 marks-regroup : (o e : Mark) (a b m : List Mark) → o ∷ (a ⊕ (e ∷ (b ⊕ m))) ≡ (o ∷ (a ⊕ (e ∷ b))) ⊕ m
 unfolding _⊕_
 marks-regroup o e a b m = ap (λ (l : List Mark). o ∷ l) (sym (append-assoc a (e ∷ b) m))
-
-pub follows-end : (nm r : List ℕ) → Follows (endTag nm ⊕ r)
-unfolding _⊕_
-follows-end nm r = follows-tag _
 
 pub content-marks : (c : Content) (d : ℕ) (r : List ℕ) (p : ℕ) → isWritable c d ≡ true → Follows r →
     marks p (written c ⊕ r) ≡ contentMarks c p ⊕ marks (p + length (written c)) r
@@ -207,10 +198,7 @@ no-element (b ∷ s) p n = go (isEscaped b) (no-element s (p + length (escapedBy
 -- character data before an end tag
 characters-before-end : (s nm r : List ℕ) (p : ℕ) → holds 13 s ≡ false → isName nm ≡ true → nodes (marks p (escaped s ⊕ (endTag nm ⊕ r))) 0 ≡ characterNodes s p noNodes
 unfolding nodes nodesBy
-characters-before-end s nm r p h k =
-    ap (λ (l : List Mark). nodes l 0) (marks-characters s (endTag nm ⊕ r) p h (follows-end nm r))
-    ∙ characters-nodes s p _
-    ∙ ap (λ (l : List Mark). characterNodes s p (nodes l 0)) (marks-end nm r (p + length (escaped s)) k)
+characters-before-end s nm r p h k = ap (λ (l : List Mark). nodes l 0) (characters-then-end s nm r p h k) ∙ characters-nodes s p _
 
 pub characters-read-back : (s nm r : List ℕ) (p : ℕ) → holds 13 s ≡ false → isName nm ≡ true → charactersOf (nodes (marks p (escaped s ⊕ (endTag nm ⊕ r))) 0) ≡ s
 unfolding charactersOf

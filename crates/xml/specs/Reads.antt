@@ -2,23 +2,23 @@
 --     isName            the names that can be written
 --     marks-start       a start tag is read as its element opening
 --     marks-end         an end tag is read as its element closing
---     marks-characters  character data without CR is read as its characters
+--     marks-characters  character data without CR is read as its characters;   characters-then-end: with an end tag after it
 use mathlib.Core.Path.{_≡_, refl, sym, ap, _∙_}
 use mathlib.Core.Bool.{Bool, true, false, false≢true}
 use mathlib.Core.List.{List, [], _∷_, _++_, append-assoc}
-use mathlib.Core.Option.{Option, none, some}
-use Prim.Native.Nat.{ℕ, zero, suc, _+_, _≤_, _<_}
+use mathlib.Core.Option.{none, some}
+use Prim.Native.Nat.{ℕ, suc, _+_}
 use native.Mathlib.Nat.{add-zero}
 use native.Mathlib.Omega.{arith}
-use lib.Dec.{eqb, leb}
-use lib.ListN.{length, take, drop, length-append}
+use lib.Dec.{eqb}
+use lib.ListN.{length, length-append}
 use lib.Seq.{take-append-seam, drop-append-seam}
-use borrow.Author.Tests.{eq-eqb, ne-eqb, eqb-true, eqb-false}
+use borrow.Author.Tests.{ne-eqb, eqb-true, eqb-false}
 use Rattle.octets.specs.Ascii.{ascii}
 use Rattle.octets.specs.Pick.{pick, _and_, _or_}
 use Rattle.octets.specs.Scan.{spanLen, allOf}
-use Rattle.octets.specs.Append.{_⊕_, append-is, append-regroup, length-both}
-use Rattle.octets.specs.Class.{isAlpha, isNameChar, isSpace}
+use Rattle.octets.specs.Append.{_⊕_}
+use Rattle.octets.specs.Class.{isAlpha, isNameChar}
 use Rattle.octets.specs.Words.{starts, holds}
 use Rattle.octets.specs.Reading.{andThen}
 use Rattle.utf8.specs.Spell.{spell}
@@ -199,6 +199,10 @@ pub follows-tag : (r : List ℕ) → Follows (60 ∷ r)
 unfolding starts _and_
 follows-tag r = record { no-greater = refl; no-bracket = refl }
 
+pub follows-end : (nm r : List ℕ) → Follows (endTag nm ⊕ r)
+unfolding _⊕_
+follows-end nm r = follows-tag _
+
 pub marks-characters : (s r : List ℕ) (p : ℕ) → holds 13 s ≡ false → Follows r → marks p (escaped s ⊕ r) ≡ characterMarks s p ⊕ marks (p + length (escaped s)) r
 unfolding escaped characterMarks _⊕_ holds _or_
 marks-characters [] r p h f = ap (λ (q : ℕ). marks q r) (omega arith)
@@ -213,3 +217,9 @@ marks-characters (b ∷ s) r p h f = go (eqb 13 b) refl h (marks-characters s r 
         ∙ character-read (escaped s ++ r) p b (ne-eqb b 13 (λ q. eqb-false 13 b e (sym q))) (follows-characters s r f .no-bracket)
         ∙ ap (λ (ms : List Mark). characterMark p b ∷ ms)
         (ih k f ∙ ap (λ (q : ℕ). characterMarks s (p + length (escapedByte b)) ++ marks q r) (omega (arith, length-append (escapedByte b) (escaped s))))
+
+pub characters-then-end : (s nm r : List ℕ) (p : ℕ) → holds 13 s ≡ false → isName nm ≡ true →
+    marks p (escaped s ⊕ (endTag nm ⊕ r)) ≡ characterMarks s p ⊕ (closes (p + length (escaped s)) nm ∷ marks (p + length (escaped s) + length (endTag nm)) r)
+characters-then-end s nm r p h k =
+    marks-characters s (endTag nm ⊕ r) p h (follows-end nm r)
+    ∙ ap (λ (ms : List Mark). characterMarks s p ⊕ ms) (marks-end nm r (p + length (escaped s)) k)
