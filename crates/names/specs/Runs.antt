@@ -2,16 +2,16 @@
 --     NameEnds m s c r     the contract of `name_end`: the run at the cursor c ends at the cursor r. The run is octets' `spanLen` of the bytes from c on
 --     name-cut             the run, cut out of the slice
 --     Comparing, Copying   the invariants of the loops that compare and write a word, with their rules
-use mathlib.Core.Path.{_≡_, refl, sym, ap, _∙_}
+use mathlib.Core.Path.{_≡_, refl, sym, _∙_}
 use mathlib.Core.Bool.{Bool, true, false}
-use mathlib.Core.List.{List, [], _∷_, _++_}
-use Prim.Native.Nat.{ℕ, zero, suc, _+_, _-_, _*_, _/_, _^_, max, _≤_, _<_}
+use mathlib.Core.List.{List, [], _∷_}
+use Prim.Native.Nat.{ℕ, _+_, _-_, _*_, _^_, max, _≤_, _<_}
 use native.Mathlib.Omega.{arith}
 use lib.Dec.{eqb}
 use lib.ListN.{length, take, drop, getD, take-append-drop, drop-of-length-le}
 use borrow.Author.Needs.{needs}
-use borrow.Author.Tests.{eqb-true, ne-eqb, eq-eqb}
-use Rattle.octets.specs.Pick.{pick, _and_, _or_, within, flag-yes, flag-no}
+use borrow.Author.Tests.{ne-eqb, eq-eqb}
+use Rattle.octets.specs.Pick.{pick, _and_, _or_, flag-yes, flag-no}
 use Rattle.octets.specs.Append.{_⊕_}
 use Rattle.octets.specs.Scan.{spanLen, drop-next}
 use Rattle.octets.specs.Class.{isNameChar}
@@ -20,7 +20,7 @@ use Rattle.sink.specs.Sink.{Put, Todo, todo-all, todo-step, todo-done, put-leng
 use Rattle.source.specs.Source.{rest, spell, Reads}
 use Rattle.source.specs.Facts.{rest-byte, rest-end, cut-is}
 use Rattle.source.specs.declared.Step.{Step}
-use Rattle.names.specs.Case.{cased, casedByte, cased-none, cased-more, same-step, same-empty, empty-unit}
+use Rattle.names.specs.Case.{cased, casedByte, cased-none, cased-more, same-step, same-empty}
 use Rattle.names.specs.declared.Case.{Case}
 
 -- ---- the characters of a name
