@@ -4,7 +4,9 @@
 --     Scan     loops over a list from its front
 --     Append   one list after another, shut
 --     Class    classes of bytes, letter case
+--     Letters  laws of letter case
 --     Words    byte lists compared, counted, looked up, cut at a separator and joined
+--     Runs     a run of bytes at the front of a list, a byte at the front
 --     Lists    lists of anything, tested
 --     Decimal  decimal digits and what they are worth
 --     Reading  readings that may fail, of one thing and of each of a list
@@ -15,7 +17,9 @@ pub mod Pick
 pub mod Scan
 pub mod Append
 pub mod Class
+pub mod Letters
 pub mod Words
+pub mod Runs
 pub mod Lists
 pub mod Decimal
 pub mod Reading

@@ -3,10 +3,13 @@
 --     andThen      a reading that goes on with what another one read
 --     readEach     each of a list read, or none
 --     isRead       whether it was read
-use mathlib.Core.Path.{_≡_, refl, ap}
+--     provided-some, andThen-some    what was read, was read from something;   none-some: nothing is not something
+use mathlib.Core.Path.{_≡_, refl}
 use mathlib.Core.Bool.{Bool, true, false}
 use mathlib.Core.List.{List, [], _∷_}
 use mathlib.Core.Option.{Option, none, some}
+use Prim.Native.Nat.{ℕ}
+use native.Mathlib.Omega.{arith}
 use Rattle.octets.specs.Pick.{pick}
 
 module _ {A : Type 0} where
@@ -33,3 +36,19 @@ module _ {A : Type 0} where
 unfoldable pub readEach : {A B : Type 0} → (A → Option B) → List A → Option (List B)
 readEach f [] = some []
 readEach f (a ∷ l) = andThen (f a) (λ b. consRead b (readEach f l))
+
+-- ---- laws
+
+pub none-some : {A X : Type 0} {a : A} → none ≡ some a → X
+none-some e = let z : _≡_ {A = ℕ} 0 1 = cc in absurd (omega arith)
+
+module _ {A : Type 0} where
+  pub provided-some : (t : Bool) (a v : A) → provided t a ≡ some v → (t ≡ true) × (a ≡ v)
+  unfolding pick
+  provided-some true a v h = (refl, cc)
+  provided-some false a v h = none-some h
+
+  pub andThen-some : {B : Type 0} (o : Option A) (f : A → Option B) (v : B) → andThen o f ≡ some v → (a : A) × (o ≡ some a) × (f a ≡ some v)
+  unfolding andThen
+  andThen-some none f v h = none-some h
+  andThen-some (some a) f v h = (a, refl, h)
