@@ -3,7 +3,7 @@
 --     linesFrom p s    the same, where s starts at index p
 --     lines-whole      what stands before the first CRLF is a line;   lines-loose: what holds none
 --     lines-append     of two texts, where the first has no loose line;   lines-ended: it has none if it ends with CRLF
-use mathlib.Core.Path.{_≡_, refl, sym, ap, _∙_}
+use mathlib.Core.Path.{_≡_, refl, ap, _∙_}
 use mathlib.Core.Bool.{Bool, true, false, false≢true}
 use mathlib.Core.List.{List, [], _∷_, map}
 use Prim.Native.Nat.{ℕ, zero, suc, _+_, _≤_, _<_}
@@ -159,6 +159,9 @@ after-ended (x ∷ a) p (suc k) l = after-ended a (p + 1) k (omega arith)
 
 pub lines-ended : (a : List ℕ) (p : ℕ) → noneLoose (linesFrom p (a ⊕ crlf)) ≡ true
 lines-ended a p = after-ended a p 0 (omega arith)
+
+pub lines-append-ended : (a b : List ℕ) (p : ℕ) → linesFrom p ((a ⊕ crlf) ⊕ b) ≡ linesFrom p (a ⊕ crlf) ⊕ linesFrom (p + length (a ⊕ crlf)) b
+lines-append-ended a b p = lines-append (a ⊕ crlf) b p (lines-ended a p)
 
 -- where a text starts only moves its lines
 longer-moved : (n p a : ℕ) (ls : List Line) → longer (p + n) a (map (moved n) ls) ≡ map (moved n) (longer p a ls)

@@ -15,7 +15,7 @@ use lib.ListN.{length, getD, List·getD-eq-default}
 use Rattle.octets.specs.Pick.{_and_, _or_}
 use Rattle.octets.specs.Append.{_⊕_}
 use Rattle.octets.specs.Words.{starts}
-use Rattle.folding.specs.Extra.{or-false, and-true}
+use Rattle.folding.specs.Extra.{or-false}
 
 -- CRLF = %x0D %x0A
 abbrev pub crlf : List ℕ
@@ -60,6 +60,19 @@ unfoldable pub origin : List ℕ → ℕ → ℕ
 origin s w = getD (places s) w (length s)
 
 -- ---- laws
+
+-- the front of a text: a byte that is no CR, a fold, the end of a line
+pub unfolded-byte : (b : ℕ) (s : List ℕ) → eqb 13 b ≡ false → unfolded (b ∷ s) ≡ b ∷ unfolded s
+unfolding keptFrom keep foldAt starts _and_ _or_
+unfolded-byte b s h = rw h
+
+pub unfolded-fold : (s : List ℕ) → unfolded (13 ∷ 10 ∷ 32 ∷ s) ≡ unfolded s
+unfolding keptFrom keep foldAt starts _and_ _or_
+unfolded-fold s = refl
+
+pub unfolded-end : (s : List ℕ) → blankAt s ≡ false → unfolded (13 ∷ 10 ∷ s) ≡ 13 ∷ 10 ∷ unfolded s
+unfolding keptFrom keep foldAt blankAt starts _and_ _or_
+unfolded-end s h = rw h
 
 -- there are as many places as kept bytes, and no more than bytes
 places-length : (s : List ℕ) (p k : ℕ) → length (placesFrom s p k) ≡ length (keptFrom s k)

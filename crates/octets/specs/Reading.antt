@@ -3,7 +3,8 @@
 --     andThen      a reading that goes on with what another one read
 --     readEach     each of a list read, or none
 --     isRead       whether it was read
---     provided-some, andThen-some    what was read, was read from something;   none-some: nothing is not something
+--     orNothing    what was read, written
+--     provided-some, andThen-some, consRead-some    what was read, was read from something;   none-some: nothing is not something
 use mathlib.Core.Path.{_≡_, refl}
 use mathlib.Core.Bool.{Bool, true, false}
 use mathlib.Core.List.{List, [], _∷_}
@@ -27,6 +28,11 @@ module _ {A : Type 0} where
   unfoldable pub readOr : A → Option A → A
   readOr d none = d
   readOr d (some a) = a
+
+  -- what was read, written; nothing where nothing was read
+  abbrev pub orNothing : (A → List ℕ) → Option A → List ℕ
+  orNothing f none = []
+  orNothing f (some a) = f a
 
   -- one more in front of what was read
   unfoldable pub consRead : A → Option (List A) → Option (List A)

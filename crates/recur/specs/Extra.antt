@@ -1,12 +1,13 @@
 -- What this crate wants of lists, tests and readings in general.
---     everyOf                        whether each of a list passes a test
---     and-left, and-right            both of joined tests hold
---     provided-some, andThen-some    what was read, was read from something
---     all-weaker, all-both, all-lacks   bytes of a class
---     one-of-all, row-all, row-is    a word of a list, a row of a table
+--     and-left, and-right, and-both, or-none, pick-first, pick-second    what joined tests say of each
+--     provided-some, andThen-some, consRead-some    a reading that succeeded
+--     all-weaker, all-both, all-lacks          bytes of a class
+--     one-of-all, row-all, row-is              a word of a list, a row of a table
+--     each-read-back, each-accepted            each of a list, read and written
+--     none-holds, all-joined                   what is written of each of a list, joined
 use mathlib.Core.Path.{_≡_, refl, sym, ap, _∙_}
 use mathlib.Core.Bool.{Bool, true, false, false≢true}
-use mathlib.Core.List.{List, [], _∷_}
+use mathlib.Core.List.{List, [], _∷_, map}
 use mathlib.Core.Option.{Option, none, some}
 use Prim.Native.Nat.{ℕ}
 use lib.Dec.{eqb}
@@ -15,12 +16,9 @@ use native.Mathlib.Omega.{arith}
 use Rattle.octets.specs.Pick.{pick, _and_, _or_}
 use Rattle.octets.specs.Scan.{allOf}
 use Rattle.octets.specs.Append.{_⊕_}
-use Rattle.octets.specs.Words.{same, same-true, isOneOf, holds, rowOf}
-use Rattle.octets.specs.Reading.{provided, andThen}
-
-unfoldable pub everyOf : {A : Type 0} → (A → Bool) → List A → Bool
-everyOf p [] = true
-everyOf p (x ∷ l) = pick (p x) (everyOf p l) false
+use Rattle.octets.specs.Words.{same, same-true, isOneOf, holds, noneHolds, eachAfter, joinedBy, rowOf}
+use Rattle.octets.specs.Lists.{every}
+use Rattle.octets.specs.Reading.{provided, andThen, consRead, readEach}
 
 -- ---- tests
 
@@ -33,6 +31,9 @@ pub and-right : (a b : Bool) → (a and b) ≡ true → b ≡ true
 unfolding _and_
 and-right true b h = h
 and-right false b h = absurd (false≢true h)
+
+pub and-both : (a b : Bool) → (a and b) ≡ true → (a ≡ true) × (b ≡ true)
+and-both a b h = (and-left a b h, and-right a b h)
 
 pub or-none : (a b : Bool) → (a or b) ≡ false → (a ≡ false) × (b ≡ false)
 unfolding _or_
@@ -62,6 +63,11 @@ module _ {A : Type 0} where
   unfolding andThen
   andThen-some none f v h = let z : _≡_ {A = ℕ} 0 1 = cc in absurd (omega arith)
   andThen-some (some a) f v h = (a, refl, h)
+
+  pub consRead-some : (a : A) (o : Option (List A)) (v : List A) → consRead a o ≡ some v → (l : List A) × (o ≡ some l) × (a ∷ l ≡ v)
+  unfolding consRead
+  consRead-some a none v h = let z : _≡_ {A = ℕ} 0 1 = cc in absurd (omega arith)
+  consRead-some a (some l) v h = (l, refl, cc)
 
 -- ---- bytes of a class
 
@@ -93,25 +99,25 @@ all-lacks p c n (x ∷ s) h = go (eqb c x) refl (pick-first (p x) (allOf p s) h)
 
 -- ---- a word of a list, a row of a table
 
-pub one-of-all : (q : List ℕ → Bool) (w : List ℕ) (ws : List (List ℕ)) → everyOf q ws ≡ true → isOneOf w ws ≡ true → q w ≡ true
-unfolding everyOf isOneOf _or_
+pub one-of-all : (q : List ℕ → Bool) (w : List ℕ) (ws : List (List ℕ)) → every q ws ≡ true → isOneOf w ws ≡ true → q w ≡ true
+unfolding every isOneOf _or_
 one-of-all q w [] h o = absurd (false≢true o)
-one-of-all q w (x ∷ ws) h o = go (same w x) refl (pick-first (q x) (everyOf q ws) h) o (one-of-all q w ws)
+one-of-all q w (x ∷ ws) h o = go (same w x) refl (and-both (q x) (every q ws) h) o (one-of-all q w ws)
   where
-    go : (t : Bool) → same w x ≡ t → (q x ≡ true) × (everyOf q ws ≡ true) → (t or isOneOf w ws) ≡ true →
-        (everyOf q ws ≡ true → isOneOf w ws ≡ true → q w ≡ true) → q w ≡ true
+    go : (t : Bool) → same w x ≡ t → (q x ≡ true) × (every q ws ≡ true) → (t or isOneOf w ws) ≡ true →
+        (every q ws ≡ true → isOneOf w ws ≡ true → q w ≡ true) → q w ≡ true
     go true e f k ih = ap q (same-true w x e) ∙ f .0
     go false e f k ih = ih (f .1) k
 
 module _ {A : Type 0} (name : A → List ℕ) where
   -- what holds of every row holds of the row that is found
-  pub row-all : (q : A → Bool) (n : List ℕ) (rows : List A) (r : A) → everyOf q rows ≡ true → rowOf name n rows ≡ some r → q r ≡ true
-  unfolding everyOf rowOf pick
+  pub row-all : (q : A → Bool) (n : List ℕ) (rows : List A) (r : A) → every q rows ≡ true → rowOf name n rows ≡ some r → q r ≡ true
+  unfolding every rowOf pick
   row-all q n [] r h e = let z : _≡_ {A = ℕ} 0 1 = cc in absurd (omega arith)
-  row-all q n (x ∷ rows) r h e = go (same n (name x)) (pick-first (q x) (everyOf q rows) h) e (row-all q n rows r)
+  row-all q n (x ∷ rows) r h e = go (same n (name x)) (and-both (q x) (every q rows) h) e (row-all q n rows r)
     where
-      go : (t : Bool) → (q x ≡ true) × (everyOf q rows ≡ true) → pick t (some x) (rowOf name n rows) ≡ some r →
-          (everyOf q rows ≡ true → rowOf name n rows ≡ some r → q r ≡ true) → q r ≡ true
+      go : (t : Bool) → (q x ≡ true) × (every q rows ≡ true) → pick t (some x) (rowOf name n rows) ≡ some r →
+          (every q rows ≡ true → rowOf name n rows ≡ some r → q r ≡ true) → q r ≡ true
       go true f k ih = let z : x ≡ r = cc in ap q (sym z) ∙ f .0
       go false f k ih = ih (f .1) k
 
@@ -124,3 +130,40 @@ module _ {A : Type 0} (name : A → List ℕ) where
       go : (t : Bool) → same n (name x) ≡ t → pick t (some x) (rowOf name n rows) ≡ some r → (rowOf name n rows ≡ some r → n ≡ name r) → n ≡ name r
       go true f k ih = let z : x ≡ r = cc in same-true n (name x) f ∙ ap name z
       go false f k ih = ih k
+
+-- ---- each of a list, read and written
+
+module _ {A : Type 0} (reading : List ℕ → Option A) (q : A → Bool) where
+  pub each-read-back : (writing : A → List ℕ) → ((a : A) → q a ≡ true → reading (writing a) ≡ some a) → (l : List A) → every q l ≡ true → readEach reading (map writing l) ≡ some l
+  unfolding every readEach andThen consRead
+  each-read-back writing k [] h = refl
+  each-read-back writing k (a ∷ l) h = let e = and-both (q a) (every q l) h in rw (k a (e .0), each-read-back writing k l (e .1))
+
+  pub each-accepted : ((s : List ℕ) (a : A) → reading s ≡ some a → q a ≡ true) → (ss : List (List ℕ)) (l : List A) → readEach reading ss ≡ some l → every q l ≡ true
+  unfolding every readEach _and_
+  each-accepted k [] l h = let z : [] ≡ l = cc in rw (← z)
+  each-accepted k (s ∷ ss) l h =
+      let e = andThen-some (reading s) (λ a. consRead a (readEach reading ss)) l h in
+      let f = consRead-some (e .0) (readEach reading ss) l (e .2) in
+      rw (← (f .2), k s (e .0) (e .1)) (each-accepted k ss (f .0) (f .1))
+
+-- pieces of a class that does not have the separator, and what is joined of pieces
+module _ {A : Type 0} (q : A → Bool) (writing : A → List ℕ) where
+  pub none-holds : (c : ℕ) → ((a : A) → q a ≡ true → holds c (writing a) ≡ false) → (l : List A) → every q l ≡ true → noneHolds c (map writing l) ≡ true
+  unfolding every noneHolds pick
+  none-holds c k [] h = refl
+  none-holds c k (a ∷ l) h = let e = and-both (q a) (every q l) h in rw (k a (e .0)) (none-holds c k l (e .1))
+
+  all-after : (p : ℕ → Bool) (c : ℕ) → p c ≡ true → ((a : A) → q a ≡ true → allOf p (writing a) ≡ true) → (l : List A) → every q l ≡ true → allOf p (eachAfter c (map writing l)) ≡ true
+  unfolding every eachAfter allOf pick
+  all-after p c b k [] h = refl
+  all-after p c b k (a ∷ l) h =
+      let e = and-both (q a) (every q l) h in
+      rw b (all-both p (writing a) (eachAfter c (map writing l)) (k a (e .0)) (all-after p c b k l (e .1)))
+
+  pub all-joined : (p : ℕ → Bool) (c : ℕ) → p c ≡ true → ((a : A) → q a ≡ true → allOf p (writing a) ≡ true) → (l : List A) → every q l ≡ true → allOf p (joinedBy c (map writing l)) ≡ true
+  unfolding every joinedBy allOf
+  all-joined p c b k [] h = refl
+  all-joined p c b k (a ∷ l) h =
+      let e = and-both (q a) (every q l) h in
+      all-both p (writing a) (eachAfter c (map writing l)) (k a (e .0)) (all-after p c b k l (e .1))

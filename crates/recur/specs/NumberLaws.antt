@@ -2,24 +2,23 @@
 --     counting-read-back, unsigned-read-back, signed-read-back
 --     counting-accepted, unsigned-accepted, signed-accepted
 --     whole-characters   a written number is digits, with a minus before them if it is negative
-use mathlib.Core.Path.{_≡_, refl, sym, ap, _∙_}
-use mathlib.Core.Bool.{Bool, true, false, false≢true}
+use mathlib.Core.Path.{_≡_, refl}
+use mathlib.Core.Bool.{Bool, true, false}
 use mathlib.Core.List.{List, [], _∷_}
-use mathlib.Core.Option.{Option, none, some}
+use mathlib.Core.Option.{some}
 use Prim.Native.Nat.{ℕ, zero, suc, _+_, _*_, _/_, _%_, _^_, _≤_, _<_}
 use native.Mathlib.Nat.{pow-succ'}
 use native.Mathlib.Omega.{arith}
 use lib.Dec.{eqb, leb, ltb}
 use lib.ListN.{length, length-append}
-use borrow.Author.Tests.{le-leb, leb-true, lt-ltb, ltb-true, ltb-false, ne-eqb, eqb-true}
+use borrow.Author.Tests.{le-leb, leb-true, lt-ltb, ltb-true, ne-eqb}
 use Rattle.octets.specs.Pick.{pick, _and_, _or_, within, and-yes, or-left, or-right}
 use Rattle.octets.specs.Scan.{allOf}
 use Rattle.octets.specs.Append.{_⊕_}
 use Rattle.octets.specs.Class.{isDigit}
 use Rattle.octets.specs.Decimal.{value, isNumber, digits, digits-value, digits-all, digits-number}
-use Rattle.octets.specs.Reading.{provided}
 use Rattle.model.specs.Calendar.{Whole}
-use Rattle.recur.specs.Extra.{and-left, and-right, pick-first, pick-second, provided-some, all-weaker}
+use Rattle.recur.specs.Extra.{and-left, and-right, pick-first, provided-some, all-weaker}
 use Rattle.recur.specs.Item.{whole, isNumeral, isShort, isMinus, afterSign, readCounting, readUnsigned, readSigned, writeWhole}
 
 -- ---- how many digits
@@ -59,8 +58,8 @@ numeral-within : (lo hi : ℕ) (s : List ℕ) → isNumeral lo hi s ≡ true →
 numeral-within lo hi s h =
     let p : isNumber hi s ≡ true = and-left (isNumber hi s) (leb lo (value 0 s)) h in
     and-yes (leb lo (value 0 s)) (leb (value 0 s) hi)
-      (and-right (isNumber hi s) (leb lo (value 0 s)) h)
-      (and-right (allOf isDigit s) (leb (value 0 s) hi) (and-right (ltb 0 (length s)) (allOf isDigit s and leb (value 0 s) hi) p))
+    (and-right (isNumber hi s) (leb lo (value 0 s)) h)
+    (and-right (allOf isDigit s) (leb (value 0 s) hi) (and-right (ltb 0 (length s)) (allOf isDigit s and leb (value 0 s) hi) p))
 
 -- ---- signs
 

@@ -3,7 +3,7 @@
 --     weekday-read-back, weekday-accepted    BYDAY
 --     upper-capitals                         capitals stay as they are
 --     word-characters, number-characters, weekday-characters    they are written with digits, capitals and signs
-use mathlib.Core.Path.{_≡_, refl, sym, ap, _∙_}
+use mathlib.Core.Path.{_≡_, refl}
 use mathlib.Core.Bool.{Bool, true, false}
 use mathlib.Core.List.{List, [], _∷_}
 use mathlib.Core.Option.{Option, none, some}
@@ -16,12 +16,13 @@ use Rattle.octets.specs.Scan.{allOf}
 use Rattle.octets.specs.Append.{_⊕_}
 use Rattle.octets.specs.Class.{isDigit, isCapital, isSmall, isAlpha, upper}
 use Rattle.octets.specs.Words.{isOneOf}
+use Rattle.octets.specs.Lists.{every}
 use Rattle.octets.specs.Reading.{andThen}
 use Rattle.octets.specs.Computing.{octets-compute}
 use Rattle.times.specs.Spelling.{isTimeChar}
 use Rattle.model.specs.Calendar.{Format, ical, xcal, Whole, RuleItem, weekday}
-use Rattle.recur.specs.Extra.{everyOf, and-left, and-right, pick-first, provided-some, andThen-some, all-weaker, all-both, one-of-all}
-use Rattle.recur.specs.Front.{upTo, fromOn, begins, upTo-front, fromOn-front}
+use Rattle.recur.specs.Extra.{and-right, pick-first, provided-some, andThen-some, all-weaker, all-both, one-of-all}
+use Rattle.recur.specs.Front.{upTo, fromOn, beginsBy, upTo-front, fromOn-front}
 use Rattle.recur.specs.Parts.{weekdays}
 use Rattle.recur.specs.Item.{inCapitals, readWord, afterSign, readSigned, writeWhole, readOrdinal, writeOrdinal, isOrdinal, readWeekday, isWeekdaynum}
 use Rattle.recur.specs.NumberLaws.{isEnough, isNumberChar, signed-read-back, signed-accepted, whole-characters}
@@ -39,7 +40,7 @@ upper-capitals (b ∷ s) h = go (pick-first (isCapital b) (allOf isCapital s) h)
     go : (isCapital b ≡ true) × (allOf isCapital s ≡ true) → (allOf isCapital s ≡ true → upper s ≡ s) → upper (b ∷ s) ≡ b ∷ s
     go e ih = rw (capital-small b (e .0), ih (e .1))
 
-pub word-read-back : (f : Format) (ws : List (List ℕ)) (w : List ℕ) → everyOf (allOf isCapital) ws ≡ true → isOneOf w ws ≡ true → readWord f ws w ≡ some w
+pub word-read-back : (f : Format) (ws : List (List ℕ)) (w : List ℕ) → every (allOf isCapital) ws ≡ true → isOneOf w ws ≡ true → readWord f ws w ≡ some w
 unfolding pick
 word-read-back ical ws w c h = rw (upper-capitals w (one-of-all (allOf isCapital) w ws c h), h)
 word-read-back xcal ws w c h = rw h
@@ -55,16 +56,17 @@ number-alpha b h = go (isDigit b) refl h
   where
     below : b < 65 → isAlpha b ≡ false
     below l = or-no (isCapital b) (isSmall b) (and-no-left (leb 65 b) (leb b 90) (lt-leb 65 b l)) (and-no-left (leb 97 b) (leb b 122) (lt-leb 97 b (omega arith)))
+
     go : (t : Bool) → isDigit b ≡ t → (t or eqb b 45) ≡ true → isAlpha b ≡ false
     go true e k = below (let g : b ≤ 57 = leb-true b 57 (and-right (leb 48 b) (leb b 57) e) in omega arith)
     go false e k = below (let g : b ≡ 45 = eqb-true b 45 k in omega arith)
 
-weekdays-begin : everyOf (begins isAlpha) weekdays ≡ true
-unfolding everyOf begins octets-compute
+weekdays-begin : every (beginsBy isAlpha) weekdays ≡ true
+unfolding every beginsBy octets-compute
 weekdays-begin = refl
 
-weekdays-capital : everyOf (allOf isCapital) weekdays ≡ true
-unfolding everyOf octets-compute
+weekdays-capital : every (allOf isCapital) weekdays ≡ true
+unfolding every octets-compute
 weekdays-capital = refl
 
 ordinal-characters : (o : Option Whole) → allOf isNumberChar (writeOrdinal o) ≡ true
@@ -96,7 +98,7 @@ pub weekday-read-back : (f : Format) (o : Option Whole) (d : List ℕ) → isOrd
 unfolding andThen
 weekday-read-back f o d p q =
     let c = ordinal-characters o in
-    let b = one-of-all (begins isAlpha) d weekdays weekdays-begin q in
+    let b = one-of-all (beginsBy isAlpha) d weekdays weekdays-begin q in
     rw (
       upTo-front isAlpha isNumberChar number-alpha (writeOrdinal o) d c b,
       fromOn-front isAlpha isNumberChar number-alpha (writeOrdinal o) d c b,
@@ -113,7 +115,7 @@ weekday-accepted f s i h =
 
 -- ---- the characters
 
-capital-char : (b : ℕ) → isCapital b ≡ true → isTimeChar b ≡ true
+pub capital-char : (b : ℕ) → isCapital b ≡ true → isTimeChar b ≡ true
 unfolding isTimeChar
 capital-char b h = or-right (isDigit b) (isCapital b or eqb b 43 or eqb b 45) (or-left (isCapital b) (eqb b 43 or eqb b 45) h)
 
@@ -125,7 +127,7 @@ number-char b h = go (isDigit b) h
     go true k = refl
     go false k = or-right (isCapital b) (eqb b 43 or eqb b 45) (or-right (eqb b 43) (eqb b 45) k)
 
-pub word-characters : (ws : List (List ℕ)) (w : List ℕ) → everyOf (allOf isCapital) ws ≡ true → isOneOf w ws ≡ true → allOf isTimeChar w ≡ true
+pub word-characters : (ws : List (List ℕ)) (w : List ℕ) → every (allOf isCapital) ws ≡ true → isOneOf w ws ≡ true → allOf isTimeChar w ≡ true
 word-characters ws w c h = all-weaker isCapital isTimeChar capital-char w (one-of-all (allOf isCapital) w ws c h)
 
 pub number-characters : (w : Whole) → allOf isTimeChar (writeWhole w) ≡ true
