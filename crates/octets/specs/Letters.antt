@@ -1,6 +1,7 @@
 -- Laws of letter case.
 --     upper-by-cases    what a byte becomes in capitals
 --     upper-twice       capitals stay in capitals
+--     upper-same        bytes that are no small letters stay;   upper-capitals: as capitals
 --     upper-all         a class that has the capitals of its bytes;   upper-name-char: as the characters of names
 use mathlib.Core.Path.{_≡_, refl}
 use mathlib.Core.Bool.{Bool, true, false}
@@ -11,7 +12,7 @@ use lib.Dec.{leb}
 use borrow.Author.Tests.{le-leb, lt-leb}
 use Rattle.octets.specs.Pick.{pick, and-no-left, or-left, within-yes, within-range}
 use Rattle.octets.specs.Scan.{allOf, all-split}
-use Rattle.octets.specs.Class.{isSmall, isNameChar, upperByte, upper}
+use Rattle.octets.specs.Class.{isCapital, isSmall, isNameChar, upperByte, upper}
 
 -- a small letter is made capital, another byte stays
 pub upper-by-cases : (P : ℕ → Type 0) (b : ℕ) → (97 ≤ b → b ≤ 122 → P (b - 32)) → (isSmall b ≡ false → P b) → P (upperByte b)
@@ -30,6 +31,14 @@ pub upper-twice : (s : List ℕ) → upper (upper s) ≡ upper s
 unfolding upper
 upper-twice [] = refl
 upper-twice (b ∷ s) = rw (upper-byte-twice b, upper-twice s)
+
+pub upper-same : (p : ℕ → Bool) → ((b : ℕ) → p b ≡ true → isSmall b ≡ false) → (s : List ℕ) → allOf p s ≡ true → upper s ≡ s
+unfolding upper pick
+upper-same p f [] h = refl
+upper-same p f (b ∷ s) h = let q = all-split p b s h in rw (f b (q .0), upper-same p f s (q .1))
+
+pub upper-capitals : (s : List ℕ) → allOf isCapital s ≡ true → upper s ≡ s
+upper-capitals = upper-same isCapital (λ b h. let p = within-range 65 90 b h in and-no-left (leb 97 b) (leb b 122) (lt-leb 97 b (omega arith)))
 
 pub upper-all : (p : ℕ → Bool) → ((b : ℕ) → p b ≡ true → p (upperByte b) ≡ true) → (s : List ℕ) → allOf p s ≡ true → allOf p (upper s) ≡ true
 unfolding upper allOf pick

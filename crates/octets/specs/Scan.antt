@@ -1,14 +1,14 @@
 -- Loops that go over a list s from its front, an element a turn, with `drop i s` left.
 --     spanLen p s       how many elements at the front pass p;   Span is the invariant
 --     spanEnd p s i     the same from an index i, as an index;   SpanFrom is the invariant, `search scanning-from`
---     allOf p s         whether each element passes p;           All is the invariant;   all-cons, all-split, all-append, all-weaker: its laws
+--     allOf p s         whether each element passes p;           All is the invariant;   all-cons, all-split, all-append, all-parts, all-weaker: its laws
 --     foldl f st s      a state carried over the elements;       Folding is the invariant
 --     foldi f st i s    the same, by a step that is told the index;   FoldingI is the invariant
 -- Each has its start, its turn and its end among the rules `scanning`: `search scanning` answers nearly every need of such a loop.
 use mathlib.Core.Path.{_≡_, refl, sym, ap, _∙_}
 use mathlib.Core.Bool.{Bool, true, false}
 use mathlib.Core.List.{List, [], _∷_}
-use Prim.Native.Nat.{ℕ, suc, _+_, _-_, _≤_, _<_}
+use Prim.Native.Nat.{ℕ, zero, suc, _+_, _-_, _≤_, _<_}
 use native.Mathlib.Numerals.{add-one}
 use native.Mathlib.Omega.{arith}
 use lib.ListN.{length, getD, take, drop, length-drop, drop-of-length-le}
@@ -127,6 +127,12 @@ module _ (p : ℕ → Bool) where
   unfolding allOf pick
   all-weaker q f [] h = refl
   all-weaker q f (x ∷ s) h = let t = all-split x s h in rw (f x (t .0)) (all-weaker q f s (t .1))
+
+  -- both parts of a list pass, so the whole does
+  pub all-parts : (n : ℕ) (s : List ℕ) → allOf p (take n s) ≡ true → allOf p (drop n s) ≡ true → allOf p s ≡ true
+  all-parts zero s h k = k
+  all-parts (suc n) [] h k = h
+  all-parts (suc n) (x ∷ s) h k = let q = all-split x (take n s) h in all-cons x s (q .0) (all-parts n s (q .1) k)
 
 -- ---- a state carried over the elements
 

@@ -94,6 +94,14 @@ same-true (x ∷ s) (y ∷ t) h = go (eqb x y) refl h (same-true s t)
     go true e k ih = let p : x ≡ y = eqb-true x y e in let q : s ≡ t = ih k in cc
     go false e k ih = absurd (false≢true k)
 
+-- a word that passes a test is not one that fails it
+pub same-apart : (p : List ℕ → Bool) (w v : List ℕ) → p w ≡ true → p v ≡ false → same w v ≡ false
+same-apart p w v h k = go (same w v) refl
+  where
+    go : (t : Bool) → same w v ≡ t → t ≡ false
+    go true e = absurd (false≢true (sym k ∙ ap p (sym (same-true w v e)) ∙ h))
+    go false e = refl
+
 pub empty-is : {A : Type 0} (s : List A) → isEmpty s ≡ true → s ≡ []
 empty-is [] h = refl
 empty-is (x ∷ s) h = absurd (false≢true h)
