@@ -3,7 +3,7 @@
 --     isNumber m s   digits alone, at least one, worth no more than m
 --     digits f n     the digits of n without leading zeros, where n < 10 ^ (f + 1)
 --     value-append   what digits are worth after others
---     digits-value, digits-all, digits-some, digits-number    a number is read back from its digits
+--     digits-value, digits-all, digits-some, digits-short, digits-number    a number is read back from its digits
 use mathlib.Core.Path.{_≡_, refl, _∙_}
 use mathlib.Core.Bool.{Bool, true, false}
 use mathlib.Core.List.{List, [], _∷_}
@@ -77,6 +77,17 @@ digits-some (suc f) n = go (ltb n 10)
     go : (t : Bool) → 0 < length (pick t ((48 + n) ∷ []) (digits f (n / 10) ⊕ (48 + n % 10) ∷ []))
     go true = omega arith
     go false = simp length-append (omega arith)
+
+-- a number below a power of ten has no more digits
+pub digits-short : (f k n : ℕ) → n < 10 ^ suc k → length (digits f n) ≤ suc k
+unfolding digits _⊕_ pick
+digits-short zero k n h = omega arith
+digits-short (suc f) zero n h = rw (lt-ltb n 10 h) (omega arith)
+digits-short (suc f) (suc k) n h = go (ltb n 10) (digits-short f k (n / 10) (shorter k n h))
+  where
+    go : (t : Bool) → length (digits f (n / 10)) ≤ suc k → length (pick t ((48 + n) ∷ []) (digits f (n / 10) ⊕ (48 + n % 10) ∷ [])) ≤ suc (suc k)
+    go true ih = omega arith
+    go false ih = simp length-append (omega arith)
 
 -- a number that is not too much is a number by its digits
 pub digits-number : (f n most : ℕ) → n < 10 ^ suc f → n ≤ most → isNumber most (digits f n) ≡ true

@@ -94,6 +94,13 @@ same-true (x ∷ s) (y ∷ t) h = go (eqb x y) refl h (same-true s t)
     go true e k ih = let p : x ≡ y = eqb-true x y e in let q : s ≡ t = ih k in cc
     go false e k ih = absurd (false≢true k)
 
+pub same-swap : (s t : List ℕ) → same s t ≡ false → same t s ≡ false
+same-swap s t h = go (same t s) refl
+  where
+    go : (b : Bool) → same t s ≡ b → b ≡ false
+    go true e = absurd (false≢true (sym h ∙ rw (same-true t s e) (same-self s)))
+    go false e = refl
+
 -- a word that passes a test is not one that fails it
 pub same-apart : (p : List ℕ → Bool) (w v : List ℕ) → p w ≡ true → p v ≡ false → same w v ≡ false
 same-apart p w v h k = go (same w v) refl
@@ -139,6 +146,17 @@ joined-without x c [] e h = refl
 joined-without x c (p ∷ ps) e h = let q = none-split x p ps h in holds-neither x p (eachAfter c ps) (q .0) (after-without x c ps e (q .1))
 
 -- ---- cutting takes joining back
+
+-- there is always a piece
+pub cut-some : (c : ℕ) (s : List ℕ) → isEmpty (cutAt c s) ≡ false
+unfolding cutAt pick onto
+cut-some c [] = refl
+cut-some c (b ∷ s) = go (eqb b c) (cutAt c s)
+  where
+    go : (t : Bool) (l : List (List ℕ)) → isEmpty (pick t ([] ∷ l) (onto b l)) ≡ false
+    go true l = refl
+    go false [] = refl
+    go false (p ∷ l) = refl
 
 -- joined pieces that hold no separator are cut where they were joined
 cut-piece : (c : ℕ) (p : List ℕ) → holds c p ≡ false → cutAt c p ≡ p ∷ []
