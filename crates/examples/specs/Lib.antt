@@ -1,0 +1,5 @@
+-- Worked examples of both conversions, each computed by the definitions alone.
+--     Notation   how texts and documents are written down here
+--     Readings   the starred readings of the rules, one table under one claim
+pub mod Notation
+pub mod Readings
