@@ -1,5 +1,7 @@
 -- Worked examples of both conversions, each computed by the definitions alone.
 --     Notation   how texts and documents are written down here
 --     Readings   the starred readings of the rules, one table under one claim
+--     Rota       the whole rota of the rules, both ways
 pub mod Notation
 pub mod Readings
+pub mod Rota
