@@ -2,12 +2,16 @@
 --     textLines     lines of a text, each ended by CRLF
 --     xmlLines      lines of a document, each ended by LF
 --     canonical     the canonical document whose root element holds these bytes
+--     given         what a text gives, to XML
 --     inEvent       a small calendar with one event, in which these lines stand last: the first of them at place 112
 --     eventXml      the canonical document of that calendar, in which these properties stand last
 use mathlib.Core.List.{List, [], _∷_, _++_}
 use Prim.Native.Nat.{ℕ}
 use Prim.Native.String.{String}
+use lib.ListN.{length}
 use Rattle.octets.specs.Ascii.{ascii}
+use Rattle.mallettriton.specs.Conversion.{Converted}
+use Rattle.mallettriton.specs.ToXml.{toXml}
 
 abbrev pub textLines : List String → List ℕ
 textLines [] = []
@@ -21,6 +25,10 @@ abbrev pub canonical : List ℕ → List ℕ
 canonical s =
     xmlLines ("<?xml version=\"1.0\" encoding=\"utf-8\"?>" ∷ [])
     ++ ascii "<icalendar xmlns=\"urn:ietf:params:xml:ns:icalendar-2.0\">" ++ s ++ xmlLines ("</icalendar>" ∷ [])
+
+-- with a work room as long as the text
+abbrev pub given : List ℕ → Converted
+given s = toXml s (length s)
 
 -- ---- one event
 

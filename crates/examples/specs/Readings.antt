@@ -15,10 +15,9 @@ use Rattle.folding.specs.Unfold.{crlf, unfolded}
 use Rattle.folding.specs.Fold.{foldedLine}
 use Rattle.ical.specs.ReadText.{readCalendar}
 use Rattle.mallettriton.specs.Conversion.{Converted, result, fault}
-use Rattle.mallettriton.specs.ToXml.{toXml}
 use Rattle.mallettriton.specs.ToText.{toText}
 use Rattle.mallettriton.specs.Computing.{conversions-compute}
-use Rattle.examples.specs.Notation.{inEvent, eventXml}
+use Rattle.examples.specs.Notation.{given, inEvent, eventXml}
 
 -- ---- questions and answers
 
@@ -45,9 +44,8 @@ abbrev pub toldOf : Converted → Told
 toldOf (result x) = toldBack x (toText x)
 toldOf (fault r p) = refused numberOf r at p
 
--- a work room as long as the text is lent
 abbrev pub ofText : List ℕ → Told
-ofText s = toldOf (toXml s (length s))
+ofText s = toldOf (given s)
 
 abbrev pub ofLine : List ℕ → Told
 ofLine l = ofText (inEvent (l ++ crlf))
