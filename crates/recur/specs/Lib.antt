@@ -15,5 +15,6 @@ pub mod WordLaws
 pub mod EnddateLaws
 pub mod ItemLaws
 pub mod Rule
+pub mod OrderLaws
 pub mod Computing
 pub mod Examples

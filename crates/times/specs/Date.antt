@@ -2,13 +2,13 @@
 --     isLeapYear, daysInMonth    the Gregorian rule
 --     isDate                     a kept value: eight digits of a real day
 --     readDate, writeDate
---     date-read-back, date-accepted, date-visible, date-no-comma; date-exact: XML has one spelling of a date
-use mathlib.Core.Path.{_≡_, refl, sym, ap, _∙_}
+--     date-read-back, date-accepted, date-visible, date-no-comma; date-exact: a date has one spelling in each
+use mathlib.Core.Path.{_≡_}
 use mathlib.Core.Bool.{Bool, true, false}
 use mathlib.Core.List.{List, [], _∷_}
-use mathlib.Core.Option.{Option, none, some}
+use mathlib.Core.Option.{Option, some}
 use Prim.Native.Nat.{ℕ, _%_}
-use lib.Dec.{eqb, leb}
+use lib.Dec.{eqb}
 use borrow.Author.Tests.{eqb-true}
 use lib.ListN.{length, take, drop}
 use Rattle.octets.specs.Pick.{pick, _and_, _or_, within}
@@ -20,7 +20,7 @@ use Rattle.octets.specs.Reading.{andThen}
 use Rattle.model.specs.Calendar.{Format, ical, xcal}
 use Rattle.times.specs.Extra.{and-left, and-right}
 use Rattle.times.specs.Spelling.{Mark, mark, withMarks, withoutMarks, keep, fits}
-use Rattle.times.specs.Spelling.{isTimeChar, Chars, chars-digits, chars-visible, chars-no-comma, keep-yes, keep-accepted, marked-read-back, marked-accepted, marked-exact}
+use Rattle.times.specs.Spelling.{Chars, chars-digits, chars-visible, chars-no-comma, keep-yes, keep-is, keep-accepted, marked-read-back, marked-accepted, marked-exact}
 
 -- every fourth year, but of the full centuries only every fourth
 unfoldable pub isLeapYear : ℕ → Bool
@@ -74,9 +74,10 @@ unfolding readDate
 date-accepted ical s v h = keep-accepted isDate s v h
 date-accepted xcal s v h = marked-accepted isDate (withoutMarks dateMarks s) v h
 
-pub date-exact : (s v : List ℕ) → readDate xcal s ≡ some v → s ≡ writeDate xcal v
+pub date-exact : (f : Format) (s v : List ℕ) → readDate f s ≡ some v → s ≡ writeDate f v
 unfolding readDate writeDate
-date-exact s v h = marked-exact isDate dateMarks s v h
+date-exact ical s v h = keep-is isDate s v h
+date-exact xcal s v h = marked-exact isDate dateMarks s v h
 
 pub date-visible : (v : List ℕ) → isDate v ≡ true → allOf isVisible (writeDate ical v) ≡ true
 unfolding writeDate

@@ -2,14 +2,15 @@
 --     isDateTime     a kept value
 --     readDateTime, writeDateTime
 --     date-time-read-back, date-time-accepted, date-time-visible, date-time-no-comma, date-time-no-slash; date-time-exact: XML has one spelling of a date-time
+--     date-time-no-date, date-no-date-time    in neither format is one read as the other
 use mathlib.Core.Path.{_≡_, refl, sym, ap, _∙_}
 use mathlib.Core.Bool.{Bool, true, false, false≢true}
 use mathlib.Core.List.{List, [], _∷_}
 use mathlib.Core.Option.{Option, none, some}
-use Prim.Native.Nat.{ℕ, suc, _≤_}
+use Prim.Native.Nat.{ℕ, _≤_, _<_}
 use native.Mathlib.Omega.{arith}
 use lib.ListN.{length, take, drop, length-drop}
-use Rattle.octets.specs.Pick.{pick, _and_, _or_}
+use Rattle.octets.specs.Pick.{_and_, _or_}
 use Rattle.octets.specs.Scan.{allOf}
 use Rattle.octets.specs.Class.{isVisible, upper}
 use Rattle.octets.specs.Words.{holds}
@@ -17,8 +18,8 @@ use Rattle.octets.specs.Reading.{andThen}
 use Rattle.model.specs.Calendar.{Format, ical, xcal}
 use Rattle.times.specs.Extra.{and-left, and-right, all-parts}
 use Rattle.times.specs.Spelling.{Mark, mark, withMarks, withoutMarks, keep, begins, fits}
-use Rattle.times.specs.Spelling.{isTimeChar, Chars, chars-begins, chars-visible, chars-upper, chars-no-comma, chars-no-slash, keep-yes, keep-accepted, marked-read-back, marked-accepted, marked-exact, fits-longer}
-use Rattle.times.specs.Date.{isDate, date-chars}
+use Rattle.times.specs.Spelling.{isTimeChar, Chars, chars-begins, chars-visible, chars-upper, chars-no-comma, chars-no-slash, keep-yes, keep-is, keep-accepted, marked-read-back, marked-accepted, marked-exact, marks-length, fits-longer}
+use Rattle.times.specs.Date.{isDate, readDate, writeDate, dateMarks, date-chars, date-length, date-accepted, date-exact}
 use Rattle.times.specs.Time.{isTime, time-chars, time-length}
 
 -- date-time = date "T" time;   84 is T
@@ -86,3 +87,32 @@ date-time-no-comma v h = chars-no-comma v (date-time-chars v h)
 pub date-time-no-slash : (v : List ℕ) → isDateTime v ≡ true → holds 47 (writeDateTime ical v) ≡ false
 unfolding writeDateTime
 date-time-no-slash v h = chars-no-slash v (date-time-chars v h)
+
+-- ---- a date-time is never read as a date, nor a date as a date-time: their lengths differ
+
+written-lengths : (f : Format) (d v : List ℕ) → isDate d ≡ true → isDateTime v ≡ true → length (writeDate f d) < length (writeDateTime f v)
+unfolding writeDate writeDateTime
+written-lengths ical d v h k = omega (arith, date-length d h, date-time-length v k)
+written-lengths xcal d v h k = omega (arith, date-length d h, date-time-length v k, marks-length dateMarks d, marks-length dateTimeMarks v)
+
+written-otherwise : (f : Format) (d v : List ℕ) → isDate d ≡ true → isDateTime v ≡ true → writeDate f d ≡ writeDateTime f v → ⊥
+written-otherwise f d v h k e = omega (arith, written-lengths f d v h k, ap length e)
+
+pub date-time-no-date : (f : Format) (v : List ℕ) → isDateTime v ≡ true → readDate f (writeDateTime f v) ≡ none
+date-time-no-date f v h = go (readDate f (writeDateTime f v)) refl
+  where
+    go : (o : Option (List ℕ)) → readDate f (writeDateTime f v) ≡ o → o ≡ none
+    go none e = refl
+    go (some d) e = absurd (written-otherwise f d v (date-accepted f _ d e) h (sym (date-exact f _ d e)))
+
+read-as-written : (f : Format) (d v : List ℕ) → isDate d ≡ true → readDateTime f (writeDate f d) ≡ some v → writeDate f d ≡ writeDateTime f v
+unfolding readDateTime writeDate writeDateTime
+read-as-written ical d v h k = sym (chars-upper d (date-chars d h)) ∙ keep-is isDateTime (upper d) v k
+read-as-written xcal d v h k = date-time-exact _ v k
+
+pub date-no-date-time : (f : Format) (v : List ℕ) → isDate v ≡ true → readDateTime f (writeDate f v) ≡ none
+date-no-date-time f v h = go (readDateTime f (writeDate f v)) refl
+  where
+    go : (o : Option (List ℕ)) → readDateTime f (writeDate f v) ≡ o → o ≡ none
+    go none e = refl
+    go (some d) e = absurd (written-otherwise f v d h (date-time-accepted f _ d e) (read-as-written f v d h e))

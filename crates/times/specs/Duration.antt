@@ -7,23 +7,22 @@
 --     dur-minute = 1*DIGIT "M" [dur-second]
 --     dur-second = 1*DIGIT "S"
 --     dur-day    = 1*DIGIT "D"
--- Each rule is a test of the same name: the spelling, to its end, is one of that rule.
+-- Each rule is a test of the same name (dur-day is in dur-date): the spelling, to its end, is one of that rule.
 --     isDuration      a kept value
 --     readDuration, writeDuration
 --     duration-read-back, duration-accepted, duration-visible, duration-no-comma, duration-no-slash
-use mathlib.Core.Path.{_≡_, refl, sym, ap, _∙_}
-use mathlib.Core.Bool.{Bool, true, false, false≢true}
+use mathlib.Core.Path.{_≡_, refl}
+use mathlib.Core.Bool.{Bool, true, false}
 use mathlib.Core.List.{List, [], _∷_}
-use mathlib.Core.Option.{Option, none, some}
-use Prim.Native.Nat.{ℕ, zero, suc}
+use mathlib.Core.Option.{Option, some}
+use Prim.Native.Nat.{ℕ, suc}
 use lib.Dec.{eqb, ltb}
 use borrow.Author.Tests.{eqb-true}
-use lib.ListN.{length, take, drop}
+use lib.ListN.{drop}
 use Rattle.octets.specs.Pick.{pick, _and_, _or_, or-left}
 use Rattle.octets.specs.Scan.{allOf, spanLen}
 use Rattle.octets.specs.Class.{isDigit, isVisible, upper}
 use Rattle.octets.specs.Words.{holds, isEmpty}
-use Rattle.octets.specs.Reading.{andThen}
 use Rattle.model.specs.Calendar.{Format, ical, xcal}
 use Rattle.times.specs.Extra.{and-left, and-right, or-cases, all-cons}
 use Rattle.times.specs.Spelling.{isTimeChar, keep, begins, Chars, digit-char, chars-empty, chars-begins, chars-or, chars-visible, chars-upper, chars-no-comma, chars-no-slash, keep-yes, keep-accepted}

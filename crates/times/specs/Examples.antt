@@ -1,17 +1,15 @@
 -- Dates and times, computed.
 use mathlib.Core.Path.{_≡_, refl}
-use mathlib.Core.Bool.{Bool, true, false}
-use mathlib.Core.List.{List, [], _∷_, map}
-use mathlib.Core.Option.{Option, none, some}
-use Prim.Native.Nat.{ℕ}
+use mathlib.Core.List.{[], _∷_, map}
+use mathlib.Core.Option.{none, some}
 use Rattle.octets.specs.Ascii.{ascii}
-use Rattle.model.specs.Calendar.{Format, ical, xcal, Value, periodExplicit, periodStart}
+use Rattle.model.specs.Calendar.{ical, xcal, periodExplicit, periodStart}
 use Rattle.times.specs.Date.{daysInMonth, readDate, writeDate}
 use Rattle.times.specs.Time.{readTime, writeTime}
 use Rattle.times.specs.DateTime.{readDateTime, writeDateTime}
 use Rattle.times.specs.Duration.{readDuration}
 use Rattle.times.specs.UtcOffset.{readUtcOffset, writeUtcOffset}
-use Rattle.times.specs.Period.{readPeriod, writePeriod}
+use Rattle.times.specs.Period.{readPeriod}
 use Rattle.times.specs.Computing.{times-compute}
 
 -- leap days: every fourth year has one, 1900 and 2100 have none, 2000 and 0000 do

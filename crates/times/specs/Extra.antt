@@ -2,7 +2,7 @@
 --     all-weaken      a test of each character that implies another
 --     all-holds       characters that pass a test hold none that fails it
 --     all-upper       characters that are no small letters are the same in capitals
---     all-parts       both parts of a list pass, so the whole does
+--     all-parts, all-join    both parts of a list pass, so the whole does
 --     and-left, and-right, or-cases       what joined tests say of each
 --     provided-test, provided-is, then-some, cons-some    what a reading that succeeded says
 use mathlib.Core.Path.{_≡_, refl, sym, ap, _∙_}
@@ -11,11 +11,11 @@ use mathlib.Core.List.{List, [], _∷_}
 use mathlib.Core.Option.{Option, none, some}
 use Prim.Native.Nat.{ℕ, zero, suc}
 use native.Mathlib.Omega.{arith}
-use lib.Dec.{eqb}
 use lib.ListN.{take, drop}
-use borrow.Author.Tests.{eqb-true, ne-eqb}
+use borrow.Author.Tests.{ne-eqb}
 use Rattle.octets.specs.Pick.{pick, _and_, _or_}
 use Rattle.octets.specs.Scan.{allOf}
+use Rattle.octets.specs.Append.{_⊕_}
 use Rattle.octets.specs.Class.{isSmall, upper}
 use Rattle.octets.specs.Words.{holds}
 use Rattle.octets.specs.Reading.{provided, andThen, consRead}
@@ -80,6 +80,11 @@ all-parts p zero s h k = k
 all-parts p (suc n) [] h k = h
 all-parts p (suc n) (x ∷ s) h k =
     all-cons p x s (all-head p x (take n s) h) (all-parts p n s (all-tail p x (take n s) h) k)
+
+pub all-join : (p : ℕ → Bool) (a b : List ℕ) → allOf p a ≡ true → allOf p b ≡ true → allOf p (a ⊕ b) ≡ true
+unfolding _⊕_
+all-join p [] b h k = k
+all-join p (x ∷ a) b h k = all-cons p x _ (all-head p x a h) (all-join p a b (all-tail p x a h) k)
 
 -- ---- readings
 

@@ -14,7 +14,7 @@
 pub mod Extra
 pub mod Spelling
 pub mod Date
--- pub mod MonthRule
+pub mod MonthRule
 pub mod Time
 pub mod DateTime
 pub mod Duration

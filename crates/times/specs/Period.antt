@@ -1,21 +1,29 @@
 -- PERIOD in iCalendar text (RFC 5545, section 3.3.9): a start, and its end or a duration. In XML a period is made of elements (RFC 6321, section 3.6.9).
 --     readPeriod      19970101T180000Z/19970102T070000Z, 19970101T180000Z/PT5H30M
 --     writePeriod     of the start, and the end or the duration
+--     period-explicit-read-back, period-start-read-back, period-accepted
+--     period-explicit-visible, period-start-visible, period-explicit-no-comma, period-start-no-comma
 use mathlib.Core.Path.{_≡_, refl, sym, ap, _∙_}
-use mathlib.Core.Bool.{Bool, true, false}
-use mathlib.Core.List.{List, [], _∷_}
-use mathlib.Core.Option.{Option, none, some}
-use Prim.Native.Nat.{ℕ}
+use mathlib.Core.Bool.{Bool, true, false, false≢true}
+use mathlib.Core.List.{List, [], _∷_, _++_}
+use mathlib.Core.Option.{Option, some}
+use Prim.Native.Nat.{ℕ, suc}
 use lib.Dec.{eqb}
 use lib.ListN.{length, take, drop}
-use Rattle.octets.specs.Pick.{pick, _and_, _or_}
+use lib.Seq.{take-append-seam, drop-append-seam}
+use borrow.Author.Tests.{eqb-true, ne-eqb}
+use Rattle.octets.specs.Pick.{pick, _and_, _or_, or-left}
 use Rattle.octets.specs.Append.{_⊕_}
 use Rattle.octets.specs.Scan.{allOf, spanLen}
-use Rattle.octets.specs.Class.{upper}
+use Rattle.octets.specs.Class.{isDigit, isVisible, upper}
+use Rattle.octets.specs.Words.{holds}
 use Rattle.octets.specs.Reading.{andThen}
-use Rattle.model.specs.Calendar.{Format, ical, xcal, Value, periodExplicit, periodStart}
-use Rattle.times.specs.DateTime.{isDateTime, readDateTime}
-use Rattle.times.specs.Duration.{isDuration, readDuration}
+use Rattle.model.specs.Calendar.{ical, Value, periodExplicit, periodStart}
+use Rattle.times.specs.Extra.{and-left, and-right, or-cases, all-head, all-tail, all-cons, all-join, all-holds, all-weaken, then-some}
+use Rattle.times.specs.Spelling.{isTimeChar, begins, chars-upper, char-visible}
+use Rattle.times.specs.Date.{isDate}
+use Rattle.times.specs.DateTime.{isDateTime, readDateTime, writeDateTime, date-time-chars, date-time-read-back, date-time-accepted}
+use Rattle.times.specs.Duration.{unsigned, isDuration, readDuration, writeDuration, duration-chars, duration-read-back, duration-accepted}
 
 -- 47 is the slash
 unfoldable pub isNoSlash : ℕ → Bool
@@ -37,3 +45,106 @@ readPeriod s = andThen (readDateTime ical (take (slashAt s) s)) (λ start. perio
 
 unfoldable pub writePeriod : List ℕ → List ℕ → List ℕ
 writePeriod start end = start ⊕ (47 ∷ end)
+
+-- the characters of date-times and durations, and the slash
+unfoldable pub isPeriodChar : ℕ → Bool
+isPeriodChar b = isTimeChar b or eqb b 47
+
+-- ---- what is written is read back
+
+char-no-slash : (b : ℕ) → isTimeChar b ≡ true → isNoSlash b ≡ true
+unfolding isNoSlash isTimeChar pick _or_ _and_
+char-no-slash b h = rw (ne-eqb b 47 (λ e. false≢true (ap isTimeChar (sym e) ∙ h)))
+
+slash-found : (a b : List ℕ) → allOf isTimeChar a ≡ true → slashAt (a ++ (47 ∷ b)) ≡ length a
+unfolding spanLen isNoSlash pick
+slash-found [] b h = refl
+slash-found (x ∷ a) b h = rw (char-no-slash x (all-head isTimeChar x a h)) (ap suc (slash-found a b (all-tail isTimeChar x a h)))
+
+date-time-read : (v : List ℕ) → isDateTime v ≡ true → readDateTime ical v ≡ some v
+unfolding writeDateTime
+date-time-read v h = date-time-read-back ical v h
+
+duration-read : (v : List ℕ) → isDuration v ≡ true → readDuration ical v ≡ some v
+unfolding writeDuration
+duration-read v h = duration-read-back ical v h
+
+-- of a period that is written, what follows the slash is read
+cut-at-slash : (start end : List ℕ) → isDateTime start ≡ true → readPeriod (writePeriod start end) ≡ periodFrom start end
+unfolding readPeriod writePeriod _⊕_ andThen
+cut-at-slash start end h =
+    rw (slash-found start end (date-time-chars start h), take-append-seam start (47 ∷ end), drop-append-seam start (47 ∷ end), date-time-read start h)
+
+-- a date-time begins with a digit, a duration does not
+date-time-first : (b : ℕ) (s : List ℕ) → isDateTime (b ∷ s) ≡ true → isDigit b ≡ true
+unfolding isDateTime isDate
+date-time-first b s h = all-head isDigit b (take 7 s) (and-left _ _ (and-right _ _ (and-left _ _ h)))
+
+duration-first : (b : ℕ) (s : List ℕ) → isDuration (b ∷ s) ≡ true → isDigit b ≡ false
+unfolding isDuration unsigned begins _and_
+duration-first b s h = or-cases _ _ h (λ e. rw (eqb-true b 80 (and-left _ _ e))) (λ e. rw (eqb-true b 45 (and-left _ _ e)))
+
+not-both : (v : List ℕ) → isDuration v ≡ true → isDateTime v ≡ false
+unfolding isDuration unsigned begins _or_
+not-both v h = go v (isDateTime v) refl h
+  where
+    go : (v : List ℕ) (t : Bool) → isDateTime v ≡ t → isDuration v ≡ true → t ≡ false
+    go v false e k = refl
+    go [] true e k = sym k
+    go (b ∷ s) true e k = absurd (false≢true (sym (duration-first b s k) ∙ date-time-first b s e))
+
+pub period-explicit-read-back : (start end : List ℕ) → isDateTime start ≡ true → isDateTime end ≡ true → readPeriod (writePeriod start end) ≡ some (periodExplicit start end)
+unfolding periodFrom pick
+period-explicit-read-back start end h k = cut-at-slash start end h ∙ rw (chars-upper end (date-time-chars end k), k)
+
+pub period-start-read-back : (start d : List ℕ) → isDateTime start ≡ true → isDuration d ≡ true → readPeriod (writePeriod start d) ≡ some (periodStart start d)
+unfolding periodFrom pick andThen
+period-start-read-back start d h k = cut-at-slash start d h ∙ rw (chars-upper d (duration-chars d k), not-both d k, duration-read d k)
+
+-- ---- what is read is a date-time and a date-time, or a date-time and a duration: what holds of those holds of it
+pub period-accepted : (P : Value → Type 0) → ((start end : List ℕ) → isDateTime start ≡ true → isDateTime end ≡ true → P (periodExplicit start end)) →
+    ((start d : List ℕ) → isDateTime start ≡ true → isDuration d ≡ true → P (periodStart start d)) →
+    (s : List ℕ) (v : Value) → readPeriod s ≡ some v → P v
+unfolding readPeriod periodFrom pick
+period-accepted P explicit started s v h =
+    then-some (readDateTime ical (take (slashAt s) s)) (λ start. periodFrom start (drop 1 (drop (slashAt s) s))) v h
+    (λ start e k. go start (drop 1 (drop (slashAt s) s)) (date-time-accepted ical _ start e) k)
+  where
+    both : (start r : List ℕ) (t : Bool) → isDateTime (upper r) ≡ t → isDateTime start ≡ true →
+        pick t (some (periodExplicit start (upper r))) (andThen (readDuration ical r) (λ d. some (periodStart start d))) ≡ some v → P v
+    both start r true e h k = let q : periodExplicit start (upper r) ≡ v = cc in rw (← q) (explicit start (upper r) h e)
+    both start r false e h k =
+        then-some (readDuration ical r) (λ d. some (periodStart start d)) v k
+        (λ d e k. let q : periodStart start d ≡ v = cc in rw (← q) (started start d h (duration-accepted ical r d e)))
+
+    go : (start r : List ℕ) → isDateTime start ≡ true → periodFrom start r ≡ some v → P v
+    go start r h k = both start r (isDateTime (upper r)) refl h k
+
+-- ---- its characters
+
+period-chars : (start end : List ℕ) → allOf isTimeChar start ≡ true → allOf isTimeChar end ≡ true → allOf isPeriodChar (writePeriod start end) ≡ true
+unfolding writePeriod isPeriodChar isTimeChar _or_ _and_
+period-chars start end h k =
+    all-join isPeriodChar start (47 ∷ end) (all-weaken isTimeChar isPeriodChar (λ b e. or-left _ _ e) start h)
+    (all-cons isPeriodChar 47 end refl (all-weaken isTimeChar isPeriodChar (λ b e. or-left _ _ e) end k))
+
+period-visible : (s : List ℕ) → allOf isPeriodChar s ≡ true → allOf isVisible s ≡ true
+unfolding isPeriodChar _and_
+period-visible s h = all-weaken isPeriodChar isVisible (λ b e. or-cases (isTimeChar b) (eqb b 47) e (λ c. char-visible b c) (λ c. rw (eqb-true b 47 c))) s h
+
+period-no-comma : (s : List ℕ) → allOf isPeriodChar s ≡ true → holds 44 s ≡ false
+unfolding isPeriodChar isTimeChar _or_ _and_
+period-no-comma s h = all-holds isPeriodChar 44 refl s h
+
+module _ (start end : List ℕ) (h : isDateTime start ≡ true) where
+  pub period-explicit-visible : isDateTime end ≡ true → allOf isVisible (writePeriod start end) ≡ true
+  period-explicit-visible k = period-visible _ (period-chars start end (date-time-chars start h) (date-time-chars end k))
+
+  pub period-explicit-no-comma : isDateTime end ≡ true → holds 44 (writePeriod start end) ≡ false
+  period-explicit-no-comma k = period-no-comma _ (period-chars start end (date-time-chars start h) (date-time-chars end k))
+
+  pub period-start-visible : isDuration end ≡ true → allOf isVisible (writePeriod start end) ≡ true
+  period-start-visible k = period-visible _ (period-chars start end (date-time-chars start h) (duration-chars end k))
+
+  pub period-start-no-comma : isDuration end ≡ true → holds 44 (writePeriod start end) ≡ false
+  period-start-no-comma k = period-no-comma _ (period-chars start end (date-time-chars start h) (duration-chars end k))

@@ -7,16 +7,18 @@
 --     withMarks       marks put into a spelling, the first one first
 --     withoutMarks    marks taken out, each of which must stand in its place
 --     fits            marks whose places are in a spelling of n characters
-use mathlib.Core.Path.{_≡_, refl, sym, ap, _∙_}
+--     chars-visible, chars-upper, chars-without    what follows for a spelling of such characters
+--     marked-read-back, marked-accepted, marked-exact    what is read with marks, for any test
+use mathlib.Core.Path.{_≡_, refl, ap, _∙_}
 use mathlib.Core.Bool.{Bool, true, false, false≢true}
 use mathlib.Core.List.{List, [], _∷_}
 use mathlib.Core.Option.{Option, none, some}
-use Prim.Native.Nat.{ℕ, zero, suc, _+_, _≤_, _<_}
+use Prim.Native.Nat.{ℕ, zero, suc, _+_, _≤_}
 use native.Mathlib.Omega.{arith}
 use lib.Dec.{eqb, leb}
-use lib.ListN.{length, take, drop}
+use lib.ListN.{length}
 use borrow.Author.Tests.{eq-eqb, eqb-true, leb-true, le-leb, lt-leb}
-use Rattle.octets.specs.Pick.{pick, _and_, _or_, within, and-yes}
+use Rattle.octets.specs.Pick.{pick, _and_, _or_, and-yes}
 use Rattle.octets.specs.Scan.{allOf}
 use Rattle.octets.specs.Class.{isDigit, isCapital, isSmall, isVisible, upper}
 use Rattle.octets.specs.Words.{holds, isEmpty}
@@ -80,7 +82,7 @@ char-most b h = or-cases _ _ h (λ d. omega (arith, leb-true b 57 (and-right _ _
     (λ h. or-cases _ _ h (λ c. omega (arith, leb-true b 90 (and-right _ _ c)))
     (λ h. or-cases _ _ h (λ e. omega (arith, eqb-true b 43 e)) (λ e. omega (arith, eqb-true b 45 e))))
 
-char-visible : (b : ℕ) → isTimeChar b ≡ true → isVisible b ≡ true
+pub char-visible : (b : ℕ) → isTimeChar b ≡ true → isVisible b ≡ true
 unfolding _and_
 char-visible b h = rw (le-leb 33 b (omega (arith, char-least b h)), le-leb b 126 (omega (arith, char-most b h)))
 
@@ -119,13 +121,16 @@ chars-visible s h = all-weaken isTimeChar isVisible char-visible s h
 pub chars-upper : (s : List ℕ) → allOf isTimeChar s ≡ true → upper s ≡ s
 chars-upper s h = all-upper isTimeChar char-not-small s h
 
+pub chars-without : (c : ℕ) → isTimeChar c ≡ false → (s : List ℕ) → allOf isTimeChar s ≡ true → holds c s ≡ false
+chars-without c e s h = all-holds isTimeChar c e s h
+
 pub chars-no-comma : (s : List ℕ) → allOf isTimeChar s ≡ true → holds 44 s ≡ false
 unfolding isTimeChar _or_ _and_
-chars-no-comma s h = all-holds isTimeChar 44 refl s h
+chars-no-comma s h = chars-without 44 refl s h
 
 pub chars-no-slash : (s : List ℕ) → allOf isTimeChar s ≡ true → holds 47 s ≡ false
 unfolding isTimeChar _or_ _and_
-chars-no-slash s h = all-holds isTimeChar 47 refl s h
+chars-no-slash s h = chars-without 47 refl s h
 
 -- ---- what is kept
 

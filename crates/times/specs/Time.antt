@@ -3,12 +3,12 @@
 --     isTime     a kept value
 --     readTime, writeTime
 --     time-read-back, time-accepted, time-visible; time-exact: XML has one spelling of a time
-use mathlib.Core.Path.{_≡_, refl, sym, ap, _∙_}
-use mathlib.Core.Bool.{Bool, true, false}
+use mathlib.Core.Path.{_≡_, refl}
+use mathlib.Core.Bool.{Bool, true}
 use mathlib.Core.List.{List, [], _∷_}
-use mathlib.Core.Option.{Option, none, some}
+use mathlib.Core.Option.{Option, some}
 use Prim.Native.Nat.{ℕ, _≤_}
-use lib.Dec.{eqb, leb}
+use lib.Dec.{leb}
 use borrow.Author.Tests.{leb-true}
 use lib.ListN.{length, take, drop}
 use Rattle.octets.specs.Pick.{pick, _and_, _or_}

@@ -2,8 +2,8 @@
 -- +0100 and -013015 in text, +01:00 and -01:30:15 in XML.
 --     isUtcOffset     a kept value
 --     readUtcOffset, writeUtcOffset
---     utc-offset-read-back, utc-offset-accepted, utc-offset-visible, utc-offset-no-comma; utc-offset-exact: XML has one spelling of an offset
-use mathlib.Core.Path.{_≡_, refl, sym, ap, _∙_}
+--     utc-offset-read-back, utc-offset-accepted, utc-offset-visible, utc-offset-no-comma; utc-offset-exact: an offset has one spelling in each
+use mathlib.Core.Path.{_≡_, refl, ap}
 use mathlib.Core.Bool.{Bool, true, false, false≢true}
 use mathlib.Core.List.{List, [], _∷_}
 use mathlib.Core.Option.{Option, none, some}
@@ -11,7 +11,7 @@ use Prim.Native.Nat.{ℕ, suc, _+_}
 use native.Mathlib.Omega.{arith}
 use lib.Dec.{eqb, ltb}
 use borrow.Author.Tests.{eqb-true}
-use lib.ListN.{length, take, drop}
+use lib.ListN.{length}
 use Rattle.octets.specs.Pick.{pick, _and_, _or_}
 use Rattle.octets.specs.Scan.{allOf}
 use Rattle.octets.specs.Class.{isVisible}
@@ -21,14 +21,14 @@ use Rattle.octets.specs.Reading.{andThen}
 use Rattle.model.specs.Calendar.{Format, ical, xcal}
 use Rattle.times.specs.Extra.{and-left, and-right, or-cases}
 use Rattle.times.specs.Spelling.{Mark, mark, withMarks, withoutMarks, keep, begins, fits}
-use Rattle.times.specs.Spelling.{isTimeChar, Chars, chars-begins, chars-or, chars-visible, chars-no-comma, keep-yes, keep-accepted, marked-read-back, marked-accepted, marked-exact, marks-length}
+use Rattle.times.specs.Spelling.{isTimeChar, Chars, chars-begins, chars-or, chars-visible, chars-no-comma, keep-yes, keep-is, keep-accepted, marked-read-back, marked-accepted, marked-exact, marks-length}
 use Rattle.times.specs.Time.{isClock, clock-chars}
 
 -- time-hour time-minute [time-second]
 unfoldable pub isShift : List ℕ → Bool
 isShift s = (eqb (length s) 4 or eqb (length s) 6) and isClock s
 
--- not zero
+-- the same, and not zero
 unfoldable pub isSomeShift : List ℕ → Bool
 isSomeShift s = isShift s and ltb 0 (value 0 s)
 
@@ -52,7 +52,6 @@ readUtcOffset xcal s =
     none)
 
 -- +0100 has five characters
-
 unfoldable pub writeUtcOffset : Format → List ℕ → List ℕ
 writeUtcOffset ical v = v
 writeUtcOffset xcal v = withMarks (pick (eqb (length v) 5) minuteMarks secondMarks) v
@@ -111,9 +110,10 @@ utc-offset-accepted ical s v h = keep-accepted isUtcOffset s v h
 utc-offset-accepted xcal s v h =
     two-lengths s v h (λ l k. marked-accepted isUtcOffset (withoutMarks minuteMarks s) v k) (λ l k. marked-accepted isUtcOffset (withoutMarks secondMarks s) v k)
 
-pub utc-offset-exact : (s v : List ℕ) → readUtcOffset xcal s ≡ some v → s ≡ writeUtcOffset xcal v
-unfolding writeUtcOffset pick
-utc-offset-exact s v h =
+pub utc-offset-exact : (f : Format) (s v : List ℕ) → readUtcOffset f s ≡ some v → s ≡ writeUtcOffset f v
+unfolding readUtcOffset writeUtcOffset pick
+utc-offset-exact ical s v h = keep-is isUtcOffset s v h
+utc-offset-exact xcal s v h =
     two-lengths s v h (λ l k. spelt 5 minuteMarks l (marked-exact isUtcOffset minuteMarks s v k) refl) (λ l k. spelt 7 secondMarks l (marked-exact isUtcOffset secondMarks s v k) refl)
   where
     spelt : (n : ℕ) (ms : List Mark) → length s ≡ length ms + n → s ≡ withMarks ms v → pick (eqb n 5) minuteMarks secondMarks ≡ ms →
