@@ -1,12 +1,14 @@
 -- What this crate wants of lists, tests and readings in general.
 --     everyOf                        whether each of a list passes a test
 --     and-left, and-right            both of joined tests hold
---     provided-some, andThen-some    what was read, was read from something
+--     provided-some, andThen-some, consRead-some    what was read, was read from something
 --     all-weaker, all-both, all-lacks   bytes of a class
 --     one-of-all, row-all, row-is    a word of a list, a row of a table
+--     each-read-back, each-accepted  each of a list
+--     none-holds, all-joined         what is written of each of a list, joined
 use mathlib.Core.Path.{_≡_, refl, sym, ap, _∙_}
 use mathlib.Core.Bool.{Bool, true, false, false≢true}
-use mathlib.Core.List.{List, [], _∷_}
+use mathlib.Core.List.{List, [], _∷_, map}
 use mathlib.Core.Option.{Option, none, some}
 use Prim.Native.Nat.{ℕ}
 use lib.Dec.{eqb}
@@ -15,8 +17,8 @@ use native.Mathlib.Omega.{arith}
 use Rattle.octets.specs.Pick.{pick, _and_, _or_}
 use Rattle.octets.specs.Scan.{allOf}
 use Rattle.octets.specs.Append.{_⊕_}
-use Rattle.octets.specs.Words.{same, same-true, isOneOf, holds, rowOf}
-use Rattle.octets.specs.Reading.{provided, andThen}
+use Rattle.octets.specs.Words.{same, same-true, isOneOf, holds, noneHolds, eachAfter, joinedBy, rowOf}
+use Rattle.octets.specs.Reading.{provided, andThen, consRead, readEach}
 
 unfoldable pub everyOf : {A : Type 0} → (A → Bool) → List A → Bool
 everyOf p [] = true
@@ -62,6 +64,11 @@ module _ {A : Type 0} where
   unfolding andThen
   andThen-some none f v h = let z : _≡_ {A = ℕ} 0 1 = cc in absurd (omega arith)
   andThen-some (some a) f v h = (a, refl, h)
+
+  pub consRead-some : (a : A) (o : Option (List A)) (v : List A) → consRead a o ≡ some v → (l : List A) × (o ≡ some l) × (a ∷ l ≡ v)
+  unfolding consRead
+  consRead-some a none v h = let z : _≡_ {A = ℕ} 0 1 = cc in absurd (omega arith)
+  consRead-some a (some l) v h = (l, refl, cc)
 
 -- ---- bytes of a class
 
@@ -124,3 +131,40 @@ module _ {A : Type 0} (name : A → List ℕ) where
       go : (t : Bool) → same n (name x) ≡ t → pick t (some x) (rowOf name n rows) ≡ some r → (rowOf name n rows ≡ some r → n ≡ name r) → n ≡ name r
       go true f k ih = let z : x ≡ r = cc in same-true n (name x) f ∙ ap name z
       go false f k ih = ih k
+
+-- ---- each of a list, read and written
+
+module _ {A : Type 0} (reading : List ℕ → Option A) (q : A → Bool) where
+  pub each-read-back : (writing : A → List ℕ) → ((a : A) → q a ≡ true → reading (writing a) ≡ some a) → (l : List A) → everyOf q l ≡ true → readEach reading (map writing l) ≡ some l
+  unfolding everyOf readEach andThen consRead
+  each-read-back writing k [] h = refl
+  each-read-back writing k (a ∷ l) h = let e = pick-first (q a) (everyOf q l) h in rw (k a (e .0), each-read-back writing k l (e .1))
+
+  pub each-accepted : ((s : List ℕ) (a : A) → reading s ≡ some a → q a ≡ true) → (ss : List (List ℕ)) (l : List A) → readEach reading ss ≡ some l → everyOf q l ≡ true
+  unfolding everyOf readEach pick
+  each-accepted k [] l h = let z : [] ≡ l = cc in rw (← z)
+  each-accepted k (s ∷ ss) l h =
+      let e = andThen-some (reading s) (λ a. consRead a (readEach reading ss)) l h in
+      let f = consRead-some (e .0) (readEach reading ss) l (e .2) in
+      rw (← (f .2), k s (e .0) (e .1)) (each-accepted k ss (f .0) (f .1))
+
+-- pieces of a class that does not have the separator, and what is joined of pieces
+module _ {A : Type 0} (q : A → Bool) (writing : A → List ℕ) where
+  pub none-holds : (c : ℕ) → ((a : A) → q a ≡ true → holds c (writing a) ≡ false) → (l : List A) → everyOf q l ≡ true → noneHolds c (map writing l) ≡ true
+  unfolding everyOf noneHolds pick
+  none-holds c k [] h = refl
+  none-holds c k (a ∷ l) h = let e = pick-first (q a) (everyOf q l) h in rw (k a (e .0)) (none-holds c k l (e .1))
+
+  all-after : (p : ℕ → Bool) (c : ℕ) → p c ≡ true → ((a : A) → q a ≡ true → allOf p (writing a) ≡ true) → (l : List A) → everyOf q l ≡ true → allOf p (eachAfter c (map writing l)) ≡ true
+  unfolding everyOf eachAfter allOf pick
+  all-after p c b k [] h = refl
+  all-after p c b k (a ∷ l) h =
+      let e = pick-first (q a) (everyOf q l) h in
+      rw b (all-both p (writing a) (eachAfter c (map writing l)) (k a (e .0)) (all-after p c b k l (e .1)))
+
+  pub all-joined : (p : ℕ → Bool) (c : ℕ) → p c ≡ true → ((a : A) → q a ≡ true → allOf p (writing a) ≡ true) → (l : List A) → everyOf q l ≡ true → allOf p (joinedBy c (map writing l)) ≡ true
+  unfolding everyOf joinedBy allOf
+  all-joined p c b k [] h = refl
+  all-joined p c b k (a ∷ l) h =
+      let e = pick-first (q a) (everyOf q l) h in
+      all-both p (writing a) (eachAfter c (map writing l)) (k a (e .0)) (all-after p c b k l (e .1))

@@ -16,5 +16,7 @@ pub mod EnddateLaws
 pub mod ItemLaws
 pub mod Rule
 pub mod OrderLaws
+pub mod PartLaws
+pub mod RuleLaws
 pub mod Computing
 pub mod Examples

@@ -113,7 +113,7 @@ weekday-accepted f s i h =
 
 -- ---- the characters
 
-capital-char : (b : ℕ) → isCapital b ≡ true → isTimeChar b ≡ true
+pub capital-char : (b : ℕ) → isCapital b ≡ true → isTimeChar b ≡ true
 unfolding isTimeChar
 capital-char b h = or-right (isDigit b) (isCapital b or eqb b 43 or eqb b 45) (or-left (isCapital b) (eqb b 43 or eqb b 45) h)
 
