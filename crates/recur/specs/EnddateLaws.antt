@@ -41,7 +41,7 @@ no-date xcal v n h = go (readDate xcal (withMarks dateTimeMarks v)) refl
   where
     go : (o : Option (List ℕ)) → readDate xcal (withMarks dateTimeMarks v) ≡ o → o ≡ none
     go none e = refl
-    go (some u) e = absurd (longer v u h (date-accepted xcal (withMarks dateTimeMarks v) u e) (date-exact (withMarks dateTimeMarks v) u e))
+    go (some u) e = absurd (longer v u h (date-accepted xcal (withMarks dateTimeMarks v) u e) (date-exact xcal (withMarks dateTimeMarks v) u e))
 
 -- ---- read back, accepted
 
