@@ -2,7 +2,7 @@
 --     and-both, or-neither, not-false          what a test says of its parts
 --     none-some, provided-some, andThen-some   what was read, was read from something
 --     every-both, every-weaker, every-map      a test of each of a list
---     each-read-back, each-accepted, each-empty    each of a list read
+--     each-read-back, each-accepted, each-accepted-of, each-empty    each of a list read
 use mathlib.Core.Path.{_≡_, refl, sym}
 use mathlib.Core.Bool.{Bool, true, false, not, false≢true}
 use mathlib.Core.List.{List, [], _∷_, map}
@@ -83,6 +83,17 @@ module _ {A B : Type 0} (f : A → Option B) (p : B → Bool) where
       let e = andThen-some (f a) (λ b. consRead b (readEach f l)) r h in
       let g = consRead-some (e .0) (readEach f l) r (e .2) in
       rw (← (g .2), one a (e .0) (e .1)) (each-accepted one l (g .0) (g .1))
+
+-- the same where what is read from passes a test of its own
+pub each-accepted-of : {A B : Type 0} (f : A → Option B) (q : A → Bool) (p : B → Bool) → ((a : A) (b : B) → q a ≡ true → f a ≡ some b → p b ≡ true) →
+    (l : List A) (r : List B) → every q l ≡ true → readEach f l ≡ some r → every p r ≡ true
+unfolding readEach every _and_
+each-accepted-of f q p one [] r t h = let e : [] ≡ r = cc in rw (← e)
+each-accepted-of f q p one (a ∷ l) r t h =
+    let d = every-both q a l t in
+    let e = andThen-some (f a) (λ b. consRead b (readEach f l)) r h in
+    let g = consRead-some (e .0) (readEach f l) r (e .2) in
+    rw (← (g .2), one a (e .0) (d .0) (e .1)) (each-accepted-of f q p one l (g .0) (d .1) (g .1))
 
 -- as many as there were: none only of none
 pub each-empty : {A B : Type 0} (f : A → Option B) (l : List A) (r : List B) → readEach f l ≡ some r → isEmpty r ≡ isEmpty l

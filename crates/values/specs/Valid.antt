@@ -13,11 +13,12 @@ use Rattle.octets.specs.Pick.{pick, _and_, _or_}
 use Rattle.octets.specs.Class.{upper}
 use Rattle.octets.specs.Words.{same, isOneOf, isEmpty}
 use Rattle.octets.specs.Lists.{every, anyOne, distinct}
+use Rattle.octets.specs.Reading.{consRead, readEach}
 use Rattle.model.specs.Calendar.{ValueType, BINARY, TEXT, Value, binary, boolean, calAddress, date, dateTime, duration, float, integer, periodExplicit, periodStart, recur, text, time, uri, utcOffset, unknown, geo, requestStatus, typeOf, textIn, Parameter, Property}
 use Rattle.schema.specs.Types.{sameType, isTypeOf}
 use Rattle.schema.specs.Parameters.{parameterType, isListedParameter, parameterWords}
 use Rattle.schema.specs.Properties.{permittedTypes, isListedProperty, permitsParameter, propertyWords}
-use Rattle.values.specs.Extra.{none-some}
+use Rattle.values.specs.Extra.{none-some, andThen-some, consRead-some, each-empty}
 use Rattle.values.specs.WriteValue.{typeOfAll}
 use Rattle.values.specs.ReadBack.{isValue, isTyped}
 
@@ -128,6 +129,17 @@ isProperty k p =
     same (upper (p .name)) (p .name)
     and areParameters (p .name) (typeOfAll (p .values)) (p .parameters)
     and arePropertyValues k (p .name) (p .values)
+
+-- ---- laws of amounts
+
+-- as many as were read
+pub each-amount : {A B : Type 0} (f : A → Option B) (b : Bool) (l : List A) (r : List B) → readEach f l ≡ some r → isAmount b r ≡ isAmount b l
+unfolding readEach
+each-amount f b [] r h = let q : [] ≡ r = cc in rw (← q)
+each-amount f b (a ∷ l) r h =
+    let e = andThen-some (f a) (λ x. consRead x (readEach f l)) r h in
+    let g = consRead-some (e .0) (readEach f l) r (e .2) in
+    rw (← (g .2), each-empty f l (g .0) (g .1))
 
 -- ---- laws of TEXT among the values
 
