@@ -27,7 +27,7 @@ use Rattle.values.specs.WriteValue.{writeValue}
 use Rattle.values.specs.ReadBack.{isValue, isTyped, value-read-back, value-accepted}
 use Rattle.values.specs.Valid.{isAmount, isOfType, isWordIn, isChosen, isParameter, each-amount, text-or-other, text-in}
 use Rattle.lines.specs.ContentLine.{ParamValue, RawParameter}
-use Rattle.lines.specs.Names.{upper-twice}
+use Rattle.octets.specs.Letters.{upper-twice}
 use Rattle.ical.specs.Parameters.{readTyped, readWord, readParamValue, isSingle, readParameter, isValueParameter, statedType, typeIn, ownParameters, readParameters}
 use Rattle.ical.specs.WriteText.{paramChars, paramValueOf, rawOf, valueParameter, withValue}
 
