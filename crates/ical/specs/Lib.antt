@@ -7,6 +7,7 @@
 --     ReadText      the answer for a text
 --     WriteText     the canonical text of a calendar
 --     ParameterLaws   parameters are read back
+--     ValuesLaws      the values of a property are read back
 --     Computing     opens all of these, for examples that compute
 pub mod Parameters
 pub mod Values
@@ -16,4 +17,5 @@ pub mod Tree
 pub mod ReadText
 pub mod WriteText
 pub mod ParameterLaws
+pub mod ValuesLaws
 pub mod Computing

@@ -1,5 +1,5 @@
 -- General laws of tests, of lists and of readings.
---     and-both, or-neither, not-false          what a test says of its parts
+--     and-both, or-neither, pick-first, not-false   what a test says of its parts
 --     none-some, provided-some, andThen-some   what was read, was read from something
 --     every-both, every-weaker, every-map      a test of each of a list
 --     each-read-back, each-accepted, each-accepted-of, each-empty    each of a list read
@@ -25,6 +25,12 @@ pub or-neither : (a b : Bool) → (a or b) ≡ false → (a ≡ false) × (b ≡
 unfolding _or_
 or-neither true b h = absurd (false≢true (sym h))
 or-neither false b h = (refl, h)
+
+-- a choice that is true, with a side that never is
+pub pick-first : (t a : Bool) → pick t a false ≡ true → (t ≡ true) × (a ≡ true)
+unfolding pick
+pick-first true a h = (refl, h)
+pick-first false a h = absurd (false≢true h)
 
 pub not-false : (b : Bool) → not b ≡ true → b ≡ false
 not-false true h = absurd (false≢true h)
