@@ -5,8 +5,9 @@ use Prim.Native.Nat.{ℕ}
 use lib.ListN.{replicate}
 use Rattle.octets.specs.Ascii.{ascii}
 use Rattle.folding.specs.Unfold.{unfolded, places, origin, crlf}
-use Rattle.folding.specs.Lines.{Line, whole, loose, lines}
-use Rattle.folding.specs.Fold.{foldedLine, foldedText}
+use Rattle.folding.specs.Lines.{whole, loose, lines}
+use Rattle.folding.specs.Fold.{foldedLine}
+use Rattle.folding.specs.Text.{foldedText}
 use Rattle.folding.specs.Computing.{folding-compute}
 
 -- a fold with a space, one with a TAB, a line's end; folds before the first line and after the last one; a letter in two parts; unfolding is not repeated
@@ -44,35 +45,35 @@ unfolding folding-compute
 texts-of-lines = refl
 
 -- so many letters A
-abbrev many : ℕ → List ℕ
-many n = replicate n 65
+abbrev letters : ℕ → List ℕ
+letters n = replicate n 65
 
 -- 75 octets stay whole; 76 give 75, then a space and 1; 149 fill two lines, 150 begin a third
-folded-octets : map foldedLine ([] ∷ many 75 ∷ many 76 ∷ many 149 ∷ many 150 ∷ [])
+folded-octets : map foldedLine ([] ∷ letters 75 ∷ letters 76 ∷ letters 149 ∷ letters 150 ∷ [])
     ≡ crlf
-    ∷ (many 75 ++ crlf)
-    ∷ (many 75 ++ ascii "\r\n A\r\n")
-    ∷ (many 75 ++ ascii "\r\n " ++ many 74 ++ crlf)
-    ∷ (many 75 ++ ascii "\r\n " ++ many 74 ++ ascii "\r\n A\r\n") ∷ []
+    ∷ (letters 75 ++ crlf)
+    ∷ (letters 75 ++ ascii "\r\n A\r\n")
+    ∷ (letters 75 ++ ascii "\r\n " ++ letters 74 ++ crlf)
+    ∷ (letters 75 ++ ascii "\r\n " ++ letters 74 ++ ascii "\r\n A\r\n") ∷ []
 unfolding folding-compute
 folded-octets = refl
 
 -- a character is not parted: after 74, 73 and 72 octets one of two, three and four octets goes to the next line, after one octet less it stays
-folded-characters : map foldedLine ((many 74 ++ (0xC3 ∷ 0xA9 ∷ [])) ∷ (many 73 ++ (0xC3 ∷ 0xA9 ∷ 65 ∷ [])) ∷
-    (many 73 ++ (0xE2 ∷ 0x82 ∷ 0xAC ∷ [])) ∷ (many 72 ++ (0xF0 ∷ 0x9F ∷ 0x98 ∷ 0x80 ∷ [])) ∷ (many 71 ++ (0xF0 ∷ 0x9F ∷ 0x98 ∷ 0x80 ∷ [])) ∷ [])
-    ≡ (many 74 ++ ascii "\r\n " ++ (0xC3 ∷ 0xA9 ∷ 13 ∷ 10 ∷ []))
-    ∷ (many 73 ++ (0xC3 ∷ 0xA9 ∷ []) ++ ascii "\r\n A\r\n")
-    ∷ (many 73 ++ ascii "\r\n " ++ (0xE2 ∷ 0x82 ∷ 0xAC ∷ 13 ∷ 10 ∷ []))
-    ∷ (many 72 ++ ascii "\r\n " ++ (0xF0 ∷ 0x9F ∷ 0x98 ∷ 0x80 ∷ 13 ∷ 10 ∷ []))
-    ∷ (many 71 ++ (0xF0 ∷ 0x9F ∷ 0x98 ∷ 0x80 ∷ 13 ∷ 10 ∷ [])) ∷ []
+folded-characters : map foldedLine ((letters 74 ++ (0xC3 ∷ 0xA9 ∷ [])) ∷ (letters 73 ++ (0xC3 ∷ 0xA9 ∷ 65 ∷ [])) ∷
+    (letters 73 ++ (0xE2 ∷ 0x82 ∷ 0xAC ∷ [])) ∷ (letters 72 ++ (0xF0 ∷ 0x9F ∷ 0x98 ∷ 0x80 ∷ [])) ∷ (letters 71 ++ (0xF0 ∷ 0x9F ∷ 0x98 ∷ 0x80 ∷ [])) ∷ [])
+    ≡ (letters 74 ++ ascii "\r\n " ++ (0xC3 ∷ 0xA9 ∷ 13 ∷ 10 ∷ []))
+    ∷ (letters 73 ++ (0xC3 ∷ 0xA9 ∷ []) ++ ascii "\r\n A\r\n")
+    ∷ (letters 73 ++ ascii "\r\n " ++ (0xE2 ∷ 0x82 ∷ 0xAC ∷ 13 ∷ 10 ∷ []))
+    ∷ (letters 72 ++ ascii "\r\n " ++ (0xF0 ∷ 0x9F ∷ 0x98 ∷ 0x80 ∷ 13 ∷ 10 ∷ []))
+    ∷ (letters 71 ++ (0xF0 ∷ 0x9F ∷ 0x98 ∷ 0x80 ∷ 13 ∷ 10 ∷ [])) ∷ []
 unfolding folding-compute
 folded-characters = refl
 
 -- written and unfolded, a line is itself and CRLF; a text of 6000 octets is unfolded and parted into lines
-back : map (λ l. unfolded (foldedLine l)) (many 200 ∷ (many 74 ++ (0xC3 ∷ 0xA9 ∷ [])) ∷ []) ≡ (many 200 ++ crlf) ∷ (many 74 ++ (0xC3 ∷ 0xA9 ∷ 13 ∷ 10 ∷ [])) ∷ []
+back : map (λ l. unfolded (foldedLine l)) (letters 200 ∷ (letters 74 ++ (0xC3 ∷ 0xA9 ∷ [])) ∷ []) ≡ (letters 200 ++ crlf) ∷ (letters 74 ++ (0xC3 ∷ 0xA9 ∷ 13 ∷ 10 ∷ [])) ∷ []
 unfolding folding-compute
 back = refl
 
-large : map lines (unfolded (foldedText (many 3000 ∷ many 3000 ∷ [])) ∷ []) ≡ (whole 0 (many 3000) ∷ whole 3002 (many 3000) ∷ []) ∷ []
+large : map lines (unfolded (foldedText (letters 3000 ∷ letters 3000 ∷ [])) ∷ []) ≡ (whole 0 (letters 3000) ∷ whole 3002 (letters 3000) ∷ []) ∷ []
 unfolding folding-compute
 large = refl

@@ -3,17 +3,16 @@
 --     linesFrom p s    the same, where s starts at index p
 --     lines-whole      what stands before the first CRLF is a line;   lines-loose: what holds none
 --     lines-append     of two texts, where the first has no loose line;   lines-ended: it has none if it ends with CRLF
-use mathlib.Core.Path.{_≡_, refl, sym, ap, _∙_}
+use mathlib.Core.Path.{_≡_, refl, ap, _∙_}
 use mathlib.Core.Bool.{Bool, true, false, false≢true}
 use mathlib.Core.List.{List, [], _∷_, map}
 use Prim.Native.Nat.{ℕ, zero, suc, _+_, _≤_, _<_}
 use native.Mathlib.Omega.{arith}
 use lib.Dec.{eqb}
 use lib.ListN.{length}
-use Rattle.octets.specs.Pick.{_and_, _or_}
+use Rattle.octets.specs.Pick.{_and_, _or_, or-neither}
 use Rattle.octets.specs.Append.{_⊕_}
 use Rattle.octets.specs.Words.{starts, holds}
-use Rattle.folding.specs.Extra.{or-false}
 use Rattle.folding.specs.Unfold.{crlf}
 
 -- where a line starts, and its bytes; or where a loose line starts
@@ -66,7 +65,7 @@ moved n (loose p) = loose (p + n)
 pub no-break : (s : List ℕ) → holds 13 s ≡ false → holdsBreak s ≡ false
 unfolding holds holdsBreak starts _and_ _or_
 no-break [] h = refl
-no-break (a ∷ s) h = let e = or-false (eqb 13 a) (holds 13 s) h in rw (e .0) (no-break s (e .1))
+no-break (a ∷ s) h = let e = or-neither (eqb 13 a) (holds 13 s) h in rw (e .0) (no-break s (e .1))
 
 -- a line's end does not come earlier because of the CR that ends the line
 break-seam : (a : ℕ) (l r : List ℕ) → starts crlf ((a ∷ l) ⊕ (13 ∷ r)) ≡ starts crlf (a ∷ l)
@@ -78,13 +77,13 @@ pub lines-whole : (l r : List ℕ) (p : ℕ) → holdsBreak l ≡ false → line
 unfolding linesAfter lineStep longer holdsBreak starts _⊕_ _and_
 lines-whole [] r p h = ap (λ (n : ℕ). whole p [] ∷ linesFrom n r) (omega arith)
 lines-whole (a ∷ l) r p h =
-    let e = or-false (starts crlf (a ∷ l)) (holdsBreak l) h in
+    let e = or-neither (starts crlf (a ∷ l)) (holdsBreak l) h in
     rw (break-seam a l (10 ∷ r), e .0, lines-whole l r (p + 1) (e .1)) (ap (λ (n : ℕ). whole p (a ∷ l) ∷ linesFrom n r) (omega arith))
 
 pub lines-loose : (a : ℕ) (l : List ℕ) (p : ℕ) → holdsBreak (a ∷ l) ≡ false → linesFrom p (a ∷ l) ≡ loose p ∷ []
 unfolding linesAfter lineStep longer holdsBreak
-lines-loose a [] p h = rw (or-false (starts crlf (a ∷ [])) (holdsBreak []) h .0)
-lines-loose a (b ∷ l) p h = let e = or-false (starts crlf (a ∷ b ∷ l)) (holdsBreak (b ∷ l)) h in rw (e .0, lines-loose b l (p + 1) (e .1))
+lines-loose a [] p h = rw (or-neither (starts crlf (a ∷ [])) (holdsBreak []) h .0)
+lines-loose a (b ∷ l) p h = let e = or-neither (starts crlf (a ∷ b ∷ l)) (holdsBreak (b ∷ l)) h in rw (e .0, lines-loose b l (p + 1) (e .1))
 
 -- where no line is loose, what follows begins a line
 longer-append : (p a : ℕ) (ls ms : List Line) → noneLoose (longer p a ls) ≡ true → (noneLoose ls ≡ true) × (longer p a (ls ⊕ ms) ≡ longer p a ls ⊕ ms)
@@ -159,6 +158,9 @@ after-ended (x ∷ a) p (suc k) l = after-ended a (p + 1) k (omega arith)
 
 pub lines-ended : (a : List ℕ) (p : ℕ) → noneLoose (linesFrom p (a ⊕ crlf)) ≡ true
 lines-ended a p = after-ended a p 0 (omega arith)
+
+pub lines-append-ended : (a b : List ℕ) (p : ℕ) → linesFrom p ((a ⊕ crlf) ⊕ b) ≡ linesFrom p (a ⊕ crlf) ⊕ linesFrom (p + length (a ⊕ crlf)) b
+lines-append-ended a b p = lines-append (a ⊕ crlf) b p (lines-ended a p)
 
 -- where a text starts only moves its lines
 longer-moved : (n p a : ℕ) (ls : List Line) → longer (p + n) a (map (moved n) ls) ≡ map (moved n) (longer p a ls)

@@ -12,10 +12,9 @@ use Prim.Native.Nat.{ℕ, zero, suc, _+_, _-_, _≤_, _<_}
 use native.Mathlib.Omega.{arith}
 use lib.Dec.{eqb}
 use lib.ListN.{length, getD, List·getD-eq-default}
-use Rattle.octets.specs.Pick.{_and_, _or_}
+use Rattle.octets.specs.Pick.{_and_, _or_, or-neither}
 use Rattle.octets.specs.Append.{_⊕_}
 use Rattle.octets.specs.Words.{starts}
-use Rattle.folding.specs.Extra.{or-false, and-true}
 
 -- CRLF = %x0D %x0A
 abbrev pub crlf : List ℕ
@@ -60,6 +59,19 @@ unfoldable pub origin : List ℕ → ℕ → ℕ
 origin s w = getD (places s) w (length s)
 
 -- ---- laws
+
+-- the front of a text: a byte that is no CR, a fold, the end of a line
+pub unfolded-byte : (b : ℕ) (s : List ℕ) → eqb 13 b ≡ false → unfolded (b ∷ s) ≡ b ∷ unfolded s
+unfolding keptFrom keep foldAt starts _and_ _or_
+unfolded-byte b s h = rw h
+
+pub unfolded-fold : (s : List ℕ) → unfolded (13 ∷ 10 ∷ 32 ∷ s) ≡ unfolded s
+unfolding keptFrom keep foldAt starts _and_ _or_
+unfolded-fold s = refl
+
+pub unfolded-end : (s : List ℕ) → blankAt s ≡ false → unfolded (13 ∷ 10 ∷ s) ≡ 13 ∷ 10 ∷ unfolded s
+unfolding keptFrom keep foldAt blankAt starts _and_ _or_
+unfolded-end s h = rw h
 
 -- there are as many places as kept bytes, and no more than bytes
 places-length : (s : List ℕ) (p k : ℕ) → length (placesFrom s p k) ≡ length (keptFrom s k)
@@ -178,13 +190,13 @@ fold-long x (y ∷ z ∷ a) h = omega arith
 fold-seam : (x : ℕ) (a b : List ℕ) → foldGoesOn b ≡ false → foldAt ((x ∷ a) ⊕ b) ≡ foldAt (x ∷ a)
 unfolding foldAt foldGoesOn blankAt starts _and_ _or_ _⊕_
 fold-seam x [] [] h = refl
-fold-seam x [] (y ∷ b) h = go (eqb 10 y) refl (or-false _ _ h .0)
+fold-seam x [] (y ∷ b) h = go (eqb 10 y) refl (or-neither _ _ h .0)
   where
     go : (u : Bool) → eqb 10 y ≡ u → (u and true) ≡ false → foldAt (x ∷ y ∷ b) ≡ foldAt (x ∷ [])
     go true e k = absurd (false≢true (sym k))
     go false e k = rw e
 fold-seam x (y ∷ []) b h =
-    let e = or-false (starts (32 ∷ []) b) (starts (9 ∷ []) b) (or-false (starts (10 ∷ []) b) (blankAt b) h .1) in
+    let e = or-neither (starts (32 ∷ []) b) (starts (9 ∷ []) b) (or-neither (starts (10 ∷ []) b) (blankAt b) h .1) in
     rw (e .0, e .1)
 fold-seam x (y ∷ z ∷ a) b h = refl
 

@@ -3,7 +3,7 @@
 --   names are kept in capitals; INTEGER and RECUR's numbers by value, FLOAT by its normal form, BOOLEAN by truth, RECUR's parts in the schema's order,
 --   TEXT unescaped, the rest by the characters kept, as iCalendar text spells them.
 -- Names: RFC 5545, sections 3.2 (parameters), 3.3 (value types), 3.6 (components).
-use mathlib.Core.Bool.{Bool}
+use mathlib.Core.Bool.{Bool, true, false}
 use mathlib.Core.List.{List}
 use mathlib.Core.Option.{Option, none, some}
 use Prim.Native.Nat.{ℕ}
@@ -15,6 +15,10 @@ pub data ValueType : Type 0 where
 -- where a value is read from or written to: iCalendar text or xCal
 pub data Format : Type 0 where
   ical xcal : Format
+
+abbrev pub formatOf : Bool → Format
+formatOf true = xcal
+formatOf false = ical
 
 -- a whole number: whether it is negative, and its magnitude; zero is not negative
 pub record Whole : Type 0 where

@@ -1,12 +1,12 @@
 -- Computed examples of items and rules.
 use mathlib.Core.Path.{_≡_, refl}
-use mathlib.Core.Bool.{Bool, true, false}
+use mathlib.Core.Bool.{true, false}
 use mathlib.Core.List.{List, [], _∷_, map}
-use mathlib.Core.Option.{Option, none, some}
+use mathlib.Core.Option.{none, some}
 use Prim.Native.Nat.{ℕ}
 use Rattle.octets.specs.Ascii.{ascii}
 use Rattle.octets.specs.Reading.{isRead}
-use Rattle.model.specs.Calendar.{Format, ical, xcal, RuleItem, RulePart, moment, number, word, weekday}
+use Rattle.model.specs.Calendar.{Format, ical, xcal, RulePart, moment, number, word, weekday}
 use Rattle.recur.specs.Parts.{partNames, isListPart, partOrder}
 use Rattle.recur.specs.Item.{whole, readItem, writeItem, isItem}
 use Rattle.recur.specs.Rule.{rulePart, readRule, writeRule, isRule}
@@ -58,38 +58,78 @@ written : map (writeItem ical) (number (whole true 366) ∷ weekday (some (whole
 unfolding recur-compute
 written = refl
 
+-- what can be an item of a part
+items : map (isItem (ascii "BYMONTHDAY")) (number (whole true 31) ∷ number (whole false 0) ∷ number (whole false 32) ∷ word (ascii "SU") ∷ []) ≡ true ∷ false ∷ false ∷ false ∷ []
+unfolding recur-compute
+items = refl
+
 -- a whole rule: its parts are put in the schema's order
 rule : readRule (ascii "byday=-1SU,mo;FREQ=monthly;Count=010")
     ≡ some (
-      rulePart (ascii "FREQ") (word (ascii "MONTHLY") ∷ [])
-      ∷ rulePart (ascii "COUNT") (number (whole false 10) ∷ [])
-      ∷ rulePart (ascii "BYDAY") (weekday (some (whole true 1)) (ascii "SU") ∷ weekday none (ascii "MO") ∷ [])
-      ∷ [])
+    rulePart (ascii "FREQ") (word (ascii "MONTHLY") ∷ [])
+    ∷ rulePart (ascii "COUNT") (number (whole false 10) ∷ [])
+    ∷ rulePart (ascii "BYDAY") (weekday (some (whole true 1)) (ascii "SU") ∷ weekday none (ascii "MO") ∷ [])
+    ∷ [])
 unfolding recur-compute
 rule = refl
 
+rule-written : writeRule (
+    rulePart (ascii "FREQ") (word (ascii "YEARLY") ∷ [])
+    ∷ rulePart (ascii "UNTIL") (moment (ascii "20240504") ∷ [])
+    ∷ rulePart (ascii "BYMONTH") (number (whole false 1) ∷ number (whole false 12) ∷ [])
+    ∷ [])
+    ≡ ascii "FREQ=YEARLY;UNTIL=20240504;BYMONTH=1,12"
+unfolding recur-compute
+rule-written = refl
+
+freq : RulePart
+freq = rulePart (ascii "FREQ") (word (ascii "DAILY") ∷ [])
+
+count : RulePart
+count = rulePart (ascii "COUNT") (number (whole false 5) ∷ [])
+
+until : RulePart
+until = rulePart (ascii "UNTIL") (moment (ascii "20240504") ∷ [])
+
+-- parts in another order, a part twice, UNTIL and COUNT, no FREQ, no item
+kept-rules : map isRule (
+    (freq ∷ count ∷ [])
+    ∷ (count ∷ freq ∷ [])
+    ∷ (freq ∷ freq ∷ [])
+    ∷ (freq ∷ until ∷ count ∷ [])
+    ∷ (count ∷ [])
+    ∷ (freq ∷ rulePart (ascii "BYHOUR") [] ∷ [])
+    ∷ [])
+    ≡ true ∷ false ∷ false ∷ false ∷ false ∷ false ∷ []
+unfolding recur-compute freq count until
+kept-rules = refl
+
 -- what is a fault and what is none
 rules : map (λ (s : List ℕ). isRead (readRule s)) (
-      ascii "FREQ=DAILY;BYSETPOS=1,1"
-      ∷ ascii "UNTIL=20240504;FREQ=DAILY"
-      ∷ ascii "FREQ=DAILY;UNTIL=20240504;COUNT=1"
-      ∷ ascii "COUNT=1"
-      ∷ ascii "FREQ=DAILY;"
-      ∷ ascii "FREQ=DAILY;COUNT"
-      ∷ ascii "FREQ=DAILY;BYDAY=SU,"
-      ∷ ascii "FREQ=DAILY;FREQ=DAILY"
-      ∷ ascii "FREQ=DAILY;RSCALE=GREGORIAN"
-      ∷ ascii "FREQ=DAILY,WEEKLY"
-      ∷ ascii "FREQ=DAILY=WEEKLY"
-      ∷ ascii ""
-      ∷ [])
+    ascii "FREQ=DAILY;BYSETPOS=1,1"
+    ∷ ascii "UNTIL=20240504;FREQ=DAILY"
+    ∷ ascii "FREQ=DAILY;UNTIL=20240504;COUNT=1"
+    ∷ ascii "COUNT=1"
+    ∷ ascii "FREQ=DAILY;"
+    ∷ ascii "FREQ=DAILY;COUNT"
+    ∷ ascii "FREQ=DAILY;BYDAY=SU,"
+    ∷ ascii "FREQ=DAILY;FREQ=DAILY"
+    ∷ ascii "FREQ=DAILY;RSCALE=GREGORIAN"
+    ∷ ascii "FREQ=DAILY,WEEKLY"
+    ∷ ascii "FREQ=DAILY=WEEKLY"
+    ∷ ascii ""
+    ∷ [])
     ≡ true ∷ true ∷ false ∷ false ∷ false ∷ false ∷ false ∷ false ∷ false ∷ false ∷ false ∷ false ∷ []
 unfolding recur-compute
 rules = refl
 
-names : map (λ (n : List ℕ). partOrder n) (ascii "FREQ" ∷ ascii "WKST" ∷ ascii "RSCALE" ∷ []) ≡ 0 ∷ 13 ∷ 14 ∷ []
+names : map partOrder (ascii "FREQ" ∷ ascii "WKST" ∷ ascii "RSCALE" ∷ []) ≡ 0 ∷ 13 ∷ 14 ∷ []
 unfolding recur-compute
 names = refl
+
+in-order : map partOrder partNames ≡ 0 ∷ 1 ∷ 2 ∷ 3 ∷ 4 ∷ 5 ∷ 6 ∷ 7 ∷ 8 ∷ 9 ∷ 10 ∷ 11 ∷ 12 ∷ 13 ∷ []
+unfolding recur-compute
+in-order = refl
 
 lists : map isListPart (ascii "INTERVAL" ∷ ascii "BYDAY" ∷ ascii "X-A" ∷ []) ≡ false ∷ true ∷ false ∷ []
 unfolding recur-compute

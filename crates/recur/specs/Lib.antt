@@ -1,20 +1,23 @@
 -- RECUR (RFC 5545, section 3.3.10): recurrence rules.
---     Extra      what this crate wants of lists, tests and readings in general
---     Front      a list cut at its first byte that passes a test
---     Parts      the parts of a rule in the schema's order, and what an item of each is
---     Item       one item of a part, read and written
---     Rule       a whole rule in text, read and written
---     Computing  opens all of these, for examples that compute
---     Examples   computed examples
-pub mod Extra
+--     Front        a list cut at its first byte that passes a test
+--     Parts        the parts of a rule in the schema's order, and what an item of each is
+--     Item         one item of a part, read and written
+--     Rule         a whole rule in text, read and written
+--     NumberLaws, WordLaws, EnddateLaws    numbers, words and weekdays, dates are read back
+--     ItemLaws     an item is read back from what is written of it, and what is read is an item
+--     OrderLaws    the order of a rule's parts
+--     PartLaws     one part, NAME=ITEMS, is read back, and what is read is one
+--     RuleLaws     a rule is read back from its text, and what is read is a rule
+--     Computing    opens all definitions, for examples that compute
+--     Examples     computed examples
 pub mod Front
 pub mod Parts
 pub mod Item
+pub mod Rule
 pub mod NumberLaws
 pub mod WordLaws
 pub mod EnddateLaws
 pub mod ItemLaws
-pub mod Rule
 pub mod OrderLaws
 pub mod PartLaws
 pub mod RuleLaws

@@ -8,7 +8,7 @@
 use mathlib.Core.Bool.{Bool, true, false}
 use mathlib.Core.List.{List, [], _∷_, map}
 use mathlib.Core.Option.{Option, none, some}
-use Prim.Native.Nat.{ℕ, zero, suc}
+use Prim.Native.Nat.{ℕ, suc}
 use Rattle.octets.specs.Ascii.{ascii}
 use Rattle.octets.specs.Pick.{pick}
 use Rattle.octets.specs.Words.{same, isOneOf, rowOf}
@@ -23,12 +23,12 @@ weekdays = ascii "SU" ∷ ascii "MO" ∷ ascii "TU" ∷ ascii "WE" ∷ ascii "TH
 
 -- what an item is
 pub data ItemForm : Type 0 where
-  wordOf : List (List ℕ) → ItemForm          -- one of these words
-  enddate : ItemForm                         -- enddate = date / date-time
-  counting : ItemForm                        -- 1*DIGIT, 1 to 2147483647
-  unsigned : ℕ → ℕ → ℕ → ItemForm            -- unsigned d lo hi: 1*dDIGIT, lo to hi
-  signed : ℕ → ℕ → ItemForm                  -- signed d hi: [plus / minus] 1*dDIGIT, 1 to hi
-  weekdaynum : ItemForm                      -- weekdaynum = [[plus / minus] ordwk] weekday;  ordwk = 1*2DIGIT, 1 to 53
+  wordOf : List (List ℕ) → ItemForm  -- one of these words
+  enddate : ItemForm  -- enddate = date / date-time
+  counting : ItemForm  -- 1*DIGIT, 1 to 2147483647
+  unsigned : ℕ → ℕ → ℕ → ItemForm  -- unsigned d lo hi: 1*dDIGIT, lo to hi
+  signed : ℕ → ℕ → ItemForm  -- signed d hi: [plus / minus] 1*dDIGIT, 1 to hi
+  weekdaynum : ItemForm  -- weekdaynum = [[plus / minus] ordwk] weekday;  ordwk = 1*2DIGIT, 1 to 53
 
 -- a part: its name, whether it has a list of items, and what an item is
 pub record Part : Type 0 where
@@ -48,15 +48,15 @@ partTable =
     ∷ one (ascii "UNTIL") enddate
     ∷ one (ascii "COUNT") counting
     ∷ one (ascii "INTERVAL") counting
-    ∷ several (ascii "BYSECOND") (unsigned 2 0 60)       -- seconds = 1*2DIGIT, 0 to 60
-    ∷ several (ascii "BYMINUTE") (unsigned 2 0 59)       -- minutes = 1*2DIGIT, 0 to 59
-    ∷ several (ascii "BYHOUR") (unsigned 2 0 23)         -- hour = 1*2DIGIT, 0 to 23
+    ∷ several (ascii "BYSECOND") (unsigned 2 0 60)  -- seconds = 1*2DIGIT, 0 to 60
+    ∷ several (ascii "BYMINUTE") (unsigned 2 0 59)  -- minutes = 1*2DIGIT, 0 to 59
+    ∷ several (ascii "BYHOUR") (unsigned 2 0 23)  -- hour = 1*2DIGIT, 0 to 23
     ∷ several (ascii "BYDAY") weekdaynum
-    ∷ several (ascii "BYMONTHDAY") (signed 2 31)         -- monthdaynum = [plus / minus] ordmoday;  ordmoday = 1*2DIGIT, 1 to 31
-    ∷ several (ascii "BYYEARDAY") (signed 3 366)         -- yeardaynum = [plus / minus] ordyrday;  ordyrday = 1*3DIGIT, 1 to 366
-    ∷ several (ascii "BYWEEKNO") (signed 2 53)           -- weeknum = [plus / minus] ordwk
-    ∷ several (ascii "BYMONTH") (unsigned 2 1 12)        -- monthnum = 1*2DIGIT, 1 to 12
-    ∷ several (ascii "BYSETPOS") (signed 3 366)          -- setposday = yeardaynum
+    ∷ several (ascii "BYMONTHDAY") (signed 2 31)  -- monthdaynum = [plus / minus] ordmoday;  ordmoday = 1*2DIGIT, 1 to 31
+    ∷ several (ascii "BYYEARDAY") (signed 3 366)  -- yeardaynum = [plus / minus] ordyrday;  ordyrday = 1*3DIGIT, 1 to 366
+    ∷ several (ascii "BYWEEKNO") (signed 2 53)  -- weeknum = [plus / minus] ordwk
+    ∷ several (ascii "BYMONTH") (unsigned 2 1 12)  -- monthnum = 1*2DIGIT, 1 to 12
+    ∷ several (ascii "BYSETPOS") (signed 3 366)  -- setposday = yeardaynum
     ∷ one (ascii "WKST") (wordOf weekdays)
     ∷ []
 

@@ -12,10 +12,10 @@ use Rattle.octets.specs.Ascii.{ascii}
 use Rattle.octets.specs.Pick.{pick, _and_}
 use Rattle.octets.specs.Append.{_⊕_}
 use Rattle.octets.specs.Class.{upper}
-use Rattle.octets.specs.Words.{same, isEmpty, isOneOf, cutAt, joinedBy, rowOf}
+use Rattle.octets.specs.Words.{same, isEmpty, cutAt, joinedBy, rowOf}
+use Rattle.octets.specs.Lists.{every, distinct}
 use Rattle.octets.specs.Reading.{provided, andThen, isRead, readEach}
 use Rattle.model.specs.Calendar.{ical, RuleItem, RulePart}
-use Rattle.recur.specs.Extra.{everyOf}
 use Rattle.recur.specs.Front.{upTo, past}
 use Rattle.recur.specs.Parts.{partNames, isListPart}
 use Rattle.recur.specs.Item.{readItem, writeItem, isItem}
@@ -49,7 +49,7 @@ isAmount l [] = false
 isAmount l (i ∷ is) = pick l true (isEmpty is)
 
 abbrev pub isPart : RulePart → Bool
-isPart p = isAmount (isListPart (p .part)) (p .items) and everyOf (isItem (p .part)) (p .items)
+isPart p = isAmount (isListPart (p .part)) (p .items) and every (isItem (p .part)) (p .items)
 
 -- ---- the parts together
 
@@ -65,11 +65,6 @@ hasPart n ps = isRead (partNamed n ps)
 -- FREQ is there; UNTIL and COUNT are not both there
 abbrev pub isComplete : List RulePart → Bool
 isComplete ps = hasPart (ascii "FREQ") ps and not (hasPart (ascii "UNTIL") ps and hasPart (ascii "COUNT") ps)
-
--- no word stands twice
-unfoldable pub eachOnce : List (List ℕ) → Bool
-eachOnce [] = true
-eachOnce (n ∷ ns) = pick (isOneOf n ns) false (eachOnce ns)
 
 unfoldable pub withPart : Option RulePart → List RulePart → List RulePart
 withPart none l = l
@@ -93,7 +88,7 @@ isOrdered (n ∷ ns) ps = isOrdered ns (afterNamed n ps)
 -- ---- a rule
 
 abbrev pub ruled : List RulePart → Option (List RulePart)
-ruled ps = provided (eachOnce (map nameOf ps) and isComplete ps) (inOrder partNames ps)
+ruled ps = provided (distinct (map nameOf ps) and isComplete ps) (inOrder partNames ps)
 
 -- 59 is ;
 abbrev pub readRule : List ℕ → Option (List RulePart)
@@ -103,4 +98,4 @@ abbrev pub writeRule : List RulePart → List ℕ
 writeRule ps = joinedBy 59 (map writePart ps)
 
 abbrev pub isRule : List RulePart → Bool
-isRule ps = isOrdered partNames ps and isComplete ps and everyOf isPart ps
+isRule ps = isOrdered partNames ps and isComplete ps and every isPart ps

@@ -2,41 +2,41 @@
 --     rule-read-back
 --     rule-accepted
 --     rule-visible      the text of a rule is visible characters
-use mathlib.Core.Path.{_≡_, refl, sym, ap, _∙_}
-use mathlib.Core.Bool.{Bool, true, false, not, false≢true}
+use mathlib.Core.Path.{_≡_, refl, _∙_}
+use mathlib.Core.Bool.{Bool, true, false, false≢true}
 use mathlib.Core.List.{List, [], _∷_, map}
-use mathlib.Core.Option.{Option, none, some}
+use mathlib.Core.Option.{some}
 use Prim.Native.Nat.{ℕ}
 use lib.Dec.{eqb}
 use Rattle.octets.specs.Ascii.{ascii}
-use Rattle.octets.specs.Pick.{pick, _and_, _or_, and-yes, or-left}
-use Rattle.octets.specs.Scan.{allOf}
+use Rattle.octets.specs.Pick.{pick, _and_, _or_, and-yes, or-left, and-both}
+use Rattle.octets.specs.Scan.{allOf, all-weaker}
 use Rattle.octets.specs.Class.{isVisible}
-use Rattle.octets.specs.Words.{isOneOf, holds, cutAt, joinedBy, rowOf, cut-joined}
-use Rattle.octets.specs.Reading.{andThen, readEach, isRead}
+use Rattle.octets.specs.Words.{holds, cutAt, rowOf, cut-joined, all-without}
+use Rattle.octets.specs.Lists.{every, distinct, all-joined, none-holds}
+use Rattle.octets.specs.Reading.{andThen, readEach, isRead, andThen-some, each-accepted, each-read-back, provided-some}
 use Rattle.octets.specs.Computing.{octets-compute}
 use Rattle.times.specs.Spelling.{isTimeChar, chars-visible}
 use Rattle.model.specs.Calendar.{RulePart}
-use Rattle.recur.specs.Extra.{everyOf, and-left, and-right, provided-some, andThen-some, all-weaker, all-lacks, each-read-back, each-accepted, none-holds, all-joined}
 use Rattle.recur.specs.Parts.{partNames}
-use Rattle.recur.specs.Rule.{readPart, writePart, isPart, nameOf, partNamed, hasPart, isComplete, eachOnce, inOrder, isOrdered, ruled, readRule, writeRule, isRule}
+use Rattle.recur.specs.Rule.{readPart, writePart, isPart, nameOf, isComplete, inOrder, isOrdered, ruled, readRule, writeRule, isRule}
 use Rattle.recur.specs.OrderLaws.{once-ordered, order-back, ordered-order, every-order, named-order}
 use Rattle.recur.specs.PartLaws.{part-read-back, part-accepted, part-characters}
 
-names-once : eachOnce partNames ≡ true
-unfolding eachOnce octets-compute
+names-once : distinct partNames ≡ true
+unfolding distinct octets-compute
 names-once = refl
 
 -- ---- what a rule is
 
 rule-ordered : (r : List RulePart) → isRule r ≡ true → isOrdered partNames r ≡ true
-rule-ordered r h = and-left (isOrdered partNames r) (isComplete r and everyOf isPart r) h
+rule-ordered r h = and-both (isOrdered partNames r) (isComplete r and every isPart r) h .0
 
 rule-complete : (r : List RulePart) → isRule r ≡ true → isComplete r ≡ true
-rule-complete r h = and-left (isComplete r) (everyOf isPart r) (and-right (isOrdered partNames r) (isComplete r and everyOf isPart r) h)
+rule-complete r h = and-both (isComplete r) (every isPart r) (and-both (isOrdered partNames r) (isComplete r and every isPart r) h .1) .0
 
-rule-parts : (r : List RulePart) → isRule r ≡ true → everyOf isPart r ≡ true
-rule-parts r h = and-right (isComplete r) (everyOf isPart r) (and-right (isOrdered partNames r) (isComplete r and everyOf isPart r) h)
+rule-parts : (r : List RulePart) → isRule r ≡ true → every isPart r ≡ true
+rule-parts r h = and-both (isComplete r) (every isPart r) (and-both (isOrdered partNames r) (isComplete r and every isPart r) h .1) .1
 
 -- ---- read back
 
@@ -47,8 +47,8 @@ isPartChar b = isTimeChar b or eqb b 61 or eqb b 44
 part-lacks : (p : RulePart) → isPart p ≡ true → holds 59 (writePart p) ≡ false
 unfolding isPartChar isTimeChar octets-compute
 part-lacks p h =
-    all-lacks isPartChar 59 refl (writePart p)
-      (part-characters isPartChar (all-weaker isTimeChar isPartChar (λ b e. or-left (isTimeChar b) (eqb b 61 or eqb b 44) e)) refl refl p h)
+    all-without isPartChar 59 refl (writePart p)
+    (part-characters isPartChar (all-weaker isTimeChar isPartChar (λ b e. or-left (isTimeChar b) (eqb b 61 or eqb b 44) e)) refl refl p h)
 
 rule-cut : (r : List RulePart) → isRule r ≡ true → cutAt 59 (writeRule r) ≡ map writePart r
 unfolding rowOf isRead _and_ isOrdered
@@ -82,13 +82,13 @@ pub rule-accepted : (s : List ℕ) (r : List RulePart) → readRule s ≡ some r
 rule-accepted s r h =
     let e = andThen-some (readEach readPart (cutAt 59 s)) ruled r h in
     let ps = e .0 in
-    let f = provided-some (eachOnce (map nameOf ps) and isComplete ps) (inOrder partNames ps) r (e .2) in
+    let f = provided-some (distinct (map nameOf ps) and isComplete ps) (inOrder partNames ps) r (e .2) in
     let q = inOrder partNames ps in
     rw (← (f .1))
-      (and-yes (isOrdered partNames q) (isComplete q and everyOf isPart q) (ordered-order partNames ps names-once)
-        (and-yes (isComplete q) (everyOf isPart q)
-          (same-complete ps ∙ and-right (eachOnce (map nameOf ps)) (isComplete ps) (f .0))
-          (every-order isPart partNames ps (each-accepted readPart isPart part-accepted (cutAt 59 s) ps (e .1)))))
+    (and-yes (isOrdered partNames q) (isComplete q and every isPart q) (ordered-order partNames ps names-once)
+    (and-yes (isComplete q) (every isPart q)
+    (same-complete ps ∙ and-both (distinct (map nameOf ps)) (isComplete ps) (f .0) .1)
+    (every-order isPart partNames ps (each-accepted readPart isPart part-accepted (cutAt 59 s) ps (e .1)))))
 
 -- ---- visible
 

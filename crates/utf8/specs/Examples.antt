@@ -1,9 +1,8 @@
 -- Computed examples of the character check and of spelling.
 use mathlib.Core.Path.{_≡_, refl}
-use mathlib.Core.Bool.{Bool, true, false}
-use mathlib.Core.List.{List, [], _∷_, map}
-use mathlib.Core.Option.{Option, none, some}
-use Prim.Native.Nat.{ℕ}
+use mathlib.Core.Bool.{true, false}
+use mathlib.Core.List.{[], _∷_, map}
+use mathlib.Core.Option.{none, some}
 use Rattle.octets.specs.Ascii.{ascii}
 use Rattle.utf8.specs.Utf8.{firstBad}
 use Rattle.utf8.specs.Spell.{spell, isCharacter}

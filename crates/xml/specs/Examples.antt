@@ -1,12 +1,14 @@
 -- Documents read and each kind of fault, by computation.
 use mathlib.Core.Path.{_≡_, refl}
+use mathlib.Core.Bool.{true, false}
 use mathlib.Core.List.{List, [], _∷_, _++_, map}
 use Prim.Native.Nat.{ℕ}
 use Rattle.octets.specs.Ascii.{ascii}
-use Rattle.model.specs.Refusal.{XML, Verdict, fine, refuse}
+use Rattle.model.specs.Refusal.{XML, fine, refuse}
 use Rattle.xml.specs.WellFormed.{xmlVerdict}
 use Rattle.xml.specs.Nodes.{Nodes, noNodes, element, literal, referred, documentNodes, charactersOf, hasElement}
-use Rattle.xml.specs.Escape.{escaped, elementOf, documentOf}
+use Rattle.xml.specs.Escape.{escaped, documentOf}
+use Rattle.xml.specs.Content.{nothing, child, characters, written}
 use Rattle.xml.specs.Computing.{xml-compute}
 
 -- a document with the root's start tag, which takes 56 bytes, some content, and the root's end tag
@@ -21,9 +23,23 @@ tree : documentNodes (withRoot (ascii "<a>x&lt;<b/></a >\r\ny")) ≡
 unfolding xml-compute
 tree = refl
 
-written : map escaped (ascii "x" ∷ ascii "a < b & c > d" ∷ []) ≡ (ascii "x" ∷ ascii "a &lt; b &amp; c &gt; d" ∷ [])
+-- of the same content, what stands in it directly
+content : Nodes
+content =
+    element 56 (ascii "a") 68 (literal 59 120 (referred 60 (60 ∷ []) (element 64 (ascii "b") 64 noNodes noNodes)))
+    (literal 73 10 (literal 75 121 noNodes))
+
+direct : (charactersOf content ≡ ascii "\ny") × (hasElement content ≡ true) × (hasElement (literal 73 10 (literal 75 121 noNodes)) ≡ false)
+unfolding xml-compute content
+direct = (refl, refl, refl)
+
+escapes : map escaped (ascii "x" ∷ ascii "a < b & c > d" ∷ []) ≡ (ascii "x" ∷ ascii "a &lt; b &amp; c &gt; d" ∷ [])
 unfolding xml-compute
-written = refl
+escapes = refl
+
+content-of-two : written (child (ascii "a") (characters (ascii "x<y") nothing) (child (ascii "b") nothing nothing)) ≡ ascii "<a>x&lt;y</a><b></b>"
+unfolding xml-compute
+content-of-two = refl
 
 -- what is fine: the declaration in each kind of quote, white space in tags, after the declaration and after the root, the root as an empty tag, references
 accepted : map xmlVerdict (
@@ -81,7 +97,7 @@ unfolding xml-compute
 tags = refl
 
 -- references: to CR, to a control character, a surrogate, past the last character, no digit, no entity of the five, cut off; `]]>`
-characters : map xmlVerdict (
+references : map xmlVerdict (
     withRoot (ascii "a&#13;") ∷
     withRoot (ascii "a&#x0;") ∷
     withRoot (ascii "a&#xD800;") ∷
@@ -93,7 +109,7 @@ characters : map xmlVerdict (
     withRoot (ascii "a]]]>") ∷ []) ≡
     (refuse XML 57 ∷ refuse XML 57 ∷ refuse XML 57 ∷ refuse XML 57 ∷ refuse XML 57 ∷ refuse XML 57 ∷ refuse XML 57 ∷ refuse XML 57 ∷ refuse XML 58 ∷ [])
 unfolding xml-compute
-characters = refl
+references = refl
 
 -- after the root: a character, a reference, an element, an end tag
 after-root : map xmlVerdict (

@@ -1,14 +1,17 @@
--- The XML profile.
---     Pieces      pieces of markup, with which XML's productions are written
---     Token       the token at the front of a list of bytes
---     Prolog      what stands before the root
---     Marks       a document as the list of its marks, with their places
---     WellFormed  whether a document is within the profile, and where it is not
---     Nodes       the content of a document as a tree
---     Escape      writing: character data, tags, elements, the document
---     Reads       laws: tags and character data that are written are read back
---     Computing   opens all of these, for examples that compute
---     Examples    documents read, and each kind of fault
+-- The XML profile: reading and writing documents, with nothing of calendars but the root's name and the namespace.
+--     Pieces        pieces of markup, with which XML's productions are written
+--     Token         the token at the front of a list of bytes
+--     Prolog        what stands before the root
+--     Marks         a document as the list of its marks, with their places
+--     WellFormed    whether a document is within the profile, and where it is not
+--     Nodes         the content of a document as a tree
+--     Escape        writing: character data, tags, elements, the document
+--     Reads         tags and character data that are written are read back as marks
+--     Content       the content of an element as it is written
+--     ReadBack      content that is written is read back as nodes
+--     Computing     opens all definitions, for examples that compute
+--     DocumentBack  a document that is written is within the profile and is read back
+--     Examples      documents read, and each kind of fault
 pub mod Pieces
 pub mod Token
 pub mod Prolog
@@ -17,5 +20,8 @@ pub mod WellFormed
 pub mod Nodes
 pub mod Escape
 pub mod Reads
+pub mod Content
+pub mod ReadBack
 pub mod Computing
+pub mod DocumentBack
 pub mod Examples

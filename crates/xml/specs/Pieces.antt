@@ -7,10 +7,9 @@
 --     _then_      one piece and another after it
 --     quoted      a piece between two quotes of one kind
 --     Eq          an equals sign, with white space round it
-use mathlib.Core.Bool.{Bool, true, false}
 use mathlib.Core.List.{List, [], _∷_}
 use mathlib.Core.Option.{Option, none, some}
-use Prim.Native.Nat.{ℕ, zero, suc, _+_}
+use Prim.Native.Nat.{ℕ, _+_}
 use lib.Dec.{ltb}
 use lib.ListN.{length, getD, take, drop}
 use Rattle.octets.specs.Ascii.{ascii}

@@ -2,7 +2,7 @@
 -- Without a declaration the root's tag is the first thing. What is no declaration is no root's tag either, and a fault at its start.
 --     prolog s    how many bytes stand before the root's tag
 --     XMLDecl     the declaration: version 1.0, encoding utf-8 in any case, in this order, nothing else
-use mathlib.Core.List.{List, [], _∷_}
+use mathlib.Core.List.{List}
 use Prim.Native.Nat.{ℕ}
 use Rattle.octets.specs.Ascii.{ascii}
 use Rattle.octets.specs.Reading.{readOr}

@@ -2,24 +2,25 @@
 --     isName            the names that can be written
 --     marks-start       a start tag is read as its element opening
 --     marks-end         an end tag is read as its element closing
---     marks-characters  character data without CR is read as its characters
+--     marks-characters  character data without CR is read as its characters;   characters-then-end: with an end tag after it
 use mathlib.Core.Path.{_≡_, refl, sym, ap, _∙_}
 use mathlib.Core.Bool.{Bool, true, false, false≢true}
 use mathlib.Core.List.{List, [], _∷_, _++_, append-assoc}
-use mathlib.Core.Option.{Option, none, some}
-use Prim.Native.Nat.{ℕ, zero, suc, _+_, _≤_, _<_}
+use mathlib.Core.Option.{none, some}
+use Prim.Native.Nat.{ℕ, suc, _+_}
 use native.Mathlib.Nat.{add-zero}
 use native.Mathlib.Omega.{arith}
-use lib.Dec.{eqb, leb}
-use lib.ListN.{length, take, drop, length-append}
+use lib.Dec.{eqb}
+use lib.ListN.{length, length-append}
 use lib.Seq.{take-append-seam, drop-append-seam}
-use borrow.Author.Tests.{eq-eqb, ne-eqb, eqb-true, eqb-false}
+use borrow.Author.Tests.{ne-eqb, eqb-true}
 use Rattle.octets.specs.Ascii.{ascii}
-use Rattle.octets.specs.Pick.{pick, _and_, _or_}
+use Rattle.octets.specs.Pick.{pick, _and_, _or_, and-both, and-no-right, eqb-swap}
 use Rattle.octets.specs.Scan.{spanLen, allOf}
-use Rattle.octets.specs.Append.{_⊕_, append-is, append-regroup, length-both}
-use Rattle.octets.specs.Class.{isAlpha, isNameChar, isSpace}
+use Rattle.octets.specs.Append.{_⊕_}
+use Rattle.octets.specs.Class.{isAlpha, isNameChar}
 use Rattle.octets.specs.Words.{starts, holds}
+use Rattle.octets.specs.Runs.{span-front, stops-at}
 use Rattle.octets.specs.Reading.{andThen}
 use Rattle.utf8.specs.Spell.{spell}
 use Rattle.xml.specs.Pieces.{from, first, exactly, S?, Name, nameOf, both, _then_}
@@ -41,34 +42,15 @@ scan-skip (x ∷ a) r p = scan-skip a r (p + 1) ∙ ap (λ (q : ℕ). scan r q 0
 
 -- ---- tags
 
-span-word : (p : ℕ → Bool) (w : List ℕ) (x : ℕ) (r : List ℕ) → allOf p w ≡ true → p x ≡ false → spanLen p (w ++ (x ∷ r)) ≡ length w
-unfolding spanLen allOf pick
-span-word p [] x r h e = rw e
-span-word p (b ∷ w) x r h e = go (p b) refl h (λ k. span-word p w x r k e)
-  where
-    go : (t : Bool) → p b ≡ t → pick t (allOf p w) false ≡ true → (allOf p w ≡ true → spanLen p (w ++ (x ∷ r)) ≡ length w) → pick (p b) (suc (spanLen p (w ++ (x ∷ r)))) 0 ≡ suc (length w)
-    go true q k ih = rw q (ap suc (ih k))
-    go false q k ih = absurd (false≢true k)
-
-and-left : (a b : Bool) → (a and b) ≡ true → a ≡ true
-unfolding _and_
-and-left true b h = refl
-and-left false b h = h
-
-and-right : (a b : Bool) → (a and b) ≡ true → b ≡ true
-unfolding _and_
-and-right true b h = h
-and-right false b h = absurd (false≢true h)
-
 -- a name is followed by `>`
 module _ (a : ℕ) (w r : List ℕ) (h : isName (a ∷ w) ≡ true) where
   alpha : isAlpha a ≡ true
   unfolding isName
-  alpha = and-left (isAlpha a) (allOf isNameChar (a ∷ w)) h
+  alpha = and-both (isAlpha a) (allOf isNameChar (a ∷ w)) h .0
 
   named : spanLen isNameChar ((a ∷ w) ++ (62 ∷ r)) ≡ suc (length w)
   unfolding isName _or_ _and_
-  named = span-word isNameChar (a ∷ w) 62 r (and-right (isAlpha a) (allOf isNameChar (a ∷ w)) h) refl
+  named = span-front isNameChar (a ∷ w) (62 ∷ r) (and-both (isAlpha a) (allOf isNameChar (a ∷ w)) h .1) (stops-at isNameChar 62 r refl)
 
   name-read : Name ((a ∷ w) ++ (62 ∷ r)) ≡ some (suc (length w))
   unfolding Name first pick
@@ -202,11 +184,7 @@ front-cases P b r f g = go (eqb b 38) (eqb b 60) (eqb b 62) g
 
 follows-byte : (b : ℕ) (r : List ℕ) → Follows r → Follows (escapedByte b ⊕ r)
 unfolding starts _and_
-follows-byte b r h = record { no-greater = front-cases (λ s. starts (ascii ">") s ≡ false) b r (λ x. refl) (λ e. rw (ne-eqb 62 b (λ q. eqb-false b 62 e (sym q)))); no-bracket = front-cases (λ s. starts (ascii "]>") s ≡ false) b r (λ x. refl) (λ e. rw (h .no-greater) (none (eqb 93 b))) }
-  where
-    none : (t : Bool) → (t and false) ≡ false
-    none true = refl
-    none false = refl
+follows-byte b r h = record { no-greater = front-cases (λ s. starts (ascii ">") s ≡ false) b r (λ x. refl) (λ e. rw (eqb-swap b 62 e)); no-bracket = front-cases (λ s. starts (ascii "]>") s ≡ false) b r (λ x. refl) (λ e. rw (h .no-greater) (and-no-right (eqb 93 b) false refl)) }
 
 pub follows-characters : (s r : List ℕ) → Follows r → Follows (escaped s ⊕ r)
 unfolding escaped _⊕_
@@ -216,6 +194,10 @@ follows-characters (b ∷ s) r h = rw (append-assoc (escapedByte b) (escaped s) 
 pub follows-tag : (r : List ℕ) → Follows (60 ∷ r)
 unfolding starts _and_
 follows-tag r = record { no-greater = refl; no-bracket = refl }
+
+pub follows-end : (nm r : List ℕ) → Follows (endTag nm ⊕ r)
+unfolding _⊕_
+follows-end nm r = follows-tag _
 
 pub marks-characters : (s r : List ℕ) (p : ℕ) → holds 13 s ≡ false → Follows r → marks p (escaped s ⊕ r) ≡ characterMarks s p ⊕ marks (p + length (escaped s)) r
 unfolding escaped characterMarks _⊕_ holds _or_
@@ -228,6 +210,12 @@ marks-characters (b ∷ s) r p h f = go (eqb 13 b) refl h (marks-characters s r 
     go true e k ih = absurd (false≢true (sym k))
     go false e k ih =
         ap (marks p) (append-assoc (escapedByte b) (escaped s) r)
-        ∙ character-read (escaped s ++ r) p b (ne-eqb b 13 (λ q. eqb-false 13 b e (sym q))) (follows-characters s r f .no-bracket)
+        ∙ character-read (escaped s ++ r) p b (eqb-swap 13 b e) (follows-characters s r f .no-bracket)
         ∙ ap (λ (ms : List Mark). characterMark p b ∷ ms)
         (ih k f ∙ ap (λ (q : ℕ). characterMarks s (p + length (escapedByte b)) ++ marks q r) (omega (arith, length-append (escapedByte b) (escaped s))))
+
+pub characters-then-end : (s nm r : List ℕ) (p : ℕ) → holds 13 s ≡ false → isName nm ≡ true →
+    marks p (escaped s ⊕ (endTag nm ⊕ r)) ≡ characterMarks s p ⊕ (closes (p + length (escaped s)) nm ∷ marks (p + length (escaped s) + length (endTag nm)) r)
+characters-then-end s nm r p h k =
+    marks-characters s (endTag nm ⊕ r) p h (follows-end nm r)
+    ∙ ap (λ (ms : List Mark). characterMarks s p ⊕ ms) (marks-end nm r (p + length (escaped s)) k)

@@ -3,10 +3,10 @@
 --     token b s   the token that begins with the byte b, s being the bytes after b, in the content of an element or after the root
 --     rootTag b s the same where the root's tag has to stand: it alone has an attribute, the default namespace
 --     namespace   the name of the default namespace
-use mathlib.Core.Bool.{Bool, true, false}
+use mathlib.Core.Bool.{Bool}
 use mathlib.Core.List.{List, [], _∷_}
 use mathlib.Core.Option.{Option, none, some}
-use Prim.Native.Nat.{ℕ, zero, suc, _+_, _-_, _*_}
+use Prim.Native.Nat.{ℕ, _+_, _-_, _*_}
 use lib.Dec.{eqb, ltb}
 use lib.ListN.{take}
 use Rattle.octets.specs.Ascii.{ascii}
@@ -16,7 +16,7 @@ use Rattle.octets.specs.Class.{isDigit}
 use Rattle.octets.specs.Words.{starts}
 use Rattle.octets.specs.Decimal.{value}
 use Rattle.utf8.specs.Spell.{isCharacter}
-use Rattle.xml.specs.Pieces.{from, first, Piece, exactly, S, S?, Name, nameOf, _then_, quoted, Eq}
+use Rattle.xml.specs.Pieces.{from, Piece, exactly, S, S?, Name, nameOf, _then_, quoted, Eq}
 
 pub data Token : Type 0 where
   STag : List ℕ → ℕ → Token  -- a start tag's name
@@ -35,7 +35,7 @@ namespace = ascii "urn:ietf:params:xml:ns:icalendar-2.0"
 unfoldable pub namespaceAttribute : Piece
 namespaceAttribute = S then exactly (ascii "xmlns") then Eq then quoted (exactly namespace)
 
--- after `<`, with n bytes read up to the end of the tag
+-- after `<`, of which n bytes are the tag up to its `>` or `/>`
 -- STag ::= '<' Name (S Attribute)* S? '>'
 -- EmptyElemTag ::= '<' Name (S Attribute)* S? '/>'
 unfoldable pub startBy : Option ℕ → List ℕ → Token
@@ -44,7 +44,7 @@ startBy (some n) s =
     pick (starts (ascii ">") (from n s)) (STag (nameOf s) (n + 1))
     (pick (starts (ascii "/>") (from n s)) (EmptyElemTag (nameOf s) (n + 2)) Fault)
 
--- after `</`, with n bytes read
+-- after `</`, of which n bytes are the rest of the tag
 -- ETag ::= '</' Name S? '>'
 unfoldable pub endBy : Option ℕ → List ℕ → Token
 endBy none s = Fault
