@@ -9,17 +9,16 @@ use Prim.Native.Nat.{ℕ}
 use lib.Dec.{eqb}
 use borrow.Author.Tests.{ne-eqb}
 use Rattle.octets.specs.Ascii.{ascii}
-use Rattle.octets.specs.Pick.{pick, pick-yes, pick-no, _and_, _or_, and-yes}
+use Rattle.octets.specs.Pick.{pick, pick-yes, pick-no, _and_, _or_, and-yes, and-both, pick-first, eqb-apart}
 use Rattle.octets.specs.Append.{_⊕_, append-none}
 use Rattle.octets.specs.Scan.{allOf}
 use Rattle.octets.specs.Class.{upper}
 use Rattle.octets.specs.Words.{same, isOneOf, isEmpty, holds, cutAt, joinedBy, eachAfter, noneHolds, same-true, cut-joined}
-use Rattle.octets.specs.Lists.{every}
-use Rattle.octets.specs.Reading.{provided, readOr, readEach}
+use Rattle.octets.specs.Lists.{every, none-holds}
+use Rattle.octets.specs.Tables.{row-any-passes}
+use Rattle.octets.specs.Reading.{provided, readOr, readEach, none-some, provided-some, each-read-back, each-accepted}
 use Rattle.octets.specs.Computing.{octets-compute}
 use Rattle.model.specs.Calendar.{ical, ValueType, DATE, DATE-TIME, FLOAT, PERIOD, TEXT, Value, binary, boolean, calAddress, date, dateTime, duration, float, integer, periodExplicit, periodStart, recur, text, time, uri, utcOffset, unknown, geo, requestStatus, typeOf, textIn}
-use Rattle.schema.specs.Extra
-use Rattle.schema.specs.Extra.{any-passes}
 use Rattle.schema.specs.Types.{sameType, isTypeOf, same-type-self, same-type-true, listed-passes}
 use Rattle.schema.specs.Properties.{permittedTypes, isListedProperty, propertyWords, propertyRow, propertyTable, unrecognisedProperty}
 use Rattle.schema.specs.Closed.{isWordChar, property-words-plain, property-words-text}
@@ -30,7 +29,7 @@ use Rattle.numbers.specs.Geo.{readGeo, geo-read-back}
 use Rattle.texts.specs.Text.{writeText, escapeText}
 use Rattle.texts.specs.TextList.{readTexts, texts-read-back}
 use Rattle.texts.specs.RequestStatus.{readRequestStatus, request-status-read-back}
-use Rattle.values.specs.Extra.{and-both, pick-first, not-false, none-some, provided-some, every-both, every-weaker, each-read-back, each-accepted}
+use Rattle.values.specs.Extra.{not-false, every-both, every-weaker}
 use Rattle.values.specs.ReadValue.{readValue}
 use Rattle.values.specs.WriteValue.{writeValue, writeValues, typeOfAll}
 use Rattle.values.specs.ReadBack.{isValue, isTyped, value-read-back, value-accepted}
@@ -55,12 +54,9 @@ typed-read t v h =
     rw (← (same-type-true (typeOf v) t (p .0))) (value-read-back v (q .0) (q .1))
 
 -- no character of a word is escaped
-word-apart : (b k : ℕ) → isWordChar b ≡ true → isWordChar k ≡ false → eqb b k ≡ false
-word-apart b k h n = ne-eqb b k (λ e. false≢true (sym n ∙ rw (← e) h))
-
 word-char : (b : ℕ) → isWordChar b ≡ true → escapeText b ≡ b ∷ []
 unfolding pick _or_ _and_
-word-char b h = rw (word-apart b 10 h refl, word-apart b 44 h refl, word-apart b 59 h refl, word-apart b 92 h refl)
+word-char b h = rw (eqb-apart isWordChar b 10 h refl, eqb-apart isWordChar b 44 h refl, eqb-apart isWordChar b 59 h refl, eqb-apart isWordChar b 92 h refl)
 
 word-written : (s : List ℕ) → allOf isWordChar s ≡ true → writeText s ≡ s
 unfolding writeText allOf _⊕_
@@ -152,11 +148,11 @@ isListedType : ValueType → Bool
 isListedType t = isTypeOf t (TEXT ∷ DATE ∷ DATE-TIME ∷ PERIOD ∷ [])
 
 listed-types : (n : List ℕ) (t : ValueType) → isListedProperty n ≡ true → isTypeOf t (permittedTypes n) ≡ true → isListedType t ≡ true
-unfolding octets-compute propertyRow isListedType isTypeOf sameType Extra.every
+unfolding octets-compute propertyRow isListedType isTypeOf sameType
 listed-types n t l h = listed-passes isListedType t (permittedTypes n) (rw l at row) h
   where
-    row : pick (isListedProperty n) (Extra.every isListedType (permittedTypes n)) true ≡ true
-    row = any-passes (λ r. r .name) n (λ r. pick (r .listed) (Extra.every isListedType (r .default ∷ r .others)) true) unrecognisedProperty propertyTable refl refl
+    row : pick (isListedProperty n) (every isListedType (permittedTypes n)) true ≡ true
+    row = row-any-passes (λ r. r .name) n (λ r. pick (r .listed) (every isListedType (r .default ∷ r .others)) true) unrecognisedProperty propertyTable refl refl
 
 -- none of them has a comma
 no-comma : (v : Value) → isTyped v ≡ true → isValue v ≡ true → isListedType (typeOf v) ≡ true → sameType (typeOf v) TEXT ≡ false → holds 44 (writeValue v) ≡ false
@@ -180,21 +176,18 @@ no-comma (unknown s) t h l n = absurd (false≢true l)
 no-comma (geo la lo) t h l n = absurd (false≢true t)
 no-comma (requestStatus c d x) t h l n = absurd (false≢true t)
 
-none-comma : (t : ValueType) → isListedType t ≡ true → sameType t TEXT ≡ false → (vs : List Value) → every (isOfType t) vs ≡ true → noneHolds 44 (map writeValue vs) ≡ true
-unfolding noneHolds pick
-none-comma t l n [] h = refl
-none-comma t l n (v ∷ vs) h =
-    let e = every-both (isOfType t) v vs h in
-    let p = and-both (sameType (typeOf v) t) _ (e .0) in
+typed-no-comma : (t : ValueType) → isListedType t ≡ true → sameType t TEXT ≡ false → (v : Value) → isOfType t v ≡ true → holds 44 (writeValue v) ≡ false
+typed-no-comma t l n v h =
+    let p = and-both (sameType (typeOf v) t) _ h in
     let q = and-both (isTyped v) (isValue v) (p .1) in
     let u : typeOf v ≡ t = same-type-true (typeOf v) t (p .0) in
-    rw (no-comma v (q .0) (q .1) (rw u l) (rw u n)) (none-comma t l n vs (e .1))
+    no-comma v (q .0) (q .1) (rw u l) (rw u n)
 
 parted-read : (t : ValueType) → isListedType t ≡ true → sameType t TEXT ≡ false → (v : Value) (vs : List Value) → every (isOfType t) (v ∷ vs) ≡ true →
     readEach (readValue ical t) (cutAt 44 (writeValues (v ∷ vs))) ≡ some (v ∷ vs)
 unfolding writeValues
 parted-read t l n v vs h =
-    rw (cut-joined 44 (writeValue v) (map writeValue vs) (none-comma t l n (v ∷ vs) h)) (each-read-back (readValue ical t) (isOfType t) writeValue (typed-read t) (v ∷ vs) h)
+    rw (cut-joined 44 (writeValue v) (map writeValue vs) (none-holds (isOfType t) writeValue 44 (typed-no-comma t l n) (v ∷ vs) h)) (each-read-back (readValue ical t) (isOfType t) writeValue (typed-read t) (v ∷ vs) h)
 
 listed-read : (t : ValueType) → isListedType t ≡ true → (vs : List Value) → isAmount true vs ≡ true → every (isOfType t) vs ≡ true → readListed t (writeValues vs) ≡ some vs
 unfolding pick
