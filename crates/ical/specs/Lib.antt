@@ -8,6 +8,7 @@
 --     WriteText     the canonical text of a calendar
 --     ParameterLaws   parameters are read back
 --     ValuesLaws      the values of a property are read back
+--     AcceptedValues  what is read is values of the property
 --     Computing     opens all of these, for examples that compute
 pub mod Parameters
 pub mod Values
@@ -18,4 +19,5 @@ pub mod ReadText
 pub mod WriteText
 pub mod ParameterLaws
 pub mod ValuesLaws
+pub mod AcceptedValues
 pub mod Computing

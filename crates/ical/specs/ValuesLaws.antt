@@ -76,15 +76,15 @@ chosen-read k n (some words) t v e h = go (textIn v) refl h
 
 -- ---- GEO and REQUEST-STATUS
 
-geo-row : (n : List ℕ) → same n (ascii "GEO") ≡ true → (permittedTypes n ≡ FLOAT ∷ []) × (isListedProperty n ≡ false)
+pub geo-row : (n : List ℕ) → same n (ascii "GEO") ≡ true → (permittedTypes n ≡ FLOAT ∷ []) × (isListedProperty n ≡ false)
 unfolding propertyRow octets-compute
 geo-row n h = rw (same-true n (ascii "GEO") h) (refl, refl)
 
-status-row : (n : List ℕ) → same n (ascii "REQUEST-STATUS") ≡ true → (permittedTypes n ≡ TEXT ∷ []) × (isListedProperty n ≡ false)
+pub status-row : (n : List ℕ) → same n (ascii "REQUEST-STATUS") ≡ true → (permittedTypes n ≡ TEXT ∷ []) × (isListedProperty n ≡ false)
 unfolding propertyRow octets-compute
 status-row n h = rw (same-true n (ascii "REQUEST-STATUS") h) (refl, refl)
 
-only-type : (t u : ValueType) → isTypeOf t (u ∷ []) ≡ true → t ≡ u
+pub only-type : (t u : ValueType) → isTypeOf t (u ∷ []) ≡ true → t ≡ u
 unfolding isTypeOf _or_
 only-type t u h = go (sameType t u) refl h
   where
@@ -201,7 +201,7 @@ listed-read t l (v ∷ vs) a h = go (sameType t TEXT) refl
 -- ---- the values of a property
 
 -- what takes a list has no closed set
-listed-unchosen : (k n : List ℕ) → isListedProperty n ≡ true → propertyWords k n ≡ none
+pub listed-unchosen : (k n : List ℕ) → isListedProperty n ≡ true → propertyWords k n ≡ none
 listed-unchosen k n l = go (propertyWords k n) refl
   where
     go : (o : Option (List (List ℕ))) → propertyWords k n ≡ o → o ≡ none
