@@ -9,6 +9,7 @@
 --     ParameterLaws   parameters are read back
 --     ValuesLaws      the values of a property are read back
 --     AcceptedValues  what is read is values of the property
+--     PropertyLaws    the line of a property states it
 --     Computing     opens all of these, for examples that compute
 pub mod Parameters
 pub mod Values
@@ -20,4 +21,5 @@ pub mod WriteText
 pub mod ParameterLaws
 pub mod ValuesLaws
 pub mod AcceptedValues
+pub mod PropertyLaws
 pub mod Computing
