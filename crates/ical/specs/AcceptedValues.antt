@@ -1,7 +1,7 @@
 -- What is read for a property is values that the property has in its component.
 --     values-accepted    of a type that is permitted, all of that type, one unless a list is taken, words of the closed set where there is one
 use mathlib.Core.Path.{_≡_, refl, sym, _∙_}
-use mathlib.Core.Bool.{Bool, true, false, not, false≢true}
+use mathlib.Core.Bool.{Bool, true, false, false≢true}
 use mathlib.Core.List.{List, [], _∷_, map}
 use mathlib.Core.Option.{Option, none, some, Option·map}
 use Prim.Native.Nat.{ℕ}
@@ -15,13 +15,13 @@ use Rattle.model.specs.Calendar.{ical, ValueType, FLOAT, TEXT, Value, text, typ
 use Rattle.schema.specs.Types.{sameType, isTypeOf, same-type-self, same-type-true}
 use Rattle.schema.specs.Properties.{permittedTypes, isListedProperty, propertyWords}
 use Rattle.schema.specs.Closed.{property-words-text}
-use Rattle.numbers.specs.Geo.{readGeo, IsGeo, geo-accepted}
+use Rattle.numbers.specs.Geo.{readGeo, geo-accepted}
 use Rattle.texts.specs.TextList.{readTexts, texts-accepted}
-use Rattle.texts.specs.RequestStatus.{readRequestStatus, IsStatus, request-status-accepted}
+use Rattle.texts.specs.RequestStatus.{readRequestStatus, request-status-accepted}
 use Rattle.values.specs.Extra.{every-both, each-empty}
 use Rattle.values.specs.ReadValue.{readValue}
 use Rattle.values.specs.WriteValue.{typeOfAll}
-use Rattle.values.specs.ReadBack.{isValue, isTyped, IsOfType, value-accepted}
+use Rattle.values.specs.ReadBack.{value-accepted}
 use Rattle.values.specs.Valid.{isAmount, isOfType, isChosen, isOwnValue, isPropertyValue, areValuesOf}
 use Rattle.ical.specs.Values.{oneValue, readListed, readChosen, readOwn, readValues}
 use Rattle.ical.specs.ValuesLaws.{geo-row, status-row, only-type, listed-unchosen}

@@ -7,7 +7,6 @@ use mathlib.Core.Bool.{Bool, true, false, not, false≢true}
 use mathlib.Core.List.{List, [], _∷_, map}
 use mathlib.Core.Option.{Option, none, some, Option·map}
 use Prim.Native.Nat.{ℕ}
-use Rattle.octets.specs.Ascii.{ascii}
 use Rattle.octets.specs.Pick.{pick, pick-yes, pick-no, _and_, _or_, and-yes, and-both}
 use Rattle.octets.specs.Class.{upper}
 use Rattle.octets.specs.Letters.{upper-twice}
@@ -28,7 +27,7 @@ use Rattle.values.specs.WriteValue.{writeValue}
 use Rattle.values.specs.ReadBack.{isValue, isTyped, value-read-back, value-accepted}
 use Rattle.values.specs.Valid.{isAmount, isOfType, isWordIn, isChosen, isParameter, each-amount, text-or-other, text-in}
 use Rattle.lines.specs.ContentLine.{ParamValue, RawParameter}
-use Rattle.ical.specs.Parameters.{readTyped, readWord, readParamValue, isSingle, readParameter, isValueParameter, statedType, typeIn, ownParameters, readParameters}
+use Rattle.ical.specs.Parameters.{readTyped, readWord, readParamValue, isSingle, readParameter, isValueParameter, statedType, ownParameters, readParameters}
 use Rattle.ical.specs.WriteText.{paramChars, paramValueOf, rawOf, valueParameter, withValue}
 
 -- ---- one value

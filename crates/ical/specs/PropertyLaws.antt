@@ -2,29 +2,28 @@
 --     parameters-good       the parameters of a property are good where they are written
 --     property-read-back    the line of a property states that property
 --     property-no-fault     and is not refused
-use mathlib.Core.Path.{_≡_, refl, sym, ap, _∙_}
+use mathlib.Core.Path.{_≡_, refl}
 use mathlib.Core.Bool.{Bool, true, false, not, false≢true}
 use mathlib.Core.List.{List, [], _∷_, map}
 use mathlib.Core.Option.{Option, none, some}
 use Prim.Native.Nat.{ℕ}
 use Rattle.octets.specs.Ascii.{ascii}
-use Rattle.octets.specs.Pick.{pick, pick-no, pick-either, _and_, _or_, and-yes, and-both, or-no, or-left, or-right, or-cases}
+use Rattle.octets.specs.Pick.{pick, pick-either, _and_, and-yes, and-both, or-no, or-left, or-right, or-cases}
 use Rattle.octets.specs.Class.{upper}
 use Rattle.octets.specs.Words.{same, isOneOf, same-self, same-true, same-swap}
 use Rattle.octets.specs.Lists.{every, anyOne, distinct}
-use Rattle.octets.specs.Reading.{isRead, readOr, readEach}
+use Rattle.octets.specs.Reading.{isRead, readOr}
 use Rattle.octets.specs.Computing.{octets-compute}
 use Rattle.model.specs.Calendar.{ValueType, BINARY, Value, textIn, Parameter, Property}
-use Rattle.schema.specs.Types.{sameType, isTypeOf}
+use Rattle.schema.specs.Types.{sameType}
 use Rattle.schema.specs.Parameters.{parameterRow, isListedParameter}
-use Rattle.schema.specs.Properties.{permittedTypes, permitsParameter, defaultType}
-use Rattle.values.specs.Extra.{not-false, every-both, every-map}
-use Rattle.values.specs.WriteValue.{typeOfAll, writeValue, writeValues}
+use Rattle.schema.specs.Properties.{permitsParameter, defaultType}
+use Rattle.values.specs.Extra.{every-both}
+use Rattle.values.specs.WriteValue.{typeOfAll, writeValue}
 use Rattle.values.specs.Valid
 use Rattle.values.specs.Valid.{isAmount, isWordIn, only-one, isParameter, areParameters, areValuesOf, arePropertyValues, isProperty}
-use Rattle.lines.specs.ContentLine.{ParamValue, RawParameter, ContentLine}
-use Rattle.ical.specs.Parameters.{isWord, isBase64, readParameter, readParameters, ownParameters, statedType, parametersGood}
-use Rattle.ical.specs.Values.{readValues}
+use Rattle.lines.specs.ContentLine.{RawParameter}
+use Rattle.ical.specs.Parameters.{isWord, isBase64, readParameters, statedType, parametersGood}
 use Rattle.ical.specs.Statement.{faultAs, propertyFault, propertyOf}
 use Rattle.ical.specs.WriteText.{paramValueOf, rawOf, valueParameter, withValue, contentLineOf}
 use Rattle.ical.specs.ParameterLaws.{parameter-name, parameter-own, own-written, parameters-read-back, own-with-value, type-read-back}

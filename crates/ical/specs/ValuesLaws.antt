@@ -1,25 +1,23 @@
 -- The values of a property that are written are read back, and what is read is such values.
 --     values-read-back    of any property, in any component
 --     values-accepted     what is read is permitted, of one type, and a word of the closed set where there is one
-use mathlib.Core.Path.{_≡_, refl, sym, ap, subst, _∙_}
+use mathlib.Core.Path.{_≡_, refl, sym, subst, _∙_}
 use mathlib.Core.Bool.{Bool, true, false, not, false≢true}
 use mathlib.Core.List.{List, [], _∷_, map}
 use mathlib.Core.Option.{Option, none, some, Option·map}
 use Prim.Native.Nat.{ℕ}
-use lib.Dec.{eqb}
-use borrow.Author.Tests.{ne-eqb}
 use Rattle.octets.specs.Ascii.{ascii}
-use Rattle.octets.specs.Pick.{pick, pick-yes, pick-no, _and_, _or_, and-yes, and-both, pick-first, eqb-apart}
+use Rattle.octets.specs.Pick.{pick, pick-yes, _and_, _or_, and-both, pick-first, eqb-apart}
 use Rattle.octets.specs.Append.{_⊕_, append-none}
 use Rattle.octets.specs.Scan.{allOf}
 use Rattle.octets.specs.Class.{upper}
-use Rattle.octets.specs.Words.{same, isOneOf, isEmpty, holds, cutAt, joinedBy, eachAfter, noneHolds, same-true, cut-joined}
+use Rattle.octets.specs.Words.{same, isOneOf, holds, cutAt, joinedBy, eachAfter, same-true, cut-joined}
 use Rattle.octets.specs.Lists.{every, none-holds}
 use Rattle.octets.specs.Tables.{row-any-passes}
-use Rattle.octets.specs.Reading.{provided, readOr, readEach, none-some, provided-some, each-read-back, each-accepted}
+use Rattle.octets.specs.Reading.{provided, readOr, readEach, each-read-back}
 use Rattle.octets.specs.Computing.{octets-compute}
 use Rattle.model.specs.Calendar.{ical, ValueType, DATE, DATE-TIME, FLOAT, PERIOD, TEXT, Value, binary, boolean, calAddress, date, dateTime, duration, float, integer, periodExplicit, periodStart, recur, text, time, uri, utcOffset, unknown, geo, requestStatus, typeOf, textIn}
-use Rattle.schema.specs.Types.{sameType, isTypeOf, same-type-self, same-type-true, listed-passes}
+use Rattle.schema.specs.Types.{sameType, isTypeOf, same-type-true, listed-passes}
 use Rattle.schema.specs.Properties.{permittedTypes, isListedProperty, propertyWords, propertyRow, propertyTable, unrecognisedProperty}
 use Rattle.schema.specs.Closed.{isWordChar, property-words-plain, property-words-text}
 use Rattle.times.specs.Date.{date-no-comma}
@@ -29,11 +27,11 @@ use Rattle.numbers.specs.Geo.{readGeo, geo-read-back}
 use Rattle.texts.specs.Text.{writeText, escapeText}
 use Rattle.texts.specs.TextList.{readTexts, texts-read-back}
 use Rattle.texts.specs.RequestStatus.{readRequestStatus, request-status-read-back}
-use Rattle.values.specs.Extra.{not-false, every-both, every-weaker}
+use Rattle.values.specs.Extra.{not-false, every-both}
 use Rattle.values.specs.ReadValue.{readValue}
 use Rattle.values.specs.WriteValue.{writeValue, writeValues, typeOfAll}
-use Rattle.values.specs.ReadBack.{isValue, isTyped, value-read-back, value-accepted}
-use Rattle.values.specs.Valid.{isAmount, isOfType, isWordIn, isChosen, hasOwnValues, isOwnValue, isPropertyValue, areValuesOf, arePropertyValues, each-amount, only-one, text-or-other, text-in, own-value}
+use Rattle.values.specs.ReadBack.{isValue, isTyped, value-read-back}
+use Rattle.values.specs.Valid.{isAmount, isOfType, isWordIn, isChosen, isOwnValue, isPropertyValue, areValuesOf, arePropertyValues, only-one, text-or-other, text-in, own-value}
 use Rattle.ical.specs.Values.{oneValue, readListed, readChosen, readOwn, readValues}
 
 -- ---- one value
