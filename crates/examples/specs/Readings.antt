@@ -32,7 +32,7 @@ pub data Question : Type 0 where
 infix 70 refused_at_
 pub data Told : Type 0 where
   refused_at_ : ℕ → ℕ → Told                -- its number and its place
-  bothWays : List ℕ → List ℕ → Told        -- its canonical XML, and the canonical text that this gives
+  bothWays : List ℕ → List ℕ → Told         -- its canonical XML, and the canonical text that this gives
   states : Answer → Told
   octets : List ℕ → Told
 
