@@ -1,7 +1,7 @@
 -- Whole calls, with what is in the lent buffers afterwards. A dot is the byte 46, which fills them before.
 --     xmlCall, textCall    the number and value of a call's answer, what the output holds then, and what the work room holds
 use mathlib.Core.Path.{_≡_, refl}
-use mathlib.Core.List.{List, [], _∷_, _++_}
+use mathlib.Core.List.{List, [], _++_}
 use Prim.Native.Nat.{ℕ}
 use lib.ListN.{replicate}
 use Rattle.octets.specs.Ascii.{ascii}

@@ -16,7 +16,7 @@ use Rattle.examples.specs.Readings.{Row, line, bothWays, _gives_, is, as
 
 -- ---- lines of an event
 
--- GRINNING FACE, of four octets, and the same with a fold after each of its octets
+-- GRINNING FACE, of four octets, and the same with a fold between any two of its octets
 abbrev pub face : List ℕ
 face = 0xF0 ∷ 0x9F ∷ 0x98 ∷ 0x80 ∷ []
 
