@@ -10,6 +10,7 @@
 --     ValuesLaws      the values of a property are read back
 --     AcceptedValues  what is read is values of the property
 --     PropertyLaws    the line of a property states it
+--     AcceptedProperty   what is read is a property
 --     Computing     opens all of these, for examples that compute
 pub mod Parameters
 pub mod Values
@@ -22,4 +23,5 @@ pub mod ParameterLaws
 pub mod ValuesLaws
 pub mod AcceptedValues
 pub mod PropertyLaws
+pub mod AcceptedProperty
 pub mod Computing
