@@ -4,8 +4,10 @@
 --     Rota       the whole rota of the rules, both ways
 --     MeetingsPage   the document of RFC 6321, appendix B.2.2, as it is printed
 --     Appendix   both examples of RFC 6321, appendix B
+--     Worked     lines, elements and whole texts, both ways
 pub mod Notation
 pub mod Readings
 pub mod Rota
 pub mod MeetingsPage
 pub mod Appendix
+pub mod Worked

@@ -11,15 +11,14 @@ use Rattle.octets.specs.Pick.{pick, pick-second, _and_, _or_, and-yes, and-both
 use Rattle.octets.specs.Class.{upper}
 use Rattle.octets.specs.Letters.{upper-twice}
 use Rattle.octets.specs.Words.{same, isOneOf, isEmpty, empty-is, same-self, same-true}
-use Rattle.octets.specs.Lists.{every, anyOne, distinct}
-use Rattle.octets.specs.Reading.{consRead, isRead, readOr, readEach, none-some, provided-some, andThen-some, consRead-some}
+use Rattle.octets.specs.Lists.{every, anyOne, distinct, every-map}
+use Rattle.octets.specs.Reading.{consRead, isRead, readOr, readEach, none-some, provided-some, andThen-some, consRead-some, each-empty}
 use Rattle.octets.specs.Computing.{octets-compute}
 use Rattle.model.specs.Calendar.{ValueType, BINARY, Value, text, textIn, Parameter}
 use Rattle.model.specs.Refusal.{PARAMETER, VALUE}
 use Rattle.schema.specs.Types.{sameType}
 use Rattle.schema.specs.Parameters.{parameterRow, parameterType, parameterWords, isListedParameter, isQuotedParameter, encodings}
 use Rattle.schema.specs.Properties.{permitsParameter}
-use Rattle.values.specs.Extra.{every-map, each-empty}
 use Rattle.values.specs.Valid
 use Rattle.values.specs.Valid.{isWordIn, areParameters, isProperty}
 use Rattle.lines.specs.ContentLine.{ParamValue, RawParameter, ContentLine}
