@@ -47,6 +47,7 @@ parameter-read r p h = go (isListedParameter (rawName r) or isSingle (r .values)
   where
     named : List Value → Parameter
     named vs = record { name = rawName r; values = vs }
+
     go : (b : Bool) (o : Option (List Value)) → readEach (readParamValue (rawName r)) (r .values) ≡ o → pick b (Option·map named o) none ≡ some p → Read r p
     go false o e k = none-some k
     go true none e k = none-some k

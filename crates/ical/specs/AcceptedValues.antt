@@ -83,6 +83,7 @@ listed-passes t s vs h = go (sameType t TEXT) refl h
     texts : (o : Option (List (List ℕ))) → readTexts s ≡ o → Option·map (map text) o ≡ some vs → Pass (isOfType TEXT) true TEXT vs
     texts none e k = none-some k
     texts (some ts) e k = let q : map text ts ≡ vs = cc in rw (← q) (typed-all TEXT (map text ts) (texts-some ts (texts-accepted s ts e)) (texts-pass ts))
+
     go : (b : Bool) → sameType t TEXT ≡ b → pick b (Option·map (map text) (readTexts s)) (readEach (readValue ical t) (cutAt 44 s)) ≡ some vs → Pass (isOfType t) true t vs
     go true e k = rw (same-type-true t TEXT e) (texts (readTexts s) refl k)
     go false e k =

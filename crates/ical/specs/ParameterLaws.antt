@@ -79,7 +79,7 @@ parameterOf n vs = record { name = n; values = vs }
 -- of a name in capitals
 named-read-back : (n : List ℕ) (vs : List Value) → isAmount (isListedParameter n) vs ≡ true → every (isChosen (parameterWords n) (parameterType n)) vs ≡ true →
     pick (isListedParameter n or isSingle (map (paramValueOf n) vs))
-        (Option·map (parameterOf n) (readEach (readParamValue n) (map (paramValueOf n) vs))) none
+    (Option·map (parameterOf n) (readEach (readParamValue n) (map (paramValueOf n) vs))) none
     ≡ some (parameterOf n vs)
 unfolding pick
 named-read-back n vs a h =
@@ -129,6 +129,7 @@ parameter-accepted r p x y h = go (isListedParameter n or isSingle (r .values)) 
   where
     n : List ℕ
     n = upper (r .name)
+
     go : (b : Bool) → (isListedParameter n or isSingle (r .values)) ≡ b → (o : Option (List Value)) → readEach (readParamValue n) (r .values) ≡ o →
         pick b (Option·map (parameterOf n) o) none ≡ some p → isParameter p ≡ true
     go false a o e k = none-some k
@@ -210,6 +211,7 @@ other-named n t h d = go (sameType t UNKNOWN) refl (type-any t)
     known false k e =
         let u : defaultType n ≡ UNKNOWN = ap (λ (r : PropertyRow). r .default) (unrecognised-property n k) in
         absurd (false≢true (sym d ∙ rw (u, e) (same-type-self UNKNOWN)))
+
     go : (b : Bool) → sameType t UNKNOWN ≡ b → (b or isTypeOf t valueTypes) ≡ true → isTypeOf t valueTypes ≡ true
     go true e k = known (isKnownProperty n) refl (same-type-true t UNKNOWN e)
     go false e k = k
