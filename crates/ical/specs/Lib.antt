@@ -11,6 +11,7 @@
 --     AcceptedValues  what is read is values of the property
 --     PropertyLaws    the line of a property states it
 --     AcceptedProperty   what is read is a property
+--     LineLaws        the bytes of a property's line are read back
 --     Computing     opens all of these, for examples that compute
 pub mod Parameters
 pub mod Values
@@ -24,4 +25,5 @@ pub mod ValuesLaws
 pub mod AcceptedValues
 pub mod PropertyLaws
 pub mod AcceptedProperty
+pub mod LineLaws
 pub mod Computing

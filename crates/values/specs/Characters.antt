@@ -1,6 +1,6 @@
 -- The characters that values are written in: nearly all show, and a type leaves only few of them free.
 --     freeIn           the characters that a value's type leaves free: TEXT's, and raw ones
---     isPropertyText   a property whose free characters both formats can have: no CR, and in parameters no LF and no double quote
+--     isValueText, isParameterText   a value whose free characters both formats can have: no CR; in a parameter no LF and no double quote besides
 --     free-or-shown    a value without free characters is written in characters that show
 --     value-one-line   no value is written with LF;   value-no-return: with CR only where its free characters have one
 use mathlib.Core.Path.{_≡_, refl}
@@ -12,8 +12,7 @@ use Rattle.octets.specs.Pick.{_and_, and-both}
 use Rattle.octets.specs.Scan.{allOf}
 use Rattle.octets.specs.Class.{isVisible}
 use Rattle.octets.specs.Words.{holds, noneHolds, all-without, none-split}
-use Rattle.octets.specs.Lists.{every}
-use Rattle.model.specs.Calendar.{ical, Value, binary, boolean, calAddress, date, dateTime, duration, float, integer, periodExplicit, periodStart, recur, text, time, uri, utcOffset, unknown, geo, requestStatus, Parameter, Property}
+use Rattle.model.specs.Calendar.{ical, Value, binary, boolean, calAddress, date, dateTime, duration, float, integer, periodExplicit, periodStart, recur, text, time, uri, utcOffset, unknown, geo, requestStatus}
 use Rattle.times.specs.Date.{date-visible}
 use Rattle.times.specs.Time.{time-visible}
 use Rattle.times.specs.DateTime.{date-time-visible}
@@ -54,14 +53,11 @@ freeIn (geo la lo) = []
 freeIn (requestStatus c d x) = statusParts c d x
 
 -- 13 is CR, 10 LF, 34 the double quote
-abbrev pub isParameterText : Value → Bool
-isParameterText v = noneHolds 13 (freeIn v) and noneHolds 10 (freeIn v) and noneHolds 34 (freeIn v)
-
 abbrev pub isValueText : Value → Bool
 isValueText v = noneHolds 13 (freeIn v)
 
-unfoldable pub isPropertyText : Property → Bool
-isPropertyText p = every (λ (q : Parameter). every isParameterText (q .values)) (p .parameters) and every isValueText (p .values)
+abbrev pub isParameterText : Value → Bool
+isParameterText v = noneHolds 13 (freeIn v) and noneHolds 10 (freeIn v) and noneHolds 34 (freeIn v)
 
 -- ---- laws
 

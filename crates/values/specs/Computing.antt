@@ -9,8 +9,7 @@ use Rattle.schema.specs.Computing.{schema-compute}
 use Rattle.values.specs.ReadValue.{readValue}
 use Rattle.values.specs.WriteValue.{writeValue, writeValues, characters}
 use Rattle.values.specs.Valid.{isParameter, areValuesOf, areParameters, isProperty}
-use Rattle.values.specs.Characters.{isPropertyText}
 
 unfoldable pub values-compute : ℕ
-unfolding octets-compute schema-compute times-compute numbers-compute texts-compute recur-compute readValue writeValue writeValues characters isParameter areValuesOf areParameters isProperty isPropertyText
+unfolding octets-compute schema-compute times-compute numbers-compute texts-compute recur-compute readValue writeValue writeValues characters isParameter areValuesOf areParameters isProperty
 values-compute = 0
