@@ -10,6 +10,8 @@
 --     ValuesLaws      the values of a property are read back
 --     AcceptedValues  what is read is values of the property
 --     PropertyLaws    the line of a property states it
+--     AcceptedProperty   what is read is a property
+--     LineLaws        the bytes of a property's line are read back
 --     Computing     opens all of these, for examples that compute
 pub mod Parameters
 pub mod Values
@@ -22,4 +24,6 @@ pub mod ParameterLaws
 pub mod ValuesLaws
 pub mod AcceptedValues
 pub mod PropertyLaws
+pub mod AcceptedProperty
+pub mod LineLaws
 pub mod Computing
