@@ -2,6 +2,7 @@
 --     Extra    what a joined test says of its parts
 --     Unfold   the bytes that unfolding keeps, and the place of each
 --     Lines    the lines of a text, each with where it starts
+--     First    the line at an index
 --     Fold     a content line as it is written
 --     Text     content lines, one after another
 --     Computing  opens all of these, for examples that compute
@@ -9,6 +10,7 @@
 pub mod Extra
 pub mod Unfold
 pub mod Lines
+pub mod First
 pub mod Fold
 pub mod Text
 pub mod Computing
