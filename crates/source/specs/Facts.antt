@@ -1,5 +1,6 @@
 -- Laws of a step: what stands at a cursor, by the byte that was found there.
 --     rest-byte, rest-end       what the bytes from the cursor on are, where a byte was found, and where none was
+--     byte-small                a unit that is not the end's is a byte
 --     plain-byte, plain-end     the step over bytes as they stand
 --     rest-part                 what a slice that is cut at e has from c on
 --     rest-cut, cut-is          bytes as they stand, cut in two at a later cursor
@@ -30,6 +31,12 @@ module _ {m : ℕ} {s : List ℕ} {c : ℕ} {r : Step} (p : Reads m s c r) where
   pub rest-byte : (r .u ≡ 256 → ⊥) → rest m s c ≡ r .u ∷ rest m s (r .next)
   rest-byte h = p .is ∙ spell-byte (r .u) (rest m s (r .next)) h
 
+  pub byte-small : (r .u ≡ 256 → ⊥) → r .u < 256
+  byte-small h = go (r .u) (p .small) h
+    where
+      go : (u : ℕ) → u ≤ 256 → (u ≡ 256 → ⊥) → u < 256
+      go u l h = omega (arith, h)
+
   pub rest-end : r .u ≡ 256 → rest m s c ≡ []
   rest-end h = p .is ∙ spell-end (r .u) (rest m s (r .next)) h
 
@@ -41,16 +48,16 @@ plain-byte s c u h e b = record {
   small = omega arith;
   moved = omega arith;
   inside = omega arith;
-  plain = omega arith;
+  plain = λ z b. omega arith;
 }
 
 pub plain-end : (s : List ℕ) (c : ℕ) → length s ≤ c → c < 2 ^ 64 → Reads 0 s c (record { u = 256; next = c })
 unfolding rest spell pick
-plain-end s c h f = record { is = drop-of-length-le s h; small = omega arith; moved = omega arith; inside = omega arith; plain = omega arith }
+plain-end s c h f = record { is = drop-of-length-le s h; small = omega arith; moved = omega arith; inside = omega arith; plain = λ z b. absurd (b refl) }
 
 pub none-end : (m : ℕ) (s : List ℕ) (c : ℕ) → (m ≡ 0 → ⊥) → c < 2 ^ 64 → Reads m s c (record { u = 256; next = c })
 unfolding rest spell pick
-none-end m s c h f = record { is = rw (ne-eqb m 0 h); small = omega arith; moved = omega arith; inside = omega arith; plain = omega arith }
+none-end m s c h f = record { is = rw (ne-eqb m 0 h); small = omega arith; moved = omega arith; inside = omega arith; plain = λ z b. absurd (h z) }
 
 -- the encoding's number was tested
 pub reads-as : {m k : ℕ} {s : List ℕ} {c : ℕ} {r : Step} → m ≡ k → Reads k s c r → Reads m s c r

@@ -22,4 +22,4 @@ pub record Reads (m : ℕ) (s : List ℕ) (c : ℕ) (r : Step) : Type 0 where
   pub small : r .u ≤ 256
   pub moved : c < r .next + r .u / 256 * 2 ^ 64
   pub inside : r .next ≤ 4 * length s + r .u / 256 * 2 ^ 64
-  pub plain : r .next ≤ length s + m * 2 ^ 64 + r .u / 256 * 2 ^ 64
+  pub plain : m ≡ 0 → (r .u ≡ 256 → ⊥) → r .next ≤ length s
