@@ -127,7 +127,7 @@ module _ {s : List ℕ} {from at : ℕ} (k : Seeking s from at) where
   unfolding toBreak pick
   seeking-more h e =
       let n : toBreak (drop at s) ≡ suc (toBreak (drop (at + 1) s)) =
-          ap toBreak (drop-next s at h) ∙ rw (sym (ap (starts crlf) (drop-next s at h)) ∙ e) in
+      ap toBreak (drop-next s at h) ∙ rw (sym (ap (starts crlf) (drop-next s at h)) ∙ e) in
       record { low = omega (arith, k .low); high = omega arith; left = omega (arith, k .left, n) }
 
   pub seeking-whole : at < length s → starts crlf (drop at s) ≡ true → First s from (Whole at)
