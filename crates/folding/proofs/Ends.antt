@@ -4,7 +4,7 @@
 use mathlib.Core.Path.{_≡_, refl, sym, ap, _∙_}
 use mathlib.Core.Bool.{Bool, true, false, false≢true}
 use mathlib.Core.List.{List, [], _∷_}
-use Prim.Native.Nat.{ℕ, zero, suc, _+_, _-_, _≤_, _<_}
+use Prim.Native.Nat.{ℕ, suc, _+_, _-_, _≤_, _<_}
 use native.Mathlib.Omega.{arith}
 use lib.Dec.{eqb}
 use lib.ListN.{length, getD, take, drop, length-drop, drop-of-length-le}
@@ -17,7 +17,6 @@ use Rattle.octets.specs.Words.{starts}
 use Rattle.folding.specs.Unfold.{crlf}
 use Rattle.folding.specs.Lines.{Line, whole, loose, longer, lineStep, linesAfter, linesFrom}
 use Rattle.folding.specs.First.{linesAt, First}
-use Rattle.folding.specs.declared.lines.Ending.{Ending}
 use Rattle.folding.specs.declared.lines.Ending.the-variants.{Whole, Loose}
 use Rattle.folding.proofs.Kept.{eqb-swap}
 

@@ -2,11 +2,10 @@
 --     Taking       the invariant of looking for a line's last octet, `search takings`
 --     todo-begun, todo-next, todo-rows     the loop that writes: after the first line, another line, the end
 use mathlib.Core.Path.{_≡_, refl, sym, ap, _∙_}
-use mathlib.Core.Bool.{Bool, true, false}
-use mathlib.Core.List.{List, [], _∷_, _++_}
+use mathlib.Core.Bool.{true, false}
+use mathlib.Core.List.{List, _∷_}
 use Prim.Native.Nat.{ℕ, suc, _+_, _-_, _≤_, _<_}
 use native.Mathlib.Omega.{arith}
-use lib.Dec.{ltb}
 use lib.ListN.{length, getD, take, drop, drop-of-length-le}
 use borrow.Author.Tests.{lt-ltb, le-ltb}
 use borrow.Author.Needs.{needs}
@@ -14,7 +13,7 @@ use Rattle.octets.specs.Pick.{pick}
 use Rattle.octets.specs.Scan.{drop-next}
 use Rattle.octets.specs.Append.{_⊕_, append-is}
 use Rattle.sink.specs.Sink.{Put, _▷_, put-length, Todo, todo-all, todo-step, todo-done}
-use Rattle.folding.specs.Fold.{longest, width, width-some, isOver, taken, foldedLine}
+use Rattle.folding.specs.Fold.{longest, width, width-some, taken, foldedLine}
 use Rattle.folding.specs.Rows.{row, Takes, spaced, folded-rows, spaced-rows}
 
 -- ---- a line has c octets and takes those of s from i on, up to j by now; so it has k octets

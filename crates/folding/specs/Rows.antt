@@ -6,7 +6,7 @@
 use mathlib.Core.Path.{_≡_, refl, sym, ap, _∙_}
 use mathlib.Core.Bool.{Bool, true, false}
 use mathlib.Core.List.{List, [], _∷_, _++_}
-use Prim.Native.Nat.{ℕ, suc, _+_, _-_, _≤_, _<_}
+use Prim.Native.Nat.{ℕ, _+_, _-_, _≤_, _<_}
 use native.Mathlib.Omega.{arith}
 use lib.ListN.{length, getD, take, drop}
 use lib.Seq.{drop-drop}
@@ -24,6 +24,7 @@ pub record Takes (c : ℕ) (s : List ℕ) (i r : ℕ) : Type 0 where
   pub is : r ≡ i + taken c (drop i s)
   pub high : r ≤ length s
 
+-- the rest s of a content line, once a line has ended
 unfoldable pub spaced : List ℕ → List ℕ
 spaced [] = []
 spaced (b ∷ s) = 32 ∷ foldFrom 1 (b ∷ s)
