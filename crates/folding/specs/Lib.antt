@@ -1,5 +1,4 @@
 -- Content lines as they stand in a text: folds, and the lines of what unfolding keeps.
---     Extra    what a joined test says of its parts
 --     Unfold   the bytes that unfolding keeps, and the place of each
 --     Lines    the lines of a text, each with where it starts
 --     First    the line at an index
@@ -8,7 +7,6 @@
 --     Text     content lines, one after another
 --     Computing  opens all of these, for examples that compute
 --     Examples   computed
-pub mod Extra
 pub mod Unfold
 pub mod Lines
 pub mod First

@@ -6,6 +6,12 @@
 --     Tree          the components that the lines state
 --     ReadText      the answer for a text
 --     WriteText     the canonical text of a calendar
+--     ParameterLaws   parameters are read back
+--     ValuesLaws      the values of a property are read back
+--     AcceptedValues  what is read is values of the property
+--     PropertyLaws    the line of a property states it
+--     AcceptedProperty   what is read is a property
+--     LineLaws        the bytes of a property's line are read back
 --     Computing     opens all of these, for examples that compute
 pub mod Parameters
 pub mod Values
@@ -14,4 +20,10 @@ pub mod Nesting
 pub mod Tree
 pub mod ReadText
 pub mod WriteText
+pub mod ParameterLaws
+pub mod ValuesLaws
+pub mod AcceptedValues
+pub mod PropertyLaws
+pub mod AcceptedProperty
+pub mod LineLaws
 pub mod Computing
