@@ -4,7 +4,7 @@
 use mathlib.Core.Path.{_≡_, refl, sym, ap, _∙_}
 use mathlib.Core.Bool.{Bool, true, false, false≢true}
 use mathlib.Core.List.{List, [], _∷_}
-use Prim.Native.Nat.{ℕ, zero, suc, _+_, _-_, _≤_, _<_}
+use Prim.Native.Nat.{ℕ, suc, _+_, _-_, _≤_, _<_}
 use native.Mathlib.Omega.{arith}
 use lib.Dec.{eqb}
 use lib.ListN.{length, getD, take, drop, length-drop, drop-of-length-le}
@@ -17,7 +17,6 @@ use Rattle.octets.specs.Words.{starts}
 use Rattle.folding.specs.Unfold.{crlf}
 use Rattle.folding.specs.Lines.{Line, whole, loose, longer, lineStep, linesAfter, linesFrom}
 use Rattle.folding.specs.First.{linesAt, First}
-use Rattle.folding.specs.declared.lines.Ending.{Ending}
 use Rattle.folding.specs.declared.lines.Ending.the-variants.{Whole, Loose}
 use Rattle.folding.proofs.Kept.{eqb-swap}
 
@@ -127,7 +126,7 @@ module _ {s : List ℕ} {from at : ℕ} (k : Seeking s from at) where
   unfolding toBreak pick
   seeking-more h e =
       let n : toBreak (drop at s) ≡ suc (toBreak (drop (at + 1) s)) =
-          ap toBreak (drop-next s at h) ∙ rw (sym (ap (starts crlf) (drop-next s at h)) ∙ e) in
+      ap toBreak (drop-next s at h) ∙ rw (sym (ap (starts crlf) (drop-next s at h)) ∙ e) in
       record { low = omega (arith, k .low); high = omega arith; left = omega (arith, k .left, n) }
 
   pub seeking-whole : at < length s → starts crlf (drop at s) ≡ true → First s from (Whole at)

@@ -3,20 +3,19 @@
 --     Unfolding       the invariant of unfolding, `search unfoldings`
 --     Left            the invariant of looking for a place, `search lefts`
 use mathlib.Core.Path.{_≡_, refl, sym, ap, _∙_}
-use mathlib.Core.Bool.{Bool, true, false, false≢true}
+use mathlib.Core.Bool.{Bool, true, false}
 use mathlib.Core.List.{List, [], _∷_}
 use Prim.Native.Nat.{ℕ, zero, suc, _+_, _-_, _*_, _^_, _≤_, _<_}
 use native.Mathlib.Omega.{arith}
 use lib.Dec.{eqb}
 use lib.ListN.{length, getD, set, drop, length-drop, length-set, drop-of-length-le}
-use lib.Seq.{drop-drop}
 use borrow.Author.Tests.{eq-eqb, ne-eqb, eqb-true, eqb-false}
 use borrow.Author.Needs.{needs}
 use Rattle.octets.specs.Pick.{_and_, _or_, flag-yes, flag-no}
 use Rattle.octets.specs.Scan.{drop-next}
 use Rattle.octets.specs.Words.{starts}
-use Rattle.octets.specs.Append.{_⊕_, append-is}
-use Rattle.sink.specs.Sink.{Put, put-set, far, overwrite, overwrite-fits, Todo, todo-all, todo-step, todo-done}
+use Rattle.octets.specs.Append.{append-is}
+use Rattle.sink.specs.Sink.{Put, put-set, far, overwrite-fits, Todo, todo-all, todo-step, todo-done}
 use Rattle.folding.specs.Unfold.{foldAt, keep, keptFrom, unfolded, placesFrom, origin, Unfolds, fold-long, length-unfolded}
 
 -- ---- a fold at an index

@@ -2,7 +2,7 @@
 --     foundOf     what is answered
 --     step        one byte more, at an index;   verdict: what is answered once there is none
 --     finds       the automaton's answer;   found: the same at the end of a loop
-use mathlib.Core.Path.{_≡_, refl, sym, ap, _∙_}
+use mathlib.Core.Path.{_≡_, refl, ap, _∙_}
 use mathlib.Core.Bool.{Bool, true, false}
 use mathlib.Core.List.{List, [], _∷_}
 use mathlib.Core.Option.{Option, none, some}
