@@ -17,5 +17,6 @@ pub mod Uri
 pub mod Binary
 pub mod Unknown
 pub mod Quoting
+pub mod Kept
 pub mod Computing
 pub mod Examples

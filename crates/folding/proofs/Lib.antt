@@ -1,0 +1,5 @@
+-- Laws of the loops.
+--     Kept     the bytes kept from an index on, and their places
+--     Ends     the end of a line, from an index on
+pub mod Kept
+pub mod Ends
