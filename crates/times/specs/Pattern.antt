@@ -13,13 +13,12 @@ use native.Mathlib.Omega.{arith}
 use lib.Dec.{eqb, leb}
 use lib.ListN.{length, take, drop}
 use borrow.Author.Tests.{eqb-true, eqb-false, eq-eqb, ne-eqb, leb-true, leb-false, le-leb, lt-leb}
-use Rattle.octets.specs.Pick.{pick, _and_, _or_, and-no-right}
+use Rattle.octets.specs.Pick.{pick, _and_, _or_, and-no-right, and-both}
 use Rattle.octets.specs.Scan.{allOf}
 use Rattle.octets.specs.Class.{isDigit}
 use Rattle.octets.specs.Decimal.{value, digitOf}
 use Rattle.octets.specs.Reading.{provided, andThen, consRead}
 use Rattle.source.specs.Source.{spell}
-use Rattle.times.specs.Extra.{and-left, and-right}
 use Rattle.times.specs.Spelling.{Mark, mark, putMark, takeMark, withMarks, withoutMarks, fits}
 
 pub data Followed : Type 0 where
@@ -118,12 +117,12 @@ pub along-marks : (ms : List Mark) (q : List ℕ) (n : ℕ) (s : List ℕ) → a
 unfolding withMarks withoutMarks areMarks fits followedBy andThen
 along-marks [] q n s m h = refl
 along-marks (k ∷ ms) q n s m h =
-    along-marks ms (putMark (k .place) (k .sign) q) n s (and-right _ _ m) (rw put-longer (and-right _ _ h))
+    along-marks ms (putMark (k .place) (k .sign) q) n s (and-both _ _ m .1) (rw put-longer (and-both _ _ h .1))
     ∙ go (withoutMarks ms s)
   where
     go : (o : Option (List ℕ)) → followedBy o (along (putMark (k .place) (k .sign) q) n) ≡ followedBy (andThen o (takeMark (k .place) (k .sign))) (along q n)
     go none = refl
-    go (some l) = along-mark (k .place) (k .sign) q n l (and-left _ _ m) (leb-true _ _ (and-left _ _ h))
+    go (some l) = along-mark (k .place) (k .sign) q n l (and-both _ _ m .0) (leb-true _ _ (and-both _ _ h .0))
 
 -- ---- digits at the front
 
