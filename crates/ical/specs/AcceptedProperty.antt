@@ -37,11 +37,11 @@ abbrev nameOf : Parameter → List ℕ
 nameOf p = p .name
 
 -- what a parameter is read from
-record Read (r : RawParameter) (p : Parameter) : Type 0 where
-  named : p .name ≡ rawName r
-  each : readEach (readParamValue (rawName r)) (r .values) ≡ some (p .values)
+pub record Read (r : RawParameter) (p : Parameter) : Type 0 where
+  pub named : p .name ≡ upper (r .name)
+  pub each : readEach (readParamValue (upper (r .name))) (r .values) ≡ some (p .values)
 
-parameter-read : (r : RawParameter) (p : Parameter) → readParameter r ≡ some p → Read r p
+pub parameter-read : (r : RawParameter) (p : Parameter) → readParameter r ≡ some p → Read r p
 unfolding readParameter pick
 parameter-read r p h = go (isListedParameter (rawName r) or isSingle (r .values)) (readEach (readParamValue (rawName r)) (r .values)) refl h
   where
@@ -161,14 +161,14 @@ parameters-read n t rs ps v g h =
 -- ---- the property
 
 -- what a line with no fault has
-record NoFault (k : List ℕ) (l : ContentLine) : Type 0 where
-  type : ValueType
-  parameters : List Parameter
-  values : List Value
-  stated : statedType (upper (l .name)) (l .parameters) ≡ some type
-  good : parametersGood (upper (l .name)) type (l .parameters) ≡ true
-  parametersRead : readParameters (l .parameters) ≡ some parameters
-  valuesRead : readValues k (upper (l .name)) type (l .value) ≡ some values
+pub record NoFault (k : List ℕ) (l : ContentLine) : Type 0 where
+  pub type : ValueType
+  pub parameters : List Parameter
+  pub values : List Value
+  pub stated : statedType (upper (l .name)) (l .parameters) ≡ some type
+  pub good : parametersGood (upper (l .name)) type (l .parameters) ≡ true
+  pub parametersRead : readParameters (l .parameters) ≡ some parameters
+  pub valuesRead : readValues k (upper (l .name)) type (l .value) ≡ some values
 
 is-read : {A : Type 0} (o : Option A) → isRead o ≡ true → (a : A) × (o ≡ some a)
 unfolding isRead
@@ -185,7 +185,7 @@ both-pass true true h = (refl, refl)
 both-pass true false h = some-none h
 both-pass false r h = some-none h
 
-no-fault : (k : List ℕ) (l : ContentLine) → propertyFault k l ≡ none → NoFault k l
+pub no-fault : (k : List ℕ) (l : ContentLine) → propertyFault k l ≡ none → NoFault k l
 unfolding faultAs parametersGood
 no-fault k l h = go (statedType (upper (l .name)) (l .parameters)) refl h
   where
