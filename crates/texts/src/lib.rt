@@ -1,1 +1,13 @@
-// Values that are characters: TEXT and lists of it, REQUEST-STATUS, URI, BINARY, unknown, quoted parameter values. Definitions and their laws are in specs/.
+// TEXT and lists of it, URI, BINARY and unknown values, read through a cursor and written. Definitions and laws are in specs/.
+
+mod unknown;
+mod uri;
+
+pub use unknown::read_unknown;
+pub use uri::read_uri;
+
+// A value that is kept by its characters: the cursor at their end; or none that is of the type.
+pub enum Kept {
+    Chars(usize),
+    Bad,
+}
