@@ -9,7 +9,7 @@ use mathlib.Core.Option.{none}
 use Prim.Native.Nat.{ℕ, suc, _≤_, _<_}
 use native.Mathlib.Omega.{arith}
 use lib.ListN.{length, getD}
-use Rattle.octets.specs.Pick.{pick, _and_, _or_}
+use Rattle.octets.specs.Pick.{pick, _or_, and-both}
 use Rattle.octets.specs.Lists.{every}
 use Rattle.octets.specs.Words.{same, isOneOf, rowOf, same-self, same-true}
 use Rattle.names.specs.Table.{placeOf}
@@ -41,11 +41,6 @@ module _ (w : List ℕ) where
 
 -- ---- a word that is not there
 
-both : (a b : Bool) → (a and b) ≡ true → (a ≡ true) × (b ≡ true)
-unfolding _and_
-both true b h = (refl, h)
-both false b h = absurd (false≢true h)
-
 pub unknown-word : (w : List ℕ) (ws : List (List ℕ)) (x : List ℕ) → length ws ≤ placeOf w ws → isOneOf x ws ≡ true → same w x ≡ false
 unfolding placeOf isOneOf pick _or_
 unknown-word w [] x h e = absurd (false≢true e)
@@ -68,12 +63,12 @@ module _ (w : List ℕ) (ws : List (List ℕ)) (h : length ws ≤ placeOf w ws) 
   unfolding isOneOf every _or_
   unknown-list [] e = refl
   unknown-list (x ∷ l) e =
-      let q = both (isOneOf x ws) (every (λ x. isOneOf x ws) l) e in
+      let q = and-both (isOneOf x ws) (every (λ x. isOneOf x ws) l) e in
       rw (unknown-word w ws x h (q .0)) (unknown-list l (q .1))
 
   pub unknown-row : {A : Type 0} (name : A → List ℕ) (rows : List A) → every (λ r. isOneOf (name r) ws) rows ≡ true → rowOf name w rows ≡ none
   unfolding rowOf every pick
   unknown-row name [] e = refl
   unknown-row name (r ∷ rows) e =
-      let q = both (isOneOf (name r) ws) (every (λ r. isOneOf (name r) ws) rows) e in
+      let q = and-both (isOneOf (name r) ws) (every (λ r. isOneOf (name r) ws) rows) e in
       rw (unknown-word w ws (name r) h (q .0)) (unknown-row name rows (q .1))

@@ -3,7 +3,7 @@
 --     Table      a table of names, the place of a name in it, and the row of a list by that place
 --     Known      what is said of a word, by its place in a list of known words
 --     Matching   the walk over a table
---     Runs       a run of name characters, and the loops that compare and write a word
+--     Runs       a run of bytes, and the loops that compare and write a word
 --     Computing  one name that opens all of them
 --     Examples   lookups that compute
 pub mod Case
