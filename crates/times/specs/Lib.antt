@@ -3,6 +3,9 @@
 --     Extra      laws of tests and readings that are not about times
 --     Spelling   the characters of these values, and the marks that XML puts between them
 --     Pattern    a spelling followed along a pattern
+--     Digits     digits, and what they are worth
+--     Letters    characters from a cursor on
+--     Followed   what following a pattern answers
 --     Date       DATE, and the Gregorian month
 --     MonthRule  the days that DATE accepts in a month are those from 1 to its length
 --     DateAlong  DATE by its pattern
@@ -16,6 +19,9 @@
 pub mod Extra
 pub mod Spelling
 pub mod Pattern
+pub mod Digits
+pub mod Letters
+pub mod Followed
 pub mod Date
 pub mod MonthRule
 pub mod DateAlong

@@ -1,1 +1,4 @@
-// Dates and times: DATE, TIME, DATE-TIME, DURATION, UTC-OFFSET and PERIOD. Definitions and their laws are in specs/.
+// Dates and times: readers and writers of DATE, TIME, DATE-TIME, DURATION, UTC-OFFSET and PERIOD. See specs/Lib.antt.
+mod letters;
+mod follow;
+pub mod date;
