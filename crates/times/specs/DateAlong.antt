@@ -100,7 +100,7 @@ module _ (a b c d e f g h : ℕ) (pa : a < 10) (pb : b < 10) (pc : c < 10) (pd :
   day-worth = rw (year-digits, month-digits, day-digits, date-digits)
 
 -- eight digits are a date if they are a day's
-eight-day : (v : List ℕ) → length v ≡ 8 → allOf isDigit v ≡ true → keep isDate v ≡ dayFrom (value 0 v)
+pub eight-day : (v : List ℕ) → length v ≡ 8 → allOf isDigit v ≡ true → keep isDate v ≡ dayFrom (value 0 v)
 unfolding keep isDate value _and_
 eight-day v l k = eight (λ (v : List ℕ). allOf isDigit v ≡ true → keep isDate v ≡ dayFrom (value 0 v)) go v l k
   where
@@ -115,11 +115,11 @@ eight-day v l k = eight (λ (v : List ℕ). allOf isDigit v ≡ true → keep is
         rw (k, day-worth (digitOf a) (digitOf b) (digitOf c) (digitOf d) (digitOf e) (digitOf f) (digitOf g) (digitOf h)
         (digit-small a) (digit-small b) (digit-small c) (digit-small d) (digit-small e) (digit-small f) (digit-small g) (digit-small h), ← ea, ← eb, ← ec, ← ed, ← ee, ← ef, ← eg, ← eh)
 
-no-digits : (v : List ℕ) → allOf isDigit v ≡ false → keep isDate v ≡ none
+pub no-digits : (v : List ℕ) → allOf isDigit v ≡ false → keep isDate v ≡ none
 unfolding keep isDate pick _and_
 no-digits v e = rw (e, and-no-right (eqb (length v) 8) false refl)
 
-no-length : (v : List ℕ) → eqb (length v) 8 ≡ false → keep isDate v ≡ none
+pub no-length : (v : List ℕ) → eqb (length v) 8 ≡ false → keep isDate v ≡ none
 unfolding keep isDate pick _and_
 no-length v e = rw e
 

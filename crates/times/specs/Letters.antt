@@ -75,6 +75,12 @@ spells-capital {m} {s} {c} {r} {e} {w} h p k =
             go true e = rw (eqb-true u 256 e, capital-end)
             go false e = omega (arith, capital-most u, eqb-false u 256 e)
 
+pub cased-empty : (e : Bool) (l : List ℕ) → isEmpty (cased e l) ≡ isEmpty l
+unfolding cased upper
+cased-empty true l = refl
+cased-empty false [] = refl
+cased-empty false (b ∷ l) = refl
+
 -- nothing is left where the end was found
 pub ends-here : {m : ℕ} {s : List ℕ} {c : ℕ} {r : Step} → Reads m s c r → eqb (r .u) 256 ≡ isEmpty (rest m s c)
 unfolding spell pick

@@ -10,7 +10,9 @@
 --     MonthRule  the days that DATE accepts in a month are those from 1 to its length
 --     DateAlong  DATE by its pattern
 --     Time       TIME
+--     TimeAlong  TIME by its pattern
 --     DateTime   DATE-TIME
+--     DateTimeAlong  DATE-TIME by its pattern
 --     Duration   DURATION
 --     UtcOffset  UTC-OFFSET
 --     Period     PERIOD in iCalendar text
@@ -26,7 +28,9 @@ pub mod Date
 pub mod MonthRule
 pub mod DateAlong
 pub mod Time
+pub mod TimeAlong
 pub mod DateTime
+pub mod DateTimeAlong
 pub mod Duration
 pub mod UtcOffset
 pub mod Period

@@ -2,3 +2,5 @@
 mod letters;
 mod follow;
 pub mod date;
+pub mod time;
+pub mod date_time;
