@@ -157,3 +157,11 @@ module _ (x : Bool) {m : ℕ} {s : List ℕ} {c : ℕ} {w : Walk} (p : Walks (da
   pub date-time-ended : {k : ℕ} → w .ok ≡ true → k ≡ zone (cased x (rest m s (w .next))) → readDateTime (formatOf x) (rest m s c) ≡ momentBy (w .n) k
   unfolding walked moment pick
   date-time-ended h e = followed ∙ rw (h, e) (moment-zone (w .n) _)
+
+pub moment-day : (n k : ℕ) {d : List ℕ} {t : Option (List ℕ)} → dayFrom (n / 1000000) ≡ some d → clockBy (n % 1000000) k ≡ t → momentBy n k ≡ joinTime d t
+unfolding momentBy andThen
+moment-day n k e h = rw (e, h)
+
+pub moment-none : (n k : ℕ) → dayFrom (n / 1000000) ≡ none → momentBy n k ≡ none
+unfolding momentBy andThen
+moment-none n k e = rw e

@@ -77,7 +77,7 @@ pub fn is_day(y: u16, m: u8, d: u8) -> bool
 }
 
 // The day of eight digits that are worth `n`.
-fn day_from(n: usize) -> DateRead
+pub fn day_from(n: usize) -> DateRead
     ensures { λ r. ⌜ dayFrom n ≡ dayOf r ⌝ }
 {
     let y = (n / 10000 % 10000) as u16;
