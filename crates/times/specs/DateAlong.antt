@@ -1,4 +1,5 @@
 -- DATE by its pattern: 00000000 in text, 0000-00-00 in XML.
+--     dayOf          what a reader's answer says
 --     datePattern    the pattern in a format
 --     dayFrom n      the date of eight digits that are worth n, if there is such a day
 --     date-along     a date is what follows the pattern to the end and is a day
@@ -12,19 +13,32 @@ use lib.Dec.{eqb, leb}
 use lib.ListN.{length, take, drop, length-drop, drop-of-length-le}
 use lib.Seq.{take-all}
 use borrow.Author.Tests.{eqb-true, eqb-false, eq-eqb, ne-eqb, leb-true, le-leb, lt-leb}
-use Rattle.octets.specs.Pick.{pick, _and_, _or_, within, and-no-right, and-both}
+use Rattle.octets.specs.Pick.{pick, _and_, _or_, within, and-no-right}
 use Rattle.octets.specs.Append.{_⊕_}
-use Rattle.octets.specs.Scan.{allOf, all-split}
+use Rattle.octets.specs.Scan.{allOf}
 use Rattle.octets.specs.Ascii.{ascii}
 use Rattle.octets.specs.Class.{isDigit}
 use Rattle.octets.specs.Words.{isEmpty}
 use Rattle.octets.specs.Decimal.{value, digitOf}
 use Rattle.octets.specs.Reading.{provided, andThen}
 use Rattle.model.specs.Calendar.{Format, ical, xcal}
+use Rattle.source.specs.Source.{rest}
+use Rattle.times.specs.Extra.{and-left, and-right, all-head, all-tail}
 use Rattle.times.specs.Spelling.{Mark, keep, withMarks, withoutMarks, putMark, fits}
 use Rattle.times.specs.Pattern.{Followed, reached, lost, along, zeros, digitsAt, followedBy, isMark, areMarks, along-marks, along-digits}
 use Rattle.times.specs.Date.{isDay, isDate, readDate, dateMarks}
-use Rattle.times.specs.MonthRule.{twoDigits, dateOf}
+use Rattle.times.specs.MonthRule.{dateOf}
+use Rattle.times.specs.Letters.{cased}
+use Rattle.times.specs.Followed.{walked, Walks}
+use Rattle.times.specs.Digits.{digit-is, digit-small, two-of, drop-longer}
+use Rattle.times.specs.declared.follow.Walk.{Walk}
+use Rattle.times.specs.declared.date.DateRead.{DateRead}
+use Rattle.times.specs.declared.date.DateRead.the-variants.{Day, NoDate}
+
+-- what a reader answers
+abbrev pub dayOf : DateRead → Option (List ℕ)
+dayOf (Day y m d) = some (dateOf y m d)
+dayOf NoDate = none
 
 abbrev pub datePattern : Format → List ℕ
 datePattern ical = ascii "00000000"
@@ -37,26 +51,7 @@ unfoldable pub dated : Followed → Option (List ℕ)
 dated lost = none
 dated (reached n r) = pick (isEmpty r) (dayFrom n) none
 
--- ---- digits and what they are worth
-
-pub digit-is : (b : ℕ) → isDigit b ≡ true → b ≡ 48 + digitOf b
-unfolding pick
-digit-is b h = rw h (omega (arith, leb-true 48 b (and-both _ _ h .0)))
-
-pub digit-small : (b : ℕ) → digitOf b < 10
-unfolding pick
-digit-small b = go (isDigit b) refl
-  where
-    go : (t : Bool) → isDigit b ≡ t → pick t (b - 48) 0 < 10
-    go true e = omega (arith, leb-true b 57 (and-both _ _ e .1))
-    go false e = omega arith
-
-pub two-of : (x y : ℕ) → x < 10 → y < 10 → twoDigits (x * 10 + y) ≡ (48 + x) ∷ (48 + y) ∷ []
-unfolding twoDigits
-two-of x y h k =
-    let p : 48 + (x * 10 + y) / 10 ≡ 48 + x = omega arith in
-    let q : 48 + (x * 10 + y) % 10 ≡ 48 + y = omega arith in
-    rw (p, q)
+-- ---- eight digits
 
 -- a list of eight
 eight : (P : List ℕ → Type 0) → ((a b c d e f g h : ℕ) → P (a ∷ b ∷ c ∷ d ∷ e ∷ f ∷ g ∷ h ∷ [])) → (v : List ℕ) → length v ≡ 8 → P v
@@ -105,33 +100,26 @@ module _ (a b c d e f g h : ℕ) (pa : a < 10) (pb : b < 10) (pc : c < 10) (pd :
   day-worth = rw (year-digits, month-digits, day-digits, date-digits)
 
 -- eight digits are a date if they are a day's
-eight-day : (v : List ℕ) → length v ≡ 8 → allOf isDigit v ≡ true → keep isDate v ≡ dayFrom (value 0 v)
+pub eight-day : (v : List ℕ) → length v ≡ 8 → allOf isDigit v ≡ true → keep isDate v ≡ dayFrom (value 0 v)
 unfolding keep isDate value _and_
 eight-day v l k = eight (λ (v : List ℕ). allOf isDigit v ≡ true → keep isDate v ≡ dayFrom (value 0 v)) go v l k
   where
     go : (a b c d e f g h : ℕ) → allOf isDigit (a ∷ b ∷ c ∷ d ∷ e ∷ f ∷ g ∷ h ∷ []) ≡ true →
         keep isDate (a ∷ b ∷ c ∷ d ∷ e ∷ f ∷ g ∷ h ∷ []) ≡ dayFrom (value 0 (a ∷ b ∷ c ∷ d ∷ e ∷ f ∷ g ∷ h ∷ []))
     go a b c d e f g h k =
-        let tb = all-split isDigit a _ k .1 in let tc = all-split isDigit b _ tb .1 in let td = all-split isDigit c _ tc .1 in let te = all-split isDigit d _ td .1 in
-        let tf = all-split isDigit e _ te .1 in let tg = all-split isDigit f _ tf .1 in let th = all-split isDigit g _ tg .1 in
-        let ea = digit-is a (all-split isDigit a _ k .0) in let eb = digit-is b (all-split isDigit b _ tb .0) in let ec = digit-is c (all-split isDigit c _ tc .0) in
-        let ed = digit-is d (all-split isDigit d _ td .0) in let ee = digit-is e (all-split isDigit e _ te .0) in let ef = digit-is f (all-split isDigit f _ tf .0) in
-        let eg = digit-is g (all-split isDigit g _ tg .0) in let eh = digit-is h (all-split isDigit h _ th .0) in
+        let tb = all-tail isDigit a _ k in let tc = all-tail isDigit b _ tb in let td = all-tail isDigit c _ tc in let te = all-tail isDigit d _ td in
+        let tf = all-tail isDigit e _ te in let tg = all-tail isDigit f _ tf in let th = all-tail isDigit g _ tg in
+        let ea = digit-is a (all-head isDigit a _ k) in let eb = digit-is b (all-head isDigit b _ tb) in let ec = digit-is c (all-head isDigit c _ tc) in
+        let ed = digit-is d (all-head isDigit d _ td) in let ee = digit-is e (all-head isDigit e _ te) in let ef = digit-is f (all-head isDigit f _ tf) in
+        let eg = digit-is g (all-head isDigit g _ tg) in let eh = digit-is h (all-head isDigit h _ th) in
         rw (k, day-worth (digitOf a) (digitOf b) (digitOf c) (digitOf d) (digitOf e) (digitOf f) (digitOf g) (digitOf h)
         (digit-small a) (digit-small b) (digit-small c) (digit-small d) (digit-small e) (digit-small f) (digit-small g) (digit-small h), ← ea, ← eb, ← ec, ← ed, ← ee, ← ef, ← eg, ← eh)
 
-drop-longer : (k : ℕ) (v : List ℕ) → k < length v → isEmpty (drop k v) ≡ false
-drop-longer k v h = go (drop k v) (omega (arith, length-drop k v))
-  where
-    go : (l : List ℕ) → 0 < length l → isEmpty l ≡ false
-    go [] q = absurd (omega arith)
-    go (x ∷ l) q = refl
-
-no-digits : (v : List ℕ) → allOf isDigit v ≡ false → keep isDate v ≡ none
+pub no-digits : (v : List ℕ) → allOf isDigit v ≡ false → keep isDate v ≡ none
 unfolding keep isDate pick _and_
 no-digits v e = rw (e, and-no-right (eqb (length v) 8) false refl)
 
-no-length : (v : List ℕ) → eqb (length v) 8 ≡ false → keep isDate v ≡ none
+pub no-length : (v : List ℕ) → eqb (length v) 8 ≡ false → keep isDate v ≡ none
 unfolding keep isDate pick _and_
 no-length v e = rw e
 
@@ -150,7 +138,7 @@ unfolding along dated digitsAt pick
 date-kept v = rw (along-digits 8 [] 0 v) (go (eqb (length v) 8) refl)
   where
     long : (t : Bool) → digitsAt 8 v ≡ t → (length v ≡ 8 → ⊥) → none ≡ dated (pick t (reached (value 0 (take 8 v)) (drop 8 v)) lost)
-    long true e n = rw (drop-longer 8 v (omega (arith, leb-true 8 (length v) (and-both _ _ e .0))))
+    long true e n = rw (drop-longer 8 v (omega (arith, leb-true 8 (length v) (and-left _ _ e))))
     long false e n = refl
 
     go : (t : Bool) → eqb (length v) 8 ≡ t → keep isDate v ≡ dated (pick (digitsAt 8 v) (reached (value 0 (take 8 v)) (drop 8 v)) lost)
@@ -167,3 +155,30 @@ pub date-along : (f : Format) (s : List ℕ) → readDate f s ≡ dated (along (
 unfolding readDate zeros withMarks putMark areMarks isMark fits pick _and_
 date-along ical s = date-kept s
 date-along xcal s = marked (withoutMarks dateMarks s) ∙ ap dated (sym (along-marks dateMarks (zeros 8 []) 0 s refl refl))
+
+-- ---- the ways of a reader
+
+module _ (f : Format) {m : ℕ} {s : List ℕ} {c : ℕ} {w : Walk} (p : Walks (datePattern f) true m s c w) where
+  followed : readDate f (rest m s c) ≡ dated (walked true m s w)
+  unfolding cased
+  followed = date-along f (rest m s c) ∙ ap dated (p .is)
+
+  pub date-lost : w .ok ≡ false → readDate f (rest m s c) ≡ none
+  unfolding walked dated pick
+  date-lost h = followed ∙ rw h
+
+  pub date-ended : w .ok ≡ true → isEmpty (rest m s (w .next)) ≡ true → readDate f (rest m s c) ≡ dayFrom (w .n)
+  unfolding walked dated pick cased
+  date-ended h k = followed ∙ rw (h, k)
+
+  pub date-longer : w .ok ≡ true → isEmpty (rest m s (w .next)) ≡ false → readDate f (rest m s c) ≡ none
+  unfolding walked dated pick cased
+  date-longer h k = followed ∙ rw (h, k)
+
+pub day-found : (n : ℕ) → isDay (n / 10000 % 10000) (n / 100 % 100) (n % 100) ≡ true → dayFrom n ≡ some (dateOf (n / 10000 % 10000) (n / 100 % 100) (n % 100))
+unfolding dayFrom pick
+day-found n h = rw h
+
+pub day-missing : (n : ℕ) → isDay (n / 10000 % 10000) (n / 100 % 100) (n % 100) ≡ false → dayFrom n ≡ none
+unfolding dayFrom pick
+day-missing n h = rw h
