@@ -14,6 +14,7 @@
 --     LineLaws          the bytes of a property's line are read back
 --     Pieces            a text in pieces
 --     AcceptedLine      what is read can be written as a line
+--     ValidCalendar     a calendar that a text can state
 --     Computing         opens all of these, for examples that compute
 pub mod Parameters
 pub mod Values
@@ -30,4 +31,5 @@ pub mod AcceptedProperty
 pub mod LineLaws
 pub mod Pieces
 pub mod AcceptedLine
+pub mod ValidCalendar
 pub mod Computing
