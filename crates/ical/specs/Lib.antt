@@ -15,6 +15,7 @@
 --     Pieces            a text in pieces
 --     AcceptedLine      what is read can be written as a line
 --     ValidCalendar     a calendar that a text can state
+--     TreeBack          the lines of a calendar state it
 --     Computing         opens all of these, for examples that compute
 pub mod Parameters
 pub mod Values
@@ -32,4 +33,5 @@ pub mod LineLaws
 pub mod Pieces
 pub mod AcceptedLine
 pub mod ValidCalendar
+pub mod TreeBack
 pub mod Computing
