@@ -14,6 +14,10 @@
 --     LineLaws          the bytes of a property's line are read back
 --     Pieces            a text in pieces
 --     AcceptedLine      what is read can be written as a line
+--     ValidCalendar     a calendar that a text can state
+--     TreeBack          the lines of a calendar state it
+--     Turned            the properties of a component, the last first
+--     NestingBack       the lines of a calendar are not refused
 --     Computing         opens all of these, for examples that compute
 pub mod Parameters
 pub mod Values
@@ -30,4 +34,8 @@ pub mod AcceptedProperty
 pub mod LineLaws
 pub mod Pieces
 pub mod AcceptedLine
+pub mod ValidCalendar
+pub mod TreeBack
+pub mod Turned
+pub mod NestingBack
 pub mod Computing
