@@ -1,8 +1,10 @@
 // TEXT and lists of it, URI, BINARY and unknown values, read through a cursor and written. Definitions and laws are in specs/.
 
+mod binary;
 mod unknown;
 mod uri;
 
+pub use binary::read_binary;
 pub use unknown::read_unknown;
 pub use uri::read_uri;
 
