@@ -1,10 +1,13 @@
 // TEXT and lists of it, URI, BINARY and unknown values, read through a cursor and written. Definitions and laws are in specs/.
 
 mod binary;
+mod text;
 mod unknown;
 mod uri;
 
 pub use binary::read_binary;
+pub use text::read_one_text;
+pub use text::read_text;
 pub use unknown::read_unknown;
 pub use uri::read_uri;
 
