@@ -138,5 +138,7 @@ place-small n last u a b q = rw q (go (eqb u 61) (eqb n 2) (eqb n 3) (sym a ∙ 
     go false f false k = let l : n < 4 = ltb-true n 4 (and-both (isBase64 u) (ltb n 4) k .1) in omega arith
 
 pub ruleset reading-unknown = (unknown-more, unknown-stop, unknown-end, needs)
+
 pub ruleset reading-uri = (uri-more, uri-stop, uri-end, uri-first, uri-none, needs)
+
 pub ruleset reading-binary = (binary-pass, binary-more, binary-stop, binary-end, place-small, needs)

@@ -9,6 +9,7 @@
 --     Quoting         parameter values between double quotes
 --     Unescaped       TEXT followed a byte at a time
 --     Kept            the answer of a reader of characters, and its loops
+--     Written         TEXT written
 --     Computing       opens all of these, for examples that compute
 --     Examples        computed examples
 pub mod Text
@@ -21,5 +22,6 @@ pub mod Unknown
 pub mod Quoting
 pub mod Unescaped
 pub mod Kept
+pub mod Written
 pub mod Computing
 pub mod Examples
