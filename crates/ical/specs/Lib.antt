@@ -1,13 +1,20 @@
 -- iCalendar text (RFC 5545).
---     Parameters    the parameters of a content line, typed
---     Values        the values of a property, by its type
---     Statement     the property that a content line states
---     Nesting       which lines are refused: one pass with the open components
---     Tree          the components that the lines state
---     ReadText      the answer for a text
---     WriteText     the canonical text of a calendar
---     ParameterLaws   parameters are read back
---     Computing     opens all of these, for examples that compute
+--     Parameters        the parameters of a content line, typed
+--     Values            the values of a property, by its type
+--     Statement         the property that a content line states
+--     Nesting           which lines are refused: one pass with the open components
+--     Tree              the components that the lines state
+--     ReadText          the answer for a text
+--     WriteText         the canonical text of a calendar
+--     ParameterLaws     parameters are read back
+--     ValuesLaws        the values of a property are read back
+--     AcceptedValues    what is read is values of the property
+--     PropertyLaws      the line of a property states it
+--     AcceptedProperty  what is read is a property
+--     LineLaws          the bytes of a property's line are read back
+--     Pieces            a text in pieces
+--     AcceptedLine      what is read can be written as a line
+--     Computing         opens all of these, for examples that compute
 pub mod Parameters
 pub mod Values
 pub mod Statement
@@ -16,4 +23,11 @@ pub mod Tree
 pub mod ReadText
 pub mod WriteText
 pub mod ParameterLaws
+pub mod ValuesLaws
+pub mod AcceptedValues
+pub mod PropertyLaws
+pub mod AcceptedProperty
+pub mod LineLaws
+pub mod Pieces
+pub mod AcceptedLine
 pub mod Computing

@@ -7,12 +7,13 @@ use mathlib.Core.Bool.{Bool, true, false, not, false≢true}
 use mathlib.Core.List.{List, [], _∷_, map}
 use mathlib.Core.Option.{Option, none, some, Option·map}
 use Prim.Native.Nat.{ℕ}
-use Rattle.octets.specs.Ascii.{ascii}
-use Rattle.octets.specs.Pick.{pick, pick-yes, pick-no, _and_, _or_, and-yes}
+use borrow.Author.Tests.{not-true}
+use Rattle.octets.specs.Pick.{pick, pick-yes, pick-no, _and_, _or_, and-yes, and-both}
 use Rattle.octets.specs.Class.{upper}
+use Rattle.octets.specs.Letters.{upper-twice}
 use Rattle.octets.specs.Words.{same, isOneOf, isEmpty, same-true, same-self}
-use Rattle.octets.specs.Lists.{every}
-use Rattle.octets.specs.Reading.{provided, readOr, readEach}
+use Rattle.octets.specs.Lists.{every, every-both}
+use Rattle.octets.specs.Reading.{provided, readOr, readEach, none-some, provided-some, each-read-back, each-accepted, each-accepted-of}
 use Rattle.octets.specs.Computing.{octets-compute}
 use Rattle.model.specs.Calendar.{ical, ValueType, TEXT, UNKNOWN, Value, text, typeOf, textIn, Parameter}
 use Rattle.schema.specs.Types.{typeName, typeNamed, valueTypes, sameType, isTypeOf, same-type-self, same-type-true, type-name-read-back, type-any, type-passes}
@@ -21,14 +22,12 @@ use Rattle.schema.specs.Rows.{known-types, unrecognised-property}
 use Rattle.schema.specs.Computing.{schema-compute}
 use Rattle.schema.specs.Parameters.{parameterType, isListedParameter, parameterWords, isQuotedParameter}
 use Rattle.schema.specs.Closed.{parameter-words-plain}
-use Rattle.values.specs.Extra.{and-both, not-false, none-some, provided-some, every-both, every-weaker, each-read-back, each-accepted, each-accepted-of}
 use Rattle.values.specs.ReadValue.{readValue}
 use Rattle.values.specs.WriteValue.{writeValue}
 use Rattle.values.specs.ReadBack.{isValue, isTyped, value-read-back, value-accepted}
 use Rattle.values.specs.Valid.{isAmount, isOfType, isWordIn, isChosen, isParameter, each-amount, text-or-other, text-in}
 use Rattle.lines.specs.ContentLine.{ParamValue, RawParameter}
-use Rattle.octets.specs.Letters.{upper-twice}
-use Rattle.ical.specs.Parameters.{readTyped, readWord, readParamValue, isSingle, readParameter, isValueParameter, statedType, typeIn, ownParameters, readParameters}
+use Rattle.ical.specs.Parameters.{readTyped, readWord, readParamValue, isSingle, readParameter, isValueParameter, statedType, ownParameters, readParameters}
 use Rattle.ical.specs.WriteText.{paramChars, paramValueOf, rawOf, valueParameter, withValue}
 
 -- ---- one value
@@ -80,7 +79,7 @@ parameterOf n vs = record { name = n; values = vs }
 -- of a name in capitals
 named-read-back : (n : List ℕ) (vs : List Value) → isAmount (isListedParameter n) vs ≡ true → every (isChosen (parameterWords n) (parameterType n)) vs ≡ true →
     pick (isListedParameter n or isSingle (map (paramValueOf n) vs))
-        (Option·map (parameterOf n) (readEach (readParamValue n) (map (paramValueOf n) vs))) none
+    (Option·map (parameterOf n) (readEach (readParamValue n) (map (paramValueOf n) vs))) none
     ≡ some (parameterOf n vs)
 unfolding pick
 named-read-back n vs a h =
@@ -130,6 +129,7 @@ parameter-accepted r p x y h = go (isListedParameter n or isSingle (r .values)) 
   where
     n : List ℕ
     n = upper (r .name)
+
     go : (b : Bool) → (isListedParameter n or isSingle (r .values)) ≡ b → (o : Option (List Value)) → readEach (readParamValue n) (r .values) ≡ o →
         pick b (Option·map (parameterOf n) o) none ≡ some p → isParameter p ≡ true
     go false a o e k = none-some k
@@ -151,7 +151,7 @@ parameter-name p h = same-true (upper (p .name)) (p .name) (and-both _ _ h .0)
 
 pub parameter-own : (p : Parameter) → isParameter p ≡ true → isValueParameter (rawOf p) ≡ false
 unfolding isParameter
-parameter-own p h = rw (parameter-name p h) (not-false _ (and-both _ _ (and-both _ _ h .1) .0))
+parameter-own p h = rw (parameter-name p h) (not-true _ (and-both _ _ (and-both _ _ h .1) .0))
 
 pub own-written : (ps : List Parameter) → every isParameter ps ≡ true → ownParameters (map rawOf ps) ≡ map rawOf ps
 unfolding ownParameters pick
@@ -180,8 +180,8 @@ own-have (r ∷ rs) h = let e = every-both hasValue r rs h in go (isValueParamet
 
 pub parameters-accepted : (rs : List RawParameter) (ps : List Parameter) → every hasValue rs ≡ true → readParameters rs ≡ some ps → every isParameter ps ≡ true
 parameters-accepted rs ps a h =
-    each-accepted-of readParameter isOwn isParameter
-    (λ r p t e. let d = and-both (not (isValueParameter r)) (hasValue r) t in parameter-accepted r p (not-false _ (d .0)) (not-false _ (d .1)) e)
+    each-accepted-of readParameter isParameter isOwn
+    (λ r p t e. let d = and-both (not (isValueParameter r)) (hasValue r) t in parameter-accepted r p (not-true _ (d .0)) (not-true _ (d .1)) e)
     (ownParameters rs) ps (own-have rs a) h
 
 -- ---- VALUE
@@ -211,6 +211,7 @@ other-named n t h d = go (sameType t UNKNOWN) refl (type-any t)
     known false k e =
         let u : defaultType n ≡ UNKNOWN = ap (λ (r : PropertyRow). r .default) (unrecognised-property n k) in
         absurd (false≢true (sym d ∙ rw (u, e) (same-type-self UNKNOWN)))
+
     go : (b : Bool) → sameType t UNKNOWN ≡ b → (b or isTypeOf t valueTypes) ≡ true → isTypeOf t valueTypes ≡ true
     go true e k = known (isKnownProperty n) refl (same-type-true t UNKNOWN e)
     go false e k = k
