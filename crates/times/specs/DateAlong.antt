@@ -13,9 +13,9 @@ use lib.Dec.{eqb, leb}
 use lib.ListN.{length, take, drop, length-drop, drop-of-length-le}
 use lib.Seq.{take-all}
 use borrow.Author.Tests.{eqb-true, eqb-false, eq-eqb, ne-eqb, leb-true, le-leb, lt-leb}
-use Rattle.octets.specs.Pick.{pick, _and_, _or_, within, and-no-right}
+use Rattle.octets.specs.Pick.{pick, _and_, _or_, within, and-no-right, and-both}
 use Rattle.octets.specs.Append.{_⊕_}
-use Rattle.octets.specs.Scan.{allOf}
+use Rattle.octets.specs.Scan.{allOf, all-split}
 use Rattle.octets.specs.Ascii.{ascii}
 use Rattle.octets.specs.Class.{isDigit}
 use Rattle.octets.specs.Words.{isEmpty}
@@ -23,7 +23,6 @@ use Rattle.octets.specs.Decimal.{value, digitOf}
 use Rattle.octets.specs.Reading.{provided, andThen}
 use Rattle.model.specs.Calendar.{Format, ical, xcal}
 use Rattle.source.specs.Source.{rest}
-use Rattle.times.specs.Extra.{and-left, and-right, all-head, all-tail}
 use Rattle.times.specs.Spelling.{Mark, keep, withMarks, withoutMarks, putMark, fits}
 use Rattle.times.specs.Pattern.{Followed, reached, lost, along, zeros, digitsAt, followedBy, isMark, areMarks, along-marks, along-digits}
 use Rattle.times.specs.Date.{isDay, isDate, readDate, dateMarks}
@@ -107,11 +106,11 @@ eight-day v l k = eight (λ (v : List ℕ). allOf isDigit v ≡ true → keep is
     go : (a b c d e f g h : ℕ) → allOf isDigit (a ∷ b ∷ c ∷ d ∷ e ∷ f ∷ g ∷ h ∷ []) ≡ true →
         keep isDate (a ∷ b ∷ c ∷ d ∷ e ∷ f ∷ g ∷ h ∷ []) ≡ dayFrom (value 0 (a ∷ b ∷ c ∷ d ∷ e ∷ f ∷ g ∷ h ∷ []))
     go a b c d e f g h k =
-        let tb = all-tail isDigit a _ k in let tc = all-tail isDigit b _ tb in let td = all-tail isDigit c _ tc in let te = all-tail isDigit d _ td in
-        let tf = all-tail isDigit e _ te in let tg = all-tail isDigit f _ tf in let th = all-tail isDigit g _ tg in
-        let ea = digit-is a (all-head isDigit a _ k) in let eb = digit-is b (all-head isDigit b _ tb) in let ec = digit-is c (all-head isDigit c _ tc) in
-        let ed = digit-is d (all-head isDigit d _ td) in let ee = digit-is e (all-head isDigit e _ te) in let ef = digit-is f (all-head isDigit f _ tf) in
-        let eg = digit-is g (all-head isDigit g _ tg) in let eh = digit-is h (all-head isDigit h _ th) in
+        let tb = all-split isDigit a _ k .1 in let tc = all-split isDigit b _ tb .1 in let td = all-split isDigit c _ tc .1 in let te = all-split isDigit d _ td .1 in
+        let tf = all-split isDigit e _ te .1 in let tg = all-split isDigit f _ tf .1 in let th = all-split isDigit g _ tg .1 in
+        let ea = digit-is a (all-split isDigit a _ k .0) in let eb = digit-is b (all-split isDigit b _ tb .0) in let ec = digit-is c (all-split isDigit c _ tc .0) in
+        let ed = digit-is d (all-split isDigit d _ td .0) in let ee = digit-is e (all-split isDigit e _ te .0) in let ef = digit-is f (all-split isDigit f _ tf .0) in
+        let eg = digit-is g (all-split isDigit g _ tg .0) in let eh = digit-is h (all-split isDigit h _ th .0) in
         rw (k, day-worth (digitOf a) (digitOf b) (digitOf c) (digitOf d) (digitOf e) (digitOf f) (digitOf g) (digitOf h)
         (digit-small a) (digit-small b) (digit-small c) (digit-small d) (digit-small e) (digit-small f) (digit-small g) (digit-small h), ← ea, ← eb, ← ec, ← ed, ← ee, ← ef, ← eg, ← eh)
 
@@ -138,7 +137,7 @@ unfolding along dated digitsAt pick
 date-kept v = rw (along-digits 8 [] 0 v) (go (eqb (length v) 8) refl)
   where
     long : (t : Bool) → digitsAt 8 v ≡ t → (length v ≡ 8 → ⊥) → none ≡ dated (pick t (reached (value 0 (take 8 v)) (drop 8 v)) lost)
-    long true e n = rw (drop-longer 8 v (omega (arith, leb-true 8 (length v) (and-left _ _ e))))
+    long true e n = rw (drop-longer 8 v (omega (arith, leb-true 8 (length v) (and-both _ _ e .0))))
     long false e n = refl
 
     go : (t : Bool) → eqb (length v) 8 ≡ t → keep isDate v ≡ dated (pick (digitsAt 8 v) (reached (value 0 (take 8 v)) (drop 8 v)) lost)

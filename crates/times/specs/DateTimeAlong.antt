@@ -13,7 +13,7 @@ use lib.Dec.{eqb, leb}
 use lib.ListN.{length, take, drop, length-take, take-append-drop}
 use lib.Seq.{length-take-le}
 use borrow.Author.Tests.{eqb-true, leb-true, leb-false, ne-eqb}
-use Rattle.octets.specs.Pick.{pick, _and_, _or_, and-no-right}
+use Rattle.octets.specs.Pick.{pick, _and_, _or_, and-no-right, and-both}
 use Rattle.octets.specs.Append.{_⊕_}
 use Rattle.octets.specs.Scan.{allOf}
 use Rattle.octets.specs.Ascii.{ascii}
@@ -22,7 +22,6 @@ use Rattle.octets.specs.Decimal.{value}
 use Rattle.octets.specs.Reading.{provided, andThen}
 use Rattle.model.specs.Calendar.{Format, ical, xcal, formatOf}
 use Rattle.source.specs.Source.{rest}
-use Rattle.times.specs.Extra.{and-left, and-right}
 use Rattle.times.specs.Spelling.{Mark, keep, begins, withMarks, withoutMarks, putMark, fits}
 use Rattle.times.specs.Pattern.{Followed, reached, lost, passes, tally, along, zeros, digitsAt, followedBy, isMark, areMarks, along-marks, along-digits}
 use Rattle.times.specs.Date.{isDate}
@@ -95,7 +94,7 @@ no-date v h = go (leb 8 (length v)) refl h
 
 some-date : (v : List ℕ) → digitsAt 8 v ≡ true → keep isDate (take 8 v) ≡ dayFrom (value 0 (take 8 v))
 unfolding digitsAt
-some-date v h = eight-day (take 8 v) (length-take-le 8 v (leb-true _ _ (and-left _ _ h))) (and-right _ _ h)
+some-date v h = eight-day (take 8 v) (length-take-le 8 v (leb-true _ _ (and-both _ _ h .0))) (and-both _ _ h .1)
 
 -- ---- the time after a date that is worth n
 

@@ -8,23 +8,22 @@ use Prim.Native.Nat.{ℕ, _+_, _-_, _*_, _/_, _%_, _<_}
 use native.Mathlib.Omega.{arith}
 use lib.ListN.{length, drop, length-drop}
 use borrow.Author.Tests.{leb-true}
-use Rattle.octets.specs.Pick.{pick}
+use Rattle.octets.specs.Pick.{pick, and-both}
 use Rattle.octets.specs.Class.{isDigit}
 use Rattle.octets.specs.Words.{isEmpty}
 use Rattle.octets.specs.Decimal.{digitOf}
-use Rattle.times.specs.Extra.{and-left, and-right}
 use Rattle.times.specs.MonthRule.{twoDigits}
 
 pub digit-is : (b : ℕ) → isDigit b ≡ true → b ≡ 48 + digitOf b
 unfolding pick
-digit-is b h = rw h (omega (arith, leb-true 48 b (and-left _ _ h)))
+digit-is b h = rw h (omega (arith, leb-true 48 b (and-both _ _ h .0)))
 
 pub digit-small : (b : ℕ) → digitOf b < 10
 unfolding pick
 digit-small b = go (isDigit b) refl
   where
     go : (t : Bool) → isDigit b ≡ t → pick t (b - 48) 0 < 10
-    go true e = omega (arith, leb-true b 57 (and-right _ _ e))
+    go true e = omega (arith, leb-true b 57 (and-both _ _ e .1))
     go false e = omega arith
 
 pub two-of : (x y : ℕ) → x < 10 → y < 10 → twoDigits (x * 10 + y) ≡ (48 + x) ∷ (48 + y) ∷ []

@@ -15,7 +15,6 @@ use Rattle.octets.specs.Class.{isSmall, upperByte, upper}
 use Rattle.octets.specs.Words.{isEmpty}
 use Rattle.source.specs.Source.{rest, spell, Reads}
 use Rattle.source.specs.declared.Step.{Step}
-use Rattle.times.specs.Extra.{and-left, and-right}
 
 unfoldable pub cased : Bool → List ℕ → List ℕ
 cased true s = s

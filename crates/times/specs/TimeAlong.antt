@@ -14,9 +14,9 @@ use lib.Dec.{eqb, leb}
 use lib.ListN.{length, take, drop}
 use borrow.Author.Tests.{leb-true, le-leb, eq-eqb, ne-eqb}
 use borrow.Author.Needs.{needs}
-use Rattle.octets.specs.Pick.{pick, _and_, _or_, and-no-right, flag-yes, flag-no}
+use Rattle.octets.specs.Pick.{pick, _and_, _or_, and-no-right, flag-yes, flag-no, and-both}
 use Rattle.octets.specs.Append.{_⊕_, append-none}
-use Rattle.octets.specs.Scan.{allOf}
+use Rattle.octets.specs.Scan.{allOf, all-split}
 use Rattle.octets.specs.Ascii.{ascii}
 use Rattle.octets.specs.Class.{isDigit, upper}
 use Rattle.octets.specs.Words.{isEmpty, same, same-true}
@@ -25,7 +25,6 @@ use Rattle.octets.specs.Reading.{provided, andThen}
 use Rattle.model.specs.Calendar.{Format, ical, xcal, formatOf}
 use Rattle.source.specs.Source.{rest, spell}
 use Rattle.source.specs.Facts.{spell-byte, spell-end}
-use Rattle.times.specs.Extra.{and-left, and-right, all-head, all-tail}
 use Rattle.times.specs.Spelling.{Mark, keep, withMarks, withoutMarks, putMark, fits}
 use Rattle.times.specs.Pattern.{Followed, reached, lost, along, zeros, digitsAt, followedBy, isMark, areMarks, along-marks, along-digits}
 use Rattle.times.specs.Time.{isClock, isTime, readTime, timeMarks}
@@ -124,10 +123,10 @@ six-clock v l k = six (λ (v : List ℕ). 6 ≤ length v → allOf isDigit (take
     go : (a b c d e f : ℕ) (r : List ℕ) → 6 ≤ length (a ∷ b ∷ c ∷ d ∷ e ∷ f ∷ r) → allOf isDigit (a ∷ b ∷ c ∷ d ∷ e ∷ f ∷ []) ≡ true →
         keep isTime (a ∷ b ∷ c ∷ d ∷ e ∷ f ∷ r) ≡ clockFrom (value 0 (a ∷ b ∷ c ∷ d ∷ e ∷ f ∷ [])) r
     go a b c d e f r l k =
-        let tb = all-tail isDigit a _ k in let tc = all-tail isDigit b _ tb in let td = all-tail isDigit c _ tc in let te = all-tail isDigit d _ td in
-        let tf = all-tail isDigit e _ te in
-        let ea = digit-is a (all-head isDigit a _ k) in let eb = digit-is b (all-head isDigit b _ tb) in let ec = digit-is c (all-head isDigit c _ tc) in
-        let ed = digit-is d (all-head isDigit d _ td) in let ee = digit-is e (all-head isDigit e _ te) in let ef = digit-is f (all-head isDigit f _ tf) in
+        let tb = all-split isDigit a _ k .1 in let tc = all-split isDigit b _ tb .1 in let td = all-split isDigit c _ tc .1 in let te = all-split isDigit d _ td .1 in
+        let tf = all-split isDigit e _ te .1 in
+        let ea = digit-is a (all-split isDigit a _ k .0) in let eb = digit-is b (all-split isDigit b _ tb .0) in let ec = digit-is c (all-split isDigit c _ tc .0) in
+        let ed = digit-is d (all-split isDigit d _ td .0) in let ee = digit-is e (all-split isDigit e _ te .0) in let ef = digit-is f (all-split isDigit f _ tf .0) in
         rw (le-leb 6 _ l, k, clock-worth (digitOf a) (digitOf b) (digitOf c) (digitOf d) (digitOf e) (digitOf f)
         (digit-small a) (digit-small b) (digit-small c) (digit-small d) (digit-small e) (digit-small f) r, ← ea, ← eb, ← ec, ← ed, ← ee, ← ef)
 
@@ -143,7 +142,7 @@ no-clock v h = go (leb 6 (length v)) (allOf isDigit (take 6 v)) h
 
 pub six-enough : (v : List ℕ) → digitsAt 6 v ≡ true → keep isTime v ≡ clockFrom (value 0 (take 6 v)) (drop 6 v)
 unfolding digitsAt
-six-enough v e = six-clock v (leb-true _ _ (and-left _ _ e)) (and-right _ _ e)
+six-enough v e = six-clock v (leb-true _ _ (and-both _ _ e .0)) (and-both _ _ e .1)
 
 pub six-short : (v : List ℕ) → digitsAt 6 v ≡ false → keep isTime v ≡ none
 unfolding keep pick
@@ -153,12 +152,12 @@ six-short v e = rw (no-clock v e)
 pub six-after : (v : List ℕ) (n : ℕ) → digitsAt 6 v ≡ true → value n (take 6 v) / 1000000 ≡ n
 unfolding digitsAt value
 six-after v n h = six (λ (v : List ℕ). value n (take 6 v) / 1000000 ≡ n) (λ a b c d e f r. after-worth (digitOf a) (digitOf b) (digitOf c) (digitOf d) (digitOf e) (digitOf f)
-    (digit-small a) (digit-small b) (digit-small c) (digit-small d) (digit-small e) (digit-small f) n) v (leb-true _ _ (and-left _ _ h))
+    (digit-small a) (digit-small b) (digit-small c) (digit-small d) (digit-small e) (digit-small f) n) v (leb-true _ _ (and-both _ _ h .0))
 
 pub six-last : (v : List ℕ) (n : ℕ) → digitsAt 6 v ≡ true → value n (take 6 v) % 1000000 ≡ value 0 (take 6 v)
 unfolding digitsAt value
 six-last v n h = six (λ (v : List ℕ). value n (take 6 v) % 1000000 ≡ value 0 (take 6 v)) (λ a b c d e f r. last-worth (digitOf a) (digitOf b) (digitOf c) (digitOf d) (digitOf e) (digitOf f)
-    (digit-small a) (digit-small b) (digit-small c) (digit-small d) (digit-small e) (digit-small f) n) v (leb-true _ _ (and-left _ _ h))
+    (digit-small a) (digit-small b) (digit-small c) (digit-small d) (digit-small e) (digit-small f) n) v (leb-true _ _ (and-both _ _ h .0))
 
 pub time-kept : (v : List ℕ) → keep isTime v ≡ timed (along (zeros 6 []) 0 v)
 unfolding along timed pick
