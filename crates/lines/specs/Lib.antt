@@ -15,3 +15,5 @@ pub mod Chars
 pub mod Names
 pub mod Computing
 pub mod Examples
+pub mod Items
+pub mod Cursor
