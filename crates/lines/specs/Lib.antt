@@ -17,3 +17,7 @@ pub mod Computing
 pub mod Examples
 pub mod Items
 pub mod Cursor
+pub mod Repeating
+pub mod Values
+pub mod Params
+pub mod Line

@@ -1,8 +1,14 @@
 // Content lines, RFC 5545, section 3.1, read through a cursor: the source is cut at the line's end by the caller. Definitions and laws are in specs/.
 
+mod line;
+mod param;
 mod runs;
+mod value;
 
-
+pub use line::line_at;
+pub use param::next_param;
+pub use value::next_value;
+pub use value::param_value;
 
 // The classes of characters of a line: of an unquoted value of a parameter, of a quoted one, of the line's value.
 pub enum Chars {
