@@ -12,6 +12,7 @@
 --     Numbers     names by their numbers, and the rows of numbers
 --     Cells       tables that a definition fills
 --     Columns     what the tables say, by numbers
+--     Sets        closed sets, by numbers
 --     Computing   opens all of these, for examples that compute
 --     Examples    the tables computed
 pub mod Types
@@ -25,5 +26,6 @@ pub mod Tallies
 pub mod Numbers
 pub mod Cells
 pub mod Columns
+pub mod Sets
 pub mod Computing
 pub mod Examples

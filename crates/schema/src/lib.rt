@@ -3,6 +3,7 @@
 // Definitions are in specs/, the tables of the code are theirs by computation.
 mod columns;
 mod numbers;
+mod words;
 
 pub use columns::default_type;
 pub use columns::is_alarm;
@@ -18,3 +19,7 @@ pub use numbers::component_number;
 pub use numbers::parameter_number;
 pub use numbers::property_number;
 pub use numbers::type_number;
+pub use words::has_words;
+pub use words::is_word_of;
+pub use words::is_word_of_parameter;
+pub use words::parameter_has_words;
