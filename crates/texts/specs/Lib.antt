@@ -10,6 +10,7 @@
 --     Unescaped       TEXT followed a byte at a time
 --     Kept            the answer of a reader of characters, and its loops
 --     Written         TEXT written
+--     Items           the items of a list of TEXT, found at a cursor
 --     Computing       opens all of these, for examples that compute
 --     Examples        computed examples
 pub mod Text
@@ -23,5 +24,6 @@ pub mod Quoting
 pub mod Unescaped
 pub mod Kept
 pub mod Written
+pub mod Items
 pub mod Computing
 pub mod Examples

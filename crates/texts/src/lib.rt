@@ -4,12 +4,14 @@ ghost use mathlib.Core.Path.{_≡_};
 ghost use Rattle.texts.specs.Kept.{isKept};
 
 mod binary;
+mod items;
 mod text;
 mod unknown;
 mod uri;
 mod written;
 
 pub use binary::read_binary;
+pub use items::item_end;
 pub use text::read_one_text;
 pub use text::read_text;
 pub use unknown::read_unknown;
