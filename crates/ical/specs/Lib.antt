@@ -18,6 +18,9 @@
 --     TreeBack          the lines of a calendar state it
 --     Turned            the properties of a component, the last first
 --     NestingBack       the lines of a calendar are not refused
+--     EscapedCharacters the characters of values as they are written
+--     WrittenLine       the bytes of a calendar's lines
+--     TextBack          the text of a calendar is read back as that calendar
 --     Computing         opens all of these, for examples that compute
 pub mod Parameters
 pub mod Values
@@ -38,4 +41,7 @@ pub mod ValidCalendar
 pub mod TreeBack
 pub mod Turned
 pub mod NestingBack
+pub mod EscapedCharacters
+pub mod WrittenLine
+pub mod TextBack
 pub mod Computing
