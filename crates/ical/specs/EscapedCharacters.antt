@@ -2,6 +2,7 @@
 --     text-good           escaped text
 --     joined-good         pieces with a separator of ASCII between them
 --     value-good          a value whose free characters are well formed
+--     Spelled             bytes that end a character, and whole characters after them
 use mathlib.Core.Path.{_≡_, refl, sym, ap, _∙_}
 use mathlib.Core.Bool.{Bool, true, false, false≢true}
 use mathlib.Core.List.{List, [], _∷_, map}
@@ -33,11 +34,11 @@ high-escape b h =
     pick-no _ _ _ (ne-eqb b 10 (λ e. omega arith))
     ∙ pick-no _ _ _ (or-no _ _ (or-no _ _ (ne-eqb b 44 (λ e. omega arith)) (ne-eqb b 59 (λ e. omega arith))) (ne-eqb b 92 (λ e. omega arith)))
 
-low-least : (a : ℕ) → 0x80 ≤ low a
+pub low-least : (a : ℕ) → 0x80 ≤ low a
 low-least a = pick-either (λ n. 0x80 ≤ n) _ _ _ (omega arith) (pick-either (λ n. 0x80 ≤ n) _ _ _ (omega arith) (omega arith))
 
 -- a character that is there, and what follows it
-one-good : (a i : ℕ) (s : List ℕ) → isSequence a s ≡ true → badFrom (more a) (i + 1) s ≡ none → badFrom 0 i (a ∷ s) ≡ none
+pub one-good : (a i : ℕ) (s : List ℕ) → isSequence a s ≡ true → badFrom (more a) (i + 1) s ≡ none → badFrom 0 i (a ∷ s) ≡ none
 unfolding badFrom pick
 one-good a i s e h = rw e h
 
@@ -61,9 +62,10 @@ escape-good a i s e h = newline (eqb a 10) refl
     newline true f = lf-good i s (λ j. rw (eqb-true a 10 f) at (h j))
     newline false f = other (isEscaped a)
 
-record Spelled (k lo hi : ℕ) (l : Bool) (s : List ℕ) : Type 0 where
-  begun : tails k lo hi l s ≡ true
-  onward : (j : ℕ) → badFrom k j s ≡ none
+-- the first k bytes of s end a character that began before, the first of them within lo and hi; whole characters follow
+pub record Spelled (k lo hi : ℕ) (l : Bool) (s : List ℕ) : Type 0 where
+  pub begun : tails k lo hi l s ≡ true
+  pub onward : (j : ℕ) → badFrom k j s ≡ none
 
 escaped-from : (s : List ℕ) (k lo hi : ℕ) (l : Bool) (i : ℕ) → 0x80 ≤ lo → tails k lo hi l s ≡ true → badFrom k i s ≡ none → Spelled k lo hi l (writeText s)
 unfolding writeText badFrom tails pick _⊕_

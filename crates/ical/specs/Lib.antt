@@ -21,6 +21,7 @@
 --     EscapedCharacters the characters of values as they are written
 --     WrittenLine       the bytes of a calendar's lines
 --     TextBack          the text of a calendar is read back as that calendar
+--     GoodPieces        the pieces of a text are well formed
 --     Computing         opens all of these, for examples that compute
 pub mod Parameters
 pub mod Values
@@ -44,4 +45,5 @@ pub mod NestingBack
 pub mod EscapedCharacters
 pub mod WrittenLine
 pub mod TextBack
+pub mod GoodPieces
 pub mod Computing
