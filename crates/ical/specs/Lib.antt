@@ -22,6 +22,7 @@
 --     WrittenLine       the bytes of a calendar's lines
 --     TextBack          the text of a calendar is read back as that calendar
 --     GoodPieces        the pieces of a text are well formed
+--     AcceptedCharacters  the characters of what a line states
 --     Computing         opens all of these, for examples that compute
 pub mod Parameters
 pub mod Values
@@ -46,4 +47,5 @@ pub mod EscapedCharacters
 pub mod WrittenLine
 pub mod TextBack
 pub mod GoodPieces
+pub mod AcceptedCharacters
 pub mod Computing

@@ -1,5 +1,6 @@
 -- The lines of a calendar as bytes: no CR stands in one, none begins with a blank, and their characters are well formed.
 --     line-passes      what holds of bytes that show, and of joined bytes where it holds of both, holds of a content line where it holds of its values
+--     name-shows, name-visible    names show
 --     isGoodLine       such a line;   begin-good, end-good, property-good
 use mathlib.Core.Path.{_≡_, refl, sym, ap, _∙_}
 use mathlib.Core.Bool.{Bool, true, false, not, false≢true}
@@ -37,7 +38,7 @@ use Rattle.ical.specs.TreeBack.{beginOf, endOf, lineOf}
 
 -- ---- names show
 
-name-shows : (b : ℕ) → isNameChar b ≡ true → isVisible b ≡ true
+pub name-shows : (b : ℕ) → isNameChar b ≡ true → isVisible b ≡ true
 name-shows b h =
     or-cases (isAlpha b) _ h
     (λ k. or-cases (isCapital b) (isSmall b) k (λ c. within-wider 65 90 33 126 b (omega arith) (omega arith) c) (λ c. within-wider 97 122 33 126 b (omega arith) (omega arith) c))
@@ -142,7 +143,7 @@ param-chars-good v h g = go (textIn v) refl
     go none e = value-good v h g
     go (some s) e = well-formed-good s (every-both wellFormed s [] (rw (text-in v s e) at g) .0)
 
-abbrev isGoodChars : ParamValue → Bool
+abbrev pub isGoodChars : ParamValue → Bool
 isGoodChars v = wellFormed (v .chars)
 
 abbrev isGoodRaw : RawParameter → Bool
