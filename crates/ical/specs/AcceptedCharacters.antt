@@ -1,6 +1,7 @@
 -- What a line states has characters that are well formed, where the line is.
 --     line-parts         the values of the parameters of a content line, and its value
 --     property-good      what a line with no fault states
+--     after-byte         what follows a byte of ASCII
 use mathlib.Core.Path.{_≡_, refl, sym, ap, _∙_}
 use mathlib.Core.Bool.{Bool, true, false, not, false≢true}
 use mathlib.Core.List.{List, [], _∷_, map}
@@ -30,7 +31,6 @@ use Rattle.texts.specs.RequestStatus.{statusOf, readRequestStatus}
 use Rattle.values.specs.ReadValue.{readValue}
 use Rattle.values.specs.ReadBack.{isTyped, value-accepted}
 use Rattle.values.specs.Characters.{freeIn, free-or-shown}
-use Rattle.texts.specs.Text.{writeText}
 use Rattle.lines.specs.ContentLine.{ParamValue, RawParameter, ContentLine, isName, isRawParameter, isContentLine}
 use Rattle.lines.specs.Names.{isCarriedName, carried-name-upper}
 use Rattle.lines.specs.Write.{writeParamValue, writeParameter, writeContentLine}
@@ -49,7 +49,7 @@ use Rattle.ical.specs.WrittenLine.{name-shows, name-visible, isGoodChars
 after-shown : (a b : List ℕ) → allOf isVisible a ≡ true → firstBad (a ⊕ b) ≡ none → firstBad b ≡ none
 after-shown a b v h = good-shifted b 0 (0 + length a) 0 (sym (bad-append a b 0 (visible-good a v)) ∙ h)
 
-after-byte : (c : ℕ) (s : List ℕ) → isAscii c ≡ true → firstBad (c ∷ s) ≡ none → firstBad s ≡ none
+pub after-byte : (c : ℕ) (s : List ℕ) → isAscii c ≡ true → firstBad (c ∷ s) ≡ none → firstBad s ≡ none
 after-byte c s a h = good-shifted s 0 (0 + 1) 0 (sym (ascii-first c 0 s a) ∙ h)
 
 -- what follows a value begins with no tail byte

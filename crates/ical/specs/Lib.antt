@@ -23,6 +23,8 @@
 --     TextBack          the text of a calendar is read back as that calendar
 --     GoodPieces        the pieces of a text are well formed
 --     AcceptedCharacters  the characters of what a line states
+--     AcceptedTree      what lines state that are not refused is a calendar of the schema
+--     AcceptedText      what an accepted text states is one
 --     Computing         opens all of these, for examples that compute
 pub mod Parameters
 pub mod Values
@@ -48,4 +50,6 @@ pub mod WrittenLine
 pub mod TextBack
 pub mod GoodPieces
 pub mod AcceptedCharacters
+pub mod AcceptedTree
+pub mod AcceptedText
 pub mod Computing

@@ -1,6 +1,6 @@
 -- The properties of a component with the last first, as an open component keeps them: the schema's counts do not mind the order, for ACTION stands at most once.
 --     turned ps seen     the properties ps, the last first, in front of those seen before
---     complete-turned    what is complete in one order is complete in the other
+--     complete-turned, complete-turned-back    what is complete in one order is complete in the other
 use mathlib.Core.Path.{_≡_, refl, sym, ap, _∙_}
 use mathlib.Core.Bool.{Bool, true, false, false≢true}
 use mathlib.Core.List.{List, [], _∷_}
@@ -131,7 +131,16 @@ action-turned (p ∷ ps) seen h n = go (same action (p .name)) refl h (action-tu
     go true e k ih = action-seen ps (p ∷ seen) (omega arith) ∙ rw e
     go false e k ih = ih k (rw e n)
 
-pub complete-turned : (c : List ℕ) (ps : List Property) (sub : Bool) → complete c ps sub ≡ true → complete c (turned ps []) sub ≡ true
+same-turned : (c : List ℕ) (ps : List Property) (sub : Bool) → tally action ps ≤ 1 → complete c (turned ps []) sub ≡ complete c ps sub
 unfolding tally
-complete-turned c ps sub h =
-    complete-same c sub (turned ps []) ps (λ w k. tally-turned w ps [] ∙ omega arith) (action-turned ps [] (action-once c ps sub h) refl) ∙ h
+same-turned c ps sub n = complete-same c sub (turned ps []) ps (λ w k. tally-turned w ps [] ∙ omega arith) (action-turned ps [] n refl)
+
+pub complete-turned : (c : List ℕ) (ps : List Property) (sub : Bool) → complete c ps sub ≡ true → complete c (turned ps []) sub ≡ true
+complete-turned c ps sub h = same-turned c ps sub (action-once c ps sub h) ∙ h
+
+pub complete-turned-back : (c : List ℕ) (ps : List Property) (sub : Bool) → complete c (turned ps []) sub ≡ true → complete c ps sub ≡ true
+unfolding tally
+complete-turned-back c ps sub h =
+    let e = tally-turned action ps [] in
+    let n = action-once c (turned ps []) sub h in
+    sym (same-turned c ps sub (omega arith)) ∙ h
