@@ -2,28 +2,27 @@
 --     line-parts         the values of the parameters of a content line, and its value
 --     property-good      what a line with no fault states
 --     after-byte         what follows a byte of ASCII
-use mathlib.Core.Path.{_≡_, refl, sym, ap, _∙_}
+use mathlib.Core.Path.{_≡_, refl, sym, _∙_}
 use mathlib.Core.Bool.{Bool, true, false, not, false≢true}
 use mathlib.Core.List.{List, [], _∷_, map}
 use mathlib.Core.Option.{Option, none, some, Option·map}
 use Prim.Native.Nat.{ℕ, _+_}
-use native.Mathlib.Omega.{arith}
 use lib.Dec.{eqb}
 use lib.ListN.{length}
 use Rattle.octets.specs.Ascii.{ascii}
-use Rattle.octets.specs.Pick.{pick, pick-second, _and_, _or_, and-yes, and-both, or-cases, eqb-passes}
+use Rattle.octets.specs.Pick.{pick, _and_, _or_, and-yes, and-both, or-cases, eqb-passes}
 use Rattle.octets.specs.Scan.{allOf, all-weaker}
 use Rattle.octets.specs.Append.{_⊕_, joined, append-empty, append-cons, append-regroup}
 use Rattle.octets.specs.Class.{isNameChar, isVisible, upper}
 use Rattle.octets.specs.Words.{same, isOneOf, cutAt, eachAfter, joinedBy}
-use Rattle.octets.specs.Lists.{every, every-both, every-weaker}
+use Rattle.octets.specs.Lists.{every, every-both}
 use Rattle.octets.specs.Reading.{readOr, readEach, none-some, provided-some, andThen-some, each-accepted-of}
-use Rattle.model.specs.Calendar.{ical, ValueType, TEXT, UNKNOWN, Value, text, unknown, requestStatus, typeOf, Parameter, Property}
-use Rattle.schema.specs.Types.{sameType, isTypeOf, same-type-self}
+use Rattle.model.specs.Calendar.{ical, ValueType, TEXT, Value, text, typeOf, Parameter}
+use Rattle.schema.specs.Types.{sameType, isTypeOf}
 use Rattle.schema.specs.Properties.{permittedTypes, isListedProperty, propertyWords}
 use Rattle.schema.specs.Parameters.{parameterType, parameterWords, isQuotedParameter}
 use Rattle.schema.specs.Closed.{isWordChar, parameter-words-plain, property-words-plain}
-use Rattle.utf8.specs.Utf8.{isAscii, tailAt, badFrom, firstBad, wellFormed, well-formed-good, good-well-formed, bad-append, good-split, ascii-first, visible-good}
+use Rattle.utf8.specs.Utf8.{isAscii, tailAt, firstBad, wellFormed, well-formed-good, good-well-formed, bad-append, good-split, ascii-first, visible-good}
 use Rattle.numbers.specs.Geo.{readGeo, geo-accepted}
 use Rattle.texts.specs.Text.{splitText, alone, readText}
 use Rattle.texts.specs.TextList.{readTexts}
@@ -41,7 +40,8 @@ use Rattle.ical.specs.AcceptedProperty.{parameter-read, no-fault}
 use Rattle.ical.specs.AcceptedLine.{alone-is, text-made, unknown-is, status-parts, own-every}
 use Rattle.ical.specs.ValidCalendar.{isGoodValue, isGoodParameter}
 use Rattle.ical.specs.GoodPieces.{good-shifted, split-good, cut-good}
-use Rattle.ical.specs.WrittenLine.{name-shows, name-visible, isGoodChars}
+use Rattle.ical.specs.NestingBack.{isCarriedRaw}
+use Rattle.ical.specs.WrittenLine.{name-shows, name-visible, isGoodChars, comma-ascii}
 
 -- ---- the parts of a line
 
@@ -170,9 +170,6 @@ param-value-good n r v q h = go (not (r .quoted) and isQuotedParameter n) h
     go true k = none-some k
     go false k = word-read-good n (parameterWords n) (parameterType n) (r .chars) v refl (well-formed-good (r .chars) q) k
 
-abbrev pub isCarriedRaw : RawParameter → Bool
-isCarriedRaw r = isCarriedName (r .name)
-
 abbrev isBoth : RawParameter → Bool
 isBoth r = isCarriedRaw r and isGoodRaw r
 
@@ -214,10 +211,6 @@ texts-good : (ts : List (List ℕ)) → every wellFormed ts ≡ true → every i
 unfolding every
 texts-good [] h = refl
 texts-good (t ∷ ts) h = let e = every-both wellFormed t ts h in and-yes _ _ (and-yes _ _ (e .0) refl) (texts-good ts (e .1))
-
-comma-ascii : isAscii 44 ≡ true
-unfolding _and_ _or_
-comma-ascii = refl
 
 listed-good : (t : ValueType) (s : List ℕ) (vs : List Value) → firstBad s ≡ none → readListed t s ≡ some vs → every isGoodValue vs ≡ true
 unfolding pick

@@ -1,9 +1,9 @@
 -- What an accepted text states is a calendar that a text can state, so that its canonical text is read back.
 --     accepted-valid     an accepted text states a valid calendar, and not nothing
 --     accepted-back      its canonical text states the same, where it is not over the limit
-use mathlib.Core.Path.{_≡_, refl, sym, ap, _∙_}
+use mathlib.Core.Path.{_≡_, refl, ap, _∙_}
 use mathlib.Core.Bool.{Bool, true, false, false≢true}
-use mathlib.Core.List.{List, [], _∷_, map}
+use mathlib.Core.List.{List, [], _∷_}
 use mathlib.Core.Option.{Option, none, some}
 use Prim.Native.Nat.{ℕ, zero, suc, _+_, _≤_}
 use native.Mathlib.Omega.{arith}
@@ -15,7 +15,7 @@ use Rattle.octets.specs.Append.{_⊕_}
 use Rattle.octets.specs.Words.{starts}
 use Rattle.octets.specs.Lists.{every}
 use Rattle.model.specs.Calendar.{Components}
-use Rattle.model.specs.Refusal.{LENGTH, WORK, Verdict, fine, refuse, _otherwise_, Answer, accepted, refused, answer}
+use Rattle.model.specs.Refusal.{LENGTH, WORK, Verdict, fine, refuse, _otherwise_, accepted, answer}
 use Rattle.utf8.specs.Utf8.{tailAt, firstBad, good-well-formed, good-split}
 use Rattle.folding.specs.Unfold.{crlf, unfolded}
 use Rattle.folding.specs.Lines.{Line, whole, loose, longer, lineStep, linesAfter, lines, noneLoose}

@@ -1,19 +1,19 @@
--- What lines state that are not refused is a calendar that a text can state, wherever the text has a VTIMEZONE's properties.
+-- What lines state that are not refused is a calendar that a text can state, also where a VTIMEZONE mixes properties and subcomponents.
 --     Frames st es d    what the entries that are left make of the open components st is valid, where the first of these is d further out
 --     tree-accepted     what accepted lines state is valid;   tree-some: and not nothing
-use mathlib.Core.Path.{_≡_, refl, sym, ap, _∙_}
-use mathlib.Core.Bool.{Bool, true, false, not, false≢true}
+use mathlib.Core.Path.{_≡_, refl, _∙_}
+use mathlib.Core.Bool.{Bool, true, false, not}
 use mathlib.Core.List.{List, [], _∷_, map}
 use mathlib.Core.Option.{Option, none, some}
 use Prim.{tt}
-use Prim.Native.Nat.{ℕ, zero, suc}
+use Prim.Native.Nat.{ℕ, suc}
 use native.Mathlib.Omega.{arith}
 use Rattle.octets.specs.Ascii.{ascii}
-use Rattle.octets.specs.Pick.{pick, _and_, _or_, and-yes, and-both, or-left}
+use Rattle.octets.specs.Pick.{pick, _or_, and-yes, and-both, or-left}
 use Rattle.octets.specs.Class.{upper}
 use Rattle.octets.specs.Words.{same, isOneOf, isEmpty}
 use Rattle.octets.specs.Lists.{every, every-both}
-use Rattle.model.specs.Calendar.{Property, Components, noMore, component}
+use Rattle.model.specs.Calendar.{Property, Components}
 use Rattle.model.specs.Refusal.{Refusal, Verdict, fine, refuse}
 use Rattle.schema.specs.Components.{subcomponentsOf, mayStand}
 use Rattle.schema.specs.Properties.{isKnownProperty}
@@ -26,7 +26,7 @@ use Rattle.lines.specs.Write.{writeContentLine}
 use Rattle.lines.specs.Accepted.{content-line-accepted, content-line-write-back}
 use Rattle.ical.specs.Statement.{propertyOf, propertyFault}
 use Rattle.ical.specs.Nesting.{Open, Move, on, stop, opened, mayBegin, beginIn, begins, ends, mayHold, told, states, namesCarried, moveBy, moveOf, move, onward, ended, nesting}
-use Rattle.ical.specs.Tree.{Entry, begin, end, property, nothing, entryBy, entryOf, ownOf, innerOf, calendarOf}
+use Rattle.ical.specs.Tree.{Entry, begin, end, property, entryBy, entryOf, ownOf, innerOf, calendarOf}
 use Rattle.ical.specs.AcceptedLine.{line-accepted, line-property}
 use Rattle.ical.specs.AcceptedCharacters.{property-good}
 use Rattle.ical.specs.Turned.{turned, complete-turned-back}

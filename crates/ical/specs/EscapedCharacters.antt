@@ -3,21 +3,20 @@
 --     joined-good         pieces with a separator of ASCII between them
 --     value-good          a value whose free characters are well formed
 --     Spelled             bytes that end a character, and whole characters after them
-use mathlib.Core.Path.{_≡_, refl, sym, ap, _∙_}
-use mathlib.Core.Bool.{Bool, true, false, false≢true}
+use mathlib.Core.Path.{_≡_, refl, sym, _∙_}
+use mathlib.Core.Bool.{Bool, true, false}
 use mathlib.Core.List.{List, [], _∷_, map}
-use mathlib.Core.Option.{Option, none, some}
+use mathlib.Core.Option.{none, some}
 use Prim.Native.Nat.{ℕ, zero, suc, _+_, _≤_}
 use native.Mathlib.Omega.{arith}
 use lib.Dec.{eqb, leb}
 use borrow.Author.Tests.{leb-true, ne-eqb, eqb-true}
 use Rattle.octets.specs.Pick.{pick, pick-no, pick-either, within, _and_, _or_, and-yes, and-both, or-no}
-use Rattle.octets.specs.Scan.{allOf}
 use Rattle.octets.specs.Append.{_⊕_}
 use Rattle.octets.specs.Words.{eachAfter, joinedBy}
 use Rattle.octets.specs.Lists.{every, every-both}
 use Rattle.octets.specs.Reading.{none-some}
-use Rattle.model.specs.Calendar.{Value, text, unknown, requestStatus}
+use Rattle.model.specs.Calendar.{Value}
 use Rattle.utf8.specs.Utf8.{isAscii, more, low, high, highAfter, tails, isSequence, badFrom, firstBad, wellFormed, well-formed-good, good-well-formed, good-append, ascii-first, visible-good}
 use Rattle.texts.specs.Text.{isEscaped, escapeText, writeText}
 use Rattle.texts.specs.RequestStatus.{statusParts}

@@ -2,12 +2,10 @@
 --     text-written    the canonical text is the lines of the calendar, each folded
 --     text-back       it is accepted, and states the calendar, where it is not over the limit and the work room is long enough
 use mathlib.Core.Path.{_≡_, refl, sym, ap, _∙_}
-use mathlib.Core.Bool.{Bool, true, false, not, false≢true}
-use mathlib.Core.List.{List, [], _∷_, map}
-use mathlib.Core.Option.{Option, none, some}
-use Prim.Native.Nat.{ℕ, _+_, _≤_}
-use native.Mathlib.Omega.{arith}
-use lib.Dec.{leb}
+use mathlib.Core.Bool.{true, false, not, false≢true}
+use mathlib.Core.List.{List, [], _∷_}
+use mathlib.Core.Option.{none}
+use Prim.Native.Nat.{ℕ, _≤_}
 use lib.ListN.{length}
 use borrow.Author.Tests.{le-leb, not-true}
 use Rattle.octets.specs.Pick.{pick, pick-no, _and_, _or_, and-yes, and-both}
@@ -15,19 +13,17 @@ use Rattle.octets.specs.Append.{_⊕_, joined, append-empty, append-none, appen
 use Rattle.octets.specs.Words.{holds, noneHolds}
 use Rattle.octets.specs.Lists.{every, every-both}
 use Rattle.model.specs.Calendar.{Property, Components, noMore, component}
-use Rattle.model.specs.Refusal.{Verdict, fine, _otherwise_, Answer, accepted}
+use Rattle.model.specs.Refusal.{fine, _otherwise_, accepted}
 use Rattle.schema.specs.Components.{subcomponentsOf}
-use Rattle.utf8.specs.Utf8.{isAscii, badFrom, firstBad, wellFormed, well-formed-good, good-append, ascii-first}
+use Rattle.utf8.specs.Utf8.{badFrom, firstBad, well-formed-good, good-append, ascii-first}
 use Rattle.folding.specs.Unfold.{crlf, blankAt, unfolded}
 use Rattle.folding.specs.Lines.{Line, lines}
-use Rattle.folding.specs.Fold.{foldedLine}
 use Rattle.folding.specs.Text.{foldedText, ended, plainText, noneBlank, wholeLines, text-unfolded, text-lines}
 use Rattle.ical.specs.Nesting.{nesting}
-use Rattle.ical.specs.Tree.{calendarOf}
 use Rattle.ical.specs.ReadText.{limit, linesVerdict, keptVerdict, placed, textVerdict, readCalendar}
 use Rattle.ical.specs.WriteText.{propertyLine, propertyLines, beginLine, endLine, writeCalendar}
 use Rattle.ical.specs.ValidCalendar.{isStated, hasComponents, ValidIn, Valid, atTop, isPlain, inside-plain, top-plain, plain-name}
-use Rattle.ical.specs.TreeBack.{beginOf, endOf, lineOf, propertiesBefore, linesBefore, linesOf, tree-back}
+use Rattle.ical.specs.TreeBack.{endOf, propertiesBefore, linesBefore, linesOf, tree-back}
 use Rattle.ical.specs.NestingBack.{nesting-back}
 use Rattle.ical.specs.WrittenLine.{isGoodLine, begin-good, end-good, property-good}
 

@@ -1,7 +1,7 @@
 -- The properties of a component with the last first, as an open component keeps them: the schema's counts do not mind the order, for ACTION stands at most once.
 --     turned ps seen     the properties ps, the last first, in front of those seen before
 --     complete-turned, complete-turned-back    what is complete in one order is complete in the other
-use mathlib.Core.Path.{_≡_, refl, sym, ap, _∙_}
+use mathlib.Core.Path.{_≡_, refl, sym, _∙_}
 use mathlib.Core.Bool.{Bool, true, false, false≢true}
 use mathlib.Core.List.{List, [], _∷_}
 use mathlib.Core.Option.{Option, none, some}
@@ -14,11 +14,11 @@ use Rattle.octets.specs.Pick.{pick, _or_, and-both}
 use Rattle.octets.specs.Words.{same, isOneOf, same-true, rowOf}
 use Rattle.octets.specs.Lists.{every}
 use Rattle.octets.specs.Tables.{row-any-passes, row-passes}
-use Rattle.octets.specs.Reading.{andThen, andThen-some, none-some}
+use Rattle.octets.specs.Reading.{andThen, andThen-some}
 use Rattle.octets.specs.Computing.{octets-compute}
 use Rattle.model.specs.Calendar.{Property}
-use Rattle.schema.specs.Components.{Occurrence, AlarmRow, alarmTable, componentTable, componentRow, unknownComponent, occurrencesOf, alarmOccurrences, isAlarm}
-use Rattle.schema.specs.Properties.{propertyNames, isKnownProperty}
+use Rattle.schema.specs.Components.{Occurrence, alarmTable, componentTable, componentRow, unknownComponent, occurrencesOf, alarmOccurrences, isAlarm}
+use Rattle.schema.specs.Properties.{propertyNames}
 use Rattle.schema.specs.Counts.{tally, occurrenceIn, isAtMost, isOften, eachOften, firstText, actionOf, listFor, oftenFor, complete}
 use Rattle.schema.specs.Tallies.{complete-same}
 

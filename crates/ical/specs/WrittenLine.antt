@@ -2,7 +2,7 @@
 --     line-passes      what holds of bytes that show, and of joined bytes where it holds of both, holds of a content line where it holds of its values
 --     name-shows, name-visible    names show
 --     isGoodLine       such a line;   begin-good, end-good, property-good
-use mathlib.Core.Path.{_≡_, refl, sym, ap, _∙_}
+use mathlib.Core.Path.{_≡_, refl}
 use mathlib.Core.Bool.{Bool, true, false, not, false≢true}
 use mathlib.Core.List.{List, [], _∷_, map}
 use mathlib.Core.Option.{Option, none, some}
@@ -15,11 +15,11 @@ use Rattle.octets.specs.Pick.{pick, pick-either, pick-second, _and_, _or_, and-
 use Rattle.octets.specs.Scan.{allOf, all-cons, all-split, all-append, all-weaker}
 use Rattle.octets.specs.Append.{_⊕_, joined}
 use Rattle.octets.specs.Class.{isNameChar, isVisible, isCapital, isSmall, isAlpha, isDigit}
-use Rattle.octets.specs.Words.{isEmpty, starts, holds, holds-neither, all-without, eachAfter, joinedBy}
+use Rattle.octets.specs.Words.{starts, holds, holds-neither, all-without, eachAfter, joinedBy}
 use Rattle.octets.specs.Lists.{every, every-both, every-weaker}
 use Rattle.octets.specs.Reading.{readOr}
 use Rattle.octets.specs.Computing.{octets-compute}
-use Rattle.model.specs.Calendar.{ValueType, Value, text, textIn, Parameter, Property}
+use Rattle.model.specs.Calendar.{ValueType, Value, textIn, Parameter, Property}
 use Rattle.schema.specs.Types.{typeName, sameType, type-name-is-name}
 use Rattle.schema.specs.Parameters.{parameterType, parameterWords}
 use Rattle.schema.specs.Properties.{defaultType}
@@ -190,7 +190,7 @@ values-good k n t (v ∷ vs) h g =
     let b = every-both isGoodValue v vs g in
     and-yes _ _ (good-well-formed _ (value-good v (property-value-valid k n t v (a .0)) (b .0))) (values-good k n t vs (a .1) (b .1))
 
-comma-ascii : isAscii 44 ≡ true
+pub comma-ascii : isAscii 44 ≡ true
 unfolding _and_ _or_
 comma-ascii = refl
 
