@@ -30,6 +30,7 @@ pub mod Parameters
 pub mod Values
 pub mod Statement
 pub mod Nesting
+pub mod LineKind
 pub mod Tree
 pub mod ReadText
 pub mod WriteText

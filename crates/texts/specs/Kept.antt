@@ -4,12 +4,12 @@
 use mathlib.Core.Path.{_≡_, refl, sym, ap, _∙_}
 use mathlib.Core.Bool.{Bool, true, false, false≢true}
 use mathlib.Core.List.{List, [], _∷_}
-use Prim.Native.Nat.{ℕ, _+_, _≤_, _<_}
+use Prim.Native.Nat.{ℕ, _+_, _%_, _≤_, _<_}
 use native.Mathlib.Omega.{arith}
 use lib.Dec.{eqb, ltb}
 use borrow.Author.Needs.{needs}
 use borrow.Author.Tests.{eq-eqb, ne-eqb, ltb-true, eqb-true, eqb-false}
-use Rattle.octets.specs.Pick.{pick, _and_, _or_}
+use Rattle.octets.specs.Pick.{pick, _and_, _or_, and-both}
 use Rattle.octets.specs.Class.{isAlpha, isSpace}
 use Rattle.octets.specs.Words.{holds}
 use Rattle.model.specs.Calendar.{Format, ical, xcal, formatOf}
@@ -18,7 +18,7 @@ use Rattle.source.specs.Facts.{rest-byte, rest-end}
 use Rattle.source.specs.declared.Step.{Step}
 use Rattle.texts.specs.Unknown.{isUnknown}
 use Rattle.texts.specs.Uri.{inUri, uriFrom, isUri}
-use Rattle.texts.specs.Binary.{inGroup, nextPlace, binaryFrom, binaryChars, withoutSpace, padFits, isBase64}
+use Rattle.texts.specs.Binary.{isBase64, base64Value, padFits, inGroup, nextPlace, binaryFrom, withoutSpace, binaryChars}
 use Rattle.texts.specs.declared.Kept.{Kept}
 use Rattle.texts.specs.declared.Kept.the-variants.{Chars, Bad}
 
@@ -75,5 +75,70 @@ module _ {m : ℕ} {s : List ℕ} {c : ℕ} {r : Step} (p : Reads m s c r) where
       go true e = sym (rw (rest-end p (eqb-true (r .u) 256 e)))
       go false e = sym (rw (rest-byte p (eqb-false (r .u) 256 e), ← k, l))
 
+-- ---- BINARY
+
+passed : (x : Bool) (u : ℕ) (l : List ℕ) → (x and isSpace u) ≡ true → binaryChars (formatOf x) (u ∷ l) ≡ binaryChars (formatOf x) l
+unfolding withoutSpace _and_ pick
+passed true u l h = rw h
+passed false u l h = absurd (false≢true h)
+
+kept : (x : Bool) (u : ℕ) (l : List ℕ) → (x and isSpace u) ≡ false → binaryChars (formatOf x) (u ∷ l) ≡ u ∷ binaryChars (formatOf x) l
+unfolding withoutSpace _and_ pick
+kept true u l h = rw h
+kept false u l h = refl
+
+none-left : (x : Bool) → binaryChars (formatOf x) [] ≡ []
+unfolding withoutSpace
+none-left true = refl
+none-left false = refl
+
+module _ {v : Bool} {m : ℕ} {s : List ℕ} {c : ℕ} {r : Step} (p : Reads m s c r) (x : Bool) (n last : ℕ) where
+  pub binary-pass : {t : Bool} → v ≡ binaryFrom n last (binaryChars (formatOf x) (rest m s c)) → (r .u ≡ 256 → ⊥) → t ≡ (x and isSpace (r .u)) → t ≡ true →
+      v ≡ binaryFrom n last (binaryChars (formatOf x) (rest m s (r .next)))
+  binary-pass e h k l = e ∙ rw (rest-byte p h) (ap (binaryFrom n last) (passed x (r .u) _ (sym k ∙ l)))
+
+  pub binary-more : {t g : Bool} {n′ : ℕ} → v ≡ binaryFrom n last (binaryChars (formatOf x) (rest m s c)) → (r .u ≡ 256 → ⊥) → t ≡ (x and isSpace (r .u)) → t ≡ false →
+      g ≡ inGroup n last (r .u) → g ≡ true → n′ ≡ nextPlace n (r .u) → v ≡ binaryFrom n′ (r .u) (binaryChars (formatOf x) (rest m s (r .next)))
+  unfolding binaryFrom _and_
+  binary-more e h k l a b q = e ∙ rw (rest-byte p h) (ap (binaryFrom n last) (kept x (r .u) _ (sym k ∙ l)) ∙ rw (← a, b, q))
+
+  pub binary-stop : {t g : Bool} → v ≡ binaryFrom n last (binaryChars (formatOf x) (rest m s c)) → (r .u ≡ 256 → ⊥) → t ≡ (x and isSpace (r .u)) → t ≡ false →
+      g ≡ inGroup n last (r .u) → g ≡ false → false ≡ v
+  unfolding binaryFrom _and_
+  binary-stop e h k l a b = sym (e ∙ rw (rest-byte p h) (ap (binaryFrom n last) (kept x (r .u) _ (sym k ∙ l)) ∙ rw (← a, b)))
+
+  pub binary-end : {a : Bool} → v ≡ binaryFrom n last (binaryChars (formatOf x) (rest m s c)) → r .u ≡ 256 → a ≡ (eqb n 0 or eqb n 5) → a ≡ v
+  unfolding binaryFrom
+  binary-end e h k = k ∙ sym (e ∙ rw (rest-end p h) (ap (binaryFrom n last) (none-left x)))
+
+-- `=` at each place, where w is what the character before it is worth
+or-none : (a : Bool) → a ≡ (a or false)
+unfolding _or_
+or-none true = refl
+or-none false = refl
+
+module _ (n last w : ℕ) (q : w ≡ base64Value last) where
+  pub pad-two : n ≡ 2 → eqb (w % 16) 0 ≡ padFits n last
+  unfolding _or_ _and_
+  pad-two e = rw (e, q) (or-none (eqb (base64Value last % 16) 0))
+
+  pub pad-three : n ≡ 3 → eqb (w % 4) 0 ≡ padFits n last
+  unfolding _or_ _and_
+  pad-three e = rw (e, q)
+
+-- a place stays a place
+pub place-small : {g : Bool} {n′ : ℕ} (n last u : ℕ) → g ≡ inGroup n last u → g ≡ true → n′ ≡ nextPlace n u → n′ ≤ 5
+unfolding pick
+place-small n last u a b q = rw q (go (eqb u 61) (eqb n 2) (eqb n 3) (sym a ∙ b))
+  where
+    go : (t f h : Bool) → pick t (padFits n last) (isBase64 u and ltb n 4) ≡ true → pick t (pick f 4 5) (pick h 0 (n + 1)) ≤ 5
+    go true true h k = omega arith
+    go true false h k = omega arith
+    go false f true k = omega arith
+    go false f false k = let l : n < 4 = ltb-true n 4 (and-both (isBase64 u) (ltb n 4) k .1) in omega arith
+
 pub ruleset reading-unknown = (unknown-more, unknown-stop, unknown-end, needs)
+
 pub ruleset reading-uri = (uri-more, uri-stop, uri-end, uri-first, uri-none, needs)
+
+pub ruleset reading-binary = (binary-pass, binary-more, binary-stop, binary-end, place-small, needs)

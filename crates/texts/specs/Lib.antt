@@ -7,6 +7,9 @@
 --     Binary          BINARY, base64 characters
 --     Unknown         values of the type unknown
 --     Quoting         parameter values between double quotes
+--     Unescaped       TEXT followed a byte at a time
+--     Kept            the answer of a reader of characters, and its loops
+--     Written         TEXT written
 --     Computing       opens all of these, for examples that compute
 --     Examples        computed examples
 pub mod Text
@@ -17,6 +20,8 @@ pub mod Uri
 pub mod Binary
 pub mod Unknown
 pub mod Quoting
+pub mod Unescaped
 pub mod Kept
+pub mod Written
 pub mod Computing
 pub mod Examples

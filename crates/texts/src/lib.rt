@@ -1,13 +1,33 @@
 // TEXT and lists of it, URI, BINARY and unknown values, read through a cursor and written. Definitions and laws are in specs/.
 
+ghost use mathlib.Core.Path.{_≡_};
+ghost use Rattle.texts.specs.Kept.{isKept};
+
+mod binary;
+mod text;
 mod unknown;
 mod uri;
+mod written;
 
+pub use binary::read_binary;
+pub use text::read_one_text;
+pub use text::read_text;
 pub use unknown::read_unknown;
 pub use uri::read_uri;
+pub use written::put_text_escaped;
+pub use written::put_text_xml;
 
 // A value that is kept by its characters: the cursor at their end; or none that is of the type.
 pub enum Kept {
     Chars(usize),
     Bad,
+}
+
+pub fn is_kept(k: Kept) -> bool
+    ensures { λ r. ⌜ r ≡ isKept k ⌝ }
+{
+    match k {
+        Kept::Chars(_) => true,
+        Kept::Bad => false,
+    }
 }
