@@ -13,6 +13,7 @@
 --     TimeAlong  TIME by its pattern
 --     DateTime   DATE-TIME
 --     DateTimeAlong  DATE-TIME by its pattern
+--     Written    dates and times written
 --     Duration   DURATION
 --     UtcOffset  UTC-OFFSET
 --     Period     PERIOD in iCalendar text
@@ -31,6 +32,7 @@ pub mod Time
 pub mod TimeAlong
 pub mod DateTime
 pub mod DateTimeAlong
+pub mod Written
 pub mod Duration
 pub mod UtcOffset
 pub mod Period
