@@ -15,6 +15,7 @@
 --     DateTimeAlong  DATE-TIME by its pattern
 --     Written    dates and times written
 --     Duration   DURATION
+--     DurationAt DURATION read at a cursor
 --     UtcOffset  UTC-OFFSET
 --     Period     PERIOD in iCalendar text
 --     Computing  opens all of these, for examples that compute
@@ -34,6 +35,7 @@ pub mod DateTime
 pub mod DateTimeAlong
 pub mod Written
 pub mod Duration
+pub mod DurationAt
 pub mod UtcOffset
 pub mod Period
 pub mod Computing

@@ -5,3 +5,4 @@ mod written;
 pub mod date;
 pub mod time;
 pub mod date_time;
+pub mod duration;

@@ -16,7 +16,7 @@ fn put_two(out: &mut [u8], o: usize, n: u16) -> usize
     put(out, p, b)
 }
 
-fn put_mark(out: &mut [u8], o: usize, on: bool, c: u8) -> usize
+pub fn put_mark(out: &mut [u8], o: usize, on: bool, c: u8) -> usize
     ensures { λ r. ⌜ Put (now (out .entry)) (now (out .exit)) o r (markBytes on c) ⌝ }
 {
     if on {
