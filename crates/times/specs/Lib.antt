@@ -17,6 +17,7 @@
 --     Duration   DURATION
 --     DurationAt DURATION read at a cursor
 --     UtcOffset  UTC-OFFSET
+--     OffsetAlong  UTC-OFFSET by its patterns
 --     Period     PERIOD in iCalendar text
 --     Computing  opens all of these, for examples that compute
 --     Examples   readings and writings, computed
@@ -37,6 +38,7 @@ pub mod Written
 pub mod Duration
 pub mod DurationAt
 pub mod UtcOffset
+pub mod OffsetAlong
 pub mod Period
 pub mod Computing
 pub mod Examples
