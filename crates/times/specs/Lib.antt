@@ -12,8 +12,11 @@
 --     TimeAlong  TIME by its pattern
 --     DateTime   DATE-TIME
 --     DateTimeAlong  DATE-TIME by its pattern
+--     Written    dates and times written
 --     Duration   DURATION
+--     DurationAt DURATION read at a cursor
 --     UtcOffset  UTC-OFFSET
+--     OffsetAlong  UTC-OFFSET by its patterns
 --     Period     PERIOD in iCalendar text
 --     Computing  opens all of these, for examples that compute
 --     Examples   readings and writings, computed
@@ -29,8 +32,11 @@ pub mod Time
 pub mod TimeAlong
 pub mod DateTime
 pub mod DateTimeAlong
+pub mod Written
 pub mod Duration
+pub mod DurationAt
 pub mod UtcOffset
+pub mod OffsetAlong
 pub mod Period
 pub mod Computing
 pub mod Examples
