@@ -1,24 +1,24 @@
 -- Parts of a content line read through a cursor: what the readers answer, as contracts and their laws. `rest m s c` is what stands from the cursor c on.
 --     Onward m s c r        the cursor r is at or behind c, and within bounds
---     RunEnds p m s c r     the run of characters that pass p, from c on, ends at r;   inLine, charOf: its tests, `running` its rules
+--     RunEnds p m s c r     the run of characters that pass p, from c on, ends at r;   inLine, charOf: its tests, `passing` its rules;   run-is, run-cut: what stands there
 --     ItemAt p m s c ..     what p reads from c on: no item, an item and the cursor behind it, or a fault
 --     valuesAt, paramsAt    the values of a parameter from its first on, the parameters of a line, up to the first that is none
-use mathlib.Core.Path.{_≡_, refl, sym, ap, _∙_}
-use mathlib.Core.Bool.{Bool, true, false, false≢true}
+use mathlib.Core.Path.{_≡_, refl, sym, _∙_}
+use mathlib.Core.Bool.{Bool, true, false}
 use mathlib.Core.List.{List, [], _∷_}
-use Prim.Native.Nat.{ℕ, _+_, _-_, _*_, _/_, _^_, max, _≤_, _<_}
+use Prim.Native.Nat.{ℕ, _-_, _*_, max, _≤_, _<_}
 use native.Mathlib.Omega.{arith}
 use lib.Dec.{eqb}
-use lib.ListN.{length}
+use lib.ListN.{length, take}
 use borrow.Author.Needs.{needs}
-use borrow.Author.Tests.{eq-eqb, ne-eqb, eqb-true, eqb-false}
+use borrow.Author.Tests.{eq-eqb, ne-eqb, eqb-false}
 use Rattle.octets.specs.Pick.{pick, pick-second, flag-yes, flag-no}
 use Rattle.octets.specs.Append.{_⊕_}
 use Rattle.octets.specs.Scan.{spanLen}
 use Rattle.octets.specs.Runs.{afterByte, afterRun, runOf, run-joined}
 use Rattle.octets.specs.Many.{One, got, bad}
 use Rattle.source.specs.Source.{rest, spell, Reads}
-use Rattle.source.specs.Facts.{rest-byte, rest-end}
+use Rattle.source.specs.Facts.{rest-byte, cut-is}
 use Rattle.source.specs.declared.Step.{Step}
 use Rattle.lines.specs.ContentLine.{ParamValue, RawParameter, isQSafeChar, isSafeChar, isValueChar, paramValue, nextValue, nextParam}
 use Rattle.lines.specs.Items.{items}
@@ -77,6 +77,10 @@ pub record RunEnds (p : ℕ → Bool) (m : ℕ) (s : List ℕ) (c r : ℕ) : Typ
 -- what stands from c on is the run, and what stands from r on
 pub run-is : {p : ℕ → Bool} {m : ℕ} {s : List ℕ} {c r : ℕ} → RunEnds p m s c r → rest m s c ≡ runOf p (rest m s c) ⊕ rest m s r
 run-is {p} {m} {s} {c} {r} t = rw (t .left) (sym (run-joined p (rest m s c)))
+
+-- bytes as they stand, cut at the run's end, are the run
+pub run-cut : {p : ℕ → Bool} {s : List ℕ} {c r : ℕ} → RunEnds p 0 s c r → rest 0 (take r s) c ≡ runOf p (rest 0 s c)
+run-cut {p} {s} {c} {r} t = cut-is s (runOf p (rest 0 s c)) c r (t .to .onward) (run-is t)
 
 -- what is left behind the run is the same from c₀ as from c
 pub record Passing (p : ℕ → Bool) (m : ℕ) (s : List ℕ) (c₀ c : ℕ) : Type 0 where

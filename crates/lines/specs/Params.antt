@@ -1,7 +1,7 @@
 -- Parameters of a content line read through a cursor.
 --     ParamOf p m s c r     what p, which reads a parameter, reads from the cursor c on
 --     name-run, name-chars  a name that ends at a cursor: as a run, and cut out of the slice
---     param-more, param-over, param-fault    a walk over `paramsAt`: one more, the end
+--     param-more, param-over, param-fault    a walk over `paramsAt`: one more, the end;   param-less: its measure
 use mathlib.Core.Path.{_≡_, refl, sym, ap, _∙_}
 use mathlib.Core.Bool.{Bool, true, false}
 use mathlib.Core.List.{List, [], _∷_}
@@ -22,7 +22,7 @@ use Rattle.names.specs.Runs.{NameEnds, name-cut}
 use Rattle.lines.specs.ContentLine.{ParamValue, RawParameter, paramValue, withFirst, param, nextParam}
 use Rattle.lines.specs.Items.{items}
 use Rattle.lines.specs.Cursor.{Onward, onward-here, onward-both, onward-byte, byte-at, byte-not, RunEnds, oneAt, ItemAt, item-behind, item-not, valuesOf, valuesAt, paramsAt}
-use Rattle.lines.specs.Repeating.{items-more, items-none-here, items-bad-here, param-takes}
+use Rattle.lines.specs.Repeating.{items-more, items-none-here, items-bad-here, walk-less, param-takes}
 use Rattle.lines.specs.Values.{ValuesAt}
 use Rattle.lines.specs.declared.ParamRead.{ParamRead}
 use Rattle.lines.specs.declared.AllRead.{AllRead}
@@ -154,6 +154,9 @@ module _ {m : ℕ} {s : List ℕ} {c : ℕ} where
   module _ {r : ParamRead} (a : ParamOf nextParam m s c r) where
     pub param-more : r .there ≡ true → r .ok ≡ true → paramsAt m s c ≡ paramIn m s (r .name) (r .first) ∷ paramsAt m s (r .next)
     param-more = items-more (a .item) param-takes
+
+    pub param-less : r .there ≡ true → r .ok ≡ true → 4 * length s - r .next < 4 * length s - c
+    param-less = walk-less (a .item) param-takes
 
     pub param-over : r .there ≡ false → paramsAt m s c ≡ []
     param-over = items-none-here (a .item)

@@ -1,21 +1,22 @@
 -- Values of a parameter read through a cursor.
 --     ValueAt p m s c r     what p, which reads a value, reads from the cursor c on
 --     ValuesAt m s c r      all values of a parameter, from its first on
---     value-first, value-more, value-over    a walk over `valuesAt`: the first, one more, the end
+--     value-first, value-more, value-over, value-fault    a walk over `valuesAt`: the first, one more, the end;   value-less: its measure
+--     value-chars           a value's characters, cut out of the slice
 use mathlib.Core.Path.{_≡_, refl, sym, ap, _∙_}
 use mathlib.Core.Bool.{Bool, true, false}
 use mathlib.Core.List.{List, [], _∷_}
 use Prim.Native.Nat.{ℕ, _+_, _-_, _*_, max, _≤_, _<_}
 use native.Mathlib.Omega.{arith}
-use lib.ListN.{length}
+use lib.ListN.{length, take}
 use Rattle.octets.specs.Runs.{afterByte, afterRun, runOf, byte-case}
 use Rattle.octets.specs.Many.{One, got, bad, All, ok, no, many}
 use Rattle.source.specs.Source.{rest, Reads}
 use Rattle.source.specs.declared.Step.{Step}
 use Rattle.lines.specs.ContentLine.{ParamValue, RawParameter, isQSafeChar, isSafeChar, paramtext, quotedString, paramValue, nextValue, withValues, withFirst}
 use Rattle.lines.specs.Items.{items}
-use Rattle.lines.specs.Cursor.{Onward, onward-here, onward-both, onward-byte, byte-at, byte-not, RunEnds, oneAt, ItemAt, item-behind, item-not, valuesOf, valuesAt}
-use Rattle.lines.specs.Repeating.{allAt, AllAt, item-got, item-bad}
+use Rattle.lines.specs.Cursor.{Onward, onward-here, onward-both, onward-byte, byte-at, byte-not, RunEnds, run-cut, oneAt, ItemAt, item-behind, item-not, valuesOf, valuesAt}
+use Rattle.lines.specs.Repeating.{allAt, AllAt, item-got, item-bad, items-more, items-none-here, items-bad-here, walk-less, value-takes}
 use Rattle.lines.specs.declared.ParamAt.{ParamAt}
 use Rattle.lines.specs.declared.AllRead.{AllRead}
 
@@ -143,3 +144,21 @@ module _ {m : ℕ} {s : List ℕ} {c : ℕ} {r : ParamAt} (v : ValueAt paramValu
   pub value-first : r .ok ≡ true → valuesAt m s c ≡ valueIn m s (r .quoted) (r .from) ∷ items nextValue (rest m s (r .next))
   unfolding valuesOf
   value-first e = rw (item-got (v .item) (value-there v) e)
+
+-- one value more, or the end
+module _ {m : ℕ} {s : List ℕ} {c : ℕ} {r : ParamAt} (v : ValueAt nextValue m s c r) where
+  pub value-more : r .there ≡ true → r .ok ≡ true → items nextValue (rest m s c) ≡ valueIn m s (r .quoted) (r .from) ∷ items nextValue (rest m s (r .next))
+  value-more = items-more (v .item) value-takes
+
+  pub value-less : r .there ≡ true → r .ok ≡ true → 4 * length s - r .next < 4 * length s - c
+  value-less = walk-less (v .item) value-takes
+
+  pub value-over : r .there ≡ false → items nextValue (rest m s c) ≡ []
+  value-over = items-none-here (v .item)
+
+  pub value-fault : r .there ≡ true → r .ok ≡ false → items nextValue (rest m s c) ≡ []
+  value-fault = items-bad-here (v .item)
+
+-- bytes as they stand, cut at the end of a value's characters, are these
+pub value-chars : {p : List ℕ → One ParamValue} {s : List ℕ} {c : ℕ} {r : ParamAt} → ValueAt p 0 s c r → r .there ≡ true → rest 0 (take (r .to) s) (r .from) ≡ runOf (charsIn (r .quoted)) (rest 0 s (r .from))
+value-chars v h = run-cut (v .chars h)

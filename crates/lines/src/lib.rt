@@ -1,10 +1,13 @@
 // Content lines, RFC 5545, section 3.1, read through a cursor: the source is cut at the line's end by the caller. Definitions and laws are in specs/.
 
+mod carried;
 mod line;
 mod param;
 mod runs;
 mod value;
 
+pub use carried::is_carried_name;
+pub use carried::names_carried;
 pub use line::line_at;
 pub use param::next_param;
 pub use value::next_value;
