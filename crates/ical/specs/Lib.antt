@@ -3,6 +3,7 @@
 --     Values              the values of a property, by its type
 --     Statement           the property that a content line states
 --     Nesting             which lines are refused: one pass with the open components
+--     LineKind            what a line is in an open component
 --     Tree                the components that the lines state
 --     ReadText            the answer for a text
 --     WriteText           the canonical text of a calendar
