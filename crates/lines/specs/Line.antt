@@ -19,12 +19,11 @@ use Rattle.octets.specs.Many.{All, ok, no, many}
 use Rattle.source.specs.Source.{rest, Reads}
 use Rattle.source.specs.Facts.{rest-byte, rest-end}
 use Rattle.source.specs.declared.Step.{Step}
-use Rattle.names.specs.Runs.{NameEnds}
 use Rattle.lines.specs.ContentLine.{RawParameter, ContentLine, isValueChar, nextParam, withValue, contentLine}
 use Rattle.lines.specs.Items.{items}
 use Rattle.lines.specs.Cursor.{Onward, onward-here, onward-both, onward-byte, byte-at, byte-not, RunEnds, paramsAt}
 use Rattle.lines.specs.Repeating.{allAt, AllAt}
-use Rattle.lines.specs.Params.{name-run}
+use Rattle.lines.specs.Params.{NameEnds, name-run}
 use Rattle.lines.specs.declared.AllRead.{AllRead}
 use Rattle.lines.specs.declared.LineRead.{LineRead}
 use Rattle.lines.specs.declared.LineRead.the-variants.{Line, Bad}

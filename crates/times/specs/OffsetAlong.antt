@@ -14,9 +14,9 @@ use lib.Dec.{eqb, leb, ltb}
 use lib.ListN.{length, take, drop, length-drop, drop-of-length-le}
 use lib.Seq.{take-all}
 use borrow.Author.Tests.{eqb-true, eqb-false, eq-eqb, ne-eqb, leb-true, le-leb, lt-ltb, le-ltb, ltb-true, ltb-false}
-use Rattle.octets.specs.Pick.{pick, _and_, _or_, and-no-right}
+use Rattle.octets.specs.Pick.{pick, _and_, _or_, and-no-right, and-both}
 use Rattle.octets.specs.Append.{_⊕_}
-use Rattle.octets.specs.Scan.{allOf}
+use Rattle.octets.specs.Scan.{allOf, all-split}
 use Rattle.octets.specs.Ascii.{ascii}
 use Rattle.octets.specs.Class.{isDigit}
 use Rattle.octets.specs.Words.{isEmpty}
@@ -24,7 +24,6 @@ use Rattle.octets.specs.Decimal.{value, digitOf}
 use Rattle.octets.specs.Reading.{provided, andThen}
 use Rattle.model.specs.Calendar.{Format, ical, xcal, formatOf}
 use Rattle.source.specs.Source.{rest}
-use Rattle.times.specs.Extra.{and-left, and-right, all-head, all-tail}
 use Rattle.times.specs.Spelling.{Mark, keep, begins, withMarks, withoutMarks, putMark, fits, marks-exact, marks-length}
 use Rattle.times.specs.Pattern.{Followed, reached, lost, passes, tally, along, zeros, digitsAt, followedBy, isMark, areMarks, along-marks, along-digits}
 use Rattle.times.specs.Time.{isClock}
@@ -133,7 +132,7 @@ unfolding along whole digitsAt pick _and_
 whole-digits k l = rw (along-digits k [] 0 l) (go (eqb (length l) k) refl)
   where
     long : (t : Bool) → digitsAt k l ≡ t → (length l ≡ k → ⊥) → whole (pick t (reached (value 0 (take k l)) (drop k l)) lost) ≡ none
-    long true e n = rw (drop-longer k l (omega (arith, leb-true k (length l) (and-left _ _ e))))
+    long true e n = rw (drop-longer k l (omega (arith, leb-true k (length l) (and-both _ _ e .0))))
     long false e n = refl
 
     all : (t : Bool) → whole (pick t (reached (value 0 l) []) lost) ≡ pick t (some (value 0 l)) none
@@ -157,9 +156,9 @@ shift-four neg l m k = four (λ (l : List ℕ). allOf isDigit l ≡ true → off
   where
     go : (a b c d : ℕ) → allOf isDigit (a ∷ b ∷ c ∷ d ∷ []) ≡ true → offsetBy neg false (value 0 (a ∷ b ∷ c ∷ d ∷ []) % 10000 * 100) ≡ shift-kept neg (a ∷ b ∷ c ∷ d ∷ [])
     go a b c d k =
-        let tb = all-tail isDigit a _ k in let tc = all-tail isDigit b _ tb in let td = all-tail isDigit c _ tc in
-        let ea = digit-is a (all-head isDigit a _ k) in let eb = digit-is b (all-head isDigit b _ tb) in let ec = digit-is c (all-head isDigit c _ tc) in
-        let ed = digit-is d (all-head isDigit d _ td) in
+        let tb = all-split isDigit a _ k .1 in let tc = all-split isDigit b _ tb .1 in let td = all-split isDigit c _ tc .1 in
+        let ea = digit-is a (all-split isDigit a _ k .0) in let eb = digit-is b (all-split isDigit b _ tb .0) in let ec = digit-is c (all-split isDigit c _ tc .0) in
+        let ed = digit-is d (all-split isDigit d _ td .0) in
         rw (k, by-four neg (digitOf a) (digitOf b) (digitOf c) (digitOf d) (digit-small a) (digit-small b) (digit-small c) (digit-small d), ← ea, ← eb, ← ec, ← ed)
 
 shift-six : (neg : Bool) (l : List ℕ) → length l ≡ 6 → allOf isDigit l ≡ true → offsetBy neg true (value 0 l) ≡ shift-kept neg l
@@ -168,10 +167,10 @@ shift-six neg l m k = six (λ (l : List ℕ). allOf isDigit l ≡ true → offse
   where
     go : (a b c d e f : ℕ) → allOf isDigit (a ∷ b ∷ c ∷ d ∷ e ∷ f ∷ []) ≡ true → offsetBy neg true (value 0 (a ∷ b ∷ c ∷ d ∷ e ∷ f ∷ [])) ≡ shift-kept neg (a ∷ b ∷ c ∷ d ∷ e ∷ f ∷ [])
     go a b c d e f k =
-        let tb = all-tail isDigit a _ k in let tc = all-tail isDigit b _ tb in let td = all-tail isDigit c _ tc in let te = all-tail isDigit d _ td in
-        let tf = all-tail isDigit e _ te in
-        let ea = digit-is a (all-head isDigit a _ k) in let eb = digit-is b (all-head isDigit b _ tb) in let ec = digit-is c (all-head isDigit c _ tc) in
-        let ed = digit-is d (all-head isDigit d _ td) in let ee = digit-is e (all-head isDigit e _ te) in let ef = digit-is f (all-head isDigit f _ tf) in
+        let tb = all-split isDigit a _ k .1 in let tc = all-split isDigit b _ tb .1 in let td = all-split isDigit c _ tc .1 in let te = all-split isDigit d _ td .1 in
+        let tf = all-split isDigit e _ te .1 in
+        let ea = digit-is a (all-split isDigit a _ k .0) in let eb = digit-is b (all-split isDigit b _ tb .0) in let ec = digit-is c (all-split isDigit c _ tc .0) in
+        let ed = digit-is d (all-split isDigit d _ td .0) in let ee = digit-is e (all-split isDigit e _ te .0) in let ef = digit-is f (all-split isDigit f _ tf .0) in
         rw (k, by-six neg (digitOf a) (digitOf b) (digitOf c) (digitOf d) (digit-small a) (digit-small b) (digit-small c) (digit-small d)
         (digitOf e) (digitOf f) (digit-small e) (digit-small f), ← ea, ← eb, ← ec, ← ed, ← ee, ← ef)
 
