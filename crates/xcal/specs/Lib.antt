@@ -6,6 +6,8 @@
 --     ComponentNodes   the elements of components, up to the root
 --     ReadDocument     the answer for a document
 --     WriteXml         the canonical XML of a calendar
+--     Contents         the content of a calendar's XML, as a tree without places
+--     WrittenContents  what is written of a calendar is that content, written
 --     Computing        opens all of these, for examples that compute
 pub mod Layout
 pub mod ValueNodes
@@ -14,4 +16,6 @@ pub mod PropertyNodes
 pub mod ComponentNodes
 pub mod ReadDocument
 pub mod WriteXml
+pub mod Contents
+pub mod WrittenContents
 pub mod Computing
