@@ -8,6 +8,7 @@
 --     WriteXml         the canonical XML of a calendar
 --     Contents         the content of a calendar's XML, as a tree without places
 --     WrittenContents  what is written of a calendar is that content, written
+--     ElementNames     names in capitals and the names of their elements
 --     Computing        opens all of these, for examples that compute
 pub mod Layout
 pub mod ValueNodes
@@ -18,4 +19,5 @@ pub mod ReadDocument
 pub mod WriteXml
 pub mod Contents
 pub mod WrittenContents
+pub mod ElementNames
 pub mod Computing
