@@ -9,6 +9,8 @@
 --     Contents         the content of a calendar's XML, as a tree without places
 --     WrittenContents  what is written of a calendar is that content, written
 --     ElementNames     names in capitals and the names of their elements
+--     LeavesBack       elements of character data are read back
+--     RecurBack        the elements of a rule are read back
 --     Computing        opens all of these, for examples that compute
 pub mod Layout
 pub mod ValueNodes
@@ -20,4 +22,6 @@ pub mod WriteXml
 pub mod Contents
 pub mod WrittenContents
 pub mod ElementNames
+pub mod LeavesBack
+pub mod RecurBack
 pub mod Computing
