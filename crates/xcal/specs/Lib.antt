@@ -11,6 +11,7 @@
 --     ElementNames     names in capitals and the names of their elements
 --     LeavesBack       elements of character data are read back
 --     RecurBack        the elements of a rule are read back
+--     RecurFine        the elements of a rule are not refused
 --     Computing        opens all of these, for examples that compute
 pub mod Layout
 pub mod ValueNodes
@@ -24,4 +25,5 @@ pub mod WrittenContents
 pub mod ElementNames
 pub mod LeavesBack
 pub mod RecurBack
+pub mod RecurFine
 pub mod Computing
