@@ -12,6 +12,7 @@
 --     LeavesBack       elements of character data are read back
 --     RecurBack        the elements of a rule are read back
 --     RecurFine        the elements of a rule are not refused
+--     ValuesBack       values are read back from their elements, and not refused
 --     Computing        opens all of these, for examples that compute
 pub mod Layout
 pub mod ValueNodes
@@ -26,4 +27,5 @@ pub mod ElementNames
 pub mod LeavesBack
 pub mod RecurBack
 pub mod RecurFine
+pub mod ValuesBack
 pub mod Computing
