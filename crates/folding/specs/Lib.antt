@@ -1,12 +1,10 @@
 -- Content lines as they stand in a text: folds, and the lines of what unfolding keeps.
---     Extra    what a joined test says of its parts
 --     Unfold   the bytes that unfolding keeps, and the place of each
 --     Lines    the lines of a text, each with where it starts
 --     Fold     a content line as it is written
 --     Text     content lines, one after another
 --     Computing  opens all of these, for examples that compute
 --     Examples   computed
-pub mod Extra
 pub mod Unfold
 pub mod Lines
 pub mod Fold

@@ -12,10 +12,9 @@ use Prim.Native.Nat.{ℕ, zero, suc, _+_, _-_, _≤_, _<_}
 use native.Mathlib.Omega.{arith}
 use lib.Dec.{eqb}
 use lib.ListN.{length, getD, List·getD-eq-default}
-use Rattle.octets.specs.Pick.{_and_, _or_}
+use Rattle.octets.specs.Pick.{_and_, _or_, or-neither}
 use Rattle.octets.specs.Append.{_⊕_}
 use Rattle.octets.specs.Words.{starts}
-use Rattle.folding.specs.Extra.{or-false}
 
 -- CRLF = %x0D %x0A
 abbrev pub crlf : List ℕ
@@ -191,13 +190,13 @@ fold-long x (y ∷ z ∷ a) h = omega arith
 fold-seam : (x : ℕ) (a b : List ℕ) → foldGoesOn b ≡ false → foldAt ((x ∷ a) ⊕ b) ≡ foldAt (x ∷ a)
 unfolding foldAt foldGoesOn blankAt starts _and_ _or_ _⊕_
 fold-seam x [] [] h = refl
-fold-seam x [] (y ∷ b) h = go (eqb 10 y) refl (or-false _ _ h .0)
+fold-seam x [] (y ∷ b) h = go (eqb 10 y) refl (or-neither _ _ h .0)
   where
     go : (u : Bool) → eqb 10 y ≡ u → (u and true) ≡ false → foldAt (x ∷ y ∷ b) ≡ foldAt (x ∷ [])
     go true e k = absurd (false≢true (sym k))
     go false e k = rw e
 fold-seam x (y ∷ []) b h =
-    let e = or-false (starts (32 ∷ []) b) (starts (9 ∷ []) b) (or-false (starts (10 ∷ []) b) (blankAt b) h .1) in
+    let e = or-neither (starts (32 ∷ []) b) (starts (9 ∷ []) b) (or-neither (starts (10 ∷ []) b) (blankAt b) h .1) in
     rw (e .0, e .1)
 fold-seam x (y ∷ z ∷ a) b h = refl
 

@@ -6,6 +6,7 @@
 --     Tree          the components that the lines state
 --     ReadText      the answer for a text
 --     WriteText     the canonical text of a calendar
+--     ParameterLaws   parameters are read back
 --     Computing     opens all of these, for examples that compute
 pub mod Parameters
 pub mod Values
@@ -14,4 +15,5 @@ pub mod Nesting
 pub mod Tree
 pub mod ReadText
 pub mod WriteText
+pub mod ParameterLaws
 pub mod Computing

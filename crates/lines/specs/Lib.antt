@@ -1,5 +1,4 @@
 -- Content lines of RFC 5545, section 3.1, on the bytes of one unfolded line.
---     Extra        runs at the front of a list, a byte at the front, a test of each item, what a repetition has read
 --     ContentLine  the grammar, read by recursive descent
 --     Write        a content line written
 --     RoundTrip    a content line written is read back
@@ -8,7 +7,6 @@
 --     Names        names that can be carried (refusal 5)
 --     Computing    opens all of these, for examples that compute
 --     Examples     lines that are read, lines that are refused, lines that are written
-pub mod Extra
 pub mod ContentLine
 pub mod Write
 pub mod RoundTrip

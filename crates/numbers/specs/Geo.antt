@@ -10,13 +10,12 @@ use native.Mathlib.Omega.{arith}
 use lib.Dec.{eqb}
 use borrow.Author.Tests.{ne-eqb}
 use Rattle.octets.specs.Pick.{pick, _and_}
-use Rattle.octets.specs.Scan.{allOf}
+use Rattle.octets.specs.Scan.{allOf, all-append}
 use Rattle.octets.specs.Append.{_⊕_, append-none}
-use Rattle.octets.specs.Class.{isDigit, isVisible}
-use Rattle.octets.specs.Words.{isEmpty, holds, cutAt, noneHolds, joinedBy, eachAfter, cut-joined}
-use Rattle.octets.specs.Reading.{andThen}
+use Rattle.octets.specs.Class.{isDigit, isVisible, digit-range}
+use Rattle.octets.specs.Words.{isEmpty, holds, cutAt, noneHolds, joinedBy, eachAfter, cut-joined, all-without}
+use Rattle.octets.specs.Reading.{andThen, andThen-some}
 use Rattle.model.specs.Calendar.{Decimal, Value, geo}
-use Rattle.numbers.specs.Extra.{andThen-some, all-append, all-holds, digit-range}
 use Rattle.numbers.specs.Float.{readFloat, writeFloat, isNormal}
 use Rattle.numbers.specs.FloatLaws.{float-read-back, float-accepted, float-all, float-visible}
 
@@ -38,7 +37,7 @@ writeGeo la lo = writeFloat la ⊕ (59 ∷ writeFloat lo)
 -- ---- laws
 
 no-semicolon : (d : Decimal) → isNormal d ≡ true → holds 59 (writeFloat d) ≡ false
-no-semicolon d h = all-holds (λ b. not (eqb b 59)) 59 refl (writeFloat d) (float-all (λ b. not (eqb b 59)) digit refl refl d h)
+no-semicolon d h = all-without (λ b. not (eqb b 59)) 59 refl (writeFloat d) (float-all (λ b. not (eqb b 59)) digit refl refl d h)
   where
     digit : (b : ℕ) → isDigit b ≡ true → not (eqb b 59) ≡ true
     digit b k = let r = digit-range b k in rw (ne-eqb b 59 (λ e. omega arith))

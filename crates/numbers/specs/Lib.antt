@@ -1,5 +1,4 @@
 -- The values that are numbers.
---     Extra       general laws of tests and readings
 --     Sign        a sign in front of digits
 --     Integer     INTEGER
 --     Float       FLOAT
@@ -10,7 +9,6 @@
 --     Geo         GEO, two FLOAT values
 --     Computing   opens all of these, for examples that compute
 --     Examples    computed examples
-pub mod Extra
 pub mod Sign
 pub mod Integer
 pub mod Float

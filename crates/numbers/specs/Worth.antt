@@ -14,11 +14,10 @@ use lib.Dec.{eqb}
 use lib.ListN.{length}
 use borrow.Author.Tests.{eqb-true}
 use Rattle.octets.specs.Pick.{pick, _and_}
-use Rattle.octets.specs.Scan.{allOf}
+use Rattle.octets.specs.Scan.{allOf, all-append, all-split}
 use Rattle.octets.specs.Append.{_⊕_, length-both}
-use Rattle.octets.specs.Class.{isDigit}
-use Rattle.octets.specs.Decimal.{value, digitOf}
-use Rattle.numbers.specs.Extra.{all-cons, all-append, digit-range}
+use Rattle.octets.specs.Class.{isDigit, digit-range}
+use Rattle.octets.specs.Decimal.{value, digitOf, value-append}
 use Rattle.numbers.specs.Float.{noLeading, noTrailing, kept}
 
 unfoldable pub zeros : ℕ → List ℕ
@@ -34,11 +33,6 @@ pub zeros-length : (k : ℕ) → length (zeros k) ≡ k
 unfolding zeros
 zeros-length zero = refl
 zeros-length (suc k) = ap suc (zeros-length k)
-
-pub value-append : (s t : List ℕ) (n : ℕ) → value n (s ⊕ t) ≡ value (value n s) t
-unfolding value _⊕_
-value-append [] t n = refl
-value-append (b ∷ s) t n = value-append s t (n * 10 + digitOf b)
 
 pub value-zeros : (k n : ℕ) → value n (zeros k) ≡ n * 10 ^ k
 unfolding zeros value pick _and_
@@ -76,8 +70,8 @@ digits-same [] [] x y l h k e = (e, refl)
 digits-same [] (c ∷ t) x y l h k e = absurd (omega arith)
 digits-same (b ∷ s) [] x y l h k e = absurd (omega arith)
 digits-same (b ∷ s) (c ∷ t) x y l h k e =
-    let p = all-cons isDigit b s h in
-    let q = all-cons isDigit c t k in
+    let p = all-split isDigit b s h in
+    let q = all-split isDigit c t k in
     let r = digits-same s t (x * 10 + digitOf b) (y * 10 + digitOf c) (omega arith) (p .1) (q .1) e in
     let u = digit-same b c x y (p .0) (q .0) (r .0) in
     (u .0, cc (u .1, r .1))

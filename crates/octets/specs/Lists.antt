@@ -2,11 +2,15 @@
 --     every       each element passes a test
 --     anyOne      some element passes a test
 --     distinct    no word stands twice
-use mathlib.Core.Bool.{Bool, true, false}
-use mathlib.Core.List.{List, [], _∷_}
+--     word-passes              what every word of a list passes, a word of the list passes
+--     none-holds, all-joined   what is written of each of a list, joined
+use mathlib.Core.Path.{_≡_, refl, ap, _∙_}
+use mathlib.Core.Bool.{Bool, true, false, false≢true}
+use mathlib.Core.List.{List, [], _∷_, map}
 use Prim.Native.Nat.{ℕ}
-use Rattle.octets.specs.Pick.{pick, _and_, _or_}
-use Rattle.octets.specs.Words.{isOneOf}
+use Rattle.octets.specs.Pick.{pick, _and_, _or_, and-both}
+use Rattle.octets.specs.Scan.{allOf, all-append}
+use Rattle.octets.specs.Words.{same, same-true, isOneOf, holds, noneHolds, eachAfter, joinedBy}
 
 unfoldable pub every : {A : Type 0} → (A → Bool) → List A → Bool
 every p [] = true
@@ -19,3 +23,35 @@ anyOne p (x ∷ l) = p x or anyOne p l
 unfoldable pub distinct : List (List ℕ) → Bool
 distinct [] = true
 distinct (w ∷ ws) = pick (isOneOf w ws) false (distinct ws)
+
+-- ---- laws
+
+pub word-passes : (p : List ℕ → Bool) (ws : List (List ℕ)) (w : List ℕ) → every p ws ≡ true → isOneOf w ws ≡ true → p w ≡ true
+unfolding every isOneOf _or_
+word-passes p [] w a h = absurd (false≢true h)
+word-passes p (x ∷ ws) w a h = let q = and-both (p x) (every p ws) a in go (same w x) refl (q .0) h (word-passes p ws w (q .1))
+  where
+    go : (t : Bool) → same w x ≡ t → p x ≡ true → (t or isOneOf w ws) ≡ true → (isOneOf w ws ≡ true → p w ≡ true) → p w ≡ true
+    go true e b k ih = ap p (same-true w x e) ∙ b
+    go false e b k ih = ih k
+
+-- pieces of a class that does not have the separator, and what is joined of pieces
+module _ {A : Type 0} (q : A → Bool) (writing : A → List ℕ) where
+  pub none-holds : (c : ℕ) → ((a : A) → q a ≡ true → holds c (writing a) ≡ false) → (l : List A) → every q l ≡ true → noneHolds c (map writing l) ≡ true
+  unfolding every noneHolds pick
+  none-holds c k [] h = refl
+  none-holds c k (a ∷ l) h = let e = and-both (q a) (every q l) h in rw (k a (e .0)) (none-holds c k l (e .1))
+
+  all-after : (p : ℕ → Bool) (c : ℕ) → p c ≡ true → ((a : A) → q a ≡ true → allOf p (writing a) ≡ true) → (l : List A) → every q l ≡ true → allOf p (eachAfter c (map writing l)) ≡ true
+  unfolding every eachAfter allOf pick
+  all-after p c b k [] h = refl
+  all-after p c b k (a ∷ l) h =
+      let e = and-both (q a) (every q l) h in
+      rw b (all-append p (writing a) (eachAfter c (map writing l)) (k a (e .0)) (all-after p c b k l (e .1)))
+
+  pub all-joined : (p : ℕ → Bool) (c : ℕ) → p c ≡ true → ((a : A) → q a ≡ true → allOf p (writing a) ≡ true) → (l : List A) → every q l ≡ true → allOf p (joinedBy c (map writing l)) ≡ true
+  unfolding every joinedBy allOf
+  all-joined p c b k [] h = refl
+  all-joined p c b k (a ∷ l) h =
+      let e = and-both (q a) (every q l) h in
+      all-append p (writing a) (eachAfter c (map writing l)) (k a (e .0)) (all-after p c b k l (e .1))

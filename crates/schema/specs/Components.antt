@@ -12,10 +12,10 @@ use mathlib.Core.List.{List, [], _∷_, map}
 use mathlib.Core.Option.{Option, none, some}
 use Prim.Native.Nat.{ℕ}
 use Rattle.octets.specs.Ascii.{ascii}
-use Rattle.octets.specs.Append.{_⊕_}
 use Rattle.octets.specs.Pick.{pick}
-use Rattle.octets.specs.Reading.{andThen, readOr}
+use Rattle.octets.specs.Append.{_⊕_}
 use Rattle.octets.specs.Words.{same, isOneOf, rowOf}
+use Rattle.octets.specs.Reading.{andThen, readOr}
 
 pub record Occurrence : Type 0 where
   pub property : List ℕ

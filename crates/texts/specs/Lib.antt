@@ -1,5 +1,4 @@
 -- Values that are characters.
---     Extra           general laws of tests, readings and bytes
 --     Text            TEXT, escaped and unescaped, and the splitter of escaped text
 --     Escaped         the bytes of escaped text: one line
 --     TextList        lists of TEXT: CATEGORIES, RESOURCES
@@ -10,7 +9,6 @@
 --     Quoting         parameter values between double quotes
 --     Computing       opens all of these, for examples that compute
 --     Examples        computed examples
-pub mod Extra
 pub mod Text
 pub mod Escaped
 pub mod TextList

@@ -10,10 +10,9 @@ use mathlib.Core.Option.{Option, none, some}
 use Prim.Native.Nat.{ℕ}
 use native.Mathlib.Omega.{arith}
 use Rattle.octets.specs.Pick.{_or_}
-use Rattle.octets.specs.Words.{holds, joinedBy, noneHolds}
+use Rattle.octets.specs.Words.{holds, joinedBy, noneHolds, joined-without}
 use Rattle.octets.specs.Reading.{andThen}
 use Rattle.model.specs.Calendar.{Value, requestStatus}
-use Rattle.texts.specs.Extra.{joined-without}
 use Rattle.texts.specs.Text.{splitText, writeText, split-read-back}
 use Rattle.texts.specs.Escaped.{each-one-line, each-no-return}
 

@@ -1,6 +1,5 @@
 -- Dates and times: the value types DATE, TIME, DATE-TIME, DURATION, UTC-OFFSET and PERIOD. What a kept value is, reading and writing it as iCalendar text
 -- (`ical`) and as XML character data (`xcal`). A kept value is the list of its characters as iCalendar text spells it in capitals.
---     Extra      laws of tests and readings that are not about times
 --     Spelling   the characters of these values, and the marks that XML puts between them
 --     Date       DATE, and the Gregorian month
 --     MonthRule  the days that DATE accepts in a month are those from 1 to its length
@@ -11,7 +10,6 @@
 --     Period     PERIOD in iCalendar text
 --     Computing  opens all of these, for examples that compute
 --     Examples   readings and writings, computed
-pub mod Extra
 pub mod Spelling
 pub mod Date
 pub mod MonthRule

@@ -1,10 +1,8 @@
 -- The characters that an input may hold, in UTF-8.
---     Extra    what a joined test says of its parts
 --     Utf8     where a list of bytes holds anything else
 --     Spell    the bytes of a code point
 --     Computing  opens all of these, for examples that compute
 --     Examples   computed
-pub mod Extra
 pub mod Utf8
 pub mod Spell
 pub mod Computing

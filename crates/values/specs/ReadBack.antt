@@ -3,16 +3,14 @@
 --     isTyped            whether it is spelled as its type says: all but GEO's and REQUEST-STATUS's, which have spellings of their own
 --     isCharacterData    whether it is character data in XML, and not made of elements
 --     value-read-back, characters-read-back, value-accepted
-use mathlib.Core.Path.{_≡_, refl, sym, _∙_}
+use mathlib.Core.Path.{_≡_, refl}
 use mathlib.Core.Bool.{Bool, true, false, false≢true}
 use mathlib.Core.List.{List}
 use mathlib.Core.Option.{Option, none, some, Option·map}
 use Prim.Native.Nat.{ℕ}
-use native.Mathlib.Omega.{arith}
 use Rattle.octets.specs.Pick.{_and_, and-yes}
 use Rattle.model.specs.Calendar.{Format, ical, xcal, ValueType, BINARY, BOOLEAN, CAL-ADDRESS, DATE, DATE-TIME, DURATION, FLOAT, INTEGER, PERIOD, RECUR, TEXT, TIME, URI, UTC-OFFSET, UNKNOWN}
 use Rattle.model.specs.Calendar.{Value, binary, boolean, calAddress, date, dateTime, duration, float, integer, periodExplicit, periodStart, recur, text, time, uri, utcOffset, unknown, geo, requestStatus, typeOf}
-use Rattle.times.specs.Extra.{and-left, and-right}
 use Rattle.times.specs.Date.{isDate, readDate, date-read-back, date-accepted}
 use Rattle.times.specs.Time.{isTime, readTime, time-read-back, time-accepted}
 use Rattle.times.specs.DateTime.{isDateTime, readDateTime, date-time-read-back, date-time-accepted}
@@ -29,6 +27,7 @@ use Rattle.texts.specs.Binary.{isBinary, readBinary, binary-read-back, binary-a
 use Rattle.texts.specs.Unknown.{isUnknown, readUnknown, unknown-read-back, unknown-accepted}
 use Rattle.recur.specs.Rule.{isRule, readRule}
 use Rattle.recur.specs.RuleLaws.{rule-read-back, rule-accepted}
+use Rattle.values.specs.Extra.{and-both, none-some}
 use Rattle.values.specs.ReadValue.{readValue, readTextAs}
 use Rattle.values.specs.WriteValue.{writeValue, characters}
 
@@ -104,8 +103,8 @@ value-read-back (dateTime s) t h = rw (date-time-read-back ical s h)
 value-read-back (duration s) t h = rw (duration-read-back ical s h)
 value-read-back (float d) t h = rw (float-read-back d h)
 value-read-back (integer w) t h = rw (integer-read-back w h)
-value-read-back (periodExplicit s e) t h = period-explicit-read-back s e (and-left _ _ h) (and-right _ _ h)
-value-read-back (periodStart s d) t h = period-start-read-back s d (and-left _ _ h) (and-right _ _ h)
+value-read-back (periodExplicit s e) t h = let p = and-both _ _ h in period-explicit-read-back s e (p .0) (p .1)
+value-read-back (periodStart s d) t h = let p = and-both _ _ h in period-start-read-back s d (p .0) (p .1)
 value-read-back (recur r) t h = rw (rule-read-back r h)
 value-read-back (text s) t h = rw (text-read-back s)
 value-read-back (time s) t h = rw (time-read-back ical s h)
@@ -143,11 +142,8 @@ IsOfType t v = (isValue v ≡ true) × (isTyped v ≡ true) × (typeOf v ≡ t)
 
 -- a value made of what was read: what holds of each such value holds of it
 made : {A : Type 0} (P : Value → Type 0) (g : A → Value) (o : Option A) (v : Value) → Option·map g o ≡ some v → ((a : A) → o ≡ some a → P (g a)) → P v
-made P g none v h k = let z : _≡_ {A = ℕ} 0 1 = cc in absurd (omega arith)
+made P g none v h k = none-some h
 made P g (some a) v h k = let q : g a ≡ v = cc in rw (← q) (k a refl)
-
-none-read : {P : Type 0} (v : Value) → none ≡ some v → P
-none-read v h = let z : _≡_ {A = ℕ} 0 1 = cc in absurd (omega arith)
 
 pub value-accepted : (f : Format) (t : ValueType) (s : List ℕ) (v : Value) → readValue f t s ≡ some v → IsOfType t v
 unfolding readValue
@@ -161,9 +157,9 @@ value-accepted f FLOAT s v h = made (IsOfType FLOAT) float (readFloat s) v h (λ
 value-accepted f INTEGER s v h = made (IsOfType INTEGER) integer (readInteger s) v h (λ a e. (integer-accepted s a e, refl, refl))
 value-accepted ical PERIOD s v h =
     period-accepted (IsOfType PERIOD) (λ b e p q. (and-yes _ _ p q, refl, refl)) (λ b d p q. (and-yes _ _ p q, refl, refl)) s v h
-value-accepted xcal PERIOD s v h = none-read v h
+value-accepted xcal PERIOD s v h = none-some h
 value-accepted ical RECUR s v h = made (IsOfType RECUR) recur (readRule s) v h (λ a e. (rule-accepted s a e, refl, refl))
-value-accepted xcal RECUR s v h = none-read v h
+value-accepted xcal RECUR s v h = none-some h
 value-accepted f TEXT s v h = made (IsOfType TEXT) text (readTextAs f s) v h (λ a e. (refl, refl, refl))
 value-accepted f TIME s v h = made (IsOfType TIME) time (readTime f s) v h (λ a e. (time-accepted f s a e, refl, refl))
 value-accepted f URI s v h = made (IsOfType URI) uri (readUri s) v h (λ a e. (uri-accepted s a e, refl, refl))
