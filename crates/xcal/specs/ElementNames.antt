@@ -10,12 +10,11 @@ use mathlib.Core.List.{List, [], _∷_}
 use Prim.Native.Nat.{ℕ, _+_, _≤_}
 use native.Mathlib.Omega.{arith}
 use lib.Dec.{eqb, leb}
-use borrow.Author.Tests.{leb-true, leb-false, le-leb, lt-leb}
-use Rattle.octets.specs.Pick.{pick, _and_, _or_, within-yes, and-yes, and-no-left, and-no-right, or-left, or-right, or-no}
-use Rattle.octets.specs.Scan.{allOf}
+use borrow.Author.Tests.{le-leb, lt-leb}
+use Rattle.octets.specs.Pick.{pick, _and_, _or_, within-yes, within-range, and-yes, and-no-left, and-no-right, or-left, or-right, or-no, and-both, or-neither, pick-second}
+use Rattle.octets.specs.Scan.{allOf, all-split}
 use Rattle.octets.specs.Class.{isDigit, isCapital, isSmall, isAlpha, isNameChar, upperByte, lowerByte, upper, lower}
 use Rattle.octets.specs.Words.{same, same-self, same-true, isEmpty}
-use Rattle.lines.specs.Extra.{and-both, or-neither, pick-first, pick-second}
 use Rattle.lines.specs.ContentLine.{isName}
 use Rattle.lines.specs.Names.{startsOffName, isCarriedName, carried-name-upper}
 use Rattle.xml.specs.Reads.{isName as isXmlName}
@@ -30,7 +29,7 @@ unfolding pick
 lower-case P b capital other = go (isCapital b) refl
   where
     go : (t : Bool) → isCapital b ≡ t → P (pick t (b + 32) b)
-    go true e = let q = and-both (leb 65 b) (leb b 90) e in capital (leb-true 65 b (q .0)) (leb-true b 90 (q .1))
+    go true e = let q = within-range 65 90 b e in capital (q .0) (q .1)
     go false e = other e
 
 small : (b : ℕ) → 65 ≤ b → b ≤ 90 → isSmall (b + 32) ≡ true
@@ -75,7 +74,7 @@ lower-name-char b h = lower-case (λ x. isNameChar x ≡ true) b (λ l k. or-lef
 lower-name-chars : (n : List ℕ) → allOf isNameChar n ≡ true → allOf isNameChar (lower n) ≡ true
 unfolding lower allOf pick
 lower-name-chars [] h = refl
-lower-name-chars (b ∷ n) h = let q = pick-first (isNameChar b) (allOf isNameChar n) h in rw (lower-name-char b (q .0)) (lower-name-chars n (q .1))
+lower-name-chars (b ∷ n) h = let q = all-split isNameChar b n h in rw (lower-name-char b (q .0)) (lower-name-chars n (q .1))
 
 -- a name that is carried begins with a letter
 begins-alpha : (b : ℕ) → isNameChar b ≡ true → (isDigit b or eqb b 45) ≡ false → isAlpha b ≡ true
@@ -90,7 +89,7 @@ pub element-name : (n : List ℕ) → isName n ≡ true → isCarriedName n ≡ 
 unfolding isName isCarriedName startsOffName isXmlName lower allOf pick
 element-name [] h c = absurd (false≢true h)
 element-name (b ∷ n) h c =
-    let q = pick-first (isNameChar b) (allOf isNameChar n) h in
+    let q = all-split isNameChar b n h in
     let s = or-neither (isDigit b or eqb b 45) _ (pick-second _ true c .0) in
     and-yes _ _ (lower-alpha b (begins-alpha b (q .0) (s .0))) (lower-name-chars (b ∷ n) h)
 

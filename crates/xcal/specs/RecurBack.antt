@@ -6,16 +6,14 @@ use mathlib.Core.List.{List, [], _∷_, _++_, append-nil, map}
 use mathlib.Core.Option.{Option, none, some}
 use Prim.Native.Nat.{ℕ}
 use native.Mathlib.Omega.{arith}
-use Rattle.octets.specs.Pick.{pick, _and_}
+use Rattle.octets.specs.Pick.{pick, _and_, and-both, pick-second}
 use Rattle.octets.specs.Class.{upper, lower}
-use Rattle.octets.specs.Words.{same, same-self, same-true, isOneOf, rowOf}
+use Rattle.octets.specs.Words.{same, same-self, same-true, same-swap, isOneOf, rowOf}
 use Rattle.octets.specs.Lists.{every, distinct}
+use Rattle.octets.specs.Tables.{row-named, row-passes, row-none}
 use Rattle.octets.specs.Reading.{readOr}
 use Rattle.octets.specs.Computing.{octets-compute}
 use Rattle.model.specs.Calendar.{xcal, RuleItem, word, RulePart}
-use Rattle.lines.specs.Extra.{and-both, pick-second}
-use Rattle.schema.specs.Extra.{row-none}
-use Rattle.recur.specs.Extra.{row-all, row-is}
 use Rattle.recur.specs.Parts.{Part, partTable, partNames, partOf, isListPart}
 use Rattle.recur.specs.Item.{readItem, writeItem, isFor, isItem}
 use Rattle.recur.specs.ItemLaws.{item-read-back}
@@ -41,8 +39,8 @@ item-capital n i h = go (partOf n) refl h
     go : (o : Option Part) → partOf n ≡ o → isFor o i ≡ true → upper n ≡ n
     go none e k = absurd (false≢true k)
     go (some r) e k =
-        let z : n ≡ r .name = row-is (λ (r : Part). r .name) n partTable r e in
-        rw z (same-true _ _ (row-all (λ (r : Part). r .name) (λ (r : Part). same (upper (r .name)) (r .name)) n partTable r table-capital e))
+        let z : n ≡ r .name = sym (row-named (λ (r : Part). r .name) n partTable r e) in
+        rw z (same-true _ _ (row-passes (λ (r : Part). r .name) n (λ (r : Part). same (upper (r .name)) (r .name)) partTable r table-capital e))
 
 pub part-capital : (p : RulePart) → isPart p ≡ true → upper (p .part) ≡ p .part
 unfolding every
@@ -94,25 +92,18 @@ parts-items n c (p ∷ ps) d h q = go (same n (p .part)) refl (parts-items n c p
         let w : partNamed n ps ≡ none = row-none nameOf n ps (rw z at (once .0)) in
         let k : every (isItem n) (p .items) ≡ true = rw z at (and-both _ _ (parts .0) .1) in
         rw z (items-named n (p .items) (partsBefore ps nothing) [] k (λ r. ih r ∙ ap itemsIn w) q) ∙ append-nil (p .items)
-    go false e ih = items-other n (lower (p .part)) (p .items) (partsBefore ps nothing) _ (lower-same (p .part) n (part-capital p (parts .0)) c ∙ turned) ih q
-      where
-        turned : same (p .part) n ≡ false
-        turned = turn (same (p .part) n) refl
-          where
-            turn : (b : Bool) → same (p .part) n ≡ b → b ≡ false
-            turn true k = absurd (false≢true (sym e ∙ ap (same n) (same-true (p .part) n k) ∙ same-self n))
-            turn false k = refl
+    go false e ih = items-other n (lower (p .part)) (p .items) (partsBefore ps nothing) _ (lower-same (p .part) n (part-capital p (parts .0)) c ∙ same-swap n (p .part) e) ih q
 
 -- ---- the parts
 
 one-part : (n : List ℕ) (o : Option RulePart) (ps l : List RulePart) → partNamed n ps ≡ o → every isPart ps ≡ true → onePart n (itemsIn o) l ≡ withPart o l
 unfolding withPart
 one-part n none ps l e h = refl
-one-part n (some p) ps l e h = go (p .items) refl (and-both _ _ (row-all nameOf isPart n ps p h e) .0)
+one-part n (some p) ps l e h = go (p .items) refl (and-both _ _ (row-passes nameOf n isPart ps p h e) .0)
   where
     go : (is : List RuleItem) → p .items ≡ is → isAmount (isListPart (p .part)) is ≡ true → onePart n is l ≡ p ∷ l
     go [] k a = absurd (false≢true a)
-    go (i ∷ is) k a = ap (λ (r : RulePart). r ∷ l) (λ j. record { part = row-is nameOf n ps p e j; items = sym k j })
+    go (i ∷ is) k a = ap (λ (r : RulePart). r ∷ l) (λ j. record { part = sym (row-named nameOf n ps p e) j; items = sym k j })
 
 parts-in-order : (ns : List (List ℕ)) (ps : List RulePart) (q : ℕ) → every (λ (n : List ℕ). same (upper n) n) ns ≡ true → distinct (map nameOf ps) ≡ true → every isPart ps ≡ true →
     partsOf ns (placed (partsBefore ps nothing) q noNodes) ≡ inOrder ns ps

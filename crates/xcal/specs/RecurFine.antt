@@ -9,7 +9,7 @@ use native.Mathlib.Omega.{arith}
 use lib.Dec.{ltb, leb}
 use borrow.Author.Tests.{le-ltb, le-leb, leb-true}
 use Rattle.octets.specs.Ascii.{ascii}
-use Rattle.octets.specs.Pick.{pick, _and_, _or_, and-yes, or-left, or-right}
+use Rattle.octets.specs.Pick.{pick, _and_, _or_, and-yes, and-both}
 use Rattle.octets.specs.Class.{upper, lower}
 use Rattle.octets.specs.Words.{same, same-self, same-true, isOneOf, isEmpty, rowOf}
 use Rattle.octets.specs.Lists.{every, anyOne}
@@ -17,7 +17,6 @@ use Rattle.octets.specs.Reading.{isRead}
 use Rattle.octets.specs.Computing.{octets-compute}
 use Rattle.model.specs.Calendar.{xcal, RuleItem, RulePart}
 use Rattle.model.specs.Refusal.{FRAME, Verdict, fine, refuse, _otherwise_}
-use Rattle.lines.specs.Extra.{and-both}
 use Rattle.recur.specs.Parts.{partNames, isListPart}
 use Rattle.recur.specs.Item.{readItem, writeItem, isItem}
 use Rattle.recur.specs.ItemLaws.{item-read-back}

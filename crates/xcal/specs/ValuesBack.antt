@@ -10,7 +10,7 @@ use mathlib.Core.List.{List, [], _∷_}
 use mathlib.Core.Option.{Option, none, some}
 use Prim.Native.Nat.{ℕ}
 use Rattle.octets.specs.Ascii.{ascii}
-use Rattle.octets.specs.Pick.{pick, _and_, pick-yes, pick-no}
+use Rattle.octets.specs.Pick.{pick, _and_, and-both}
 use Rattle.octets.specs.Class.{lower}
 use Rattle.octets.specs.Lists.{every}
 use Rattle.octets.specs.Reading.{isRead, readOr}
@@ -18,7 +18,6 @@ use Rattle.octets.specs.Computing.{octets-compute}
 use Rattle.model.specs.Calendar.{xcal, ValueType, BINARY, BOOLEAN, CAL-ADDRESS, DATE, DATE-TIME, DURATION, FLOAT, INTEGER, PERIOD, RECUR, TEXT, TIME, URI, UTC-OFFSET, UNKNOWN}
 use Rattle.model.specs.Calendar.{Value, binary, boolean, calAddress, date, dateTime, duration, float, integer, periodExplicit, periodStart, recur, text, time, uri, utcOffset, unknown, geo, requestStatus, typeOf}
 use Rattle.model.specs.Refusal.{fine, _otherwise_}
-use Rattle.lines.specs.Extra.{and-both}
 use Rattle.schema.specs.Types.{typeName, sameType}
 use Rattle.schema.specs.Computing.{schema-compute}
 use Rattle.schema.specs.Properties.{propertyWords}
