@@ -7,6 +7,9 @@
 --     ReadText      the answer for a text
 --     WriteText     the canonical text of a calendar
 --     ParameterLaws   parameters are read back
+--     ValuesLaws      the values of a property are read back
+--     AcceptedValues  what is read is values of the property
+--     PropertyLaws    the line of a property states it
 --     Computing     opens all of these, for examples that compute
 pub mod Parameters
 pub mod Values
@@ -16,4 +19,7 @@ pub mod Tree
 pub mod ReadText
 pub mod WriteText
 pub mod ParameterLaws
+pub mod ValuesLaws
+pub mod AcceptedValues
+pub mod PropertyLaws
 pub mod Computing

@@ -7,12 +7,12 @@ use mathlib.Core.Bool.{Bool, true, false, not, false≢true}
 use mathlib.Core.List.{List, [], _∷_, map}
 use mathlib.Core.Option.{Option, none, some, Option·map}
 use Prim.Native.Nat.{ℕ}
-use Rattle.octets.specs.Ascii.{ascii}
-use Rattle.octets.specs.Pick.{pick, pick-yes, pick-no, _and_, _or_, and-yes}
+use Rattle.octets.specs.Pick.{pick, pick-yes, pick-no, _and_, _or_, and-yes, and-both}
 use Rattle.octets.specs.Class.{upper}
+use Rattle.octets.specs.Letters.{upper-twice}
 use Rattle.octets.specs.Words.{same, isOneOf, isEmpty, same-true, same-self}
 use Rattle.octets.specs.Lists.{every}
-use Rattle.octets.specs.Reading.{provided, readOr, readEach}
+use Rattle.octets.specs.Reading.{provided, readOr, readEach, none-some, provided-some}
 use Rattle.octets.specs.Computing.{octets-compute}
 use Rattle.model.specs.Calendar.{ical, ValueType, TEXT, UNKNOWN, Value, text, typeOf, textIn, Parameter}
 use Rattle.schema.specs.Types.{typeName, typeNamed, valueTypes, sameType, isTypeOf, same-type-self, same-type-true, type-name-read-back, type-any, type-passes}
@@ -21,14 +21,13 @@ use Rattle.schema.specs.Rows.{known-types, unrecognised-property}
 use Rattle.schema.specs.Computing.{schema-compute}
 use Rattle.schema.specs.Parameters.{parameterType, isListedParameter, parameterWords, isQuotedParameter}
 use Rattle.schema.specs.Closed.{parameter-words-plain}
-use Rattle.values.specs.Extra.{and-both, not-false, none-some, provided-some, every-both, every-weaker, each-read-back, each-accepted, each-accepted-of}
+use Rattle.values.specs.Extra.{not-false, every-both, each-read, each-passes, each-passes-of}
 use Rattle.values.specs.ReadValue.{readValue}
 use Rattle.values.specs.WriteValue.{writeValue}
 use Rattle.values.specs.ReadBack.{isValue, isTyped, value-read-back, value-accepted}
 use Rattle.values.specs.Valid.{isAmount, isOfType, isWordIn, isChosen, isParameter, each-amount, text-or-other, text-in}
 use Rattle.lines.specs.ContentLine.{ParamValue, RawParameter}
-use Rattle.octets.specs.Letters.{upper-twice}
-use Rattle.ical.specs.Parameters.{readTyped, readWord, readParamValue, isSingle, readParameter, isValueParameter, statedType, typeIn, ownParameters, readParameters}
+use Rattle.ical.specs.Parameters.{readTyped, readWord, readParamValue, isSingle, readParameter, isValueParameter, statedType, ownParameters, readParameters}
 use Rattle.ical.specs.WriteText.{paramChars, paramValueOf, rawOf, valueParameter, withValue}
 
 -- ---- one value
@@ -84,7 +83,7 @@ named-read-back : (n : List ℕ) (vs : List Value) → isAmount (isListedParamet
     ≡ some (parameterOf n vs)
 unfolding pick
 named-read-back n vs a h =
-    rw (single-map (isListedParameter n) (paramValueOf n) vs a, each-read-back (readParamValue n) (isChosen (parameterWords n) (parameterType n)) (paramValueOf n) (value-written n) vs h)
+    rw (single-map (isListedParameter n) (paramValueOf n) vs a, each-read (readParamValue n) (isChosen (parameterWords n) (parameterType n)) (paramValueOf n) (value-written n) vs h)
 
 pub parameter-read-back : (p : Parameter) → isParameter p ≡ true → readParameter (rawOf p) ≡ some p
 unfolding isParameter readParameter
@@ -140,7 +139,7 @@ parameter-accepted r p x y h = go (isListedParameter n or isSingle (r .values)) 
         (and-yes _ _ (rw (upper-twice (r .name)) (same-self n))
         (and-yes _ _ (rw x)
         (and-yes _ _ (each-amount (readParamValue n) (isListedParameter n) (r .values) vs e ∙ single-amount (isListedParameter n) (r .values) y a)
-        (each-accepted (readParamValue n) _ (value-read n) (r .values) vs e))))
+        (each-passes (readParamValue n) _ (value-read n) (r .values) vs e))))
 
 -- ---- the parameters of a property
 
@@ -159,7 +158,7 @@ own-written [] h = refl
 own-written (p ∷ ps) h = let e = every-both isParameter p ps h in rw (parameter-own p (e .0)) (ap (λ (l : List RawParameter). rawOf p ∷ l) (own-written ps (e .1)))
 
 pub parameters-read-back : (ps : List Parameter) → every isParameter ps ≡ true → readParameters (map rawOf ps) ≡ some ps
-parameters-read-back ps h = rw (own-written ps h) (each-read-back readParameter isParameter rawOf parameter-read-back ps h)
+parameters-read-back ps h = rw (own-written ps h) (each-read readParameter isParameter rawOf parameter-read-back ps h)
 
 -- every parameter of a content line has a value
 abbrev pub hasValue : RawParameter → Bool
@@ -180,7 +179,7 @@ own-have (r ∷ rs) h = let e = every-both hasValue r rs h in go (isValueParamet
 
 pub parameters-accepted : (rs : List RawParameter) (ps : List Parameter) → every hasValue rs ≡ true → readParameters rs ≡ some ps → every isParameter ps ≡ true
 parameters-accepted rs ps a h =
-    each-accepted-of readParameter isOwn isParameter
+    each-passes-of readParameter isParameter isOwn
     (λ r p t e. let d = and-both (not (isValueParameter r)) (hasValue r) t in parameter-accepted r p (not-false _ (d .0)) (not-false _ (d .1)) e)
     (ownParameters rs) ps (own-have rs a) h
 

@@ -1,7 +1,7 @@
 -- The canonical text of a calendar (RFC 5545, sections 3.1 and 3.4): names in capitals, VALUE first and only where it must stand, each line folded.
 --     contentLineOf    the content line of a property
 --     writeCalendar    the canonical text
-use mathlib.Core.Bool.{Bool, true, false, not}
+use mathlib.Core.Bool.{false}
 use mathlib.Core.List.{List, [], _∷_, map}
 use Prim.Native.Nat.{ℕ}
 use Rattle.octets.specs.Ascii.{ascii}

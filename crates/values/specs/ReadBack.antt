@@ -8,7 +8,8 @@ use mathlib.Core.Bool.{Bool, true, false, false≢true}
 use mathlib.Core.List.{List}
 use mathlib.Core.Option.{Option, none, some, Option·map}
 use Prim.Native.Nat.{ℕ}
-use Rattle.octets.specs.Pick.{_and_, and-yes}
+use Rattle.octets.specs.Pick.{_and_, and-yes, and-both}
+use Rattle.octets.specs.Reading.{none-some}
 use Rattle.model.specs.Calendar.{Format, ical, xcal, ValueType, BINARY, BOOLEAN, CAL-ADDRESS, DATE, DATE-TIME, DURATION, FLOAT, INTEGER, PERIOD, RECUR, TEXT, TIME, URI, UTC-OFFSET, UNKNOWN}
 use Rattle.model.specs.Calendar.{Value, binary, boolean, calAddress, date, dateTime, duration, float, integer, periodExplicit, periodStart, recur, text, time, uri, utcOffset, unknown, geo, requestStatus, typeOf}
 use Rattle.times.specs.Date.{isDate, readDate, date-read-back, date-accepted}
@@ -27,7 +28,6 @@ use Rattle.texts.specs.Binary.{isBinary, readBinary, binary-read-back, binary-a
 use Rattle.texts.specs.Unknown.{isUnknown, readUnknown, unknown-read-back, unknown-accepted}
 use Rattle.recur.specs.Rule.{isRule, readRule}
 use Rattle.recur.specs.RuleLaws.{rule-read-back, rule-accepted}
-use Rattle.values.specs.Extra.{and-both, none-some}
 use Rattle.values.specs.ReadValue.{readValue, readTextAs}
 use Rattle.values.specs.WriteValue.{writeValue, characters}
 

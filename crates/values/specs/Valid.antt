@@ -3,22 +3,23 @@
 --     arePropertyValues   the values of a property in a component: of one permitted type, and words of its closed set where it has one
 --     isProperty          a property of a component: such values, and parameters that it permits, each once; BINARY with ENCODING=BASE64
 -- How often a property stands in a component is no part of this.
-use mathlib.Core.Path.{_≡_, refl}
+use mathlib.Core.Path.{_≡_, refl, sym}
 use mathlib.Core.Bool.{Bool, true, false, not, false≢true}
 use mathlib.Core.List.{List, [], _∷_, map}
 use mathlib.Core.Option.{Option, none, some}
 use Prim.Native.Nat.{ℕ}
 use Rattle.octets.specs.Ascii.{ascii}
-use Rattle.octets.specs.Pick.{pick, _and_, _or_}
+use Rattle.octets.specs.Pick.{pick, _and_, _or_, and-both}
 use Rattle.octets.specs.Class.{upper}
 use Rattle.octets.specs.Words.{same, isOneOf, isEmpty}
 use Rattle.octets.specs.Lists.{every, anyOne, distinct}
-use Rattle.octets.specs.Reading.{consRead, readEach}
-use Rattle.model.specs.Calendar.{ValueType, BINARY, TEXT, Value, binary, boolean, calAddress, date, dateTime, duration, float, integer, periodExplicit, periodStart, recur, text, time, uri, utcOffset, unknown, geo, requestStatus, typeOf, textIn, Parameter, Property}
+use Rattle.octets.specs.Reading.{consRead, readEach, none-some, andThen-some, consRead-some}
+use Rattle.model.specs.Calendar.{Decimal, ValueType, BINARY, TEXT, Value, binary, boolean, calAddress, date, dateTime, duration, float, integer, periodExplicit, periodStart, recur, text, time, uri, utcOffset, unknown, geo, requestStatus, typeOf, textIn, Parameter, Property}
 use Rattle.schema.specs.Types.{sameType, isTypeOf}
 use Rattle.schema.specs.Parameters.{parameterType, isListedParameter, parameterWords}
 use Rattle.schema.specs.Properties.{permittedTypes, isListedProperty, permitsParameter, propertyWords}
-use Rattle.values.specs.Extra.{none-some, andThen-some, consRead-some, each-empty}
+use Rattle.numbers.specs.Float.{isNormal}
+use Rattle.values.specs.Extra.{each-empty}
 use Rattle.values.specs.WriteValue.{typeOfAll}
 use Rattle.values.specs.ReadBack.{isValue, isTyped}
 
@@ -55,52 +56,16 @@ isParameter p =
 
 -- ---- the values of a property
 
-abbrev pub isGeo : Value → Bool
-isGeo (binary s) = false
-isGeo (boolean b) = false
-isGeo (calAddress s) = false
-isGeo (date s) = false
-isGeo (dateTime s) = false
-isGeo (duration s) = false
-isGeo (float d) = false
-isGeo (integer w) = false
-isGeo (periodExplicit s e) = false
-isGeo (periodStart s d) = false
-isGeo (recur r) = false
-isGeo (text s) = false
-isGeo (time s) = false
-isGeo (uri s) = false
-isGeo (utcOffset s) = false
-isGeo (unknown s) = false
-isGeo (geo la lo) = isValue (geo la lo)
-isGeo (requestStatus c d x) = false
+-- GEO and REQUEST-STATUS have values of their own: a latitude and a longitude, of type FLOAT; a code, a description and data, of type TEXT
+abbrev pub hasOwnValues : List ℕ → Bool
+hasOwnValues n = same n (ascii "GEO") or same n (ascii "REQUEST-STATUS")
 
-abbrev pub isRequestStatus : Value → Bool
-isRequestStatus (binary s) = false
-isRequestStatus (boolean b) = false
-isRequestStatus (calAddress s) = false
-isRequestStatus (date s) = false
-isRequestStatus (dateTime s) = false
-isRequestStatus (duration s) = false
-isRequestStatus (float d) = false
-isRequestStatus (integer w) = false
-isRequestStatus (periodExplicit s e) = false
-isRequestStatus (periodStart s d) = false
-isRequestStatus (recur r) = false
-isRequestStatus (text s) = false
-isRequestStatus (time s) = false
-isRequestStatus (uri s) = false
-isRequestStatus (utcOffset s) = false
-isRequestStatus (unknown s) = false
-isRequestStatus (geo la lo) = false
-isRequestStatus (requestStatus c d x) = true
+abbrev pub isOwnValue : ValueType → Value → Bool
+isOwnValue t v = sameType (typeOf v) t and not (isTyped v) and isValue v
 
--- a value of type t of the property n in a component k: GEO and REQUEST-STATUS have values of their own
+-- a value of type t of the property n in a component k
 abbrev pub isPropertyValue : List ℕ → List ℕ → ValueType → Value → Bool
-isPropertyValue k n t v =
-    pick (same n (ascii "GEO")) (isGeo v)
-    (pick (same n (ascii "REQUEST-STATUS")) (isRequestStatus v)
-    (isChosen (propertyWords k n) t v))
+isPropertyValue k n t v = pick (hasOwnValues n) (isOwnValue t v) (isChosen (propertyWords k n) t v)
 
 -- all of a type t
 unfoldable pub areValuesOf : List ℕ → List ℕ → ValueType → List Value → Bool
@@ -141,7 +106,14 @@ each-amount f b (a ∷ l) r h =
     let g = consRead-some (e .0) (readEach f l) r (e .2) in
     rw (← (g .2), each-empty f l (g .0) (g .1))
 
--- ---- laws of TEXT among the values
+-- only one, where no list is taken
+pub only-one : {A : Type 0} (P : List A → Type 0) → ((x : A) → P (x ∷ [])) → (l : List A) → isAmount false l ≡ true → P l
+unfolding _or_
+only-one P f [] h = absurd (false≢true h)
+only-one P f (x ∷ []) h = f x
+only-one P f (x ∷ y ∷ l) h = absurd (false≢true h)
+
+-- ---- laws of values by their kind
 
 -- a value that is spelled as its type says is a TEXT, or has another type
 pub text-or-other : (P : Value → Type 0) → ((s : List ℕ) → P (text s)) → ((v : Value) → textIn v ≡ none → sameType (typeOf v) TEXT ≡ false → P v) →
@@ -185,3 +157,25 @@ text-in (utcOffset o) s h = none-some h
 text-in (unknown r) s h = none-some h
 text-in (geo la lo) s h = none-some h
 text-in (requestStatus c d x) s h = none-some h
+
+-- a value that is not spelled as its type says is GEO's or REQUEST-STATUS's
+pub own-value : (P : Value → Type 0) → ((la lo : Decimal) → isNormal la ≡ true → isNormal lo ≡ true → P (geo la lo)) →
+    ((c d : List ℕ) (x : Option (List ℕ)) → P (requestStatus c d x)) → (v : Value) → isTyped v ≡ false → isValue v ≡ true → P v
+own-value P g r (binary s) t h = absurd (false≢true (sym t))
+own-value P g r (boolean b) t h = absurd (false≢true (sym t))
+own-value P g r (calAddress s) t h = absurd (false≢true (sym t))
+own-value P g r (date s) t h = absurd (false≢true (sym t))
+own-value P g r (dateTime s) t h = absurd (false≢true (sym t))
+own-value P g r (duration s) t h = absurd (false≢true (sym t))
+own-value P g r (float d) t h = absurd (false≢true (sym t))
+own-value P g r (integer w) t h = absurd (false≢true (sym t))
+own-value P g r (periodExplicit s e) t h = absurd (false≢true (sym t))
+own-value P g r (periodStart s d) t h = absurd (false≢true (sym t))
+own-value P g r (recur p) t h = absurd (false≢true (sym t))
+own-value P g r (text s) t h = absurd (false≢true (sym t))
+own-value P g r (time s) t h = absurd (false≢true (sym t))
+own-value P g r (uri s) t h = absurd (false≢true (sym t))
+own-value P g r (utcOffset s) t h = absurd (false≢true (sym t))
+own-value P g r (unknown s) t h = absurd (false≢true (sym t))
+own-value P g r (geo la lo) t h = let e = and-both (isNormal la) (isNormal lo) h in g la lo (e .0) (e .1)
+own-value P g r (requestStatus c d x) t h = r c d x

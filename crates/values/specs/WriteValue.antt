@@ -6,7 +6,7 @@
 use mathlib.Core.List.{List, [], _∷_, map}
 use Prim.Native.Nat.{ℕ}
 use Rattle.octets.specs.Words.{joinedBy}
-use Rattle.model.specs.Calendar.{Format, ical, xcal, Value, binary, boolean, calAddress, date, dateTime, duration, float, integer, periodExplicit, periodStart, recur, text, time, uri, utcOffset, unknown, geo, requestStatus, ValueType, UNKNOWN, typeOf}
+use Rattle.model.specs.Calendar.{ical, xcal, Value, binary, boolean, calAddress, date, dateTime, duration, float, integer, periodExplicit, periodStart, recur, text, time, uri, utcOffset, unknown, geo, requestStatus, ValueType, UNKNOWN, typeOf}
 use Rattle.times.specs.Date.{writeDate}
 use Rattle.times.specs.Time.{writeTime}
 use Rattle.times.specs.DateTime.{writeDateTime}
