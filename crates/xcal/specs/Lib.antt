@@ -13,6 +13,9 @@
 --     RecurBack        the elements of a rule are read back
 --     RecurFine        the elements of a rule are not refused
 --     ValuesBack       values are read back from their elements, and not refused
+--     Chosen           a value of a type or a word of a closed set, in XML
+--     ParametersBack   parameters are read back from their elements
+--     ParametersFine   the elements of parameters are not refused
 --     Computing        opens all of these, for examples that compute
 pub mod Layout
 pub mod ValueNodes
@@ -28,4 +31,7 @@ pub mod LeavesBack
 pub mod RecurBack
 pub mod RecurFine
 pub mod ValuesBack
+pub mod Chosen
+pub mod ParametersBack
+pub mod ParametersFine
 pub mod Computing

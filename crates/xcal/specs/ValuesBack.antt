@@ -61,7 +61,7 @@ typed-before (geo la lo) next t = absurd (false≢true t)
 typed-before (requestStatus c d x) next t = absurd (false≢true t)
 
 -- what holds of every value spelled as its type says, by the three ways it is spelled in XML
-by-spelling : (P : Value → Type 0) →
+pub by-spelling : (P : Value → Type 0) →
     ((v : Value) → isCharacterData v ≡ true → inside v ≡ plainInside v → sameType (typeOf v) PERIOD ≡ false → sameType (typeOf v) RECUR ≡ false → P v) →
     ((s e : List ℕ) → P (periodExplicit s e)) → ((s d : List ℕ) → P (periodStart s d)) → ((ps : List _) → P (recur ps)) → (v : Value) → isTyped v ≡ true → P v
 unfolding inside sameType
