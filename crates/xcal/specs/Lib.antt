@@ -16,6 +16,8 @@
 --     Chosen           a value of a type or a word of a closed set, in XML
 --     ParametersBack   parameters are read back from their elements
 --     ParametersFine   the elements of parameters are not refused
+--     PropertyValues   the values of a property in its element
+--     OwnValues        the values of GEO and REQUEST-STATUS in their elements
 --     Computing        opens all of these, for examples that compute
 pub mod Layout
 pub mod ValueNodes
@@ -34,4 +36,6 @@ pub mod ValuesBack
 pub mod Chosen
 pub mod ParametersBack
 pub mod ParametersFine
+pub mod PropertyValues
+pub mod OwnValues
 pub mod Computing
