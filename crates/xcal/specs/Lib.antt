@@ -18,6 +18,7 @@
 --     ParametersFine   the elements of parameters are not refused
 --     PropertyValues   the values of a property in its element
 --     OwnValues        the values of GEO and REQUEST-STATUS in their elements
+--     PropertiesBack   properties are read back from their elements, and not refused
 --     Computing        opens all of these, for examples that compute
 pub mod Layout
 pub mod ValueNodes
@@ -38,4 +39,5 @@ pub mod ParametersBack
 pub mod ParametersFine
 pub mod PropertyValues
 pub mod OwnValues
+pub mod PropertiesBack
 pub mod Computing
