@@ -19,6 +19,8 @@
 --     PropertyValues   the values of a property in its element
 --     OwnValues        the values of GEO and REQUEST-STATUS in their elements
 --     PropertiesBack   properties are read back from their elements, and not refused
+--     ComponentsBack   components are read back from their elements
+--     ComponentsFine   the elements of components are not refused
 --     Computing        opens all of these, for examples that compute
 pub mod Layout
 pub mod ValueNodes
@@ -40,4 +42,6 @@ pub mod ParametersFine
 pub mod PropertyValues
 pub mod OwnValues
 pub mod PropertiesBack
+pub mod ComponentsBack
+pub mod ComponentsFine
 pub mod Computing
