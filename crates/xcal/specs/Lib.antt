@@ -21,6 +21,7 @@
 --     PropertiesBack   properties are read back from their elements, and not refused
 --     ComponentsBack   components are read back from their elements
 --     ComponentsFine   the elements of components are not refused
+--     SoundContent     content whose bytes can be read
 --     Computing        opens all of these, for examples that compute
 pub mod Layout
 pub mod ValueNodes
@@ -44,4 +45,5 @@ pub mod OwnValues
 pub mod PropertiesBack
 pub mod ComponentsBack
 pub mod ComponentsFine
+pub mod SoundContent
 pub mod Computing
