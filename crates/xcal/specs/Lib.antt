@@ -22,6 +22,7 @@
 --     ComponentsBack   components are read back from their elements
 --     ComponentsFine   the elements of components are not refused
 --     SoundContent     content whose bytes can be read
+--     DocumentBack     a calendar is read back from its document
 --     Computing        opens all of these, for examples that compute
 pub mod Layout
 pub mod ValueNodes
@@ -46,4 +47,5 @@ pub mod PropertiesBack
 pub mod ComponentsBack
 pub mod ComponentsFine
 pub mod SoundContent
+pub mod DocumentBack
 pub mod Computing
