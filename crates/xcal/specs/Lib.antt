@@ -22,6 +22,8 @@
 --     ComponentsBack   components are read back from their elements
 --     ComponentsFine   the elements of components are not refused
 --     SoundContent     content whose bytes can be read
+--     CleanValues      the characters of values are well formed
+--     SoundValues      the elements of values are sound
 --     DocumentBack     a calendar is read back from its document
 --     Computing        opens all of these, for examples that compute
 pub mod Layout
@@ -47,5 +49,7 @@ pub mod PropertiesBack
 pub mod ComponentsBack
 pub mod ComponentsFine
 pub mod SoundContent
+pub mod CleanValues
+pub mod SoundValues
 pub mod DocumentBack
 pub mod Computing
