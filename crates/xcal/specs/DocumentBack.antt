@@ -1,5 +1,5 @@
 -- A calendar that is written as a document is read back from it (RFC 6321).
---     content-back     where its content is sound
+--     document-back    a valid calendar, whose document is within the input limit, is read back
 use mathlib.Core.Path.{_≡_, refl, sym, ap, subst, _∙_}
 use mathlib.Core.Bool.{Bool, true, false, not}
 use mathlib.Core.List.{List, [], _∷_}
@@ -29,6 +29,7 @@ use Rattle.xcal.specs.WrittenContents.{document-written}
 use Rattle.xcal.specs.ComponentsBack.{areAllCalendars, areCalendars, calendars-back}
 use Rattle.xcal.specs.ComponentsFine.{stream-fine}
 use Rattle.xcal.specs.SoundContent.{isSound, sound-writable, sound-good}
+use Rattle.xcal.specs.Carried.{isValid, calendar-sound, valid-calendars}
 
 -- ---- bytes
 
@@ -71,6 +72,9 @@ module _ (c : Components) (calendars : areCalendars c ≡ true) (sound : isSound
   document-fine l =
       rw (le-leb _ _ l, document-good (written (calendarContent c)) (sound-good (calendarContent c) 15 sound), document-well-formed (calendarContent c) (sound-writable (calendarContent c) 15 sound)) root-fine
 
-  pub content-back : length (writeDocument c) ≤ 65535 → readDocument (writeDocument c) ≡ accepted c
+  content-back : length (writeDocument c) ≤ 65535 → readDocument (writeDocument c) ≡ accepted c
   unfolding readDocument
   content-back l = rw (document-written c, document-fine (rw (document-written c) at l), root-back)
+
+pub document-back : (c : Components) → isValid c ≡ true → length (writeDocument c) ≤ 65535 → readDocument (writeDocument c) ≡ accepted c
+document-back c h l = content-back c (valid-calendars c h) (calendar-sound c h) l

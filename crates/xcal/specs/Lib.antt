@@ -24,6 +24,7 @@
 --     SoundContent     content whose bytes can be read
 --     CleanValues      the characters of values are well formed
 --     SoundValues      the elements of values are sound
+--     Carried          a calendar that can be carried to XML and back
 --     DocumentBack     a calendar is read back from its document
 --     Computing        opens all of these, for examples that compute
 pub mod Layout
@@ -51,5 +52,6 @@ pub mod ComponentsFine
 pub mod SoundContent
 pub mod CleanValues
 pub mod SoundValues
+pub mod Carried
 pub mod DocumentBack
 pub mod Computing

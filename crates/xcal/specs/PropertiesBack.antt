@@ -84,16 +84,16 @@ good-part k n t (p ∷ ps) c x g h q = rw (g _) (h 1 (ascii "parameters" ∷ [])
 
 -- ---- one property
 
-record Carried (k : List ℕ) (p : Property) : Type 0 where
-  kept : isKeptName (p .name) ≡ true
-  begin : same (p .name) (ascii "BEGIN") ≡ false
-  end : same (p .name) (ascii "END") ≡ false
-  allowed : (not (isKnownProperty (p .name)) or mayStand k (p .name)) ≡ true
-  parameters : areParameters (p .name) (typeOfAll (p .values)) (p .parameters) ≡ true
-  values : arePropertyValues k (p .name) (p .values) ≡ true
-  clean : every isCarriedParameter (p .parameters) ≡ true
+pub record Carried (k : List ℕ) (p : Property) : Type 0 where
+  pub kept : isKeptName (p .name) ≡ true
+  pub begin : same (p .name) (ascii "BEGIN") ≡ false
+  pub end : same (p .name) (ascii "END") ≡ false
+  pub allowed : (not (isKnownProperty (p .name)) or mayStand k (p .name)) ≡ true
+  pub parameters : areParameters (p .name) (typeOfAll (p .values)) (p .parameters) ≡ true
+  pub values : arePropertyValues k (p .name) (p .values) ≡ true
+  pub clean : every isCarriedParameter (p .parameters) ≡ true
 
-carried : (k : List ℕ) (p : Property) → isCarriedProperty k p ≡ true → Carried k p
+pub carried : (k : List ℕ) (p : Property) → isCarriedProperty k p ≡ true → Carried k p
 unfolding isCarriedProperty isProperty
 carried k p h =
     let a = and-both (isKeptName (p .name)) _ h in
