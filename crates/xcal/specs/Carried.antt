@@ -1,23 +1,22 @@
 -- A calendar that can be carried to XML and back, and that its content is sound.
 --     isValid c            VCALENDAR components as the schema has them, of values that can be written
 --     calendar-sound       the content of such a calendar is sound, within 15 elements inside one another
-use mathlib.Core.Path.{_≡_, refl, sym, ap, _∙_}
-use mathlib.Core.Bool.{Bool, true, false, not, false≢true}
+use mathlib.Core.Path.{_≡_, refl}
+use mathlib.Core.Bool.{Bool, true, false, not}
 use mathlib.Core.List.{List, [], _∷_}
-use mathlib.Core.Option.{Option, none, some}
 use Prim.Native.Nat.{ℕ, zero, suc, _+_, _*_, _≤_, _<_}
 use native.Mathlib.Omega.{arith}
 use lib.Dec.{ltb}
 use borrow.Author.Tests.{ltb-true}
 use Rattle.octets.specs.Ascii.{ascii}
-use Rattle.octets.specs.Pick.{pick, pick-either, _and_, _or_, and-both, and-yes}
+use Rattle.octets.specs.Pick.{pick, pick-either, _and_, _or_, and-both}
 use Rattle.octets.specs.Class.{lower}
-use Rattle.octets.specs.Words.{same, same-true, isOneOf, isEmpty}
+use Rattle.octets.specs.Words.{same-true, isOneOf, isEmpty}
 use Rattle.octets.specs.Lists.{every, word-passes}
 use Rattle.octets.specs.Tables.{row-any-passes}
 use Rattle.octets.specs.Computing.{octets-compute}
 use Rattle.model.specs.Calendar.{ValueType, Value, Parameter, Property, Components, noMore, component}
-use Rattle.schema.specs.Components.{ComponentRow, componentTable, componentRow, unknownComponent, componentNames, subcomponentsOf}
+use Rattle.schema.specs.Components.{ComponentRow, componentTable, componentRow, unknownComponent, subcomponentsOf}
 use Rattle.schema.specs.Parameters.{parameterWords, parameterType}
 use Rattle.schema.specs.Properties.{propertyWords}
 use Rattle.schema.specs.Rows.{known-component-passes, subcomponents-known}

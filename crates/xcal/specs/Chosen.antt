@@ -4,20 +4,19 @@
 --     chosen-value    and is a value
 --     chosen-read     its characters are read back, as a value of the type or as a word
 --     chosen-word     and pass the test of a property's value
-use mathlib.Core.Path.{_≡_, refl, sym, ap, _∙_}
-use mathlib.Core.Bool.{Bool, true, false, false≢true}
+use mathlib.Core.Path.{_≡_, refl, sym}
+use mathlib.Core.Bool.{true, false, false≢true}
 use mathlib.Core.List.{List}
 use mathlib.Core.Option.{Option, none, some}
 use Prim.Native.Nat.{ℕ}
-use Rattle.octets.specs.Pick.{pick, _and_, pick-yes, and-both}
+use Rattle.octets.specs.Pick.{_and_, pick-yes, and-both}
 use Rattle.octets.specs.Words.{isOneOf}
-use Rattle.octets.specs.Reading.{isRead, none-some}
-use Rattle.model.specs.Calendar.{xcal, ValueType, PERIOD, RECUR, TEXT, Value, text, textIn, typeOf}
+use Rattle.octets.specs.Reading.{isRead}
+use Rattle.model.specs.Calendar.{ValueType, PERIOD, RECUR, TEXT, Value, text, textIn, typeOf}
 use Rattle.schema.specs.Types.{sameType, same-type-true}
-use Rattle.values.specs.ReadValue.{readValue}
 use Rattle.values.specs.WriteValue.{characters as dataOf}
 use Rattle.values.specs.ReadBack.{isValue, isTyped, isCharacterData, characters-read-back}
-use Rattle.values.specs.Valid.{isOfType, isWordIn, isChosen, text-in}
+use Rattle.values.specs.Valid.{isWordIn, isChosen, text-in}
 use Rattle.xcal.specs.Contents.{plainInside, inside}
 use Rattle.xcal.specs.ValueNodes.{readWordOf}
 use Rattle.xcal.specs.ParameterNodes.{readWordIn}

@@ -1,25 +1,22 @@
 -- The characters of values are well formed and hold no CR.
 --     isCleanValue      a TEXT, an `unknown` value, the parts of a REQUEST-STATUS are clean; other values always are
 --     data-clean        the character data of a value;   moment-clean, span-clean, float-clean, item-clean: of the elements inside one
-use mathlib.Core.Path.{_≡_, refl, sym, ap, _∙_}
-use mathlib.Core.Bool.{Bool, true, false, not, false≢true}
+use mathlib.Core.Path.{_≡_, refl}
+use mathlib.Core.Bool.{Bool, true, false, false≢true}
 use mathlib.Core.List.{List, [], _∷_}
 use mathlib.Core.Option.{Option, none, some}
 use Prim.Native.Nat.{ℕ, zero, suc}
 use lib.Dec.{eqb}
 use lib.ListN.{length}
-use Rattle.octets.specs.Ascii.{ascii}
-use Rattle.octets.specs.Pick.{pick, pick-either, _and_, _or_, and-both, and-yes}
+use Rattle.octets.specs.Pick.{pick, pick-either, _and_, _or_}
 use Rattle.octets.specs.Scan.{allOf, all-cons, all-split}
-use Rattle.octets.specs.Class.{isVisible, lower}
-use Rattle.octets.specs.Words.{holds, all-without}
+use Rattle.octets.specs.Class.{isVisible}
+use Rattle.octets.specs.Words.{all-without}
 use Rattle.octets.specs.Lists.{every}
-use Rattle.octets.specs.Tables.{row-named, row-passes}
 use Rattle.octets.specs.Computing.{octets-compute}
-use Rattle.model.specs.Calendar.{ical, xcal, ValueType, RuleItem, moment, number, word, weekday, RulePart}
-use Rattle.model.specs.Calendar.{Value, binary, boolean, calAddress, date, dateTime, duration, float, integer, periodExplicit, periodStart, recur, text, time, uri, utcOffset, unknown, geo, requestStatus, typeOf}
-use Rattle.utf8.specs.Utf8.{wellFormed, good-well-formed, visible-good}
-use Rattle.schema.specs.Types.{typeName, type-passes}
+use Rattle.model.specs.Calendar.{ical, xcal, RuleItem, moment, number, word, weekday}
+use Rattle.model.specs.Calendar.{Value, binary, boolean, calAddress, date, dateTime, duration, float, integer, periodExplicit, periodStart, recur, text, time, uri, utcOffset, unknown, geo, requestStatus}
+use Rattle.utf8.specs.Utf8.{good-well-formed, visible-good}
 use Rattle.times.specs.Spelling.{Mark, putMark, withMarks, chars-visible}
 use Rattle.times.specs.Date.{isDate, writeDate, dateMarks, date-chars}
 use Rattle.times.specs.Time.{writeTime, timeMarks, time-chars}
@@ -32,19 +29,12 @@ use Rattle.numbers.specs.Float.{isNormal, writeFloat}
 use Rattle.numbers.specs.FloatLaws.{float-visible}
 use Rattle.texts.specs.Uri.{uri-visible}
 use Rattle.texts.specs.Binary.{binary-visible}
-use Rattle.recur.specs.Parts.{Part, partTable, partNames, partOf, isListPart}
-use Rattle.recur.specs.Item.{writeItem, isFor, isItem}
+use Rattle.recur.specs.Item.{writeItem, isItem}
 use Rattle.recur.specs.ItemLaws.{item-characters}
-use Rattle.recur.specs.Rule.{isAmount, isPart, isOrdered, isComplete}
 use Rattle.values.specs.Extra.{every-both}
 use Rattle.values.specs.WriteValue.{characters as dataOf}
-use Rattle.values.specs.ReadBack.{isValue, isTyped, isCharacterData}
-use Rattle.values.specs.Valid.{own-value}
-use Rattle.xml.specs.Reads.{isName}
-use Rattle.xml.specs.Content.{Content, nothing, child, characters}
-use Rattle.xcal.specs.Contents.{leafBefore, itemsBefore, partsBefore, dataBefore, plainInside, inside, valueBefore, valuesBefore}
-use Rattle.xcal.specs.ValuesBack.{typed-before, by-spelling}
-use Rattle.xcal.specs.SoundContent.{isClean, isSound}
+use Rattle.values.specs.ReadBack.{isValue, isCharacterData}
+use Rattle.xcal.specs.SoundContent.{isClean}
 
 abbrev pub isCleanData : Option (List ℕ) → Bool
 isCleanData none = true

@@ -3,31 +3,26 @@
 --     areCalendars c       VCALENDAR components, at least one
 --     components-back      the components that elements state
 --     calendars-back       the same of calendars
-use mathlib.Core.Path.{_≡_, refl, sym, ap, _∙_}
+use mathlib.Core.Path.{_≡_, refl, sym}
 use mathlib.Core.Bool.{Bool, true, false, not, false≢true}
-use mathlib.Core.List.{List, [], _∷_}
+use mathlib.Core.List.{List}
 use Prim.Native.Nat.{ℕ}
-use borrow.Author.Tests.{not-true}
 use Rattle.octets.specs.Ascii.{ascii}
-use Rattle.octets.specs.Pick.{pick, _and_, _or_, and-both, and-yes, or-left, or-right, or-cases}
+use Rattle.octets.specs.Pick.{pick, _and_, _or_, and-both}
 use Rattle.octets.specs.Class.{upper, lower}
-use Rattle.octets.specs.Words.{same, same-self, same-true, isOneOf, isEmpty}
+use Rattle.octets.specs.Words.{same, same-true, isOneOf}
 use Rattle.octets.specs.Lists.{every}
 use Rattle.octets.specs.Computing.{octets-compute}
 use Rattle.model.specs.Calendar.{Property, Components, noMore, component}
-use Rattle.model.specs.Refusal.{fine, _otherwise_}
-use Rattle.schema.specs.Components.{componentRow, componentNames, subcomponentsOf}
+use Rattle.schema.specs.Components.{subcomponentsOf}
 use Rattle.schema.specs.Rows.{component-name, name-capital, subcomponents-known}
 use Rattle.schema.specs.Counts.{complete}
-use Rattle.schema.specs.Computing.{schema-compute}
-use Rattle.xml.specs.Nodes.{Nodes, noNodes, element, hasElement}
+use Rattle.xml.specs.Nodes.{noNodes, hasElement}
 use Rattle.xml.specs.Content.{Content, nothing, child, placed}
 use Rattle.xcal.specs.WriteXml.{isNoMore}
-use Rattle.xcal.specs.ElementNames.{no-capital}
-use Rattle.xcal.specs.Contents.{propertiesBefore, componentsPart, componentInside, calendarContent}
-use Rattle.xcal.specs.PropertyNodes.{propertiesVerdict, readProperties}
-use Rattle.xcal.specs.ComponentNodes.{insideOf, isComplete, Come, endOfComponent, endOfComponents, componentVerdict, componentsVerdict, streamVerdict, readComponents, readInner}
-use Rattle.xcal.specs.PropertiesBack.{isCarriedProperty, properties-back, properties-fine}
+use Rattle.xcal.specs.Contents.{componentsPart, componentInside, calendarContent}
+use Rattle.xcal.specs.ComponentNodes.{insideOf, readComponents, readInner}
+use Rattle.xcal.specs.PropertiesBack.{isCarriedProperty, properties-back}
 
 -- what a component n holds, but for its place
 abbrev pub isCarriedComponent : List ℕ → List Property → Components → Bool

@@ -1,30 +1,29 @@
 -- Components that are written to XML are not refused (RFC 6321, sections 3.2 and 3.3).
 --     components-fine      the verdict on the children of `components`
 --     stream-fine          the verdict on the children of the root
-use mathlib.Core.Path.{_≡_, refl, sym, ap, _∙_}
+use mathlib.Core.Path.{_≡_, refl, sym}
 use mathlib.Core.Bool.{Bool, true, false, not, false≢true}
 use mathlib.Core.List.{List, [], _∷_}
 use Prim.Native.Nat.{ℕ}
 use Rattle.octets.specs.Ascii.{ascii}
-use Rattle.octets.specs.Pick.{pick, _and_, _or_, and-both, and-yes, or-left, or-right, or-cases}
-use Rattle.octets.specs.Class.{upper, lower}
-use Rattle.octets.specs.Words.{same, same-self, same-true, isOneOf, isEmpty}
+use Rattle.octets.specs.Pick.{pick, _and_, _or_, and-both, or-left, or-right, or-cases}
+use Rattle.octets.specs.Class.{lower}
+use Rattle.octets.specs.Words.{same, same-true, isOneOf, isEmpty}
 use Rattle.octets.specs.Lists.{every}
 use Rattle.octets.specs.Computing.{octets-compute}
 use Rattle.model.specs.Calendar.{Property, Components, noMore, component}
 use Rattle.model.specs.Refusal.{FRAME, fine, refuse, _otherwise_}
 use Rattle.schema.specs.Components.{subcomponentsOf}
-use Rattle.schema.specs.Counts.{complete}
 use Rattle.schema.specs.Computing.{schema-compute}
 use Rattle.xml.specs.Nodes.{noNodes, hasElement}
-use Rattle.xml.specs.Content.{Content, nothing, child, placed}
+use Rattle.xml.specs.Content.{Content, placed}
 use Rattle.xcal.specs.WriteXml.{isNoMore}
 use Rattle.xcal.specs.ElementNames.{no-capital}
-use Rattle.xcal.specs.Contents.{propertiesBefore, componentsPart, componentInside, calendarContent}
-use Rattle.xcal.specs.PropertyNodes.{propertiesVerdict, readProperties}
+use Rattle.xcal.specs.Contents.{componentsPart, componentInside, calendarContent}
+use Rattle.xcal.specs.PropertyNodes.{readProperties}
 use Rattle.xcal.specs.ComponentNodes.{insideOf, isComplete, endOfComponent, endOfComponents, componentVerdict, componentsVerdict, streamVerdict}
 use Rattle.xcal.specs.PropertiesBack.{isCarriedProperty, properties-back, properties-fine}
-use Rattle.xcal.specs.ComponentsBack.{isCarriedComponent, areCarried, isCalendar, areAllCalendars, areCalendars, carried-name, by-part, no-more, has-components}
+use Rattle.xcal.specs.ComponentsBack.{isCarriedComponent, areCarried, isCalendar, areAllCalendars, carried-name, by-part, has-components}
 
 -- ---- counts
 

@@ -1,32 +1,30 @@
 -- A calendar that is written as a document is read back from it (RFC 6321).
 --     document-back    a valid calendar, whose document is within the input limit, is read back
-use mathlib.Core.Path.{_≡_, refl, sym, ap, subst, _∙_}
-use mathlib.Core.Bool.{Bool, true, false, not}
-use mathlib.Core.List.{List, [], _∷_}
-use mathlib.Core.Option.{Option, none, some}
+use mathlib.Core.Path.{_≡_, refl}
+use mathlib.Core.Bool.{true, false, not}
+use mathlib.Core.List.{List}
+use mathlib.Core.Option.{none}
 use Prim.Native.Nat.{ℕ, _+_, _≤_}
-use lib.Dec.{leb}
 use lib.ListN.{length}
 use borrow.Author.Tests.{le-leb}
 use Rattle.octets.specs.Ascii.{ascii}
 use Rattle.octets.specs.Pick.{pick, _and_, _or_, and-both}
 use Rattle.octets.specs.Append.{_⊕_}
-use Rattle.octets.specs.Words.{same, same-self}
+use Rattle.octets.specs.Words.{same-self}
 use Rattle.model.specs.Calendar.{Components}
-use Rattle.model.specs.Refusal.{fine, _otherwise_, accepted, answer}
+use Rattle.model.specs.Refusal.{fine, _otherwise_, accepted}
 use Rattle.utf8.specs.Computing.{utf8-compute}
 use Rattle.utf8.specs.Utf8.{firstBad, good-append}
 use Rattle.xml.specs.Escape.{declaration, rootStart, endTag, documentOf}
-use Rattle.xml.specs.WellFormed.{xmlVerdict}
 use Rattle.xml.specs.Nodes.{noNodes, element, documentNodes}
 use Rattle.xml.specs.Content.{written, placed}
 use Rattle.xml.specs.DocumentBack.{document-read-back, document-well-formed}
 use Rattle.xcal.specs.WriteXml.{isNoMore, writeDocument}
 use Rattle.xcal.specs.ComponentNodes.{rootVerdict, readRoot}
-use Rattle.xcal.specs.ReadDocument.{characters, documentVerdict, readDocument}
+use Rattle.xcal.specs.ReadDocument.{documentVerdict, readDocument}
 use Rattle.xcal.specs.Contents.{calendarContent}
 use Rattle.xcal.specs.WrittenContents.{document-written}
-use Rattle.xcal.specs.ComponentsBack.{areAllCalendars, areCalendars, calendars-back}
+use Rattle.xcal.specs.ComponentsBack.{areCalendars, calendars-back}
 use Rattle.xcal.specs.ComponentsFine.{stream-fine}
 use Rattle.xcal.specs.SoundContent.{isSound, sound-writable, sound-good}
 use Rattle.xcal.specs.Carried.{isValid, calendar-sound, valid-calendars}

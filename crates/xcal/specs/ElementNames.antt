@@ -11,10 +11,10 @@ use Prim.Native.Nat.{ℕ, _+_, _≤_}
 use native.Mathlib.Omega.{arith}
 use lib.Dec.{eqb, leb}
 use borrow.Author.Tests.{le-leb, lt-leb}
-use Rattle.octets.specs.Pick.{pick, _and_, _or_, within-yes, within-range, and-yes, and-no-left, and-no-right, or-left, or-right, or-no, and-both, or-neither, pick-second}
+use Rattle.octets.specs.Pick.{pick, _and_, _or_, within-yes, within-range, and-yes, and-no-right, or-left, or-right, or-no, and-both, or-neither, pick-second}
 use Rattle.octets.specs.Scan.{allOf, all-split}
 use Rattle.octets.specs.Class.{isDigit, isCapital, isSmall, isAlpha, isNameChar, upperByte, lowerByte, upper, lower}
-use Rattle.octets.specs.Words.{same, same-self, same-true, isEmpty}
+use Rattle.octets.specs.Words.{same, same-self, same-true}
 use Rattle.lines.specs.ContentLine.{isName}
 use Rattle.lines.specs.Names.{startsOffName, isCarriedName, carried-name-upper}
 use Rattle.xml.specs.Reads.{isName as isXmlName}

@@ -1,7 +1,7 @@
 -- Elements of character data that are written: their nodes have the characters, no element, and the verdict on them is that of the characters.
 --     leaf-characters, leaf-no-element, leaf-fine
 --     leaf-read       the reading of a leaf's characters
-use mathlib.Core.Path.{_≡_, refl, sym, ap, _∙_}
+use mathlib.Core.Path.{_≡_, refl, _∙_}
 use mathlib.Core.Bool.{Bool, true, false}
 use mathlib.Core.List.{List, [], _∷_}
 use Prim.Native.Nat.{ℕ, _+_}
@@ -11,7 +11,7 @@ use Rattle.octets.specs.Append.{append-none}
 use Rattle.model.specs.Refusal.{VALUE, fine, refuse, _otherwise_}
 use Rattle.xml.specs.Escape.{escapedByte}
 use Rattle.xml.specs.Reads.{isEscaped}
-use Rattle.xml.specs.Nodes.{Nodes, noNodes, element, literal, referred, charactersOf, hasElement}
+use Rattle.xml.specs.Nodes.{Nodes, noNodes, literal, referred, charactersOf, hasElement}
 use Rattle.xml.specs.Content.{nothing, characters, characterNodes, placed}
 use Rattle.xml.specs.ReadBack.{characters-of, no-element}
 use Rattle.xcal.specs.Layout.{innerElement, leaf}

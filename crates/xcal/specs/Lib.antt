@@ -27,6 +27,7 @@
 --     Carried          a calendar that can be carried to XML and back
 --     DocumentBack     a calendar is read back from its document
 --     Computing        opens all of these, for examples that compute
+--     Examples         calendars that are valid, and ones that are not
 pub mod Layout
 pub mod ValueNodes
 pub mod ParameterNodes
@@ -55,3 +56,4 @@ pub mod SoundValues
 pub mod Carried
 pub mod DocumentBack
 pub mod Computing
+pub mod Examples

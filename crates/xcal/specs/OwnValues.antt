@@ -1,20 +1,19 @@
 -- The values of GEO and REQUEST-STATUS, which have children of their own, in the property's element (RFC 6321, section 3.4.1; schema, lines 744 and 1183).
 --     geo-stands, status-stands    what their elements are
 --     values-stand                 the elements of any property's values
-use mathlib.Core.Path.{_≡_, refl, sym, ap, subst, _∙_}
+use mathlib.Core.Path.{_≡_, refl, sym, subst}
 use mathlib.Core.Bool.{Bool, true, false, not, false≢true}
 use mathlib.Core.List.{List, [], _∷_}
 use mathlib.Core.Option.{Option, none, some}
-use Prim.Native.Nat.{ℕ, _≤_}
+use Prim.Native.Nat.{ℕ}
 use borrow.Author.Tests.{le-ltb, not-true}
 use Rattle.octets.specs.Ascii.{ascii}
 use Rattle.octets.specs.Pick.{pick, _and_, _or_, and-both, or-left, or-right}
 use Rattle.octets.specs.Words.{same, same-self, same-true}
 use Rattle.octets.specs.Lists.{every}
 use Rattle.octets.specs.Reading.{isRead}
-use Rattle.octets.specs.Computing.{octets-compute}
 use Rattle.model.specs.Calendar.{ValueType, FLOAT, TEXT, Decimal, Value, geo, requestStatus, typeOf}
-use Rattle.model.specs.Refusal.{fine, _otherwise_}
+use Rattle.model.specs.Refusal.{_otherwise_}
 use Rattle.schema.specs.Types.{isTypeOf}
 use Rattle.schema.specs.Properties.{permittedTypes, isListedProperty, propertyWords}
 use Rattle.schema.specs.Computing.{schema-compute}
@@ -26,7 +25,7 @@ use Rattle.values.specs.ReadBack.{isValue, isTyped}
 use Rattle.values.specs.Valid.{isAmount, isChosen, hasOwnValues, isOwnValue, isPropertyValue, areValuesOf, arePropertyValues, only-one, own-value}
 use Rattle.xml.specs.Content.{placed}
 use Rattle.xcal.specs.Layout.{lacks, sequence}
-use Rattle.xcal.specs.ValueNodes.{firstType, valueVerdict, childNamed, readValueNodes}
+use Rattle.xcal.specs.ValueNodes.{valueVerdict, childNamed, readValueNodes}
 use Rattle.xcal.specs.PropertyNodes.{parametersIn}
 use Rattle.xcal.specs.Contents.{valueBefore, valuesBefore}
 use Rattle.xcal.specs.LeavesBack.{leaf-characters, leaf-fine}

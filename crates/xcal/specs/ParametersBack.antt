@@ -2,43 +2,34 @@
 --     isCarriedParameter       a parameter that can be carried to XML: its name can, and no value holds a double quote or LF
 --     parameter-values-back    the values that a parameter's element states
 --     parameters-back          the parameters that the elements of parameters state
-use mathlib.Core.Path.{_≡_, refl, sym, ap, _∙_}
+use mathlib.Core.Path.{_≡_, refl, ap}
 use mathlib.Core.Bool.{Bool, true, false, not, false≢true}
-use mathlib.Core.List.{List, [], _∷_, map}
-use mathlib.Core.Option.{Option, none, some}
-use Prim.Native.Nat.{ℕ, _+_}
-use native.Mathlib.Omega.{arith}
-use lib.Dec.{eqb}
-use lib.ListN.{length}
-use borrow.Author.Tests.{ne-eqb, not-true}
+use mathlib.Core.List.{List, [], _∷_}
+use mathlib.Core.Option.{some}
+use Prim.Native.Nat.{ℕ}
+use borrow.Author.Tests.{not-true}
 use Rattle.octets.specs.Ascii.{ascii}
-use Rattle.octets.specs.Pick.{pick, _and_, _or_, and-both, and-yes, or-no, or-neither, or-left, or-right, or-cases, and-no-right, pick-second}
-use Rattle.octets.specs.Append.{_⊕_, length-both}
+use Rattle.octets.specs.Pick.{pick, _and_, _or_, and-both}
 use Rattle.octets.specs.Class.{upper, lower}
-use Rattle.octets.specs.Words.{same, same-self, same-true, same-swap, isOneOf, holds}
-use Rattle.octets.specs.Lists.{every, anyOne, distinct}
+use Rattle.octets.specs.Words.{same, same-self, holds}
+use Rattle.octets.specs.Lists.{every}
 use Rattle.octets.specs.Reading.{andThen, consRead, readOr}
 use Rattle.octets.specs.Tables.{row-any-passes}
 use Rattle.octets.specs.Computing.{octets-compute}
-use Rattle.model.specs.Calendar.{ValueType, BINARY, PERIOD, RECUR, TEXT, Value, textIn, typeOf, Parameter}
-use Rattle.model.specs.Refusal.{fine, _otherwise_}
+use Rattle.model.specs.Calendar.{PERIOD, RECUR, TEXT, Value, typeOf, Parameter}
 use Rattle.schema.specs.Types.{typeName, sameType}
 use Rattle.schema.specs.Closed.{parameter-words-text}
 use Rattle.schema.specs.Parameters.{parameterTable, parameterRow, unrecognisedParameter, parameterType, isListedParameter, parameterWords}
-use Rattle.schema.specs.Properties.{permitsParameter}
-use Rattle.lines.specs.Names.{isCarriedName}
 use Rattle.values.specs.Extra.{every-both}
 use Rattle.values.specs.WriteValue.{characters as dataOf}
 use Rattle.values.specs.ReadBack.{isValue, isTyped}
-use Rattle.values.specs.Valid.{isAmount, isWordIn, isChosen, isParameter, areParameters, isBase64 as saysBase64}
-use Rattle.xml.specs.Escape.{startTag}
-use Rattle.xml.specs.Nodes.{Nodes, noNodes, element, charactersOf, hasElement}
-use Rattle.xml.specs.Content.{Content, nothing, child, written, innerPlace, endTagPlace, placed}
-use Rattle.xcal.specs.Layout.{hasCapital}
-use Rattle.xcal.specs.ElementNames.{isKeptName, lower-same, no-capital, kept-upper, kept-back, kept-carried}
+use Rattle.values.specs.Valid.{isAmount, isChosen, isParameter}
+use Rattle.xml.specs.Nodes.{noNodes, hasElement}
+use Rattle.xml.specs.Content.{nothing, placed}
+use Rattle.xcal.specs.ElementNames.{isKeptName, kept-back}
 use Rattle.xcal.specs.Contents.{inside, valuesBefore, parametersBefore}
 use Rattle.xcal.specs.LeavesBack.{leaf-placed, leaf-characters, leaf-no-element}
-use Rattle.xcal.specs.ParameterNodes.{readWordIn, readParamNode, readParamNodes, valuesGood, isBase64, encodes, badName, parameterVerdict, parametersVerdict, readParameterNodes}
+use Rattle.xcal.specs.ParameterNodes.{readParamNode, readParamNodes, readParameterNodes}
 use Rattle.xcal.specs.ValuesBack.{typed-before}
 use Rattle.xcal.specs.Chosen.{plain-value, chosen-typed, chosen-read}
 

@@ -2,10 +2,10 @@
 --     isCarriedProperty k p    a property of a component k that can be carried to XML
 --     properties-back          the properties that the elements of properties state
 --     properties-fine          the verdict on them
-use mathlib.Core.Path.{_≡_, refl, sym, ap, _∙_}
-use mathlib.Core.Bool.{Bool, true, false, not, false≢true}
+use mathlib.Core.Path.{_≡_, refl, ap, _∙_}
+use mathlib.Core.Bool.{Bool, true, false, not}
 use mathlib.Core.List.{List, [], _∷_}
-use mathlib.Core.Option.{Option, none, some}
+use mathlib.Core.Option.{none}
 use Prim.Native.Nat.{ℕ, _≤_}
 use native.Mathlib.Omega.{arith}
 use borrow.Author.Tests.{not-true}
@@ -16,22 +16,21 @@ use Rattle.octets.specs.Words.{same}
 use Rattle.octets.specs.Lists.{every}
 use Rattle.octets.specs.Reading.{readOr}
 use Rattle.octets.specs.Computing.{octets-compute}
-use Rattle.model.specs.Calendar.{ValueType, BINARY, Value, Parameter, Property}
+use Rattle.model.specs.Calendar.{ValueType, Value, Parameter, Property}
 use Rattle.model.specs.Refusal.{fine, _otherwise_}
-use Rattle.schema.specs.Types.{sameType}
 use Rattle.schema.specs.Components.{mayStand}
-use Rattle.schema.specs.Properties.{isKnownProperty, defaultType}
+use Rattle.schema.specs.Properties.{isKnownProperty}
 use Rattle.schema.specs.Computing.{schema-compute}
 use Rattle.values.specs.Extra.{every-both}
 use Rattle.values.specs.WriteValue.{typeOfAll}
 use Rattle.values.specs.Valid.{areParameters, arePropertyValues, isProperty}
 use Rattle.xml.specs.Nodes.{Nodes, noNodes, element}
-use Rattle.xml.specs.Content.{Content, nothing, child, placed}
+use Rattle.xml.specs.Content.{Content, nothing, placed}
 use Rattle.xcal.specs.Layout.{sequence}
 use Rattle.xcal.specs.ElementNames.{isKeptName, lower-same, no-capital, kept-upper, kept-back, kept-carried}
 use Rattle.xcal.specs.Contents.{valuesBefore, parametersBefore, parametersPart, propertyInside, propertiesBefore}
 use Rattle.xcal.specs.ValueNodes.{elementType, firstType, typeOfNodes, childNamed, typedValues, readValueNodes}
-use Rattle.xcal.specs.ParameterNodes.{hasEncoding, parametersVerdict, readParameterNodes}
+use Rattle.xcal.specs.ParameterNodes.{parametersVerdict, readParameterNodes}
 use Rattle.xcal.specs.PropertyNodes.{badName, propertySlots, parametersIn, childVerdict, lacksEncoding, propertyVerdict, propertiesVerdict, readProperties}
 use Rattle.xcal.specs.ParametersBack.{isCarriedParameter, parameters-back}
 use Rattle.xcal.specs.ParametersFine.{parameters-good, has-encoding}

@@ -1,39 +1,34 @@
 -- The values of a property in its element: what they are read as, and that they are not refused (RFC 6321, sections 3.4 and 3.6).
 --     Stands          what the elements of values are, in the element of a property
 --     typed-stands    the elements of values that are spelled as their type says are that
-use mathlib.Core.Path.{_≡_, refl, sym, ap, subst, _∙_}
+use mathlib.Core.Path.{_≡_, refl, sym, ap, _∙_}
 use mathlib.Core.Bool.{Bool, true, false, not, false≢true}
 use mathlib.Core.List.{List, [], _∷_}
-use mathlib.Core.Option.{Option, none, some}
+use mathlib.Core.Option.{some}
 use Prim.Native.Nat.{ℕ, _≤_}
 use native.Mathlib.Omega.{arith}
 use borrow.Author.Tests.{le-ltb, not-true}
 use Rattle.octets.specs.Ascii.{ascii}
-use Rattle.octets.specs.Pick.{pick, pick-yes, pick-no, _and_, _or_, and-both, and-yes, or-left, or-right, or-cases, or-neither}
+use Rattle.octets.specs.Pick.{pick, _and_, _or_, and-yes, or-left, or-right, or-cases}
 use Rattle.octets.specs.Class.{lower}
-use Rattle.octets.specs.Words.{same, same-self, same-true, isOneOf, isEmpty}
+use Rattle.octets.specs.Words.{same, same-self, same-true, isOneOf}
 use Rattle.octets.specs.Lists.{every, anyOne}
-use Rattle.octets.specs.Reading.{isRead, readOr}
-use Rattle.octets.specs.Computing.{octets-compute}
-use Rattle.model.specs.Calendar.{ValueType, FLOAT, TEXT, Decimal, Value, geo, requestStatus, typeOf}
+use Rattle.octets.specs.Reading.{readOr}
+use Rattle.model.specs.Calendar.{ValueType, TEXT, Value, typeOf}
 use Rattle.model.specs.Refusal.{fine, _otherwise_}
 use Rattle.schema.specs.Types.{typeName, sameType, isTypeOf, same-type-self, same-type-true, type-passes}
-use Rattle.schema.specs.Properties.{propertyRow, permittedTypes, defaultType, isListedProperty, propertyWords}
+use Rattle.schema.specs.Properties.{permittedTypes, defaultType, isListedProperty, propertyWords}
 use Rattle.schema.specs.Closed.{property-words-text}
 use Rattle.schema.specs.Computing.{schema-compute}
-use Rattle.numbers.specs.Float.{isNormal, readFloat, writeFloat}
-use Rattle.numbers.specs.FloatLaws.{float-read-back}
 use Rattle.values.specs.Extra.{every-both}
-use Rattle.values.specs.WriteValue.{typeOfAll, characters as dataOf}
-use Rattle.values.specs.ReadBack.{isValue, isTyped, isCharacterData}
-use Rattle.values.specs.Valid.{isAmount, isChosen, hasOwnValues, isOwnValue, isPropertyValue, areValuesOf, arePropertyValues, own-value}
-use Rattle.xml.specs.Nodes.{Nodes, noNodes, element, charactersOf}
-use Rattle.xml.specs.Content.{Content, nothing, child, placed}
-use Rattle.xcal.specs.Layout.{Slot, slotOf, lacks, sequence, leaf}
-use Rattle.xcal.specs.ValueNodes.{may, typeElements, valueSlots, hasOwnChildren, elementType, firstType, typeOfNodes, typedVerdict, valueVerdict, childNamed, valueOf, typedValues, readValueNodes}
-use Rattle.xcal.specs.PropertyNodes.{propertySlots, stillBefore, parametersIn, childVerdict}
-use Rattle.xcal.specs.Contents.{inside, elementBefore, valueBefore, valuesBefore, dataBefore}
-use Rattle.xcal.specs.LeavesBack.{leafNodes, leaf-characters, leaf-fine}
+use Rattle.values.specs.ReadBack.{isValue, isTyped}
+use Rattle.values.specs.Valid.{isAmount, isChosen}
+use Rattle.xml.specs.Nodes.{noNodes}
+use Rattle.xml.specs.Content.{Content, nothing, placed}
+use Rattle.xcal.specs.Layout.{Slot, slotOf, lacks, sequence}
+use Rattle.xcal.specs.ValueNodes.{may, typeElements, hasOwnChildren, firstType, valueVerdict, readValueNodes}
+use Rattle.xcal.specs.PropertyNodes.{propertySlots, parametersIn, childVerdict}
+use Rattle.xcal.specs.Contents.{inside, valueBefore, valuesBefore}
 use Rattle.xcal.specs.ValuesBack.{typed-before, typed-fine, element-type, values-back}
 use Rattle.xcal.specs.Chosen.{chosen-typed, chosen-word}
 

@@ -5,7 +5,6 @@ use mathlib.Core.Bool.{Bool, true, false, false≢true}
 use mathlib.Core.List.{List, [], _∷_, _++_, append-nil, map}
 use mathlib.Core.Option.{Option, none, some}
 use Prim.Native.Nat.{ℕ}
-use native.Mathlib.Omega.{arith}
 use Rattle.octets.specs.Pick.{pick, _and_, and-both, pick-second}
 use Rattle.octets.specs.Class.{upper, lower}
 use Rattle.octets.specs.Words.{same, same-self, same-true, same-swap, isOneOf, rowOf}
@@ -13,17 +12,17 @@ use Rattle.octets.specs.Lists.{every, distinct}
 use Rattle.octets.specs.Tables.{row-named, row-passes, row-none}
 use Rattle.octets.specs.Reading.{readOr}
 use Rattle.octets.specs.Computing.{octets-compute}
-use Rattle.model.specs.Calendar.{xcal, RuleItem, word, RulePart}
+use Rattle.model.specs.Calendar.{xcal, RuleItem, RulePart}
 use Rattle.recur.specs.Parts.{Part, partTable, partNames, partOf, isListPart}
-use Rattle.recur.specs.Item.{readItem, writeItem, isFor, isItem}
+use Rattle.recur.specs.Item.{writeItem, isFor, isItem}
 use Rattle.recur.specs.ItemLaws.{item-read-back}
 use Rattle.recur.specs.Rule.{isAmount, isPart, nameOf, partNamed, withPart, inOrder, isOrdered}
 use Rattle.recur.specs.OrderLaws.{once-ordered, order-back}
-use Rattle.xml.specs.Nodes.{Nodes, noNodes, element, literal, referred, charactersOf}
-use Rattle.xml.specs.Content.{Content, nothing, child, placed}
+use Rattle.xml.specs.Nodes.{noNodes}
+use Rattle.xml.specs.Content.{Content, nothing, placed}
 use Rattle.xcal.specs.ElementNames.{lower-same}
 use Rattle.xcal.specs.Contents.{itemsBefore, partsBefore}
-use Rattle.xcal.specs.LeavesBack.{leafNodes, leaf-characters}
+use Rattle.xcal.specs.LeavesBack.{leaf-characters}
 use Rattle.xcal.specs.ValueNodes.{itemsOf, onePart, partsOf}
 
 -- ---- what a part of a rule is

@@ -2,31 +2,31 @@
 --     rule-fine     the verdict on the elements of a rule
 use mathlib.Core.Path.{_≡_, refl, sym, ap, subst, _∙_}
 use mathlib.Core.Bool.{Bool, true, false, not, false≢true}
-use mathlib.Core.List.{List, [], _∷_, map}
+use mathlib.Core.List.{List, [], _∷_}
 use mathlib.Core.Option.{Option, none, some}
 use Prim.Native.Nat.{ℕ, suc, _≤_}
 use native.Mathlib.Omega.{arith}
-use lib.Dec.{ltb, leb}
+use lib.Dec.{leb}
 use borrow.Author.Tests.{le-ltb, le-leb, leb-true}
 use Rattle.octets.specs.Ascii.{ascii}
 use Rattle.octets.specs.Pick.{pick, _and_, _or_, and-yes, and-both}
 use Rattle.octets.specs.Class.{upper, lower}
-use Rattle.octets.specs.Words.{same, same-self, same-true, isOneOf, isEmpty, rowOf}
+use Rattle.octets.specs.Words.{same, same-true, isOneOf, rowOf}
 use Rattle.octets.specs.Lists.{every, anyOne}
 use Rattle.octets.specs.Reading.{isRead}
 use Rattle.octets.specs.Computing.{octets-compute}
 use Rattle.model.specs.Calendar.{xcal, RuleItem, RulePart}
-use Rattle.model.specs.Refusal.{FRAME, Verdict, fine, refuse, _otherwise_}
+use Rattle.model.specs.Refusal.{fine, _otherwise_}
 use Rattle.recur.specs.Parts.{partNames, isListPart}
 use Rattle.recur.specs.Item.{readItem, writeItem, isItem}
 use Rattle.recur.specs.ItemLaws.{item-read-back}
-use Rattle.recur.specs.Rule.{isAmount, isPart, nameOf, partNamed, hasPart, isComplete, afterNamed, isOrdered, isRule}
-use Rattle.xml.specs.Nodes.{Nodes, noNodes, element}
-use Rattle.xml.specs.Content.{Content, nothing, child, placed}
-use Rattle.xcal.specs.Layout.{slotOf, afterSlot, lacks, sequence, leaf}
+use Rattle.recur.specs.Rule.{isAmount, isPart, partNamed, hasPart, isComplete, afterNamed, isOrdered, isRule}
+use Rattle.xml.specs.Nodes.{noNodes}
+use Rattle.xml.specs.Content.{Content, nothing, placed}
+use Rattle.xcal.specs.Layout.{slotOf, lacks, sequence}
 use Rattle.xcal.specs.ElementNames.{upper-lower}
 use Rattle.xcal.specs.Contents.{leafBefore, itemsBefore, partsBefore}
-use Rattle.xcal.specs.LeavesBack.{leafNodes, leaf-fine}
+use Rattle.xcal.specs.LeavesBack.{leaf-fine}
 use Rattle.xcal.specs.RecurBack.{part-capital}
 use Rattle.xcal.specs.ValueNodes.{recurSlots, recurInside}
 

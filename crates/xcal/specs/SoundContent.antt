@@ -3,23 +3,23 @@
 --     isSound c d        content of such data, where at most d elements stand inside one another
 --     sound-writable     it can be written;   sound-good: its bytes are well formed;   sound-deeper: it is sound in more room
 --     escaped-good       character data is well formed also with its entities
-use mathlib.Core.Path.{_≡_, refl, sym, ap, _∙_}
+use mathlib.Core.Path.{_≡_, refl, sym, _∙_}
 use mathlib.Core.Bool.{Bool, true, false, not, false≢true}
 use mathlib.Core.List.{List, [], _∷_}
-use mathlib.Core.Option.{Option, none, some}
+use mathlib.Core.Option.{none, some}
 use Prim.Native.Nat.{ℕ, zero, suc, _+_, _≤_}
 use native.Mathlib.Omega.{arith}
 use lib.Dec.{eqb, leb}
-use borrow.Author.Tests.{leb-true, le-leb, ne-eqb, eqb-true, not-true}
+use borrow.Author.Tests.{ne-eqb, eqb-true}
 use Rattle.octets.specs.Ascii.{ascii}
-use Rattle.octets.specs.Pick.{pick, _and_, _or_, and-both, and-yes, within, within-range, within-wider, pick-either, or-cases, or-left, or-right}
-use Rattle.octets.specs.Append.{_⊕_, append-is}
+use Rattle.octets.specs.Pick.{pick, _and_, _or_, and-both, and-yes, within, within-range, within-wider, pick-either, or-cases}
+use Rattle.octets.specs.Append.{_⊕_}
 use Rattle.octets.specs.Scan.{allOf, all-weaker}
 use Rattle.octets.specs.Class.{isVisible, isCapital, isSmall, isAlpha, isDigit, isNameChar}
 use Rattle.octets.specs.Words.{holds}
 use Rattle.octets.specs.Reading.{none-some}
-use Rattle.utf8.specs.Utf8.{isAscii, more, low, high, highAfter, tails, isSequence, badFrom, firstBad, wellFormed, well-formed-good, bad-append, good-append, ascii-first, visible-good}
-use Rattle.xml.specs.Escape.{escapedByte, escaped, startTag, endTag, elementOf}
+use Rattle.utf8.specs.Utf8.{isAscii, more, low, high, highAfter, tails, isSequence, badFrom, firstBad, wellFormed, well-formed-good, bad-append, good-append, visible-good}
+use Rattle.xml.specs.Escape.{escaped, startTag, endTag, elementOf}
 use Rattle.xml.specs.Reads.{isName}
 use Rattle.xml.specs.Content.{Content, nothing, child, characters, written, isWritable}
 

@@ -1,47 +1,30 @@
 -- The elements of values are sound: their names are names, and their characters are clean.
 --     value-sound, values-sound    the elements of values, in front of what follows
 use mathlib.Core.Path.{_≡_, refl, sym, ap, _∙_}
-use mathlib.Core.Bool.{Bool, true, false, not, false≢true}
+use mathlib.Core.Bool.{Bool, true, false, false≢true}
 use mathlib.Core.List.{List, [], _∷_}
 use mathlib.Core.Option.{Option, none, some}
-use Prim.Native.Nat.{ℕ, zero, suc}
-use lib.Dec.{eqb}
-use lib.ListN.{length}
+use Prim.Native.Nat.{ℕ, suc}
 use Rattle.octets.specs.Ascii.{ascii}
-use Rattle.octets.specs.Pick.{pick, pick-either, _and_, _or_, and-both, and-yes}
-use Rattle.octets.specs.Scan.{allOf, all-cons, all-split}
-use Rattle.octets.specs.Class.{isVisible, lower}
-use Rattle.octets.specs.Words.{holds, all-without}
+use Rattle.octets.specs.Pick.{_and_, _or_, and-both, and-yes}
+use Rattle.octets.specs.Class.{lower}
 use Rattle.octets.specs.Lists.{every}
 use Rattle.octets.specs.Tables.{row-named, row-passes}
 use Rattle.octets.specs.Computing.{octets-compute}
-use Rattle.model.specs.Calendar.{ical, xcal, ValueType, RuleItem, moment, number, word, weekday, RulePart}
-use Rattle.model.specs.Calendar.{Value, binary, boolean, calAddress, date, dateTime, duration, float, integer, periodExplicit, periodStart, recur, text, time, uri, utcOffset, unknown, geo, requestStatus, typeOf}
-use Rattle.utf8.specs.Utf8.{wellFormed, good-well-formed, visible-good}
+use Rattle.model.specs.Calendar.{xcal, ValueType, RuleItem, RulePart}
+use Rattle.model.specs.Calendar.{Value, typeOf}
 use Rattle.schema.specs.Types.{typeName, type-passes}
-use Rattle.times.specs.Spelling.{Mark, putMark, withMarks, chars-visible}
-use Rattle.times.specs.Date.{isDate, writeDate, dateMarks, date-chars}
-use Rattle.times.specs.Time.{writeTime, timeMarks, time-chars}
-use Rattle.times.specs.DateTime.{isDateTime, writeDateTime, dateTimeMarks, date-time-chars}
-use Rattle.times.specs.Duration.{isDuration, writeDuration, duration-chars}
-use Rattle.times.specs.UtcOffset.{writeUtcOffset, minuteMarks, secondMarks, utc-offset-chars}
-use Rattle.numbers.specs.Boolean.{boolean-visible}
-use Rattle.numbers.specs.Integer.{integer-visible}
-use Rattle.numbers.specs.Float.{isNormal, writeFloat}
-use Rattle.numbers.specs.FloatLaws.{float-visible}
-use Rattle.texts.specs.Uri.{uri-visible}
-use Rattle.texts.specs.Binary.{binary-visible}
+use Rattle.times.specs.DateTime.{isDateTime}
+use Rattle.times.specs.Duration.{isDuration}
 use Rattle.recur.specs.Parts.{Part, partTable, partNames, partOf, isListPart}
 use Rattle.recur.specs.Item.{writeItem, isFor, isItem}
-use Rattle.recur.specs.ItemLaws.{item-characters}
 use Rattle.recur.specs.Rule.{isAmount, isPart, isOrdered, isComplete}
 use Rattle.values.specs.Extra.{every-both}
-use Rattle.values.specs.WriteValue.{characters as dataOf}
-use Rattle.values.specs.ReadBack.{isValue, isTyped, isCharacterData}
+use Rattle.values.specs.ReadBack.{isValue, isTyped}
 use Rattle.values.specs.Valid.{own-value}
 use Rattle.xml.specs.Reads.{isName}
-use Rattle.xml.specs.Content.{Content, nothing, child, characters}
-use Rattle.xcal.specs.Contents.{leafBefore, itemsBefore, partsBefore, dataBefore, plainInside, inside, valueBefore, valuesBefore}
+use Rattle.xml.specs.Content.{Content, nothing, child}
+use Rattle.xcal.specs.Contents.{leafBefore, itemsBefore, partsBefore, dataBefore, inside, valueBefore, valuesBefore}
 use Rattle.xcal.specs.ValuesBack.{typed-before, by-spelling}
 use Rattle.xcal.specs.SoundContent.{isClean, isSound}
 use Rattle.xcal.specs.CleanValues.{isCleanData, isCleanValue, data-clean, moment-clean, span-clean, float-clean, item-clean}
@@ -84,10 +67,6 @@ parts-sound (p ∷ ps) d h =
 type-element : (t : ValueType) → isName (lower (typeName t)) ≡ true
 unfolding octets-compute isName
 type-element t = type-passes (λ u. isName (lower (typeName u))) refl t
-
-own-names : every isName (ascii "start" ∷ ascii "end" ∷ ascii "duration" ∷ ascii "latitude" ∷ ascii "longitude" ∷ ascii "code" ∷ ascii "description" ∷ ascii "data" ∷ []) ≡ true
-unfolding octets-compute isName
-own-names = refl
 
 -- ---- values
 

@@ -4,12 +4,11 @@
 --     typed-before     a value that is spelled as its type says is an element named as its type
 --     values-back      the values that the elements of values state
 --     element-type     the name of a value's element names its type
-use mathlib.Core.Path.{_≡_, refl, sym, ap, _∙_}
-use mathlib.Core.Bool.{Bool, true, false, false≢true}
+use mathlib.Core.Path.{_≡_, refl, ap}
+use mathlib.Core.Bool.{true, false, false≢true}
 use mathlib.Core.List.{List, [], _∷_}
-use mathlib.Core.Option.{Option, none, some}
+use mathlib.Core.Option.{some}
 use Prim.Native.Nat.{ℕ}
-use Rattle.octets.specs.Ascii.{ascii}
 use Rattle.octets.specs.Pick.{pick, _and_, and-both}
 use Rattle.octets.specs.Class.{lower}
 use Rattle.octets.specs.Lists.{every}
@@ -24,15 +23,14 @@ use Rattle.schema.specs.Properties.{propertyWords}
 use Rattle.times.specs.DateTime.{isDateTime, readDateTime, writeDateTime, date-time-read-back}
 use Rattle.times.specs.Duration.{isDuration, readDuration, writeDuration, duration-read-back}
 use Rattle.recur.specs.Parts.{partNames}
-use Rattle.recur.specs.Rule.{isPart, isOrdered, isComplete}
-use Rattle.values.specs.ReadValue.{readValue}
+use Rattle.recur.specs.Rule.{isOrdered, isComplete}
 use Rattle.values.specs.WriteValue.{characters as dataOf}
 use Rattle.values.specs.ReadBack.{isValue, isTyped, isCharacterData, characters-read-back}
-use Rattle.xml.specs.Nodes.{Nodes, noNodes, element, charactersOf}
-use Rattle.xml.specs.Content.{Content, nothing, child, placed}
-use Rattle.xcal.specs.Layout.{lacks, sequence, leaf}
-use Rattle.xcal.specs.Contents.{plainInside, inside, partsBefore, elementBefore, valueBefore, valuesBefore}
-use Rattle.xcal.specs.LeavesBack.{leafNodes, leaf-placed, leaf-characters, leaf-fine}
+use Rattle.xml.specs.Nodes.{noNodes}
+use Rattle.xml.specs.Content.{Content, nothing, placed}
+use Rattle.xcal.specs.Layout.{lacks, sequence}
+use Rattle.xcal.specs.Contents.{plainInside, inside, elementBefore, valueBefore, valuesBefore}
+use Rattle.xcal.specs.LeavesBack.{leaf-placed, leaf-characters, leaf-fine}
 use Rattle.xcal.specs.RecurBack.{parts-of}
 use Rattle.xcal.specs.RecurFine.{rule-fine}
 use Rattle.xcal.specs.ValueNodes.{elementType, childNamed, periodInside, readWordOf, typedVerdict, valueOf, typedValues}

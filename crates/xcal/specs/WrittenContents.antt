@@ -21,7 +21,7 @@ use Rattle.times.specs.Duration.{writeDuration}
 use Rattle.recur.specs.Item.{writeItem}
 use Rattle.values.specs.WriteValue.{characters as dataOf}
 use Rattle.xml.specs.Escape.{escaped, elementOf, documentOf}
-use Rattle.xml.specs.Content.{Content, nothing, child, characters, written}
+use Rattle.xml.specs.Content.{Content, nothing, child, written}
 use Rattle.xcal.specs.WriteXml.{textElement, itemsXml, partsXml, dataXml, plainXml, valueXml, valuesXml, parameterXml, parametersXml, parametersElement, propertyXml, propertiesXml, isNoMore, componentsElement, componentsXml, writeDocument}
 use Rattle.xcal.specs.Contents.{leafBefore, itemsBefore, partsBefore, dataBefore, plainInside, inside, valueBefore, valuesBefore, parametersBefore, parametersPart, propertyInside, propertiesBefore, componentsPart, componentInside, calendarContent}
 
