@@ -26,6 +26,8 @@
 --     SoundValues      the elements of values are sound
 --     Carried          a calendar that can be carried to XML and back
 --     DocumentBack     a calendar is read back from its document
+--     Accepted         what a verdict that is fine says of nodes
+--     PeriodAccepted   PERIOD read from elements
 --     Computing        opens all of these, for examples that compute
 --     Examples         calendars that are valid, and ones that are not
 pub mod Layout
@@ -55,5 +57,7 @@ pub mod CleanValues
 pub mod SoundValues
 pub mod Carried
 pub mod DocumentBack
+pub mod Accepted
+pub mod PeriodAccepted
 pub mod Computing
 pub mod Examples
