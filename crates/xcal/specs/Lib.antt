@@ -28,6 +28,7 @@
 --     DocumentBack     a calendar is read back from its document
 --     Accepted         what a verdict that is fine says of nodes
 --     PeriodAccepted   PERIOD read from elements
+--     RecurAccepted    RECUR read from elements
 --     Computing        opens all of these, for examples that compute
 --     Examples         calendars that are valid, and ones that are not
 pub mod Layout
@@ -59,5 +60,6 @@ pub mod Carried
 pub mod DocumentBack
 pub mod Accepted
 pub mod PeriodAccepted
+pub mod RecurAccepted
 pub mod Computing
 pub mod Examples

@@ -71,11 +71,11 @@ module _ (m n : List ℕ) (k : ℕ) (c : Content) (e : ℕ) (P : List (List ℕ)
 -- ---- the parts
 
 -- the slot of a name: not before `next`, and several exactly where the part has a list
-abbrev fitsSlot : Option (ℕ × Bool) → Bool → ℕ → Bool
+abbrev pub fitsSlot : Option (ℕ × Bool) → Bool → ℕ → Bool
 fitsSlot none l next = false
 fitsSlot (some x) l next = leb next (x .0) and pick (x .1) l (not l)
 
-abbrev pastSlot : Option (ℕ × Bool) → ℕ
+abbrev pub pastSlot : Option (ℕ × Bool) → ℕ
 pastSlot none = 0
 pastSlot (some x) = suc (x .0)
 
@@ -94,7 +94,7 @@ rising-before [] a b g h = refl
 rising-before (n ∷ ns) a b g h = let q = and-both _ _ h in and-yes _ _ (fits-before (slotOf (lower n) recurSlots 0) (isListPart n) a b g (q .0)) (q .1)
 
 -- a slot that fits
-fits-slot : (o : Option (ℕ × Bool)) (l : Bool) (next : ℕ) → fitsSlot o l next ≡ true → (k : ℕ) × (o ≡ some (k, l)) × (next ≤ k) × (pastSlot o ≡ suc k)
+pub fits-slot : (o : Option (ℕ × Bool)) (l : Bool) (next : ℕ) → fitsSlot o l next ≡ true → (k : ℕ) × (o ≡ some (k, l)) × (next ≤ k) × (pastSlot o ≡ suc k)
 unfolding pick
 fits-slot none l next h = absurd (false≢true h)
 fits-slot (some x) l next h = let q = and-both (leb next (x .0)) _ h in (x .0, ap (λ (b : Bool). some (x .0, b)) (listed (x .1) l (q .1)), leb-true next (x .0) (q .0), refl)
