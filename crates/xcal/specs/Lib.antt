@@ -29,6 +29,7 @@
 --     Accepted         what a verdict that is fine says of nodes
 --     PeriodAccepted   PERIOD read from elements
 --     RecurAccepted    RECUR read from elements
+--     ValuesAccepted   values read from elements
 --     Computing        opens all of these, for examples that compute
 --     Examples         calendars that are valid, and ones that are not
 pub mod Layout
@@ -61,5 +62,6 @@ pub mod DocumentBack
 pub mod Accepted
 pub mod PeriodAccepted
 pub mod RecurAccepted
+pub mod ValuesAccepted
 pub mod Computing
 pub mod Examples
