@@ -8,14 +8,15 @@ use mathlib.Core.Option.{Option, none, some, Option·map}
 use Prim.Native.Nat.{ℕ}
 use native.Mathlib.Omega.{arith}
 use Rattle.octets.specs.Ascii.{ascii}
-use Rattle.octets.specs.Pick.{pick, _and_, and-yes}
-use Rattle.octets.specs.Words.{isOneOf}
+use Rattle.octets.specs.Pick.{pick, _and_, _or_, and-yes}
+use Rattle.octets.specs.Words.{isOneOf, holds}
 use Rattle.octets.specs.Reading.{isRead, readOr, none-some}
 use Rattle.model.specs.Calendar.{xcal, ValueType, BINARY, BOOLEAN, CAL-ADDRESS, DATE, DATE-TIME, DURATION, FLOAT, INTEGER, PERIOD, RECUR, TEXT, TIME, URI, UTC-OFFSET, UNKNOWN}
 use Rattle.model.specs.Calendar.{Value, binary, boolean, calAddress, date, dateTime, duration, float, integer, recur, text, time, uri, utcOffset, unknown, typeOf}
 use Rattle.model.specs.Refusal.{fine}
 use Rattle.schema.specs.Types.{sameType, same-type-self, same-type-true}
 use Rattle.schema.specs.Properties.{propertyWords}
+use Rattle.utf8.specs.Utf8.{badFrom, wellFormed}
 use Rattle.times.specs.Date.{readDate}
 use Rattle.times.specs.Time.{readTime}
 use Rattle.times.specs.DateTime.{readDateTime}
@@ -74,3 +75,65 @@ typed-accepted k n t p e kids f h = go (sameType t PERIOD) refl (sameType t RECU
     go false x true y none z f h = rw (same-type-true t RECUR y) (rule-accepted kids e h)
     go false x true y (some ws) z f h = other-type t RECUR ws f y refl
     go false x false y o z f h = word-accepted o t (charactersOf kids) f (leaf-accepted (readWordOf o t) p kids h .0)
+
+-- ---- clean
+
+-- content of an element that is character data, of clean characters
+abbrev pub isCleanContent : Nodes → Bool
+isCleanContent kids = hasElement kids or isClean (charactersOf kids)
+
+pub clean-leaf : (kids : Nodes) → hasElement kids ≡ false → isCleanContent kids ≡ true → isClean (charactersOf kids) ≡ true
+unfolding _or_
+clean-leaf kids e h = rw e at h
+
+-- a value made of what was read
+made : {A : Type 0} (P : Value → Type 0) (g : A → Value) (o : Option A) (v : Value) → Option·map g o ≡ some v → ((a : A) → o ≡ some a → P (g a)) → P v
+made P g none v h k = none-some h
+made P g (some a) v h k = let q : g a ≡ v = cc in rw (← q) (k a refl)
+
+abbrev Clean : Value → Type 0
+Clean v = isCleanValue v ≡ true
+
+pub read-clean : (t : ValueType) (s : List ℕ) (v : Value) → isClean s ≡ true → readValue xcal t s ≡ some v → isCleanValue v ≡ true
+unfolding readValue
+read-clean BINARY s v c h = made Clean binary (readBinary xcal s) v h (λ a e. refl)
+read-clean BOOLEAN s v c h = made Clean boolean (readBoolean xcal s) v h (λ a e. refl)
+read-clean CAL-ADDRESS s v c h = made Clean calAddress (readUri s) v h (λ a e. refl)
+read-clean DATE s v c h = made Clean date (readDate xcal s) v h (λ a e. refl)
+read-clean DATE-TIME s v c h = made Clean dateTime (readDateTime xcal s) v h (λ a e. refl)
+read-clean DURATION s v c h = made Clean duration (readDuration xcal s) v h (λ a e. refl)
+read-clean FLOAT s v c h = made Clean float (readFloat s) v h (λ a e. refl)
+read-clean INTEGER s v c h = made Clean integer (readInteger s) v h (λ a e. refl)
+read-clean PERIOD s v c h = none-some h
+read-clean RECUR s v c h = none-some h
+read-clean TEXT s v c h = made Clean text (some s) v h (λ a e. let z : s ≡ a = cc in rw (← z) c)
+read-clean TIME s v c h = made Clean time (readTime xcal s) v h (λ a e. refl)
+read-clean URI s v c h = made Clean uri (readUri s) v h (λ a e. refl)
+read-clean UTC-OFFSET s v c h = made Clean utcOffset (readUtcOffset xcal s) v h (λ a e. refl)
+read-clean UNKNOWN s v c h = made Clean unknown (readUnknown s) v h (λ a e. rw (← (unknown-kept s a e)) c)
+
+empty-clean : isClean [] ≡ true
+unfolding isClean wellFormed holds badFrom isRead pick _and_
+empty-clean = refl
+
+read-or-clean : (t : ValueType) (s : List ℕ) → isClean s ≡ true → isCleanValue (readOr (text []) (readValue xcal t s)) ≡ true
+unfolding readOr
+read-or-clean t s c = go (readValue xcal t s) refl
+  where
+    go : (o : Option Value) → readValue xcal t s ≡ o → isCleanValue (readOr (text []) o) ≡ true
+    go none e = empty-clean
+    go (some v) e = read-clean t s v c e
+
+period-clean : (o : Option (List ℕ)) (kids : Nodes) → isCleanValue (periodOf o kids) ≡ true
+period-clean none kids = refl
+period-clean (some s) kids = refl
+
+pub value-clean : (k n : List ℕ) (t : ValueType) (p e : ℕ) (kids : Nodes) → typedVerdict k n t p e kids ≡ fine → isCleanContent kids ≡ true → isCleanValue (valueOf t kids) ≡ true
+unfolding typedVerdict valueOf pick
+value-clean k n t p e kids h c = go (sameType t PERIOD) (sameType t RECUR) h
+  where
+    go : (a b : Bool) → pick a (sequence periodSlots periodInside kids 0 [] e) (pick b (sequence recurSlots recurInside kids 0 [] e) (leaf (readWordOf (propertyWords k n) t) p kids)) ≡ fine →
+        isCleanValue (pick a (periodOf (childNamed (ascii "duration") kids) kids) (pick b (recur (partsOf partNames kids)) (readOr (text []) (readValue xcal t (charactersOf kids))))) ≡ true
+    go true b h = period-clean (childNamed (ascii "duration") kids) kids
+    go false true h = refl
+    go false false h = read-or-clean t (charactersOf kids) (clean-leaf kids (leaf-accepted (readWordOf (propertyWords k n) t) p kids h .1) c)
