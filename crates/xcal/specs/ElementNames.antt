@@ -3,20 +3,22 @@
 --     upper-lower      a name in capitals is read back from its element's
 --     lower-same       elements have the same name exactly where names in capitals are the same
 --     no-capital       an element's name has no capital
+--     lower-upper, upper-apart, kept-name    the name of an element without capitals, in capitals
 --     element-name     the element of a name that is carried has a name as XML has it
 use mathlib.Core.Path.{_≡_, refl, sym, ap, _∙_}
 use mathlib.Core.Bool.{Bool, true, false, false≢true}
 use mathlib.Core.List.{List, [], _∷_}
-use Prim.Native.Nat.{ℕ, _+_, _≤_}
+use Prim.Native.Nat.{ℕ, _+_, _-_, _≤_}
 use native.Mathlib.Omega.{arith}
 use lib.Dec.{eqb, leb}
 use borrow.Author.Tests.{le-leb, lt-leb}
 use Rattle.octets.specs.Pick.{pick, _and_, _or_, within-yes, within-range, and-yes, and-no-right, or-left, or-right, or-no, and-both, or-neither, pick-second}
 use Rattle.octets.specs.Scan.{allOf, all-split}
 use Rattle.octets.specs.Class.{isDigit, isCapital, isSmall, isAlpha, isNameChar, upperByte, lowerByte, upper, lower}
+use Rattle.octets.specs.Letters.{upper-by-cases, upper-twice}
 use Rattle.octets.specs.Words.{same, same-self, same-true}
 use Rattle.lines.specs.ContentLine.{isName}
-use Rattle.lines.specs.Names.{startsOffName, isCarriedName, carried-name-upper}
+use Rattle.lines.specs.Names.{startsOffName, isCarriedName, name-upper, carried-name-upper}
 use Rattle.xml.specs.Reads.{isName as isXmlName}
 use Rattle.xcal.specs.Layout.{hasCapital}
 
@@ -106,3 +108,33 @@ kept-element n h = let q = and-both _ _ (and-both _ _ h .1) in element-name n (q
 
 pub kept-carried : (n : List ℕ) → isKeptName n ≡ true → isCarriedName (lower n) ≡ true
 kept-carried n h = sym (carried-name-upper (lower n)) ∙ ap isCarriedName (kept-back n h) ∙ and-both _ _ (and-both _ _ h .1) .1
+
+-- ---- names that are read
+
+upper-small : (b : ℕ) → isCapital b ≡ false → lowerByte (upperByte b) ≡ b
+unfolding pick
+upper-small b h =
+    upper-by-cases (λ x. lowerByte x ≡ b) b
+    (λ l k. rw (within-yes 65 90 (b - 32) (le-leb 65 (b - 32) (omega arith)) (le-leb (b - 32) 90 (omega arith))) (omega arith))
+    (λ e. rw h)
+
+pub lower-upper : (m : List ℕ) → hasCapital m ≡ false → lower (upper m) ≡ m
+unfolding hasCapital upper lower
+lower-upper [] h = refl
+lower-upper (b ∷ m) h = let q = or-neither (isCapital b) (hasCapital m) h in rw (upper-small b (q .0), lower-upper m (q .1))
+
+-- names without capitals are the same where they are in capitals
+pub upper-apart : (m w : List ℕ) → hasCapital m ≡ false → same m (lower w) ≡ false → same (upper m) w ≡ false
+upper-apart m w h k = go (same (upper m) w) refl
+  where
+    go : (t : Bool) → same (upper m) w ≡ t → t ≡ false
+    go true e = absurd (false≢true (sym k ∙ ap (λ (x : List ℕ). same x (lower w)) (sym (lower-upper m h) ∙ ap lower (same-true (upper m) w e)) ∙ same-self (lower w)))
+    go false e = refl
+
+pub kept-name : (m : List ℕ) → isXmlName m ≡ true → isCarriedName m ≡ true → isKeptName (upper m) ≡ true
+unfolding isXmlName isName pick
+kept-name m h c = and-yes _ _ (rw (upper-twice m) (same-self (upper m))) (and-yes _ _ (name-upper m (line-name m h)) (carried-name-upper m ∙ c))
+  where
+    line-name : (m : List ℕ) → isXmlName m ≡ true → isName m ≡ true
+    line-name [] h = absurd (false≢true h)
+    line-name (b ∷ m) h = and-both _ _ h .1

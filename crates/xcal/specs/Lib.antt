@@ -30,6 +30,8 @@
 --     PeriodAccepted   PERIOD read from elements
 --     RecurAccepted    RECUR read from elements
 --     ValuesAccepted   values read from elements
+--     GoodNodes        nodes of a document that can be read
+--     ParametersAccepted   parameters read from elements
 --     Computing        opens all of these, for examples that compute
 --     Examples         calendars that are valid, and ones that are not
 pub mod Layout
@@ -63,5 +65,7 @@ pub mod Accepted
 pub mod PeriodAccepted
 pub mod RecurAccepted
 pub mod ValuesAccepted
+pub mod GoodNodes
+pub mod ParametersAccepted
 pub mod Computing
 pub mod Examples

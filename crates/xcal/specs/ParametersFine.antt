@@ -31,7 +31,7 @@ use Rattle.xcal.specs.Contents.{valuesBefore, parametersBefore}
 use Rattle.xcal.specs.ParameterNodes.{readParamNodes, valuesGood, isBase64, encodes, hasEncoding, badName, parameterVerdict, parametersVerdict}
 use Rattle.xcal.specs.ParametersBack.{isCarriedParameter, Carried, carried, values-in, has-element}
 
-abbrev nameIn : Parameter → List ℕ
+abbrev pub nameIn : Parameter → List ℕ
 nameIn p = p .name
 
 -- ---- the verdict on one
@@ -56,7 +56,7 @@ good-amount l (v ∷ vs) h = h
 -- ---- ENCODING
 
 -- with a value of type BINARY, it is BASE64
-abbrev isEncoded : ValueType → Parameter → Bool
+abbrev pub isEncoded : ValueType → Parameter → Bool
 isEncoded t p = not (same (p .name) (ascii "ENCODING") and sameType t BINARY) or isBase64 (p .values)
 
 base64-values : (vs : List Value) → every (λ v. isWordIn (ascii "BASE64" ∷ []) (textIn v)) vs ≡ true → isBase64 vs ≡ true

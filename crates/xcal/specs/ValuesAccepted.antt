@@ -45,7 +45,7 @@ use Rattle.xcal.specs.RecurAccepted.{rule-accepted}
 -- ---- of the type asked for
 
 -- a value that is read has the type
-read-typed : (t : ValueType) (s : List ℕ) (v : Value) → readValue xcal t s ≡ some v → isOfType t v ≡ true
+pub read-typed : (t : ValueType) (s : List ℕ) (v : Value) → readValue xcal t s ≡ some v → isOfType t v ≡ true
 read-typed t s v h = let a = value-accepted xcal t s v h in and-yes _ _ (rw (a .2) (same-type-self t)) (and-yes _ _ (a .1) (a .0))
 
 -- the characters of a value, or a word of a closed set
@@ -87,7 +87,7 @@ unfolding _or_
 clean-leaf kids e h = rw e at h
 
 -- a value made of what was read
-made : {A : Type 0} (P : Value → Type 0) (g : A → Value) (o : Option A) (v : Value) → Option·map g o ≡ some v → ((a : A) → o ≡ some a → P (g a)) → P v
+pub made : {A : Type 0} (P : Value → Type 0) (g : A → Value) (o : Option A) (v : Value) → Option·map g o ≡ some v → ((a : A) → o ≡ some a → P (g a)) → P v
 made P g none v h k = none-some h
 made P g (some a) v h k = let q : g a ≡ v = cc in rw (← q) (k a refl)
 
