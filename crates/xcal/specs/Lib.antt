@@ -32,6 +32,7 @@
 --     ValuesAccepted   values read from elements
 --     GoodNodes        nodes of a document that can be read
 --     ParametersAccepted   parameters read from elements
+--     EncodingAccepted     ENCODING among them
 --     Computing        opens all of these, for examples that compute
 --     Examples         calendars that are valid, and ones that are not
 pub mod Layout
@@ -67,5 +68,6 @@ pub mod RecurAccepted
 pub mod ValuesAccepted
 pub mod GoodNodes
 pub mod ParametersAccepted
+pub mod EncodingAccepted
 pub mod Computing
 pub mod Examples
