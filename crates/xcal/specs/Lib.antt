@@ -33,6 +33,7 @@
 --     GoodNodes        nodes of a document that can be read
 --     ParametersAccepted   parameters read from elements
 --     EncodingAccepted     ENCODING among them
+--     TypedAccepted        values of a property read from elements
 --     Computing        opens all of these, for examples that compute
 --     Examples         calendars that are valid, and ones that are not
 pub mod Layout
@@ -69,5 +70,6 @@ pub mod ValuesAccepted
 pub mod GoodNodes
 pub mod ParametersAccepted
 pub mod EncodingAccepted
+pub mod TypedAccepted
 pub mod Computing
 pub mod Examples

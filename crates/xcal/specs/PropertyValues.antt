@@ -45,14 +45,14 @@ pub record Stands (k n : List ℕ) (t : ValueType) (vs : List Value) : Type 0 wh
 
 -- ---- values that are spelled as their type says
 
-abbrev typedSlots : Bool → List Slot
+abbrev pub typedSlots : Bool → List Slot
 typedSlots l = may (ascii "parameters") ∷ record { names = typeElements; several = l; required = true } ∷ []
 
-type-listed : (t : ValueType) → isOneOf (lower (typeName t)) typeElements ≡ true
+pub type-listed : (t : ValueType) → isOneOf (lower (typeName t)) typeElements ≡ true
 unfolding schema-compute
 type-listed t = type-passes (λ u. isOneOf (lower (typeName u)) typeElements) refl t
 
-type-other : (t : ValueType) → same (lower (typeName t)) (ascii "parameters") ≡ false
+pub type-other : (t : ValueType) → same (lower (typeName t)) (ascii "parameters") ≡ false
 unfolding schema-compute
 type-other t = not-true _ (type-passes (λ u. not (same (lower (typeName u)) (ascii "parameters"))) refl t)
 
@@ -75,7 +75,7 @@ unfolding lacks anyOne _and_ _or_
 filled ws l seen h = rw h
 
 -- a property with a closed set of words takes TEXT
-of-text : (k n : List ℕ) (t : ValueType) → isTypeOf t (permittedTypes n) ≡ true → (words : List (List ℕ)) → propertyWords k n ≡ some words → t ≡ TEXT
+pub of-text : (k n : List ℕ) (t : ValueType) → isTypeOf t (permittedTypes n) ≡ true → (words : List (List ℕ)) → propertyWords k n ≡ some words → t ≡ TEXT
 unfolding isTypeOf
 of-text k n t h words e =
     let z = property-words-text k n words e .0 in

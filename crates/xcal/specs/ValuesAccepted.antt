@@ -112,7 +112,7 @@ read-clean URI s v c h = made Clean uri (readUri s) v h (λ a e. refl)
 read-clean UTC-OFFSET s v c h = made Clean utcOffset (readUtcOffset xcal s) v h (λ a e. refl)
 read-clean UNKNOWN s v c h = made Clean unknown (readUnknown s) v h (λ a e. rw (← (unknown-kept s a e)) c)
 
-empty-clean : isClean [] ≡ true
+pub empty-clean : isClean [] ≡ true
 unfolding isClean wellFormed holds badFrom isRead pick _and_
 empty-clean = refl
 
