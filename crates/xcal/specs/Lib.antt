@@ -34,6 +34,7 @@
 --     ParametersAccepted   parameters read from elements
 --     EncodingAccepted     ENCODING among them
 --     TypedAccepted        values of a property read from elements
+--     OwnAccepted          GEO's and REQUEST-STATUS's among them
 --     Computing        opens all of these, for examples that compute
 --     Examples         calendars that are valid, and ones that are not
 pub mod Layout
@@ -71,5 +72,6 @@ pub mod GoodNodes
 pub mod ParametersAccepted
 pub mod EncodingAccepted
 pub mod TypedAccepted
+pub mod OwnAccepted
 pub mod Computing
 pub mod Examples
