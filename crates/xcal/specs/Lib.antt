@@ -35,6 +35,7 @@
 --     EncodingAccepted     ENCODING among them
 --     TypedAccepted        values of a property read from elements
 --     OwnAccepted          GEO's and REQUEST-STATUS's among them
+--     PropertiesAccepted   properties read from elements
 --     Computing        opens all of these, for examples that compute
 --     Examples         calendars that are valid, and ones that are not
 pub mod Layout
@@ -73,5 +74,6 @@ pub mod ParametersAccepted
 pub mod EncodingAccepted
 pub mod TypedAccepted
 pub mod OwnAccepted
+pub mod PropertiesAccepted
 pub mod Computing
 pub mod Examples
