@@ -36,6 +36,7 @@
 --     TypedAccepted        values of a property read from elements
 --     OwnAccepted          GEO's and REQUEST-STATUS's among them
 --     PropertiesAccepted   properties read from elements
+--     ComponentsAccepted   components read from elements
 --     Computing        opens all of these, for examples that compute
 --     Examples         calendars that are valid, and ones that are not
 pub mod Layout
@@ -75,5 +76,6 @@ pub mod EncodingAccepted
 pub mod TypedAccepted
 pub mod OwnAccepted
 pub mod PropertiesAccepted
+pub mod ComponentsAccepted
 pub mod Computing
 pub mod Examples
