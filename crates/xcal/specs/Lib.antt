@@ -37,6 +37,7 @@
 --     OwnAccepted          GEO's and REQUEST-STATUS's among them
 --     PropertiesAccepted   properties read from elements
 --     ComponentsAccepted   components read from elements
+--     GoodMarks            the nodes of marks that can be read
 --     Computing        opens all of these, for examples that compute
 --     Examples         calendars that are valid, and ones that are not
 pub mod Layout
@@ -77,5 +78,6 @@ pub mod TypedAccepted
 pub mod OwnAccepted
 pub mod PropertiesAccepted
 pub mod ComponentsAccepted
+pub mod GoodMarks
 pub mod Computing
 pub mod Examples
