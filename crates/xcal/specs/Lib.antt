@@ -38,6 +38,8 @@
 --     PropertiesAccepted   properties read from elements
 --     ComponentsAccepted   components read from elements
 --     GoodMarks            the nodes of marks that can be read
+--     Decoding             tokens beside a decoder of UTF-8
+--     CleanRuns            characters that are read are clean
 --     Computing        opens all of these, for examples that compute
 --     Examples         calendars that are valid, and ones that are not
 pub mod Layout
@@ -79,5 +81,7 @@ pub mod OwnAccepted
 pub mod PropertiesAccepted
 pub mod ComponentsAccepted
 pub mod GoodMarks
+pub mod Decoding
+pub mod CleanRuns
 pub mod Computing
 pub mod Examples
