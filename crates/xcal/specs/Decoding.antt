@@ -87,7 +87,7 @@ pub record Ends (s : List ℕ) (k : ℕ) : Type 0 where
   pub small : byte < 0x80
   pub allowed : isAscii byte ≡ true
 
-starts-one : (c : ℕ) (s : List ℕ) → starts (c ∷ []) s ≡ true → s ≡ c ∷ drop 1 s
+pub starts-one : (c : ℕ) (s : List ℕ) → starts (c ∷ []) s ≡ true → s ≡ c ∷ drop 1 s
 unfolding starts
 starts-one c [] h = absurd (false≢true h)
 starts-one c (b ∷ s) h = let z : c ≡ b = eqb-true c b (and-both (eqb c b) true h .0) in ap (λ (x : ℕ). x ∷ s) (sym z)

@@ -40,6 +40,7 @@
 --     GoodMarks            the nodes of marks that can be read
 --     Decoding             tokens beside a decoder of UTF-8
 --     CleanRuns            characters that are read are clean
+--     DocumentAccepted     a calendar that is read from a document is valid
 --     Computing        opens all of these, for examples that compute
 --     Examples         calendars that are valid, and ones that are not
 pub mod Layout
@@ -83,5 +84,6 @@ pub mod ComponentsAccepted
 pub mod GoodMarks
 pub mod Decoding
 pub mod CleanRuns
+pub mod DocumentAccepted
 pub mod Computing
 pub mod Examples
