@@ -38,7 +38,7 @@ either-fine true b v w p m h f g = f refl h
 either-fine false true v w p m h f g = g refl h
 either-fine false false v w p m h f g = unexpected-not p m h
 
-one-fine : (a : Bool) (v : Verdict) (p : ℕ) (m : List ℕ) → pick a v (unexpected p m) ≡ fine → (a ≡ true) × (v ≡ fine)
+pub one-fine : (a : Bool) (v : Verdict) (p : ℕ) (m : List ℕ) → pick a v (unexpected p m) ≡ fine → (a ≡ true) × (v ≡ fine)
 unfolding pick
 one-fine true v p m h = (refl, h)
 one-fine false v p m h = unexpected-not p m h
