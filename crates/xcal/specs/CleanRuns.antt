@@ -2,29 +2,27 @@
 --     Run             characters that go on in the middle of one
 --     run-clean       the characters of a run;   past-run: after a tag or a reference
 use mathlib.Core.Path.{_≡_, refl, sym, ap, subst, _∙_}
-use mathlib.Core.Bool.{Bool, true, false, not, false≢true}
+use mathlib.Core.Bool.{Bool, true, false, false≢true}
 use mathlib.Core.List.{List, [], _∷_}
-use mathlib.Core.Option.{Option, none, some}
-use Prim.Native.Nat.{ℕ, zero, suc, _+_, _≤_, _<_}
+use mathlib.Core.Option.{none}
+use Prim.Native.Nat.{ℕ, zero, suc, _+_, _≤_}
 use native.Mathlib.Omega.{arith}
 use lib.Dec.{eqb, leb, ltb}
-use lib.ListN.{length, take, drop}
+use lib.ListN.{drop}
 use lib.Seq.{drop-drop}
 use borrow.Author.Tests.{eqb-true, ne-eqb, ltb-true, ltb-false}
 use Rattle.octets.specs.Ascii.{ascii}
-use Rattle.octets.specs.Pick.{pick, pick-case, pick-either, _and_, _or_, and-both, and-yes, within, within-range, eqb-swap, or-no, or-left}
+use Rattle.octets.specs.Pick.{pick, pick-case, pick-either, _and_, _or_, and-both, and-yes, within, within-range, eqb-swap, or-no}
 use Rattle.octets.specs.Append.{_⊕_}
 use Rattle.octets.specs.Words.{starts, holds, holds-neither, all-without}
-use Rattle.utf8.specs.Utf8.{isAscii, more, low, high, highAfter, tails, isSequence, badFrom, firstBad, ascii-first, wellFormed, good-well-formed}
+use Rattle.utf8.specs.Utf8.{isAscii, more, low, high, highAfter, tails, badFrom, ascii-first}
 use Rattle.utf8.specs.Spell.{spell, isCharacter, spell-ascii, spell-high, spell-first}
 use Rattle.utf8.specs.Computing.{utf8-compute}
-use Rattle.xml.specs.Pieces.{from}
-use Rattle.xml.specs.Reads.{isName}
-use Rattle.xml.specs.Token.{Token, STag, EmptyElemTag, ETag, CharByte, Reference, Fault, tag, reference, literalByte, token}
-use Rattle.xml.specs.Marks.{Mark, marksBy, scan}
-use Rattle.xcal.specs.SoundContent.{isClean}
-use Rattle.xcal.specs.GoodMarks.{runBy, runOf, isGoodMark, areGoodMarks}
-use Rattle.xcal.specs.Decoding.{starts-one, State, low-least, begun, step-state, drop-state, after-ascii, Ends, start-by, tag-by, reference-by, name-read}
+use Rattle.xml.specs.Token.{Token, CharByte, literalByte, token}
+use Rattle.xml.specs.Marks.{marksBy, scan}
+use Rattle.xcal.specs.SoundContent.{low-least}
+use Rattle.xcal.specs.GoodMarks.{runBy, runOf}
+use Rattle.xcal.specs.Decoding.{starts-one, State, begun, step-state, drop-state, after-ascii, Ends, tag-by, reference-by}
 
 -- characters that go on in the middle of one, of which j bytes are still to come
 pub record Run (j lo hi : ℕ) (l : Bool) (run : List ℕ) : Type 0 where

@@ -1,28 +1,26 @@
 -- Components read from elements that are not refused are components as the schema has them, that can be carried (RFC 6321, sections 3.2 and 3.3).
 --     stream-accepted        the calendars that the children of the root state are valid
-use mathlib.Core.Path.{_≡_, refl, sym, ap, _∙_}
-use mathlib.Core.Bool.{Bool, true, false, not, false≢true}
-use mathlib.Core.List.{List, [], _∷_}
+use mathlib.Core.Path.{_≡_, refl, ap, _∙_}
+use mathlib.Core.Bool.{Bool, true, false, not}
+use mathlib.Core.List.{List}
 use Prim.Native.Nat.{ℕ}
-use borrow.Author.Tests.{not-true}
 use Rattle.octets.specs.Ascii.{ascii}
-use Rattle.octets.specs.Pick.{pick, _and_, _or_, and-both, and-yes, or-left, or-right, or-cases}
+use Rattle.octets.specs.Pick.{pick, _and_, _or_, and-both, and-yes, or-left, or-right}
 use Rattle.octets.specs.Class.{isSpace, upper}
 use Rattle.octets.specs.Words.{same, same-self, same-true, same-swap, isOneOf, isEmpty}
 use Rattle.octets.specs.Lists.{every}
 use Rattle.octets.specs.Computing.{octets-compute}
-use Rattle.model.specs.Calendar.{Property, Components, noMore, component}
-use Rattle.model.specs.Refusal.{FRAME, COUNT, Verdict, fine, _otherwise_}
+use Rattle.model.specs.Calendar.{Components, component}
+use Rattle.model.specs.Refusal.{FRAME, COUNT, Verdict, fine}
 use Rattle.schema.specs.Components.{subcomponentsOf}
-use Rattle.schema.specs.Counts.{complete}
 use Rattle.xml.specs.Reads.{isName}
 use Rattle.xml.specs.Nodes.{Nodes, noNodes, element, literal, referred, hasElement}
 use Rattle.xcal.specs.WriteXml.{isNoMore}
 use Rattle.xcal.specs.Layout.{hasCapital, unexpected}
 use Rattle.xcal.specs.PropertyNodes.{propertiesVerdict, readProperties}
-use Rattle.xcal.specs.ComponentNodes.{insideOf, isComplete, Come, endOfComponent, endOfComponents, componentVerdict, componentsVerdict, streamVerdict, readComponents, readInner}
+use Rattle.xcal.specs.ComponentNodes.{insideOf, isComplete, Come, endOfComponent, componentVerdict, componentsVerdict, streamVerdict, readComponents, readInner}
 use Rattle.xcal.specs.PropertiesBack.{isCarriedProperty}
-use Rattle.xcal.specs.ComponentsBack.{isCarriedComponent, areCarried, isCalendar, areAllCalendars}
+use Rattle.xcal.specs.ComponentsBack.{areCarried, areAllCalendars}
 use Rattle.xcal.specs.Carried.{isCleanProperty, areClean}
 use Rattle.xcal.specs.Accepted.{refused-not, unexpected-not, both-fine, test-fine, past-fine}
 use Rattle.xcal.specs.ValuesAccepted.{isCleanContent}

@@ -2,7 +2,7 @@
 --     State           where a decoder stands that has found nothing bad;   step-state, drop-state, after-ascii: it goes on
 --     Ends            so many bytes end with a byte of ASCII
 --     start-by, tag-by, reference-by    what tags and references are read as
-use mathlib.Core.Path.{_≡_, refl, sym, ap, subst, _∙_}
+use mathlib.Core.Path.{_≡_, refl, sym, ap, _∙_}
 use mathlib.Core.Bool.{Bool, true, false, false≢true}
 use mathlib.Core.List.{List, [], _∷_}
 use mathlib.Core.Option.{Option, none, some}
@@ -11,22 +11,21 @@ use native.Mathlib.Omega.{arith}
 use lib.Dec.{eqb, leb, ltb}
 use lib.ListN.{length, take, drop}
 use lib.Seq.{drop-drop}
-use borrow.Author.Tests.{eqb-true, ne-eqb, ltb-true, ltb-false}
+use borrow.Author.Tests.{eqb-true}
 use Rattle.octets.specs.Ascii.{ascii}
-use Rattle.octets.specs.Pick.{pick, pick-case, pick-either, _and_, _or_, and-both, and-yes, within, within-range, eqb-apart, or-no, or-left}
+use Rattle.octets.specs.Pick.{pick, pick-case, pick-either, _and_, _or_, and-both, and-yes, within, within-range, or-left}
 use Rattle.octets.specs.Append.{_⊕_}
 use Rattle.octets.specs.Scan.{spanLen, allOf, all-cons}
 use Rattle.octets.specs.Class.{isAlpha, isNameChar}
-use Rattle.octets.specs.Words.{starts, holds, holds-neither, all-without}
+use Rattle.octets.specs.Words.{starts}
 use Rattle.octets.specs.Reading.{none-some, provided-some, andThen-some}
 use Rattle.utf8.specs.Utf8.{isAscii, more, low, high, highAfter, tails, isSequence, badFrom, ascii-first}
-use Rattle.utf8.specs.Spell.{spell, isCharacter, spell-ascii, spell-high, spell-first}
+use Rattle.utf8.specs.Spell.{isCharacter}
 use Rattle.utf8.specs.Computing.{utf8-compute}
 use Rattle.xml.specs.Pieces.{Piece, from, first, exactly, S?, Name, nameOf, both, _then_}
 use Rattle.xml.specs.Reads.{isName}
-use Rattle.xml.specs.Token.{Token, STag, EmptyElemTag, ETag, CharByte, Reference, Fault, startBy, endBy, tag, charRef, reference, literalByte, token}
-use Rattle.xml.specs.Marks.{Mark, marksBy, scan}
-use Rattle.xcal.specs.GoodMarks.{runBy, runOf}
+use Rattle.xcal.specs.SoundContent.{low-least}
+use Rattle.xml.specs.Token.{Token, STag, EmptyElemTag, ETag, Reference, Fault, startBy, endBy, tag, charRef, reference}
 
 pub record State (s : List ℕ) : Type 0 where
   pub pending : ℕ
@@ -37,9 +36,6 @@ pub record State (s : List ℕ) : Type 0 where
   pub above : 0x80 ≤ least
   pub tail : tails pending least most last s ≡ true
   pub good : badFrom pending at s ≡ none
-
-pub low-least : (a : ℕ) → 0x80 ≤ low a
-low-least a = pick-either (λ n. 0x80 ≤ n) _ _ _ (omega arith) (pick-either (λ n. 0x80 ≤ n) _ _ _ (omega arith) (omega arith))
 
 -- a character begins
 pub begun : (b : ℕ) (s : List ℕ) (i : ℕ) → badFrom 0 i (b ∷ s) ≡ none → (isSequence b s ≡ true) × (badFrom (more b) (i + 1) s ≡ none)

@@ -1,9 +1,8 @@
 -- A calendar that is read from a document is valid (RFC 6321).
---     good-document        the nodes of a document whose bytes are well formed are good
 --     document-accepted    what is read is valid
 --     document-again       and is read again from its own document, where that is within the input limit
-use mathlib.Core.Path.{_≡_, refl, sym, ap, _∙_}
-use mathlib.Core.Bool.{Bool, true, false, not, false≢true}
+use mathlib.Core.Path.{_≡_, refl}
+use mathlib.Core.Bool.{Bool, true, false, false≢true}
 use mathlib.Core.List.{List, [], _∷_}
 use mathlib.Core.Option.{Option, none, some}
 use Prim.Native.Nat.{ℕ, zero, suc, _+_, _≤_}
@@ -11,29 +10,27 @@ use native.Mathlib.Omega.{arith}
 use lib.Dec.{eqb, leb}
 use lib.ListN.{length, drop}
 use Rattle.octets.specs.Ascii.{ascii}
-use Rattle.octets.specs.Pick.{pick, pick-either, _and_, _or_, and-both, and-yes}
-use Rattle.octets.specs.Words.{same, isEmpty, starts, holds}
-use Rattle.model.specs.Calendar.{Calendar, Components}
-use Rattle.model.specs.Refusal.{XML, LENGTH, CHARACTER, Verdict, fine, refuse, _otherwise_, accepted, refused, answer}
-use Rattle.utf8.specs.Utf8.{tails, badFrom, firstBad, wellFormed, good-well-formed}
-use Rattle.xml.specs.Pieces.{from, S?, Name, nameOf, _then_}
+use Rattle.octets.specs.Pick.{pick-either, _and_, _or_, and-both, and-yes}
+use Rattle.octets.specs.Words.{same, starts}
+use Rattle.model.specs.Calendar.{Calendar}
+use Rattle.model.specs.Refusal.{XML, LENGTH, CHARACTER, Verdict, fine, refuse, accepted, answer}
+use Rattle.utf8.specs.Utf8.{tails, firstBad, good-well-formed}
+use Rattle.xml.specs.Pieces.{from, S?, nameOf, _then_}
 use Rattle.xml.specs.Prolog.{prolog}
 use Rattle.xml.specs.Reads.{isName}
-use Rattle.xml.specs.Token.{Token, STag, EmptyElemTag, ETag, CharByte, Reference, Fault, namespaceAttribute, startBy, tag, rootTag, reference, literalByte, token}
+use Rattle.xml.specs.Token.{Token, STag, EmptyElemTag, namespaceAttribute, rootTag, literalByte, token}
 use Rattle.xml.specs.Marks.{Mark, opens, closes, char, refers, fault, marksBy, scan, rootMarks, documentMarks}
-use Rattle.xml.specs.WellFormed.{hasRoom, closesTop, move, followed, check, xmlVerdict}
-use Rattle.xml.specs.Nodes.{Nodes, noNodes, element, nodesBy, nodes, rootBy, rootNode, documentNodes}
-use Rattle.xcal.specs.WriteXml.{isNoMore, writeDocument}
-use Rattle.xcal.specs.ComponentNodes.{streamVerdict, rootVerdict, readRoot}
+use Rattle.xml.specs.WellFormed.{move, followed, check, xmlVerdict}
+use Rattle.xml.specs.Nodes.{nodes, rootBy, rootNode, documentNodes}
+use Rattle.xcal.specs.WriteXml.{writeDocument}
+use Rattle.xcal.specs.ComponentNodes.{rootVerdict, readRoot}
 use Rattle.xcal.specs.ReadDocument.{characters, documentVerdict, readDocument}
-use Rattle.xcal.specs.ComponentsBack.{areAllCalendars, areCalendars}
 use Rattle.xcal.specs.SoundContent.{isClean}
-use Rattle.xcal.specs.Carried.{areClean, isValid}
+use Rattle.xcal.specs.Carried.{isValid}
 use Rattle.xcal.specs.DocumentBack.{document-back}
-use Rattle.xcal.specs.Accepted.{refused-not, unexpected-not, both-fine, test-fine}
-use Rattle.xcal.specs.ValuesAccepted.{isCleanContent, empty-clean}
-use Rattle.xcal.specs.GoodNodes.{isGood}
-use Rattle.xcal.specs.ComponentsAccepted.{one-fine, Calendars, stream-accepted}
+use Rattle.xcal.specs.Accepted.{refused-not, both-fine, test-fine}
+use Rattle.xcal.specs.ValuesAccepted.{empty-clean}
+use Rattle.xcal.specs.ComponentsAccepted.{one-fine, stream-accepted}
 use Rattle.xcal.specs.GoodMarks.{runBy, runOf, isGoodMark, areGoodMarks, good-nodes}
 use Rattle.xcal.specs.Decoding.{State, step-state, drop-state, Ends, start-by, tag-by, reference-by, name-read}
 use Rattle.xcal.specs.CleanRuns.{Run, run-clean, past-run}

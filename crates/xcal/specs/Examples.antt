@@ -3,16 +3,15 @@
 --     rota-valid, rota-back
 --     variants      small changes to an event, and whether the calendar is still valid
 use mathlib.Core.Path.{_≡_, refl}
-use mathlib.Core.Bool.{Bool, true, false}
-use mathlib.Core.List.{List, [], _∷_, _++_, map}
+use mathlib.Core.Bool.{true, false}
+use mathlib.Core.List.{List, [], _∷_, map}
 use mathlib.Core.Option.{none, some}
-use Prim.Native.Nat.{ℕ, _≤_}
-use native.Mathlib.Omega.{arith}
+use Prim.Native.Nat.{ℕ}
 use lib.ListN.{length}
 use lib.Dec.{leb}
 use borrow.Author.Tests.{leb-true}
 use Rattle.octets.specs.Ascii.{ascii}
-use Rattle.model.specs.Calendar.{Whole, Decimal, RuleItem, moment, number, word, weekday, RulePart, Value, binary, boolean, calAddress, date, dateTime, duration, integer, periodStart, recur, text, uri, unknown, geo, requestStatus, Parameter, Property, Components, noMore, component}
+use Rattle.model.specs.Calendar.{moment, word, weekday, Value, binary, boolean, calAddress, date, dateTime, integer, periodStart, recur, text, uri, unknown, geo, requestStatus, Parameter, Property, Components, noMore, component}
 use Rattle.model.specs.Refusal.{accepted}
 use Rattle.xcal.specs.WriteXml.{writeDocument}
 use Rattle.xcal.specs.ReadDocument.{readDocument}

@@ -2,15 +2,15 @@
 --     runOf         the characters of marks up to the next tag
 --     areGoodMarks
 --     good-nodes    the nodes of such marks are good
-use mathlib.Core.Path.{_≡_, refl, sym, ap, _∙_}
+use mathlib.Core.Path.{_≡_, refl, sym, ap}
 use mathlib.Core.Bool.{Bool, true, false, false≢true}
 use mathlib.Core.List.{List, [], _∷_}
 use Prim.Native.Nat.{ℕ, zero, suc}
-use Rattle.octets.specs.Pick.{_and_, _or_, and-both, and-yes, or-left, or-right}
+use Rattle.octets.specs.Pick.{_and_, _or_, and-both, and-yes}
 use Rattle.octets.specs.Append.{_⊕_}
 use Rattle.xml.specs.Reads.{isName}
 use Rattle.xml.specs.Marks.{Mark, opens, closes, char, refers, fault}
-use Rattle.xml.specs.Nodes.{Nodes, noNodes, element, literal, referred, endPlace, nodesBy, nodes, charactersOf, hasElement}
+use Rattle.xml.specs.Nodes.{nodesBy, nodes, charactersOf, hasElement}
 use Rattle.xcal.specs.SoundContent.{isClean}
 use Rattle.xcal.specs.ValuesAccepted.{isCleanContent}
 use Rattle.xcal.specs.GoodNodes.{isGood}

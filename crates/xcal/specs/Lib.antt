@@ -1,47 +1,37 @@
 -- xCal (RFC 6321).
---     Layout       children in a fixed order, and names with capitals
---     ValueNodes       the elements of a value: what they state and where they are refused
+-- What documents state, and where they are refused:
+--     Layout           children in a fixed order, and names with capitals
+--     ValueNodes       the elements of a value
 --     ParameterNodes   the elements of the parameters
 --     PropertyNodes    the elements of a property
 --     ComponentNodes   the elements of components, up to the root
 --     ReadDocument     the answer for a document
+-- What is written:
 --     WriteXml         the canonical XML of a calendar
---     Contents         the content of a calendar's XML, as a tree without places
---     WrittenContents  what is written of a calendar is that content, written
+--     Contents         its content, as a tree without places;   WrittenContents: that content, written, is the canonical XML
+-- What is written is read back, and not refused:
 --     ElementNames     names in capitals and the names of their elements
---     LeavesBack       elements of character data are read back
---     RecurBack        the elements of a rule are read back
---     RecurFine        the elements of a rule are not refused
---     ValuesBack       values are read back from their elements, and not refused
---     Chosen           a value of a type or a word of a closed set, in XML
---     ParametersBack   parameters are read back from their elements
---     ParametersFine   the elements of parameters are not refused
---     PropertyValues   the values of a property in its element
---     OwnValues        the values of GEO and REQUEST-STATUS in their elements
---     PropertiesBack   properties are read back from their elements, and not refused
---     ComponentsBack   components are read back from their elements
---     ComponentsFine   the elements of components are not refused
---     SoundContent     content whose bytes can be read
---     CleanValues      the characters of values are well formed
---     SoundValues      the elements of values are sound
---     Carried          a calendar that can be carried to XML and back
---     DocumentBack     a calendar is read back from its document
+--     LeavesBack       elements of character data
+--     RecurBack, RecurFine             the elements of a rule
+--     ValuesBack, Chosen               the element of a value
+--     ParametersBack, ParametersFine   the elements of parameters
+--     PropertyValues, OwnValues        the values of a property in its element
+--     PropertiesBack                   the elements of properties
+--     ComponentsBack, ComponentsFine   the elements of components
+--     SoundContent, CleanValues, SoundValues    the bytes are well formed and within the profile
+--     Carried          a valid calendar: one that can be carried to XML and back
+--     DocumentBack     a valid calendar is read back from its document
+-- What is read is valid:
 --     Accepted         what a verdict that is fine says of nodes
---     PeriodAccepted   PERIOD read from elements
---     RecurAccepted    RECUR read from elements
---     ValuesAccepted   values read from elements
---     GoodNodes        nodes of a document that can be read
---     ParametersAccepted   parameters read from elements
---     EncodingAccepted     ENCODING among them
---     TypedAccepted        values of a property read from elements
---     OwnAccepted          GEO's and REQUEST-STATUS's among them
---     PropertiesAccepted   properties read from elements
---     ComponentsAccepted   components read from elements
---     GoodMarks            the nodes of marks that can be read
---     Decoding             tokens beside a decoder of UTF-8
---     CleanRuns            characters that are read are clean
---     DocumentAccepted     a calendar that is read from a document is valid
---     Computing        opens all of these, for examples that compute
+--     PeriodAccepted, ItemsAccepted, RecurAccepted, ValuesAccepted    values
+--     GoodNodes        nodes of a document whose bytes are well formed
+--     ParametersAccepted, EncodingAccepted      parameters
+--     TypedAccepted, OwnAccepted, PropertiesAccepted    properties
+--     ComponentsAccepted                        components
+--     GoodMarks, Decoding, CleanRuns            the characters of a document's elements
+--     DocumentAccepted a calendar that is read from a document is valid
+-- and
+--     Computing        opens all definitions, for examples that compute
 --     Examples         calendars that are valid, and ones that are not
 pub mod Layout
 pub mod ValueNodes
@@ -72,6 +62,7 @@ pub mod Carried
 pub mod DocumentBack
 pub mod Accepted
 pub mod PeriodAccepted
+pub mod ItemsAccepted
 pub mod RecurAccepted
 pub mod ValuesAccepted
 pub mod GoodNodes

@@ -8,13 +8,13 @@ use Prim.Native.Nat.{ℕ}
 use Rattle.octets.specs.Ascii.{ascii}
 use Rattle.octets.specs.Pick.{pick, _and_, _or_, and-both, and-yes}
 use Rattle.octets.specs.Class.{isSpace}
-use Rattle.octets.specs.Words.{same, same-true, isOneOf, isEmpty}
+use Rattle.octets.specs.Words.{same, same-true, isOneOf}
 use Rattle.octets.specs.Lists.{every, anyOne}
 use Rattle.octets.specs.Reading.{isRead, readOr}
 use Rattle.octets.specs.Computing.{octets-compute}
-use Rattle.model.specs.Calendar.{ValueType, FLOAT, TEXT, Value, geo, requestStatus, typeOf}
-use Rattle.model.specs.Refusal.{FRAME, Verdict, fine}
-use Rattle.schema.specs.Types.{sameType, isTypeOf, same-type-true}
+use Rattle.model.specs.Calendar.{ValueType, Value}
+use Rattle.model.specs.Refusal.{FRAME, fine}
+use Rattle.schema.specs.Types.{isTypeOf}
 use Rattle.schema.specs.Properties.{permittedTypes, isListedProperty, propertyWords}
 use Rattle.schema.specs.Computing.{schema-compute}
 use Rattle.numbers.specs.Float.{isNormal, readFloat}
@@ -23,7 +23,7 @@ use Rattle.values.specs.Extra.{every-weaker, every-both}
 use Rattle.values.specs.WriteValue.{typeOfAll}
 use Rattle.values.specs.Valid.{isAmount, isChosen, isPropertyValue, areValuesOf, arePropertyValues}
 use Rattle.xml.specs.Reads.{isName}
-use Rattle.xml.specs.Nodes.{Nodes, noNodes, element, literal, referred, charactersOf, hasElement}
+use Rattle.xml.specs.Nodes.{Nodes, noNodes, element, literal, referred, charactersOf}
 use Rattle.xcal.specs.Layout.{Slot, slotOf, lacks, sequence}
 use Rattle.xcal.specs.ValueNodes.{valueVerdict, childNamed, textOf, zero′, floatOf, typeOfNodes, typedValues, readValueNodes}
 use Rattle.xcal.specs.ParameterNodes.{parametersVerdict}

@@ -4,33 +4,32 @@
 use mathlib.Core.Path.{_≡_, refl, sym, ap, _∙_}
 use mathlib.Core.Bool.{Bool, true, false, not, false≢true}
 use mathlib.Core.List.{List, [], _∷_, map}
-use mathlib.Core.Option.{Option, none, some, Option·map}
+use mathlib.Core.Option.{Option, none, some}
 use Prim.Native.Nat.{ℕ}
 use lib.Dec.{eqb}
-use borrow.Author.Tests.{not-true, not-false}
+use borrow.Author.Tests.{not-false}
 use Rattle.octets.specs.Ascii.{ascii}
-use Rattle.octets.specs.Pick.{pick, _and_, _or_, and-both, and-yes, or-no, or-neither, or-left, or-right, or-cases}
+use Rattle.octets.specs.Pick.{pick, _and_, _or_, and-both, and-yes, or-no, or-neither, or-left, or-right}
 use Rattle.octets.specs.Class.{isSpace, upper, lower}
-use Rattle.octets.specs.Words.{same, same-self, same-true, same-swap, isOneOf, holds, isEmpty}
-use Rattle.octets.specs.Lists.{every, anyOne, distinct}
-use Rattle.octets.specs.Reading.{provided, andThen, consRead, readOr, isRead, none-some, provided-some, andThen-some, consRead-some}
+use Rattle.octets.specs.Words.{same, same-self, same-true, isOneOf, holds, isEmpty}
+use Rattle.octets.specs.Lists.{every, distinct}
+use Rattle.octets.specs.Reading.{consRead, readOr, none-some, provided-some, andThen-some, consRead-some}
 use Rattle.octets.specs.Tables.{row-any-passes}
 use Rattle.octets.specs.Computing.{octets-compute}
 use Rattle.model.specs.Calendar.{xcal, ValueType, BINARY, BOOLEAN, CAL-ADDRESS, DATE, DATE-TIME, DURATION, FLOAT, INTEGER, PERIOD, RECUR, TEXT, TIME, URI, UTC-OFFSET, UNKNOWN}
-use Rattle.model.specs.Calendar.{Value, boolean, calAddress, text, uri, unknown, textIn, typeOf, Parameter}
+use Rattle.model.specs.Calendar.{Value, boolean, calAddress, text, uri, unknown, Parameter}
 use Rattle.model.specs.Refusal.{NAME, FRAME, PARAMETER, fine}
-use Rattle.schema.specs.Types.{typeName, sameType, isTypeOf}
-use Rattle.schema.specs.Closed.{parameter-words-text}
-use Rattle.schema.specs.Parameters.{parameterTable, parameterRow, unrecognisedParameter, parameterType, isListedParameter, parameterWords}
+use Rattle.schema.specs.Types.{typeName, isTypeOf}
+use Rattle.schema.specs.Parameters.{parameterTable, unrecognisedParameter, parameterType, isListedParameter, parameterWords}
 use Rattle.schema.specs.Properties.{permitsParameter}
 use Rattle.schema.specs.Computing.{schema-compute}
 use Rattle.lines.specs.Names.{isCarriedName}
-use Rattle.numbers.specs.Boolean.{readBoolean, writeBoolean}
+use Rattle.numbers.specs.Boolean.{readBoolean}
 use Rattle.texts.specs.Uri.{readUri, uri-kept}
 use Rattle.texts.specs.Unknown.{readUnknown, unknown-kept}
 use Rattle.values.specs.ReadValue.{readValue}
 use Rattle.values.specs.WriteValue.{characters as dataOf}
-use Rattle.values.specs.Valid.{isAmount, isOfType, isWordIn, isChosen, isParameter}
+use Rattle.values.specs.Valid.{isAmount, isChosen, isParameter}
 use Rattle.xml.specs.Reads.{isName}
 use Rattle.xml.specs.Nodes.{Nodes, noNodes, element, literal, referred, charactersOf, hasElement}
 use Rattle.xcal.specs.Layout.{hasCapital}

@@ -3,7 +3,7 @@
 --     read-passes, read-some    of a reading that did not fail
 use mathlib.Core.Path.{_≡_, refl, sym, ap, _∙_}
 use mathlib.Core.Bool.{Bool, true, false, not, false≢true}
-use mathlib.Core.List.{List, [], _∷_}
+use mathlib.Core.List.{List, []}
 use mathlib.Core.Option.{Option, none, some}
 use Prim.Native.Nat.{ℕ}
 use Rattle.octets.specs.Ascii.{ascii}
@@ -12,14 +12,14 @@ use Rattle.octets.specs.Words.{same, isOneOf}
 use Rattle.octets.specs.Lists.{anyOne}
 use Rattle.octets.specs.Reading.{isRead, readOr}
 use Rattle.octets.specs.Computing.{octets-compute}
-use Rattle.model.specs.Calendar.{xcal, Value, periodExplicit, periodStart}
+use Rattle.model.specs.Calendar.{xcal}
 use Rattle.model.specs.Refusal.{fine}
 use Rattle.times.specs.DateTime.{isDateTime, readDateTime, date-time-accepted}
 use Rattle.times.specs.Duration.{isDuration, readDuration, duration-accepted}
-use Rattle.values.specs.ReadBack.{isValue, isTyped}
+use Rattle.values.specs.ReadBack.{isValue}
 use Rattle.xml.specs.Nodes.{Nodes, charactersOf}
 use Rattle.xcal.specs.Layout.{lacks, sequence}
-use Rattle.xcal.specs.ValueNodes.{periodSlots, periodInside, childNamed, textOf, momentOf, periodOf}
+use Rattle.xcal.specs.ValueNodes.{periodSlots, periodInside, childNamed, momentOf, periodOf}
 use Rattle.xcal.specs.Accepted.{leaf-accepted, allChildren, comes, sequence-each, sequence-comes, comes-named, child-good}
 
 -- what was read passes what every reading passes

@@ -1,40 +1,37 @@
 -- Properties read from elements that are not refused are properties that can be carried, and clean (RFC 6321, section 3.4).
 --     properties-accepted
-use mathlib.Core.Path.{_≡_, refl, sym, ap, subst, _∙_}
+use mathlib.Core.Path.{_≡_, refl, sym}
 use mathlib.Core.Bool.{Bool, true, false, not}
 use mathlib.Core.List.{List, [], _∷_}
-use mathlib.Core.Option.{Option, none, some}
 use Prim.Native.Nat.{ℕ}
 use borrow.Author.Tests.{not-false}
 use Rattle.octets.specs.Ascii.{ascii}
-use Rattle.octets.specs.Pick.{pick, _and_, _or_, and-both, and-yes, or-neither, or-left, or-right}
+use Rattle.octets.specs.Pick.{pick, _and_, _or_, and-both, and-yes, or-neither}
 use Rattle.octets.specs.Class.{isSpace, upper, lower}
-use Rattle.octets.specs.Words.{same, isOneOf}
+use Rattle.octets.specs.Words.{same}
 use Rattle.octets.specs.Lists.{every}
 use Rattle.octets.specs.Computing.{octets-compute}
-use Rattle.model.specs.Calendar.{ValueType, BINARY, Property}
+use Rattle.model.specs.Calendar.{ValueType, Property}
 use Rattle.model.specs.Refusal.{NAME, FRAME, PARAMETER, fine}
-use Rattle.schema.specs.Types.{sameType}
 use Rattle.schema.specs.Components.{mayStand}
 use Rattle.schema.specs.Properties.{isKnownProperty}
 use Rattle.lines.specs.Names.{isCarriedName}
-use Rattle.values.specs.WriteValue.{typeOfAll}
-use Rattle.values.specs.Valid.{areParameters, arePropertyValues, isProperty}
+use Rattle.values.specs.Valid.{isProperty}
 use Rattle.xml.specs.Reads.{isName}
 use Rattle.xml.specs.Nodes.{Nodes, noNodes, element, literal, referred}
 use Rattle.xcal.specs.Layout.{hasCapital, slotOf, sequence}
 use Rattle.xcal.specs.ElementNames.{isKeptName, kept-name, upper-apart}
 use Rattle.xcal.specs.ValueNodes.{valueSlots, typeOfNodes, valueVerdict, readValueNodes}
-use Rattle.xcal.specs.ParameterNodes.{hasEncoding, parametersVerdict, readParameterNodes}
+use Rattle.xcal.specs.ParameterNodes.{parametersVerdict, readParameterNodes}
 use Rattle.xcal.specs.PropertyNodes.{badName, propertySlots, stillBefore, parametersIn, childVerdict, lacksEncoding, propertyVerdict, propertiesVerdict, readProperties}
 use Rattle.xcal.specs.PropertiesBack.{isCarriedProperty}
 use Rattle.xcal.specs.Carried.{isCleanProperty}
 use Rattle.xcal.specs.Accepted.{refused-not, both-fine, test-fine, past-fine, admitted-fine}
 use Rattle.xcal.specs.ValuesAccepted.{isCleanContent}
 use Rattle.xcal.specs.GoodNodes.{isGood}
-use Rattle.xcal.specs.ParametersAccepted.{Said, parameters-accepted}
+use Rattle.xcal.specs.ParametersAccepted.{parameters-accepted}
 use Rattle.xcal.specs.EncodingAccepted.{are-parameters}
-use Rattle.xcal.specs.OwnAccepted.{Given, values-accepted}
+use Rattle.xcal.specs.OwnAccepted.{values-accepted}
 
 -- ---- the parameters in their place
 

@@ -48,7 +48,7 @@ isCarriedProperty k p =
 
 -- ---- `parameters` before the values
 
-no-type : elementType (ascii "parameters") ≡ none
+pub no-type : elementType (ascii "parameters") ≡ none
 unfolding schema-compute elementType
 no-type = refl
 

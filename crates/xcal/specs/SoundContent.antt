@@ -73,7 +73,7 @@ escaped-case P b s f g = go (eqb b 38) refl (eqb b 60) refl (eqb b 62) refl
     go false e false k true m = f (rw (eqb-true b 62 m)) (ascii "&gt;") refl
     go false e false k false m = g
 
-low-least : (a : ℕ) → 0x80 ≤ low a
+pub low-least : (a : ℕ) → 0x80 ≤ low a
 low-least a = pick-either (λ n. 0x80 ≤ n) _ _ _ (omega arith) (pick-either (λ n. 0x80 ≤ n) _ _ _ (omega arith) (omega arith))
 
 -- tail bytes stand as they are

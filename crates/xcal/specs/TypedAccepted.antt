@@ -8,13 +8,12 @@ use Prim.Native.Nat.{ℕ, suc, _≤_, _<_}
 use native.Mathlib.Omega.{arith}
 use borrow.Author.Tests.{ltb-false, not-true}
 use Rattle.octets.specs.Ascii.{ascii}
-use Rattle.octets.specs.Pick.{pick, pick-either, _and_, _or_, and-both, and-yes, or-left, or-right, or-cases}
+use Rattle.octets.specs.Pick.{pick, _and_, _or_, and-both, and-yes, or-left, or-right, or-cases}
 use Rattle.octets.specs.Class.{isSpace}
 use Rattle.octets.specs.Words.{same, same-true, isOneOf, isEmpty}
 use Rattle.octets.specs.Lists.{every, anyOne}
 use Rattle.octets.specs.Reading.{none-some}
-use Rattle.octets.specs.Computing.{octets-compute}
-use Rattle.model.specs.Calendar.{ValueType, Value, typeOf}
+use Rattle.model.specs.Calendar.{ValueType, Value}
 use Rattle.model.specs.Refusal.{FRAME, VALUE, fine}
 use Rattle.schema.specs.Types.{sameType, isTypeOf, same-type-true}
 use Rattle.schema.specs.Properties.{permittedTypes, propertyWords}
@@ -23,17 +22,14 @@ use Rattle.values.specs.Valid.{isAmount, isChosen}
 use Rattle.xml.specs.Reads.{isName}
 use Rattle.xml.specs.Nodes.{Nodes, noNodes, element, literal, referred}
 use Rattle.xcal.specs.Layout.{slotOf, lacks, sequence}
-use Rattle.xcal.specs.ValueNodes.{may, typeElements, elementType, asTyped, typedVerdict, valueVerdict, valueOf, oneOf, typedValues}
+use Rattle.xcal.specs.ValueNodes.{may, typeElements, elementType, asTyped, typedVerdict, valueVerdict, oneOf, typedValues}
 use Rattle.xcal.specs.PropertyNodes.{childVerdict}
 use Rattle.xcal.specs.PropertyValues.{typedSlots, of-text}
+use Rattle.xcal.specs.PropertiesBack.{no-type}
 use Rattle.xcal.specs.CleanValues.{isCleanValue}
 use Rattle.xcal.specs.Accepted.{refused-not, test-fine, past-fine, admitted-fine}
 use Rattle.xcal.specs.ValuesAccepted.{typed-accepted, isCleanContent, value-clean}
 use Rattle.xcal.specs.GoodNodes.{isGood}
-
-no-type : elementType (ascii "parameters") ≡ none
-unfolding schema-compute elementType
-no-type = refl
 
 -- ---- slots
 

@@ -3,16 +3,15 @@
 --     value-clean       is clean
 use mathlib.Core.Path.{_≡_, refl, sym, ap, _∙_}
 use mathlib.Core.Bool.{Bool, true, false, false≢true}
-use mathlib.Core.List.{List, [], _∷_}
+use mathlib.Core.List.{List, []}
 use mathlib.Core.Option.{Option, none, some, Option·map}
 use Prim.Native.Nat.{ℕ}
-use native.Mathlib.Omega.{arith}
 use Rattle.octets.specs.Ascii.{ascii}
 use Rattle.octets.specs.Pick.{pick, _and_, _or_, and-yes}
-use Rattle.octets.specs.Words.{isOneOf, holds}
+use Rattle.octets.specs.Words.{holds}
 use Rattle.octets.specs.Reading.{isRead, readOr, none-some}
 use Rattle.model.specs.Calendar.{xcal, ValueType, BINARY, BOOLEAN, CAL-ADDRESS, DATE, DATE-TIME, DURATION, FLOAT, INTEGER, PERIOD, RECUR, TEXT, TIME, URI, UTC-OFFSET, UNKNOWN}
-use Rattle.model.specs.Calendar.{Value, binary, boolean, calAddress, date, dateTime, duration, float, integer, recur, text, time, uri, utcOffset, unknown, typeOf}
+use Rattle.model.specs.Calendar.{Value, binary, boolean, calAddress, date, dateTime, duration, float, integer, recur, text, time, uri, utcOffset, unknown}
 use Rattle.model.specs.Refusal.{fine}
 use Rattle.schema.specs.Types.{sameType, same-type-self, same-type-true}
 use Rattle.schema.specs.Properties.{propertyWords}
@@ -29,8 +28,8 @@ use Rattle.texts.specs.Uri.{readUri}
 use Rattle.texts.specs.Binary.{readBinary}
 use Rattle.texts.specs.Unknown.{readUnknown, unknown-kept}
 use Rattle.recur.specs.Parts.{partNames}
-use Rattle.values.specs.ReadValue.{readValue, readTextAs}
-use Rattle.values.specs.ReadBack.{isValue, isTyped, value-accepted}
+use Rattle.values.specs.ReadValue.{readValue}
+use Rattle.values.specs.ReadBack.{isValue, value-accepted}
 use Rattle.values.specs.Valid.{isOfType, isChosen}
 use Rattle.xml.specs.Nodes.{Nodes, charactersOf, hasElement}
 use Rattle.xcal.specs.Layout.{sequence, leaf}
@@ -39,7 +38,7 @@ use Rattle.xcal.specs.Chosen.{OfText}
 use Rattle.xcal.specs.SoundContent.{isClean}
 use Rattle.xcal.specs.CleanValues.{isCleanValue}
 use Rattle.xcal.specs.Accepted.{leaf-accepted}
-use Rattle.xcal.specs.PeriodAccepted.{read-passes, read-some, period-value}
+use Rattle.xcal.specs.PeriodAccepted.{read-passes, period-value}
 use Rattle.xcal.specs.RecurAccepted.{rule-accepted}
 
 -- ---- of the type asked for
