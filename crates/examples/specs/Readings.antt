@@ -25,14 +25,14 @@ pub data Question : Type 0 where
   wholeText : List ℕ → Question                                    -- a text is converted
   line : List ℕ → Question                                         -- an event with this line is converted
   date integer float duration summary : String → Question          -- an event with this value, of that type or of SUMMARY, is converted
-  calendarOf : List ℕ → Question                                   -- which calendar does an event with this line state?
+  statedBy : List ℕ → Question                                     -- which calendar does an event with this line state?
   folded : List ℕ → Question                                       -- how is this content line written?
   kept : List ℕ → Question                                         -- what does unfolding keep of these bytes?
 
 infix 70 refused_at_
 pub data Told : Type 0 where
   refused_at_ : ℕ → ℕ → Told                -- its number and its place
-  bothWays : List ℕ → List ℕ → Told        -- its canonical XML, and the canonical text that this gives
+  bothWays : List ℕ → List ℕ → Told         -- its canonical XML, and the canonical text that this gives
   states : Answer → Told
   octets : List ℕ → Told
 
@@ -58,7 +58,7 @@ answerOf (integer v) = ofLine (ascii "PRIORITY:" ++ ascii v)
 answerOf (float v) = ofLine (ascii "X-F;VALUE=FLOAT:" ++ ascii v)
 answerOf (duration v) = ofLine (ascii "DURATION:" ++ ascii v)
 answerOf (summary v) = ofLine (ascii "SUMMARY:" ++ ascii v)
-answerOf (calendarOf l) = let s = inEvent (l ++ crlf) in states (readCalendar s (length s))
+answerOf (statedBy l) = let s = inEvent (l ++ crlf) in states (readCalendar s (length s))
 answerOf (folded l) = octets (foldedLine l)
 answerOf (kept s) = octets (unfolded s)
 
@@ -151,9 +151,9 @@ table =
     line (ascii "SUMMARY:" ++ (0xC3 ∷ 13 ∷ 10 ∷ 32 ∷ 0xA9 ∷ []))
                                    gives asProperty (summaryXml é) (ascii "SUMMARY:" ++ é) ∷
     -- `X-A=""` and `X-A=` state the same.
-    calendarOf (ascii "SUMMARY;X-A=\"\":s")
+    statedBy (ascii "SUMMARY;X-A=\"\":s")
                                    gives states withEmptyParameter ∷
-    calendarOf (ascii "SUMMARY;X-A=:s")
+    statedBy (ascii "SUMMARY;X-A=:s")
                                    gives states withEmptyParameter ∷
     line (ascii "SUMMARY;X-A=\"\":s")
                                    gives is "<summary><parameters><x-a><unknown></unknown></x-a></parameters><text>s</text></summary>" "SUMMARY;X-A=:s" ∷

@@ -16,7 +16,7 @@ use Rattle.examples.specs.Readings.{Row, line, bothWays, _gives_, is, as
 
 -- ---- lines of an event
 
--- GRINNING FACE, of four octets, and the same with a fold after each of its octets
+-- GRINNING FACE, of four octets, and the same with a fold between any two of its octets
 abbrev pub face : List ℕ
 face = 0xF0 ∷ 0x9F ∷ 0x98 ∷ 0x80 ∷ []
 
@@ -83,11 +83,11 @@ infix 68 _reads_
 pub data ElementRow : Type 0 where
   _reads_ : String → List ℕ → ElementRow
 
-abbrev pub elementOf : ElementRow → List ℕ
-elementOf (x reads l) = ascii x
+abbrev pub elementIn : ElementRow → List ℕ
+elementIn (x reads l) = ascii x
 
-abbrev pub lineOf : ElementRow → List ℕ
-lineOf (x reads l) = l
+abbrev pub lineIn : ElementRow → List ℕ
+lineIn (x reads l) = l
 
 abbrev pub elementTable : List ElementRow
 elementTable =
@@ -115,7 +115,7 @@ elementTable =
         reads ascii "X-DEPTH:a,b" ∷
     []
 
-elements-converted : map (λ (r : ElementRow). toText (eventXml (elementOf r))) elementTable ≡ map (λ (r : ElementRow). result (inEvent (lineOf r ++ crlf))) elementTable
+elements-converted : map (λ (r : ElementRow). toText (eventXml (elementIn r))) elementTable ≡ map (λ (r : ElementRow). result (inEvent (lineIn r ++ crlf))) elementTable
 unfolding conversions-compute
 elements-converted = refl
 

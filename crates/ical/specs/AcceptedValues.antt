@@ -9,8 +9,8 @@ use Rattle.octets.specs.Ascii.{ascii}
 use Rattle.octets.specs.Pick.{pick, _and_, _or_, and-yes, and-both, or-right}
 use Rattle.octets.specs.Class.{upper}
 use Rattle.octets.specs.Words.{same, isOneOf, isEmpty, cutAt, cut-some}
-use Rattle.octets.specs.Lists.{every}
-use Rattle.octets.specs.Reading.{readEach, none-some, provided-some, each-accepted}
+use Rattle.octets.specs.Lists.{every, every-both}
+use Rattle.octets.specs.Reading.{readEach, none-some, provided-some, each-accepted, each-empty}
 use Rattle.model.specs.Calendar.{ical, ValueType, FLOAT, TEXT, Value, text, typeOf}
 use Rattle.schema.specs.Types.{sameType, isTypeOf, same-type-self, same-type-true}
 use Rattle.schema.specs.Properties.{permittedTypes, isListedProperty, propertyWords}
@@ -18,7 +18,6 @@ use Rattle.schema.specs.Closed.{property-words-text}
 use Rattle.numbers.specs.Geo.{readGeo, geo-accepted}
 use Rattle.texts.specs.TextList.{readTexts, texts-accepted}
 use Rattle.texts.specs.RequestStatus.{readRequestStatus, request-status-accepted}
-use Rattle.values.specs.Extra.{every-both, each-empty}
 use Rattle.values.specs.ReadValue.{readValue}
 use Rattle.values.specs.WriteValue.{typeOfAll}
 use Rattle.values.specs.ReadBack.{value-accepted}
@@ -84,6 +83,7 @@ listed-passes t s vs h = go (sameType t TEXT) refl h
     texts : (o : Option (List (List ℕ))) → readTexts s ≡ o → Option·map (map text) o ≡ some vs → Pass (isOfType TEXT) true TEXT vs
     texts none e k = none-some k
     texts (some ts) e k = let q : map text ts ≡ vs = cc in rw (← q) (typed-all TEXT (map text ts) (texts-some ts (texts-accepted s ts e)) (texts-pass ts))
+
     go : (b : Bool) → sameType t TEXT ≡ b → pick b (Option·map (map text) (readTexts s)) (readEach (readValue ical t) (cutAt 44 s)) ≡ some vs → Pass (isOfType t) true t vs
     go true e k = rw (same-type-true t TEXT e) (texts (readTexts s) refl k)
     go false e k =

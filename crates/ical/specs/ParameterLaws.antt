@@ -7,12 +7,13 @@ use mathlib.Core.Bool.{Bool, true, false, not, false≢true}
 use mathlib.Core.List.{List, [], _∷_, map}
 use mathlib.Core.Option.{Option, none, some, Option·map}
 use Prim.Native.Nat.{ℕ}
+use borrow.Author.Tests.{not-true}
 use Rattle.octets.specs.Pick.{pick, pick-yes, pick-no, _and_, _or_, and-yes, and-both}
 use Rattle.octets.specs.Class.{upper}
 use Rattle.octets.specs.Letters.{upper-twice}
 use Rattle.octets.specs.Words.{same, isOneOf, isEmpty, same-true, same-self}
-use Rattle.octets.specs.Lists.{every}
-use Rattle.octets.specs.Reading.{provided, readOr, readEach, none-some, provided-some}
+use Rattle.octets.specs.Lists.{every, every-both}
+use Rattle.octets.specs.Reading.{provided, readOr, readEach, none-some, provided-some, each-read-back, each-accepted, each-accepted-of}
 use Rattle.octets.specs.Computing.{octets-compute}
 use Rattle.model.specs.Calendar.{ical, ValueType, TEXT, UNKNOWN, Value, text, typeOf, textIn, Parameter}
 use Rattle.schema.specs.Types.{typeName, typeNamed, valueTypes, sameType, isTypeOf, same-type-self, same-type-true, type-name-read-back, type-any, type-passes}
@@ -21,7 +22,6 @@ use Rattle.schema.specs.Rows.{known-types, unrecognised-property}
 use Rattle.schema.specs.Computing.{schema-compute}
 use Rattle.schema.specs.Parameters.{parameterType, isListedParameter, parameterWords, isQuotedParameter}
 use Rattle.schema.specs.Closed.{parameter-words-plain}
-use Rattle.values.specs.Extra.{not-false, every-both, each-read, each-passes, each-passes-of}
 use Rattle.values.specs.ReadValue.{readValue}
 use Rattle.values.specs.WriteValue.{writeValue}
 use Rattle.values.specs.ReadBack.{isValue, isTyped, value-read-back, value-accepted}
@@ -79,11 +79,11 @@ parameterOf n vs = record { name = n; values = vs }
 -- of a name in capitals
 named-read-back : (n : List ℕ) (vs : List Value) → isAmount (isListedParameter n) vs ≡ true → every (isChosen (parameterWords n) (parameterType n)) vs ≡ true →
     pick (isListedParameter n or isSingle (map (paramValueOf n) vs))
-        (Option·map (parameterOf n) (readEach (readParamValue n) (map (paramValueOf n) vs))) none
+    (Option·map (parameterOf n) (readEach (readParamValue n) (map (paramValueOf n) vs))) none
     ≡ some (parameterOf n vs)
 unfolding pick
 named-read-back n vs a h =
-    rw (single-map (isListedParameter n) (paramValueOf n) vs a, each-read (readParamValue n) (isChosen (parameterWords n) (parameterType n)) (paramValueOf n) (value-written n) vs h)
+    rw (single-map (isListedParameter n) (paramValueOf n) vs a, each-read-back (readParamValue n) (isChosen (parameterWords n) (parameterType n)) (paramValueOf n) (value-written n) vs h)
 
 pub parameter-read-back : (p : Parameter) → isParameter p ≡ true → readParameter (rawOf p) ≡ some p
 unfolding isParameter readParameter
@@ -129,6 +129,7 @@ parameter-accepted r p x y h = go (isListedParameter n or isSingle (r .values)) 
   where
     n : List ℕ
     n = upper (r .name)
+
     go : (b : Bool) → (isListedParameter n or isSingle (r .values)) ≡ b → (o : Option (List Value)) → readEach (readParamValue n) (r .values) ≡ o →
         pick b (Option·map (parameterOf n) o) none ≡ some p → isParameter p ≡ true
     go false a o e k = none-some k
@@ -139,7 +140,7 @@ parameter-accepted r p x y h = go (isListedParameter n or isSingle (r .values)) 
         (and-yes _ _ (rw (upper-twice (r .name)) (same-self n))
         (and-yes _ _ (rw x)
         (and-yes _ _ (each-amount (readParamValue n) (isListedParameter n) (r .values) vs e ∙ single-amount (isListedParameter n) (r .values) y a)
-        (each-passes (readParamValue n) _ (value-read n) (r .values) vs e))))
+        (each-accepted (readParamValue n) _ (value-read n) (r .values) vs e))))
 
 -- ---- the parameters of a property
 
@@ -150,7 +151,7 @@ parameter-name p h = same-true (upper (p .name)) (p .name) (and-both _ _ h .0)
 
 pub parameter-own : (p : Parameter) → isParameter p ≡ true → isValueParameter (rawOf p) ≡ false
 unfolding isParameter
-parameter-own p h = rw (parameter-name p h) (not-false _ (and-both _ _ (and-both _ _ h .1) .0))
+parameter-own p h = rw (parameter-name p h) (not-true _ (and-both _ _ (and-both _ _ h .1) .0))
 
 pub own-written : (ps : List Parameter) → every isParameter ps ≡ true → ownParameters (map rawOf ps) ≡ map rawOf ps
 unfolding ownParameters pick
@@ -158,7 +159,7 @@ own-written [] h = refl
 own-written (p ∷ ps) h = let e = every-both isParameter p ps h in rw (parameter-own p (e .0)) (ap (λ (l : List RawParameter). rawOf p ∷ l) (own-written ps (e .1)))
 
 pub parameters-read-back : (ps : List Parameter) → every isParameter ps ≡ true → readParameters (map rawOf ps) ≡ some ps
-parameters-read-back ps h = rw (own-written ps h) (each-read readParameter isParameter rawOf parameter-read-back ps h)
+parameters-read-back ps h = rw (own-written ps h) (each-read-back readParameter isParameter rawOf parameter-read-back ps h)
 
 -- every parameter of a content line has a value
 abbrev pub hasValue : RawParameter → Bool
@@ -179,8 +180,8 @@ own-have (r ∷ rs) h = let e = every-both hasValue r rs h in go (isValueParamet
 
 pub parameters-accepted : (rs : List RawParameter) (ps : List Parameter) → every hasValue rs ≡ true → readParameters rs ≡ some ps → every isParameter ps ≡ true
 parameters-accepted rs ps a h =
-    each-passes-of readParameter isParameter isOwn
-    (λ r p t e. let d = and-both (not (isValueParameter r)) (hasValue r) t in parameter-accepted r p (not-false _ (d .0)) (not-false _ (d .1)) e)
+    each-accepted-of readParameter isParameter isOwn
+    (λ r p t e. let d = and-both (not (isValueParameter r)) (hasValue r) t in parameter-accepted r p (not-true _ (d .0)) (not-true _ (d .1)) e)
     (ownParameters rs) ps (own-have rs a) h
 
 -- ---- VALUE
@@ -210,6 +211,7 @@ other-named n t h d = go (sameType t UNKNOWN) refl (type-any t)
     known false k e =
         let u : defaultType n ≡ UNKNOWN = ap (λ (r : PropertyRow). r .default) (unrecognised-property n k) in
         absurd (false≢true (sym d ∙ rw (u, e) (same-type-self UNKNOWN)))
+
     go : (b : Bool) → sameType t UNKNOWN ≡ b → (b or isTypeOf t valueTypes) ≡ true → isTypeOf t valueTypes ≡ true
     go true e k = known (isKnownProperty n) refl (same-type-true t UNKNOWN e)
     go false e k = k

@@ -11,14 +11,13 @@ use Rattle.octets.specs.Ascii.{ascii}
 use Rattle.octets.specs.Pick.{pick, pick-either, _and_, and-yes, and-both, or-no, or-left, or-right, or-cases}
 use Rattle.octets.specs.Class.{upper}
 use Rattle.octets.specs.Words.{same, isOneOf, same-self, same-true, same-swap}
-use Rattle.octets.specs.Lists.{every, anyOne, distinct}
+use Rattle.octets.specs.Lists.{every, anyOne, distinct, every-both}
 use Rattle.octets.specs.Reading.{isRead, readOr}
 use Rattle.octets.specs.Computing.{octets-compute}
 use Rattle.model.specs.Calendar.{ValueType, BINARY, Value, textIn, Parameter, Property}
 use Rattle.schema.specs.Types.{sameType}
 use Rattle.schema.specs.Parameters.{parameterRow, isListedParameter}
 use Rattle.schema.specs.Properties.{permitsParameter, defaultType}
-use Rattle.values.specs.Extra.{every-both}
 use Rattle.values.specs.WriteValue.{typeOfAll, writeValue}
 use Rattle.values.specs.Valid
 use Rattle.values.specs.Valid.{isAmount, isWordIn, only-one, isParameter, areParameters, areValuesOf, arePropertyValues, isProperty}

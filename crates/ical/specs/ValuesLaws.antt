@@ -6,13 +6,14 @@ use mathlib.Core.Bool.{Bool, true, false, not, false≢true}
 use mathlib.Core.List.{List, [], _∷_, map}
 use mathlib.Core.Option.{Option, none, some, Option·map}
 use Prim.Native.Nat.{ℕ}
+use borrow.Author.Tests.{not-true}
 use Rattle.octets.specs.Ascii.{ascii}
 use Rattle.octets.specs.Pick.{pick, pick-yes, _and_, _or_, and-both, pick-first, eqb-apart}
 use Rattle.octets.specs.Append.{_⊕_, append-none}
 use Rattle.octets.specs.Scan.{allOf}
 use Rattle.octets.specs.Class.{upper}
 use Rattle.octets.specs.Words.{same, isOneOf, holds, cutAt, joinedBy, eachAfter, same-true, cut-joined}
-use Rattle.octets.specs.Lists.{every, none-holds}
+use Rattle.octets.specs.Lists.{every, none-holds, every-both}
 use Rattle.octets.specs.Tables.{row-any-passes}
 use Rattle.octets.specs.Reading.{provided, readOr, readEach, each-read-back}
 use Rattle.octets.specs.Computing.{octets-compute}
@@ -27,7 +28,6 @@ use Rattle.numbers.specs.Geo.{readGeo, geo-read-back}
 use Rattle.texts.specs.Text.{writeText, escapeText}
 use Rattle.texts.specs.TextList.{readTexts, texts-read-back}
 use Rattle.texts.specs.RequestStatus.{readRequestStatus, request-status-read-back}
-use Rattle.values.specs.Extra.{not-false, every-both}
 use Rattle.values.specs.ReadValue.{readValue}
 use Rattle.values.specs.WriteValue.{writeValue, writeValues, typeOfAll}
 use Rattle.values.specs.ReadBack.{isValue, isTyped, value-read-back}
@@ -98,7 +98,7 @@ geo-read v h =
     own-value (λ v. sameType (typeOf v) FLOAT ≡ true → readGeo (writeValue v) ≡ some v)
     (λ la lo a b e. geo-read-back la lo a b)
     (λ c d x e. absurd (false≢true e))
-    v (not-false _ (q .0)) (q .1) (p .0)
+    v (not-true _ (q .0)) (q .1) (p .0)
 
 status-read : (v : Value) → isOwnValue TEXT v ≡ true → readRequestStatus (writeValue v) ≡ some v
 unfolding sameType writeValue
@@ -108,7 +108,7 @@ status-read v h =
     own-value (λ v. sameType (typeOf v) TEXT ≡ true → readRequestStatus (writeValue v) ≡ some v)
     (λ la lo a b e. absurd (false≢true e))
     (λ c d x e. request-status-read-back c d x)
-    v (not-false _ (q .0)) (q .1) (p .0)
+    v (not-true _ (q .0)) (q .1) (p .0)
 
 -- ---- lists of TEXT
 

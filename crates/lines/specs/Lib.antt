@@ -15,3 +15,9 @@ pub mod Chars
 pub mod Names
 pub mod Computing
 pub mod Examples
+pub mod Items
+pub mod Cursor
+pub mod Repeating
+pub mod Values
+pub mod Params
+pub mod Line

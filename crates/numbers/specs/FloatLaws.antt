@@ -18,7 +18,7 @@ use Rattle.octets.specs.Scan.{allOf, all-append, all-split, all-weaker}
 use Rattle.octets.specs.Append.{_⊕_, append-none}
 use Rattle.octets.specs.Class.{isDigit, isVisible, digit-visible}
 use Rattle.octets.specs.Words.{holds, cutAt, noneHolds, joinedBy, eachAfter, cut-joined, all-without}
-use Rattle.octets.specs.Reading.{andThen, andThen-some, provided-some}
+use Rattle.octets.specs.Reading.{andThen, andThen-some, provided-some, none-some}
 use Rattle.model.specs.Calendar.{Decimal}
 use Rattle.numbers.specs.Sign.{hasMinus, unsigned, isDigits, leadsInDigit, digits-lead, lead-append, signed-minus, signed-rest, signed-all}
 use Rattle.numbers.specs.Float.{decimal, fraction, pointed, spelled, noLeading, kept, noTrailing, normal, readFloat, orZero, afterPoint, writeFloat, leadsInZero, endsInZero, isZero, isNormal}
@@ -132,11 +132,11 @@ pub record Digits (d : Decimal) : Type 0 where
 
 pointed-digits : (m : Bool) (ps : List (List ℕ)) (d : Decimal) → pointed m ps ≡ some d → Digits d
 unfolding pointed pick
-pointed-digits m [] d h = let z : _≡_ {A = ℕ} 0 1 = cc in absurd (omega arith)
+pointed-digits m [] d h = none-some h
 pointed-digits m (b ∷ ps) d h = go (isDigits b) refl h
   where
     go : (t : Bool) → isDigits b ≡ t → pick t (andThen (fraction ps) (λ a. some (decimal m b a))) none ≡ some d → Digits d
-    go false e k = let z : _≡_ {A = ℕ} 0 1 = cc in absurd (omega arith)
+    go false e k = none-some k
     go true e k =
         let p = andThen-some (fraction ps) (λ a. some (decimal m b a)) d k in
         let q : decimal m b (p .0) ≡ d = cc (p .2) in

@@ -22,11 +22,11 @@ use Rattle.octets.specs.Scan.{allOf}
 use Rattle.octets.specs.Append.{_⊕_}
 use Rattle.octets.specs.Class.{isDigit}
 use Rattle.octets.specs.Words.{empty-is}
-use Rattle.octets.specs.Decimal.{value, value-append}
+use Rattle.octets.specs.Decimal.{value, value-append, digits-same}
 use Rattle.octets.specs.Reading.{andThen}
 use Rattle.model.specs.Calendar.{Decimal}
 use Rattle.numbers.specs.Float.{decimal, spelled, noLeading, noTrailing, normal, readFloat, isZero, isNormal}
-use Rattle.numbers.specs.Worth.{zeros, digits-same, front-length, front-value, front-digits, back-length, back-value, back-digits, leading-zeros, trailing-zeros, leading-split, trailing-split}
+use Rattle.numbers.specs.Worth.{zeros, front-length, front-value, front-digits, back-length, back-value, back-digits, leading-zeros, trailing-zeros, leading-split, trailing-split}
 use Rattle.numbers.specs.FloatLaws.{Digits, normal-digits, normal-fixed, spelled-digits, float-accepted}
 
 abbrev pub numerator : Decimal → ℕ

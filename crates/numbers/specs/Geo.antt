@@ -14,7 +14,7 @@ use Rattle.octets.specs.Scan.{allOf, all-append}
 use Rattle.octets.specs.Append.{_⊕_, append-none}
 use Rattle.octets.specs.Class.{isDigit, isVisible, digit-range}
 use Rattle.octets.specs.Words.{isEmpty, holds, cutAt, noneHolds, joinedBy, eachAfter, cut-joined, all-without}
-use Rattle.octets.specs.Reading.{andThen, andThen-some}
+use Rattle.octets.specs.Reading.{andThen, andThen-some, none-some}
 use Rattle.model.specs.Calendar.{Decimal, Value, geo}
 use Rattle.numbers.specs.Float.{readFloat, writeFloat, isNormal}
 use Rattle.numbers.specs.FloatLaws.{float-read-back, float-accepted, float-all, float-visible}
@@ -60,16 +60,16 @@ pub record IsGeo (v : Value) : Type 0 where
 
 longitude-accepted : (ps : List (List ℕ)) (d : Decimal) → longitude ps ≡ some d → isNormal d ≡ true
 unfolding longitude pick
-longitude-accepted [] d h = let z : _≡_ {A = ℕ} 0 1 = cc in absurd (omega arith)
+longitude-accepted [] d h = none-some h
 longitude-accepted (s ∷ ps) d h = go (isEmpty ps) h
   where
     go : (t : Bool) → pick t (readFloat s) none ≡ some d → isNormal d ≡ true
     go true k = float-accepted s d k
-    go false k = let z : _≡_ {A = ℕ} 0 1 = cc in absurd (omega arith)
+    go false k = none-some k
 
 coordinates-accepted : (ps : List (List ℕ)) (v : Value) → coordinates ps ≡ some v → IsGeo v
 unfolding coordinates
-coordinates-accepted [] v h = let z : _≡_ {A = ℕ} 0 1 = cc in absurd (omega arith)
+coordinates-accepted [] v h = none-some h
 coordinates-accepted (s ∷ ps) v h =
     let p = andThen-some (readFloat s) (λ la. andThen (longitude ps) (λ lo. some (geo la lo))) v h in
     let q = andThen-some (longitude ps) (λ lo. some (geo (p .0) lo)) v (p .2) in

@@ -4,6 +4,7 @@
 --     digits f n     the digits of n without leading zeros, where n < 10 ^ (f + 1)
 --     value-append   what digits are worth after others
 --     digits-value, digits-all, digits-some, digits-short, digits-number    a number is read back from its digits
+--     digits-same    as many digits that are worth the same are the same
 use mathlib.Core.Path.{_≡_, refl, _∙_}
 use mathlib.Core.Bool.{Bool, true, false}
 use mathlib.Core.List.{List, [], _∷_}
@@ -14,9 +15,9 @@ use lib.Dec.{leb, ltb}
 use lib.ListN.{length, length-append}
 use borrow.Author.Tests.{lt-ltb, ltb-true, le-leb}
 use Rattle.octets.specs.Pick.{pick, _and_, within-yes}
-use Rattle.octets.specs.Scan.{allOf, all-append}
+use Rattle.octets.specs.Scan.{allOf, all-append, all-split}
 use Rattle.octets.specs.Append.{_⊕_}
-use Rattle.octets.specs.Class.{isDigit}
+use Rattle.octets.specs.Class.{isDigit, digit-range}
 
 -- a byte that is no digit counts 0, so that the function is total
 abbrev pub digitOf : ℕ → ℕ
@@ -79,11 +80,12 @@ digits-some (suc f) n = go (ltb n 10)
     go false = simp length-append (omega arith)
 
 -- a number below a power of ten has no more digits
-pub digits-short : (f k n : ℕ) → n < 10 ^ suc k → length (digits f n) ≤ suc k
+pub digits-short : (f d n : ℕ) → 0 < d → n < 10 ^ d → length (digits f n) ≤ d
 unfolding digits _⊕_ pick
-digits-short zero k n h = omega arith
-digits-short (suc f) zero n h = rw (lt-ltb n 10 h) (omega arith)
-digits-short (suc f) (suc k) n h = go (ltb n 10) (digits-short f k (n / 10) (shorter k n h))
+digits-short f zero n p h = absurd (omega arith)
+digits-short zero (suc k) n p h = omega arith
+digits-short (suc f) (suc zero) n p h = rw (lt-ltb n 10 h) (omega arith)
+digits-short (suc f) (suc (suc k)) n p h = go (ltb n 10) (digits-short f (suc k) (n / 10) (omega arith) (shorter k n h))
   where
     go : (t : Bool) → length (digits f (n / 10)) ≤ suc k → length (pick t ((48 + n) ∷ []) (digits f (n / 10) ⊕ (48 + n % 10) ∷ [])) ≤ suc (suc k)
     go true ih = omega arith
@@ -93,3 +95,25 @@ digits-short (suc f) (suc k) n h = go (ltb n 10) (digits-short f k (n / 10) (sho
 pub digits-number : (f n most : ℕ) → n < 10 ^ suc f → n ≤ most → isNumber most (digits f n) ≡ true
 unfolding _and_
 digits-number f n most h l = rw (lt-ltb 0 (length (digits f n)) (digits-some f n), digits-all, digits-value f n h, le-leb n most l)
+
+-- ---- as many digits that are worth the same are the same
+
+digit-same : (b c x y : ℕ) → isDigit b ≡ true → isDigit c ≡ true → x * 10 + digitOf b ≡ y * 10 + digitOf c → (x ≡ y) × (b ≡ c)
+unfolding pick
+digit-same b c x y h k e =
+    let p = digit-range b h in
+    let q = digit-range c k in
+    let f : x * 10 + (b - 48) ≡ y * 10 + (c - 48) = rw (h, k) at e in
+    (omega arith, omega arith)
+
+pub digits-same : (s t : List ℕ) (x y : ℕ) → length s ≡ length t → allOf isDigit s ≡ true → allOf isDigit t ≡ true → value x s ≡ value y t → (x ≡ y) × (s ≡ t)
+unfolding value
+digits-same [] [] x y l h k e = (e, refl)
+digits-same [] (c ∷ t) x y l h k e = absurd (omega arith)
+digits-same (b ∷ s) [] x y l h k e = absurd (omega arith)
+digits-same (b ∷ s) (c ∷ t) x y l h k e =
+    let p = all-split isDigit b s h in
+    let q = all-split isDigit c t k in
+    let r = digits-same s t (x * 10 + digitOf b) (y * 10 + digitOf c) (omega arith) (p .1) (q .1) e in
+    let u = digit-same b c x y (p .0) (q .0) (r .0) in
+    (u .0, cc (u .1, r .1))

@@ -9,7 +9,7 @@ use Prim.Native.Nat.{ℕ, _≤_}
 use native.Mathlib.Omega.{arith}
 use lib.Dec.{eqb, leb}
 use borrow.Author.Needs.{needs}
-use borrow.Author.Tests.{eq-eqb, ne-eqb, lt-ltb, le-ltb, le-leb, lt-leb, leb-true, eqb-false}
+use borrow.Author.Tests.{eq-eqb, ne-eqb, lt-ltb, le-ltb, le-leb, lt-leb, leb-true, eqb-true, eqb-false}
 
 unfoldable pub pick {ℓ} : {A : Type ℓ} → Bool → A → A → A
 pick true a b = a
@@ -121,6 +121,10 @@ within-wider lo hi a z x l h w = let p = within-range lo hi x w in within-yes a 
 -- a number that passes a test is not one that fails it
 pub eqb-apart : (p : ℕ → Bool) (x k : ℕ) → p x ≡ true → p k ≡ false → eqb x k ≡ false
 eqb-apart p x k h q = ne-eqb x k (λ e. let z : _≡_ {A = ℕ} 0 1 = cc in omega arith)
+
+-- what passes a test, named otherwise
+pub eqb-passes : (p : ℕ → Bool) (k x : ℕ) → p k ≡ true → eqb x k ≡ true → p x ≡ true
+eqb-passes p k x h e = rw (eqb-true x k e) h
 
 -- two numbers that differ, the other way round
 pub eqb-swap : (a b : ℕ) → eqb a b ≡ false → eqb b a ≡ false

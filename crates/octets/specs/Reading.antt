@@ -5,15 +5,16 @@
 --     isRead       whether it was read
 --     orNothing    what was read, written
 --     provided-some, andThen-some, consRead-some    what was read, was read from something;   none-some: nothing is not something
---     each-read-back, each-accepted                 each of a list, read and written
+--     each-read-back, each-accepted, each-accepted-of, each-empty    each of a list, read and written
 use mathlib.Core.Path.{_≡_, refl}
 use mathlib.Core.Bool.{Bool, true, false}
 use mathlib.Core.List.{List, [], _∷_, map}
 use mathlib.Core.Option.{Option, none, some}
 use Prim.Native.Nat.{ℕ}
 use native.Mathlib.Omega.{arith}
-use Rattle.octets.specs.Pick.{pick, _and_, and-both}
-use Rattle.octets.specs.Lists.{every}
+use Rattle.octets.specs.Pick.{pick, _and_}
+use Rattle.octets.specs.Words.{isEmpty}
+use Rattle.octets.specs.Lists.{every, every-always, every-both}
 
 module _ {A : Type 0} where
   abbrev pub provided : Bool → A → Option A
@@ -68,16 +69,32 @@ module _ {A : Type 0} where
 
 -- ---- each of a list, read and written
 
-module _ {A : Type 0} (reading : List ℕ → Option A) (q : A → Bool) where
-  pub each-read-back : (writing : A → List ℕ) → ((a : A) → q a ≡ true → reading (writing a) ≡ some a) → (l : List A) → every q l ≡ true → readEach reading (map writing l) ≡ some l
-  unfolding every readEach andThen consRead
+module _ {A B : Type 0} (reading : A → Option B) (q : B → Bool) where
+  -- each is read back, where one is
+  pub each-read-back : (writing : B → A) → ((b : B) → q b ≡ true → reading (writing b) ≡ some b) → (l : List B) → every q l ≡ true → readEach reading (map writing l) ≡ some l
+  unfolding readEach andThen consRead
   each-read-back writing k [] h = refl
-  each-read-back writing k (a ∷ l) h = let e = and-both (q a) (every q l) h in rw (k a (e .0), each-read-back writing k l (e .1))
+  each-read-back writing k (b ∷ l) h = let e = every-both q b l h in rw (k b (e .0), each-read-back writing k l (e .1))
 
-  pub each-accepted : ((s : List ℕ) (a : A) → reading s ≡ some a → q a ≡ true) → (ss : List (List ℕ)) (l : List A) → readEach reading ss ≡ some l → every q l ≡ true
-  unfolding every readEach _and_
-  each-accepted k [] l h = let z : [] ≡ l = cc in rw (← z)
-  each-accepted k (s ∷ ss) l h =
-      let e = andThen-some (reading s) (λ a. consRead a (readEach reading ss)) l h in
-      let f = consRead-some (e .0) (readEach reading ss) l (e .2) in
-      rw (← (f .2), k s (e .0) (e .1)) (each-accepted k ss (f .0) (f .1))
+  -- each that is read passes what one passes, where what it is read from passes a test of its own
+  pub each-accepted-of : (p : A → Bool) → ((a : A) (b : B) → p a ≡ true → reading a ≡ some b → q b ≡ true) →
+      (l : List A) (r : List B) → every p l ≡ true → readEach reading l ≡ some r → every q r ≡ true
+  unfolding readEach every _and_
+  each-accepted-of p k [] r t h = let z : [] ≡ r = cc in rw (← z)
+  each-accepted-of p k (a ∷ l) r t h =
+      let d = every-both p a l t in
+      let e = andThen-some (reading a) (λ b. consRead b (readEach reading l)) r h in
+      let f = consRead-some (e .0) (readEach reading l) r (e .2) in
+      rw (← (f .2), k a (e .0) (d .0) (e .1)) (each-accepted-of p k l (f .0) (d .1) (f .1))
+
+  pub each-accepted : ((a : A) (b : B) → reading a ≡ some b → q b ≡ true) → (l : List A) (r : List B) → readEach reading l ≡ some r → every q r ≡ true
+  each-accepted k l r h = each-accepted-of (λ a. true) (λ a b t e. k a b e) l r (every-always (λ a. true) (λ a. refl) l) h
+
+-- as many as there were: none only of none
+pub each-empty : {A B : Type 0} (reading : A → Option B) (l : List A) (r : List B) → readEach reading l ≡ some r → isEmpty r ≡ isEmpty l
+unfolding readEach
+each-empty reading [] r h = let z : [] ≡ r = cc in rw (← z)
+each-empty reading (a ∷ l) r h =
+    let e = andThen-some (reading a) (λ b. consRead b (readEach reading l)) r h in
+    let f = consRead-some (e .0) (readEach reading l) r (e .2) in
+    rw (← (f .2))

@@ -1,6 +1,7 @@
 // Bytes: quoted text, tests, classes, letter case, runs, lists. Definitions and their laws are in specs/.
 // The tests are over a unit of a cursor (crate source), a `usize` that is a byte below 256 or 256 at the end, which is in no class.
 ghost use mathlib.Core.Path.{_≡_};
+ghost use Prim.Native.Nat.{_<_};
 ghost use Rattle.octets.specs.Pick.{within};
 ghost use Rattle.octets.specs.Class.{isDigit, isCapital, isSmall, isAlpha, isNameChar, isVisible, isSpace, upperByte, lowerByte};
 
@@ -101,4 +102,11 @@ pub fn lower_unit(u: usize) -> usize
         return u;
     }
     u + 32
+}
+
+// A byte as a unit.
+pub fn wide(b: u8) -> usize
+    ensures { λ r. ⌜ (r ≡ b) × (r < 256) ⌝ }
+{
+    b as usize
 }

@@ -6,7 +6,7 @@ use mathlib.Core.Path.{_≡_, refl}
 use mathlib.Core.Bool.{Bool, true, false}
 use mathlib.Core.List.{List, [], _∷_}
 use mathlib.Core.Option.{some}
-use Prim.Native.Nat.{ℕ, zero, suc, _^_, _≤_, _<_}
+use Prim.Native.Nat.{ℕ, _^_, _≤_, _<_}
 use native.Mathlib.Omega.{arith}
 use lib.Dec.{eqb, leb, ltb}
 use lib.ListN.{length}
@@ -18,12 +18,6 @@ use Rattle.octets.specs.Decimal.{value, isNumber, digits, digits-value, digits-
 use Rattle.octets.specs.Reading.{provided-some}
 use Rattle.model.specs.Calendar.{Whole}
 use Rattle.recur.specs.Item.{whole, isNumeral, isShort, isMinus, afterSign, readCounting, readUnsigned, readSigned, writeWhole}
-
--- ---- how many digits
-
-digits-fit : (d n : ℕ) → 0 < d → n < 10 ^ d → length (digits 9 n) ≤ d
-digits-fit zero n p h = absurd (omega arith)
-digits-fit (suc k) n p h = digits-short 9 k n h
 
 -- ---- a number's digits
 
@@ -91,7 +85,7 @@ enough-short d lo hi n s h =
     let g : n ≤ hi = within-range lo hi n h .1 in
     let a : 0 < d = ltb-true 0 d (and-both (ltb 0 d) (ltb hi (10 ^ d) and leb hi 2147483647) s .0) in
     let b : hi < 10 ^ d = ltb-true hi (10 ^ d) (and-both (ltb hi (10 ^ d)) (leb hi 2147483647) (and-both (ltb 0 d) (ltb hi (10 ^ d) and leb hi 2147483647) s .1) .0) in
-    le-leb (length (digits 9 n)) d (digits-fit d n a (omega arith))
+    le-leb (length (digits 9 n)) d (digits-short 9 d n a (omega arith))
 
 enough-most : (d hi : ℕ) → isEnough d hi ≡ true → hi ≤ 2147483647
 enough-most d hi s = leb-true hi 2147483647 (and-both (ltb hi (10 ^ d)) (leb hi 2147483647) (and-both (ltb 0 d) (ltb hi (10 ^ d) and leb hi 2147483647) s .1) .1)

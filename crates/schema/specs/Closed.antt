@@ -104,6 +104,7 @@ closed-named c p ws e = go (same p (ascii "STATUS")) e
     rows : (b : Bool) → isOneOf p (map (λ r. r .name) wordsTable) ≡ b → andThen (rowOf (λ r. r .name) p wordsTable) (λ r. some (r .words)) ≡ some ws → b ≡ true
     rows true h k = refl
     rows false h k = let z : _≡_ {A = ℕ} 0 1 = cc (row-none (λ r. r .name) p wordsTable h) in absurd (omega arith)
+
     go : (b : Bool) → pick b (andThen (rowOf (λ r. r .name) c statusTable) (λ r. some (r .words))) (andThen (rowOf (λ r. r .name) p wordsTable) (λ r. some (r .words))) ≡ some ws →
         (b or isOneOf p (map (λ r. r .name) wordsTable)) ≡ true
     go true k = refl

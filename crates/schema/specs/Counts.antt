@@ -62,10 +62,10 @@ alarmPair ps = eqb (tally (ascii "DURATION") ps) (tally (ascii "REPEAT") ps)
 abbrev pub pairsOf : List ℕ → List Property → Bool → Bool
 pairsOf c ps sub =
     pick (same c (ascii "VEVENT")) (eventPair ps)
-        (pick (same c (ascii "VTODO")) (todoPair ps)
-            (pick (same c (ascii "VTIMEZONE")) sub
-                (pick (isAlarm c) (alarmPair ps)
-                    true)))
+    (pick (same c (ascii "VTODO")) (todoPair ps)
+    (pick (same c (ascii "VTIMEZONE")) sub
+    (pick (isAlarm c) (alarmPair ps)
+    true)))
 
 -- ---- the list that decides
 

@@ -101,6 +101,7 @@ quoted-type w = agree _ _ (row-any-passes (λ r. r .name) w (λ r. pick (r .quot
   where
     isAddress : ValueType → Bool
     isAddress t = sameType t URI or sameType t CAL-ADDRESS
+
     agree : (a b : Bool) → pick a b (not b) ≡ true → a ≡ b
     agree true b k = sym k
     agree false true k = absurd (false≢true k)

@@ -32,6 +32,7 @@ each-often-same (w ∷ ws) os ps qs h = rw (h w (here w), each-often-same ws os 
   where
     here : (v : List ℕ) → (same v v or isOneOf v ws) ≡ true
     here v = or-left _ _ (same-self v)
+
     later : (v : List ℕ) → isOneOf v ws ≡ true → (same v w or isOneOf v ws) ≡ true
     later v k = or-right (same v w) (isOneOf v ws) k
 
@@ -117,6 +118,7 @@ complete-stands c sub ps w h k n = go (listFor c ps) refl (and-both _ _ h .0)
     none-listed : (os : List Occurrence) → listFor c ps ≡ some os → (b : Bool) → isOneOf w (namesIn os) ≡ b → b ≡ false
     none-listed os e true f = absurd (false≢true (sym n ∙ listed-stands c ps os w e f))
     none-listed os e false f = refl
+
     go : (o : Option (List Occurrence)) → listFor c ps ≡ o → oftenFor o ps ≡ true → tally w ps ≡ 0
     go none e a = absurd (false≢true a)
     go (some os) e a = often-absent os ps w (none-listed os e _ refl) (often-at propertyNames os ps w a k)

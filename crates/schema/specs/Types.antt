@@ -24,21 +24,21 @@ use Rattle.octets.specs.Computing.{octets-compute}
 use Rattle.model.specs.Calendar.{ValueType, BINARY, BOOLEAN, CAL-ADDRESS, DATE, DATE-TIME, DURATION, FLOAT, INTEGER, PERIOD, RECUR, TEXT, TIME, URI, UTC-OFFSET, UNKNOWN}
 
 abbrev pub typeName : ValueType → List ℕ
-typeName BINARY = ascii "BINARY"               -- 3.3.1,  schema line 189
-typeName BOOLEAN = ascii "BOOLEAN"             -- 3.3.2,  line 195
-typeName CAL-ADDRESS = ascii "CAL-ADDRESS"     -- 3.3.3,  line 201
-typeName DATE = ascii "DATE"                   -- 3.3.4,  line 211
-typeName DATE-TIME = ascii "DATE-TIME"         -- 3.3.5,  line 221
-typeName DURATION = ascii "DURATION"           -- 3.3.6,  line 234
-typeName FLOAT = ascii "FLOAT"                 -- 3.3.7,  line 240
-typeName INTEGER = ascii "INTEGER"             -- 3.3.8,  line 246
-typeName PERIOD = ascii "PERIOD"               -- 3.3.9,  line 252
-typeName RECUR = ascii "RECUR"                 -- 3.3.10, line 268
-typeName TEXT = ascii "TEXT"                   -- 3.3.11, line 354
-typeName TIME = ascii "TIME"                   -- 3.3.12, line 364
-typeName URI = ascii "URI"                     -- 3.3.13, line 370
-typeName UTC-OFFSET = ascii "UTC-OFFSET"       -- 3.3.14, line 376
-typeName UNKNOWN = ascii "UNKNOWN"             -- line 382
+typeName BINARY = ascii "BINARY"  -- 3.3.1,  schema line 189
+typeName BOOLEAN = ascii "BOOLEAN"  -- 3.3.2,  line 195
+typeName CAL-ADDRESS = ascii "CAL-ADDRESS"  -- 3.3.3,  line 201
+typeName DATE = ascii "DATE"  -- 3.3.4,  line 211
+typeName DATE-TIME = ascii "DATE-TIME"  -- 3.3.5,  line 221
+typeName DURATION = ascii "DURATION"  -- 3.3.6,  line 234
+typeName FLOAT = ascii "FLOAT"  -- 3.3.7,  line 240
+typeName INTEGER = ascii "INTEGER"  -- 3.3.8,  line 246
+typeName PERIOD = ascii "PERIOD"  -- 3.3.9,  line 252
+typeName RECUR = ascii "RECUR"  -- 3.3.10, line 268
+typeName TEXT = ascii "TEXT"  -- 3.3.11, line 354
+typeName TIME = ascii "TIME"  -- 3.3.12, line 364
+typeName URI = ascii "URI"  -- 3.3.13, line 370
+typeName UTC-OFFSET = ascii "UTC-OFFSET"  -- 3.3.14, line 376
+typeName UNKNOWN = ascii "UNKNOWN"  -- line 382
 
 abbrev pub valueTypes : List ValueType
 valueTypes = BINARY ∷ BOOLEAN ∷ CAL-ADDRESS ∷ DATE ∷ DATE-TIME ∷ DURATION ∷ FLOAT ∷ INTEGER ∷ PERIOD ∷ RECUR ∷ TEXT ∷ TIME ∷ URI ∷ UTC-OFFSET ∷ []

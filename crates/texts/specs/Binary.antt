@@ -10,8 +10,7 @@ use mathlib.Core.Option.{Option, none, some}
 use Prim.Native.Nat.{ℕ, _+_, _-_, _%_}
 use native.Mathlib.Omega.{arith}
 use lib.Dec.{eqb, ltb}
-use borrow.Author.Tests.{eqb-true}
-use Rattle.octets.specs.Pick.{pick, pick-yes, _and_, _or_, and-both, or-cases, within-wider}
+use Rattle.octets.specs.Pick.{pick, pick-yes, _and_, _or_, and-both, or-cases, within-wider, eqb-passes}
 use Rattle.octets.specs.Scan.{allOf, all-split}
 use Rattle.octets.specs.Class.{isAlpha, isCapital, isSmall, isDigit, isVisible, isSpace, visible-no-space}
 use Rattle.octets.specs.Reading.{provided, provided-some}
@@ -68,23 +67,20 @@ readBinary f s = provided (isBinary (binaryChars f s)) (binaryChars f s)
 
 -- ---- laws
 
-visible-is : (n b : ℕ) → isVisible n ≡ true → eqb b n ≡ true → isVisible b ≡ true
-visible-is n b h e = rw (eqb-true b n e) h
-
 visible-base64 : (b : ℕ) → isBase64 b ≡ true → isVisible b ≡ true
 unfolding _and_
 visible-base64 b h =
     or-cases (isAlpha b) _ h
     (λ k. or-cases (isCapital b) (isSmall b) k (within-wider 65 90 33 126 b (omega arith) (omega arith)) (within-wider 97 122 33 126 b (omega arith) (omega arith)))
     (λ k. or-cases (isDigit b) _ k (within-wider 48 57 33 126 b (omega arith) (omega arith))
-    (λ k. or-cases (eqb b 43) (eqb b 47) k (visible-is 43 b refl) (visible-is 47 b refl)))
+    (λ k. or-cases (eqb b 43) (eqb b 47) k (eqb-passes isVisible 43 b refl) (eqb-passes isVisible 47 b refl)))
 
 visible-in : (n last b : ℕ) → inGroup n last b ≡ true → isVisible b ≡ true
 unfolding pick _and_
 visible-in n last b h = go (eqb b 61) refl h
   where
     go : (t : Bool) → eqb b 61 ≡ t → pick t (padFits n last) (isBase64 b and ltb n 4) ≡ true → isVisible b ≡ true
-    go true e k = visible-is 61 b refl e
+    go true e k = eqb-passes isVisible 61 b refl e
     go false e k = visible-base64 b (and-both (isBase64 b) _ k .0)
 
 visible-from : (s : List ℕ) (n last : ℕ) → binaryFrom n last s ≡ true → allOf isVisible s ≡ true

@@ -9,8 +9,8 @@ use mathlib.Core.Option.{Option, none, some}
 use Prim.Native.Nat.{ℕ, _≤_}
 use native.Mathlib.Omega.{arith}
 use lib.Dec.{eqb}
-use borrow.Author.Tests.{eqb-true, ne-eqb, le-leb}
-use Rattle.octets.specs.Pick.{pick, pick-yes, _and_, _or_, within, within-yes, or-left, and-both, or-cases, or-neither, within-range, pick-second}
+use borrow.Author.Tests.{ne-eqb, le-leb}
+use Rattle.octets.specs.Pick.{pick, pick-yes, _and_, _or_, within, within-yes, or-left, and-both, or-cases, or-neither, within-range, pick-second, eqb-passes}
 use Rattle.octets.specs.Scan.{allOf, all-weaker}
 use Rattle.octets.specs.Class.{isAlpha, isCapital, isSmall, isDigit, isVisible}
 use Rattle.octets.specs.Words.{holds, all-without}
@@ -66,16 +66,13 @@ plain-between b l h = rw (ne-eqb b 34 (λ e. omega arith)) (within-yes 33 126 b 
 plain-within : (lo hi b : ℕ) → 35 ≤ lo → hi ≤ 126 → within lo hi b ≡ true → isPlain b ≡ true
 plain-within lo hi b l h w = let p = within-range lo hi b w in plain-between b (omega arith) (omega arith)
 
-plain-is : (n b : ℕ) → isPlain n ≡ true → eqb b n ≡ true → isPlain b ≡ true
-plain-is n b h e = rw (eqb-true b n e) h
-
 plain-scheme : (b : ℕ) → isSchemeChar b ≡ true → isPlain b ≡ true
 unfolding pick _and_
 plain-scheme b h =
     or-cases (isAlpha b) _ h
     (λ k. or-cases (isCapital b) (isSmall b) k (plain-within 65 90 b (omega arith) (omega arith)) (plain-within 97 122 b (omega arith) (omega arith)))
     (λ k. or-cases (isDigit b) _ k (plain-within 48 57 b (omega arith) (omega arith))
-    (λ k. or-cases (eqb b 43) _ k (plain-is 43 b refl) (λ k. or-cases (eqb b 45) (eqb b 46) k (plain-is 45 b refl) (plain-is 46 b refl))))
+    (λ k. or-cases (eqb b 43) _ k (eqb-passes isPlain 43 b refl) (λ k. or-cases (eqb b 45) (eqb b 46) k (eqb-passes isPlain 45 b refl) (eqb-passes isPlain 46 b refl))))
 
 plain-char : (b : ℕ) → isUriChar b ≡ true → isPlain b ≡ true
 unfolding pick
@@ -84,7 +81,7 @@ plain-char b h = let p = pick-second (isOutside b) (isVisible b) h in rw (or-nei
 plain-in : (past : Bool) (b : ℕ) → inUri past b ≡ true → isPlain b ≡ true
 unfolding pick _and_
 plain-in true b h = plain-char b h
-plain-in false b h = or-cases (eqb b 58) (isSchemeChar b) h (plain-is 58 b refl) (plain-scheme b)
+plain-in false b h = or-cases (eqb b 58) (isSchemeChar b) h (eqb-passes isPlain 58 b refl) (plain-scheme b)
 
 plain-from : (s : List ℕ) (past : Bool) → uriFrom past s ≡ true → allOf isPlain s ≡ true
 unfolding uriFrom allOf

@@ -23,7 +23,7 @@ use Rattle.octets.specs.Scan.{allOf, all-cons, all-weaker}
 use Rattle.octets.specs.Class.{isDigit, isCapital, isSmall, isVisible, upper}
 use Rattle.octets.specs.Letters.{upper-same}
 use Rattle.octets.specs.Words.{holds, isEmpty, all-without}
-use Rattle.octets.specs.Reading.{provided, andThen, consRead, provided-some, andThen-some, consRead-some}
+use Rattle.octets.specs.Reading.{provided, andThen, consRead, provided-some, andThen-some, consRead-some, none-some}
 
 -- 43 is +, 45 is -
 unfoldable pub isTimeChar : ℕ → Bool
@@ -171,12 +171,12 @@ take-put (suc n) c (b ∷ s) h = rw (take-put n c s (omega arith))
 
 take-exact : (n c : ℕ) (s v : List ℕ) → takeMark n c s ≡ some v → s ≡ putMark n c v
 unfolding takeMark putMark
-take-exact zero c [] v h = let z : _≡_ {A = ℕ} 0 1 = cc in absurd (omega arith)
+take-exact zero c [] v h = none-some h
 take-exact zero c (b ∷ s) v h =
     let p = provided-some (eqb b c) s v h in
     let q : b ≡ c = eqb-true b c (p .0) in
     cc (p .1, q)
-take-exact (suc n) c [] v h = let z : _≡_ {A = ℕ} 0 1 = cc in absurd (omega arith)
+take-exact (suc n) c [] v h = none-some h
 take-exact (suc n) c (b ∷ s) v h =
     let q = consRead-some b (takeMark n c s) v h in rw (← (q .2)) (ap (λ (r : List ℕ). b ∷ r) (take-exact n c s (q .0) (q .1)))
 

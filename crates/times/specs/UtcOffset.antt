@@ -17,7 +17,7 @@ use Rattle.octets.specs.Scan.{allOf}
 use Rattle.octets.specs.Class.{isVisible}
 use Rattle.octets.specs.Words.{holds}
 use Rattle.octets.specs.Decimal.{value}
-use Rattle.octets.specs.Reading.{andThen}
+use Rattle.octets.specs.Reading.{andThen, none-some}
 use Rattle.model.specs.Calendar.{Format, ical, xcal}
 use Rattle.times.specs.Spelling.{Mark, mark, withMarks, withoutMarks, keep, begins, fits}
 use Rattle.times.specs.Spelling.{isTimeChar, Chars, chars-begins, chars-or, chars-visible, chars-no-comma, keep-yes, keep-is, keep-accepted, marked-read-back, marked-accepted, marked-exact, marks-length}
@@ -101,7 +101,7 @@ two-lengths {P} s v h p q = go (eqb (length s) 6) (eqb (length s) 9) refl refl h
         pick t (andThen (withoutMarks minuteMarks s) (keep isUtcOffset)) (pick u (andThen (withoutMarks secondMarks s) (keep isUtcOffset)) none) ≡ some v → P
     go true u e d k = p (eqb-true _ _ e) k
     go false true e d k = q (eqb-true _ _ d) k
-    go false false e d k = let z : _≡_ {A = ℕ} 0 1 = cc in absurd (omega arith)
+    go false false e d k = none-some k
 
 pub utc-offset-accepted : (f : Format) (s v : List ℕ) → readUtcOffset f s ≡ some v → isUtcOffset v ≡ true
 unfolding readUtcOffset

@@ -13,13 +13,12 @@ use Rattle.octets.specs.Pick.{pick, _and_, _or_, and-both}
 use Rattle.octets.specs.Class.{upper}
 use Rattle.octets.specs.Words.{same, isOneOf, isEmpty}
 use Rattle.octets.specs.Lists.{every, anyOne, distinct}
-use Rattle.octets.specs.Reading.{consRead, readEach, none-some, andThen-some, consRead-some}
+use Rattle.octets.specs.Reading.{consRead, readEach, none-some, andThen-some, consRead-some, each-empty}
 use Rattle.model.specs.Calendar.{Decimal, ValueType, BINARY, TEXT, Value, binary, boolean, calAddress, date, dateTime, duration, float, integer, periodExplicit, periodStart, recur, text, time, uri, utcOffset, unknown, geo, requestStatus, typeOf, textIn, Parameter, Property}
 use Rattle.schema.specs.Types.{sameType, isTypeOf}
 use Rattle.schema.specs.Parameters.{parameterType, isListedParameter, parameterWords}
 use Rattle.schema.specs.Properties.{permittedTypes, isListedProperty, permitsParameter, propertyWords}
 use Rattle.numbers.specs.Float.{isNormal}
-use Rattle.values.specs.Extra.{each-empty}
 use Rattle.values.specs.WriteValue.{typeOfAll}
 use Rattle.values.specs.ReadBack.{isValue, isTyped}
 

@@ -8,7 +8,7 @@ ghost use Rattle.source.specs.Source.{rest};
 ghost use Rattle.xml.specs.Escape.{escapedByte, escaped, startTag, endTag};
 
 // A character's byte, or its entity.
-fn put_escaped_byte(out: &mut [u8], at: usize, b: u8) -> usize
+pub fn put_escaped_byte(out: &mut [u8], at: usize, b: u8) -> usize
     ensures { λ r. ⌜ Put (now (out .entry)) (now (out .exit)) at r (escapedByte b) ⌝ }
 {
     if b == b'&' {
