@@ -1,6 +1,7 @@
 -- The tallies of a component in an array, one for each known property, counted to 255.
 --     bumped         one more of the property of a number; of an unrecognised one, nothing
 --     tallies        the tallies of a list of properties
+--     tallies-end    one more property at the end of the list
 --     tally-count    the entry of a property's number is its tally, or 255
 --     eachFrom       a test of k numbers from i on;   from-more, from-stop, from-end: for a loop;   from-list: of the elements of a list
 --     place-at, known-at       the name of a known number
@@ -12,9 +13,10 @@ use native.Mathlib.Numerals.{add-one}
 use native.Mathlib.Omega.{arith}
 use lib.Dec.{eqb}
 use lib.ListN.{length, getD, set, replicate, length-set, length-replicate, getD-replicate}
-use lib.Seq.{set-getD, getD-set-same, getD-set-other}
+use lib.Seq.{ext-getD, set-getD, getD-set-same, getD-set-other}
 use borrow.Author.Tests.{eqb-true, eqb-false}
 use Rattle.octets.specs.Pick.{pick, _and_}
+use Rattle.octets.specs.Append.{_⊕_}
 use Rattle.octets.specs.Words.{same, isOneOf}
 use Rattle.octets.specs.Lists.{every}
 use Rattle.octets.specs.Computing.{octets-compute}
@@ -72,6 +74,17 @@ unfolding tallies bumped
 length-tallies [] = refl
 length-tallies (p ∷ ps) = simp length-set (length-tallies ps)
 
+length-bumped : (n : ℕ) (t : List ℕ) → length (bumped n t) ≡ length t
+unfolding bumped
+length-bumped n t = length-set t n (min 255 (suc (getD t n 0)))
+
+swapped : (a b : Bool) (n : ℕ) → pick a (suc (pick b (suc n) n)) (pick b (suc n) n) ≡ pick b (suc (pick a (suc n) n)) (pick a (suc n) n)
+unfolding pick
+swapped true true n = refl
+swapped true false n = refl
+swapped false true n = refl
+swapped false false n = refl
+
 counted : (n m : ℕ) (t : List ℕ) (c : ℕ) → n < length t → getD t n 0 ≡ min 255 c → (b : Bool) → eqb n m ≡ b → getD (bumped m t) n 0 ≡ min 255 (pick b (suc c) c)
 unfolding bumped pick
 counted n m t c l h true e =
@@ -85,6 +98,24 @@ tally-count n [] l = getD-replicate 46 n 0 0 l
 tally-count n (p ∷ ps) l =
     rw (same-place-first (p .name) (propertyName n) propertyNames (known-at n l), place-at n l)
     (counted n (placeOf (p .name) propertyNames) (tallies ps) (tally (propertyName n) ps) (omega (arith, length-tallies ps)) (tally-count n ps l) (eqb n (placeOf (p .name) propertyNames)) refl)
+
+-- one more property at the end
+tally-end : (w : List ℕ) (ps : List Property) (p : Property) → tally w (ps ⊕ (p ∷ [])) ≡ pick (same w (p .name)) (suc (tally w ps)) (tally w ps)
+unfolding tally _⊕_
+tally-end w [] p = refl
+tally-end w (q ∷ ps) p = rw (tally-end w ps p) (go (same w (q .name)) (same w (p .name)))
+  where
+    go : (a b : Bool) → pick a (suc (pick b (suc (tally w ps)) (tally w ps))) (pick b (suc (tally w ps)) (tally w ps)) ≡ pick b (suc (pick a (suc (tally w ps)) (tally w ps))) (pick a (suc (tally w ps)) (tally w ps))
+    go a b = swapped a b (tally w ps)
+
+pub tallies-end : (ps : List Property) (p : Property) → tallies (ps ⊕ (p ∷ [])) ≡ bumped (placeOf (p .name) propertyNames) (tallies ps)
+tallies-end ps p = ext-getD 0 _ _ (length-tallies (ps ⊕ (p ∷ [])) ∙ sym (length-bumped (placeOf (p .name) propertyNames) (tallies ps) ∙ length-tallies ps)) (λ n h. entry n (omega (arith, length-tallies (ps ⊕ (p ∷ [])))))
+  where
+    entry : (n : ℕ) → n < 46 → getD (tallies (ps ⊕ (p ∷ []))) n 0 ≡ getD (bumped (placeOf (p .name) propertyNames) (tallies ps)) n 0
+    entry n l =
+        tally-count n (ps ⊕ (p ∷ [])) l
+        ∙ rw (tally-end (propertyName n) ps p, same-place-first (p .name) (propertyName n) propertyNames (known-at n l), place-at n l)
+        (sym (counted n (placeOf (p .name) propertyNames) (tallies ps) (tally (propertyName n) ps) (omega (arith, length-tallies ps)) (tally-count n ps l) (eqb n (placeOf (p .name) propertyNames)) refl))
 
 -- ---- a loop over numbers
 

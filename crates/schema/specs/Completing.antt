@@ -3,7 +3,7 @@
 --     signOf            how often a property stands, in the schema's signs: 1, ?, *, +, and a point where it may not stand
 --     isSigned          a tally as often as a sign says
 --     allOften, pairsAt, completeAt   the tests of Counts over the array
---     actionNumber      the number of ACTION's word, 3 where it is none of the three
+--     actionNumber      the number of ACTION's word, 3 where it is none of the three;   actions-are: the table of these words in the code
 --     complete-tallies  they are what Counts says of the properties
 --     sign-at, sign-past, Testing     for code: the table of signs, and the loop
 use mathlib.Core.Path.{_≡_, refl, sym, ap, _∙_}
@@ -25,7 +25,7 @@ use Rattle.octets.specs.Tables.{row-any-passes}
 use Rattle.octets.specs.Lists.{every}
 use Rattle.octets.specs.Reading.{andThen, readOr}
 use Rattle.octets.specs.Computing.{octets-compute}
-use Rattle.names.specs.Table.{placeOf, row-then, one-of-place}
+use Rattle.names.specs.Table.{placeOf, namesIn, row-then}
 use Rattle.model.specs.Calendar.{Property}
 use Rattle.schema.specs.Components.{Occurrence, ComponentRow, AlarmRow, componentTable, componentNames, unknownComponent, alarmTable, occurrencesOf, alarmOccurrences, isAlarm}
 use Rattle.schema.specs.Properties.{propertyNames}
@@ -83,6 +83,10 @@ actionNames = map (λ r. r .action) alarmTable
 abbrev pub actionNumber : Option (List ℕ) → ℕ
 actionNumber none = 3
 actionNumber (some w) = placeOf w actionNames
+
+pub actions-are : namesIn (ascii "AUDIO\nDISPLAY\nEMAIL\n") ≡ actionNames
+unfolding namesIn pick
+actions-are = refl
 
 -- ---- signs
 

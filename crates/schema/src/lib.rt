@@ -22,6 +22,7 @@ pub use numbers::component_number;
 pub use numbers::parameter_number;
 pub use numbers::property_number;
 pub use numbers::type_number;
+pub use words::action_number;
 pub use words::has_words;
 pub use words::is_word_of;
 pub use words::is_word_of_parameter;
