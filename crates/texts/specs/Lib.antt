@@ -13,6 +13,7 @@
 --     Items           the items of a list of TEXT, found at a cursor
 --     StatusParts     the parts of a REQUEST-STATUS, found at a cursor
 --     Elements        TEXT written as elements of XML
+--     StatusXml       a REQUEST-STATUS written as elements of XML
 --     Computing       opens all of these, for examples that compute
 --     Examples        computed examples
 pub mod Text
@@ -29,5 +30,6 @@ pub mod Written
 pub mod Items
 pub mod StatusParts
 pub mod Elements
+pub mod StatusXml
 pub mod Computing
 pub mod Examples

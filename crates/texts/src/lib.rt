@@ -16,6 +16,7 @@ pub use binary::read_binary;
 pub use elements::put_text_element;
 pub use elements::put_texts_xml;
 pub use items::item_end;
+pub use request::put_request_status_xml;
 pub use request::read_request_status;
 pub use text::read_one_text;
 pub use text::read_text;
