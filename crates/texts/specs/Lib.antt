@@ -14,6 +14,7 @@
 --     StatusParts     the parts of a REQUEST-STATUS, found at a cursor
 --     Elements        TEXT written as elements of XML
 --     StatusXml       a REQUEST-STATUS written as elements of XML
+--     Chars           values kept by their characters, written
 --     Computing       opens all of these, for examples that compute
 --     Examples        computed examples
 pub mod Text
@@ -31,5 +32,6 @@ pub mod Items
 pub mod StatusParts
 pub mod Elements
 pub mod StatusXml
+pub mod Chars
 pub mod Computing
 pub mod Examples
