@@ -1,18 +1,18 @@
 -- A word in a given case: as it stands, in capitals, in small letters.
 --     cased k s           the word s in the case k;   casedByte k b: a byte of it
 --     caseOf xcal         the case in which a word is compared: as it stands in XML, in capitals in text
---     cased-end, cased-next       what `cased` is by the byte found at a cursor
---     same-step, same-empty       `same` by the byte found at a cursor
+--     cased-none, cased-more      what it is, byte by byte
+--     same-step, same-empty, empty-unit     a word compared, by the unit found at a cursor
 --     cased-small         a byte in another case is a byte
-use mathlib.Core.Path.{_≡_, refl, sym, ap, _∙_}
+use mathlib.Core.Path.{_≡_, refl}
 use mathlib.Core.Bool.{Bool, true, false}
 use mathlib.Core.List.{List, [], _∷_}
-use Prim.Native.Nat.{ℕ, suc, _+_, _-_, _≤_, _<_}
+use Prim.Native.Nat.{ℕ, _+_, _-_, _<_}
 use native.Mathlib.Omega.{arith}
 use lib.Dec.{eqb, leb}
 use borrow.Author.Tests.{eqb-true, ne-eqb, leb-true}
 use Rattle.octets.specs.Pick.{pick, _and_}
-use Rattle.octets.specs.Class.{isSmall, isCapital, upperByte, lowerByte, upper, lower}
+use Rattle.octets.specs.Class.{isSmall, upperByte, lowerByte, upper, lower}
 use Rattle.octets.specs.Words.{same, isEmpty}
 use Rattle.source.specs.Source.{spell}
 use Rattle.names.specs.declared.Case.{Case}

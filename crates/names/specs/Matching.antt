@@ -1,11 +1,11 @@
 -- The walk over a table, a byte at a time: what is left to find, and the laws of a turn.
---     sought w r ok l    the place of the word w, counted from the name at hand, the first of l, of which the end is l's first: r is the rest of w that is to match it, unless the name is no match
---     Turned             the contract of a turn over a byte of a name
---     sought-start, sought-feed, sought-none, sought-byte ..: a turn
-use mathlib.Core.Path.{_≡_, refl, sym, ap, _∙_}
+--     sought w r ok l    the place of the word w from the name at hand on: l is the end of that name, and the names behind it; r is the end of w, which is to be the same, if ok
+--     Turned             the contract of a turn over a byte of a name, with its rules `turning`
+--     Seeking            the invariant of the walk, with its rules `seeking`
+use mathlib.Core.Path.{_≡_, refl, sym, _∙_}
 use mathlib.Core.Bool.{Bool, true, false}
 use mathlib.Core.List.{List, [], _∷_}
-use Prim.Native.Nat.{ℕ, zero, suc, _+_, _≤_, _<_}
+use Prim.Native.Nat.{ℕ, suc, _+_, _≤_, _<_}
 use native.Mathlib.Omega.{arith}
 use lib.Dec.{eqb}
 use lib.ListN.{length, getD, drop, drop-of-length-le}

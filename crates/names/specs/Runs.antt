@@ -1,91 +1,96 @@
--- A run of name characters at a cursor, and a word compared or written from one.
---     NameEnds m s c r     the contract of `name_end`: the run at the cursor c ends at the cursor r. The run is octets' `spanLen` of the bytes from c on
---     name-cut             the run, cut out of the slice
+-- A run of bytes at a cursor, and a word compared or written from one.
+--     RunEnds p m s c r    the run of the bytes that pass p, from the cursor c on, ends at the cursor r
+--     run-cut              the run, cut out of the slice
+--     Running              the invariant of a loop over a run, with its rules `running`
 --     Comparing, Copying   the invariants of the loops that compare and write a word, with their rules
-use mathlib.Core.Path.{_≡_, refl, sym, ap, _∙_}
-use mathlib.Core.Bool.{Bool, true, false}
-use mathlib.Core.List.{List, [], _∷_, _++_}
-use Prim.Native.Nat.{ℕ, zero, suc, _+_, _-_, _*_, _/_, _^_, max, _≤_, _<_}
+use mathlib.Core.Path.{_≡_, refl, sym, _∙_}
+use mathlib.Core.Bool.{Bool, true, false, false≢true}
+use mathlib.Core.List.{List, [], _∷_}
+use Prim.Native.Nat.{ℕ, _+_, _-_, _*_, _^_, max, _≤_, _<_}
 use native.Mathlib.Omega.{arith}
 use lib.Dec.{eqb}
-use lib.ListN.{length, take, drop, getD, take-append-drop, drop-of-length-le}
+use lib.ListN.{length, take, drop, getD, drop-of-length-le}
 use borrow.Author.Needs.{needs}
-use borrow.Author.Tests.{eqb-true, ne-eqb, eq-eqb}
-use Rattle.octets.specs.Pick.{pick, _and_, _or_, within, flag-yes, flag-no}
+use borrow.Author.Tests.{ne-eqb, eq-eqb}
+use Rattle.octets.specs.Pick.{pick, _and_, _or_, flag-yes, flag-no}
 use Rattle.octets.specs.Append.{_⊕_}
 use Rattle.octets.specs.Scan.{spanLen, drop-next}
+use Rattle.octets.specs.Runs.{runOf, afterRun, run-joined}
 use Rattle.octets.specs.Class.{isNameChar}
 use Rattle.octets.specs.Words.{same, isEmpty}
 use Rattle.sink.specs.Sink.{Put, Todo, todo-all, todo-step, todo-done, put-length}
 use Rattle.source.specs.Source.{rest, spell, Reads}
-use Rattle.source.specs.Facts.{rest-byte, rest-end, cut-is}
+use Rattle.source.specs.Facts.{rest-byte, rest-end, byte-small, cut-is}
 use Rattle.source.specs.declared.Step.{Step}
-use Rattle.names.specs.Case.{cased, casedByte, cased-none, cased-more, same-step, same-empty, empty-unit}
+use Rattle.names.specs.Case.{cased, casedByte, cased-none, cased-more, same-step, same-empty}
 use Rattle.names.specs.declared.Case.{Case}
 
--- ---- the characters of a name
+-- ---- a run
 
--- the run is the longest front of the bytes from c on that are name characters: `left` is what stands behind it
-pub record NameEnds (m : ℕ) (s : List ℕ) (c r : ℕ) : Type 0 where
-  pub is : rest m s c ≡ take (spanLen isNameChar (rest m s c)) (rest m s c) ⊕ rest m s r
-  pub left : rest m s r ≡ drop (spanLen isNameChar (rest m s c)) (rest m s c)
+-- the run ends at r: `left` is what stands behind it
+pub record RunEnds (p : ℕ → Bool) (m : ℕ) (s : List ℕ) (c r : ℕ) : Type 0 where
+  pub is : rest m s c ≡ runOf p (rest m s c) ⊕ rest m s r
+  pub left : rest m s r ≡ afterRun p (rest m s c)
   pub onward : c ≤ r
   pub inside : r ≤ max c (4 * length s)
   pub plain : m ≡ 0 → c ≤ length s → r ≤ length s
 
 -- bytes as they stand, cut at the run's end, are the run
-pub name-cut : (s : List ℕ) (c r : ℕ) → NameEnds 0 s c r → rest 0 (take r s) c ≡ take (spanLen isNameChar (rest 0 s c)) (rest 0 s c)
-name-cut s c r p = cut-is s (take (spanLen isNameChar (rest 0 s c)) (rest 0 s c)) c r (p .onward) (p .is)
+pub run-cut : (p : ℕ → Bool) (s : List ℕ) (c r : ℕ) → RunEnds p 0 s c r → rest 0 (take r s) c ≡ runOf p (rest 0 s c)
+run-cut p s c r q = cut-is s (runOf p (rest 0 s c)) c r (q .onward) (q .is)
 
 -- what is left behind the run is the same from c₀ as from c
-pub record Running (m : ℕ) (s : List ℕ) (c₀ c : ℕ) : Type 0 where
-  pub left : drop (spanLen isNameChar (rest m s c₀)) (rest m s c₀) ≡ drop (spanLen isNameChar (rest m s c)) (rest m s c)
+pub record Running (p : ℕ → Bool) (m : ℕ) (s : List ℕ) (c₀ c : ℕ) : Type 0 where
+  pub left : afterRun p (rest m s c₀) ≡ afterRun p (rest m s c)
   pub onward : c₀ ≤ c
   pub inside : c ≤ max c₀ (4 * length s)
   pub plain : m ≡ 0 → c₀ ≤ length s → c ≤ length s
 
-pub run-start : (m : ℕ) (s : List ℕ) (c : ℕ) → Running m s c c
-run-start m s c = record { left = refl; onward = omega arith; inside = omega arith; plain = λ z h. h }
+pub run-start : (p : ℕ → Bool) (m : ℕ) (s : List ℕ) (c : ℕ) → Running p m s c c
+run-start p m s c = record { left = refl; onward = omega arith; inside = omega arith; plain = λ z h. h }
 
--- the sign of the end is no name character
-end-no-name : (u : ℕ) → isNameChar u ≡ true → u ≡ 256 → ⊥
-unfolding _or_ _and_
-end-no-name u h e = let z : isNameChar 256 ≡ true = rw e at h in let q : _≡_ {A = ℕ} 0 1 = cc in omega arith
+-- p is a test that the sign of the end does not pass
+no-end : (p : ℕ → Bool) (u : ℕ) → p 256 ≡ false → p u ≡ true → u ≡ 256 → ⊥
+no-end p u z h e = let q : true ≡ false = sym h ∙ rw e z in absurd (false≢true (sym q))
 
-module _ {m : ℕ} {s : List ℕ} {c₀ c : ℕ} {n : Step} (t : Running m s c₀ c) (p : Reads m s c n) where
-  pub run-more : isNameChar (n .u) ≡ true → Running m s c₀ (n .next)
-  unfolding spanLen pick
-  run-more h =
-      let u : (n .u) < 256 = omega (arith, p .small, end-no-name (n .u) h) in record {
-        left = t .left ∙ rw (rest-byte p (end-no-name (n .u) h), h);
+module _ {p : ℕ → Bool} {m : ℕ} {s : List ℕ} {c₀ c : ℕ} {n : Step} (t : Running p m s c₀ c) (q : Reads m s c n) where
+  pub run-more : p 256 ≡ false → p (n .u) ≡ true → Running p m s c₀ (n .next)
+  unfolding afterRun spanLen pick
+  run-more z h =
+      let u : (n .u) < 256 = byte-small q (no-end p (n .u) z h) in record {
+        left = t .left ∙ rw (rest-byte q (no-end p (n .u) z h), h);
         onward = omega arith;
         inside = omega arith;
-        plain = λ z l. p .plain z (end-no-name (n .u) h);
+        plain = λ e l. q .plain e (no-end p (n .u) z h);
       }
 
-  pub run-less : isNameChar (n .u) ≡ true → 4 * length s - n .next < 4 * length s - c
-  run-less h = let u : (n .u) < 256 = omega (arith, p .small, end-no-name (n .u) h) in omega arith
+  pub run-less : p 256 ≡ false → p (n .u) ≡ true → 4 * length s - n .next < 4 * length s - c
+  run-less z h = let u : (n .u) < 256 = byte-small q (no-end p (n .u) z h) in omega arith
 
-  run-none : isNameChar (n .u) ≡ false → spanLen isNameChar (rest m s c) ≡ 0
+  run-none : p (n .u) ≡ false → spanLen p (rest m s c) ≡ 0
   unfolding spanLen pick spell
-  run-none h = rw (p .is) (go (eqb (n .u) 256))
+  run-none h = rw (q .is) (go (eqb (n .u) 256))
     where
-      go : (b : Bool) → spanLen isNameChar (pick b [] (n .u ∷ rest m s (n .next))) ≡ 0
+      go : (b : Bool) → spanLen p (pick b [] (n .u ∷ rest m s (n .next))) ≡ 0
       go true = refl
       go false = rw h
 
-  pub run-stop : isNameChar (n .u) ≡ false → NameEnds m s c₀ c
-  unfolding _⊕_
+  pub run-stop : p (n .u) ≡ false → RunEnds p m s c₀ c
+  unfolding afterRun
   run-stop h =
-      let e : rest m s c ≡ drop (spanLen isNameChar (rest m s c₀)) (rest m s c₀) = sym (t .left ∙ rw (run-none h)) in record {
-        is = rw e (sym (take-append-drop (spanLen isNameChar (rest m s c₀)) (rest m s c₀)));
+      let e : rest m s c ≡ afterRun p (rest m s c₀) = sym (t .left ∙ rw (run-none h)) in record {
+        is = rw e (sym (run-joined p (rest m s c₀)));
         left = e;
         onward = t .onward;
         inside = t .inside;
         plain = t .plain;
       }
 
-pub ruleset running = (run-start, run-more, run-less, run-stop, flag-yes, flag-no, needs)
+pub name-end : isNameChar 256 ≡ false
+unfolding _or_ _and_
+name-end = refl
+
+pub ruleset running = (run-start, run-more, run-less, run-stop, name-end, flag-yes, flag-no, needs)
 
 -- ---- a word that is compared with w: i bytes are the same, and c is the cursor behind them
 

@@ -2,14 +2,14 @@
 // The source is cut at the word's end by the caller: the word is all that stands from the cursor on.
 ghost use mathlib.Core.Path.{_≡_};
 ghost use Rattle.octets.specs.Pick.{_and_};
-ghost use Rattle.octets.specs.Class.{upper, lower};
+ghost use Rattle.octets.specs.Class.{isNameChar, upper, lower};
 ghost use Rattle.octets.specs.Words.{same, isEmpty};
 ghost use Rattle.source.specs.Source.{rest};
 ghost use Rattle.sink.specs.Sink.{Put};
 ghost use Rattle.names.specs.Case.{cased, casedByte, caseOf};
 ghost use Rattle.names.specs.Table.{placeOf, namesIn};
 ghost use Rattle.names.specs.Matching.{Turned};
-ghost use Rattle.names.specs.Runs.{NameEnds};
+ghost use Rattle.names.specs.Runs.{RunEnds};
 use octets::is_name_char;
 use octets::lower_unit;
 use octets::upper_unit;
@@ -195,7 +195,7 @@ pub fn put_lower(out: &mut [u8], o: usize, mode: usize, s: &[u8], at: usize) -> 
 
 // The cursor after the characters of a name.
 pub fn name_end(mode: usize, s: &[u8], at: usize) -> usize
-    ensures { λ r. ⌜ NameEnds mode (now (s .entry)) at r ⌝ }
+    ensures { λ r. ⌜ RunEnds isNameChar mode (now (s .entry)) at r ⌝ }
 {
     let mut c = at;
     loop {

@@ -9,6 +9,10 @@
 --     Closed      laws of closed sets
 --     Counts      the tallies of a component compared with its list (refusal 9)
 --     Tallies     laws of counting
+--     Numbers     names by their numbers, and the rows of numbers
+--     Cells       tables that a definition fills
+--     Columns     what the tables say, by numbers
+--     Sets        closed sets, by numbers
 --     Computing   opens all of these, for examples that compute
 --     Examples    the tables computed
 pub mod Types
@@ -19,5 +23,9 @@ pub mod Rows
 pub mod Closed
 pub mod Counts
 pub mod Tallies
+pub mod Numbers
+pub mod Cells
+pub mod Columns
+pub mod Sets
 pub mod Computing
 pub mod Examples

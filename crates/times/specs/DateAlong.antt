@@ -1,4 +1,5 @@
 -- DATE by its pattern: 00000000 in text, 0000-00-00 in XML.
+--     dayOf          what a reader's answer says
 --     datePattern    the pattern in a format
 --     dayFrom n      the date of eight digits that are worth n, if there is such a day
 --     date-along     a date is what follows the pattern to the end and is a day
@@ -21,10 +22,22 @@ use Rattle.octets.specs.Words.{isEmpty}
 use Rattle.octets.specs.Decimal.{value, digitOf}
 use Rattle.octets.specs.Reading.{provided, andThen}
 use Rattle.model.specs.Calendar.{Format, ical, xcal}
+use Rattle.source.specs.Source.{rest}
 use Rattle.times.specs.Spelling.{Mark, keep, withMarks, withoutMarks, putMark, fits}
 use Rattle.times.specs.Pattern.{Followed, reached, lost, along, zeros, digitsAt, followedBy, isMark, areMarks, along-marks, along-digits}
 use Rattle.times.specs.Date.{isDay, isDate, readDate, dateMarks}
-use Rattle.times.specs.MonthRule.{twoDigits, dateOf}
+use Rattle.times.specs.MonthRule.{dateOf}
+use Rattle.times.specs.Letters.{cased}
+use Rattle.times.specs.Followed.{walked, Walks}
+use Rattle.times.specs.Digits.{digit-is, digit-small, two-of, drop-longer}
+use Rattle.times.specs.declared.follow.Walk.{Walk}
+use Rattle.times.specs.declared.date.DateRead.{DateRead}
+use Rattle.times.specs.declared.date.DateRead.the-variants.{Day, NoDate}
+
+-- what a reader answers
+abbrev pub dayOf : DateRead → Option (List ℕ)
+dayOf (Day y m d) = some (dateOf y m d)
+dayOf NoDate = none
 
 abbrev pub datePattern : Format → List ℕ
 datePattern ical = ascii "00000000"
@@ -37,26 +50,7 @@ unfoldable pub dated : Followed → Option (List ℕ)
 dated lost = none
 dated (reached n r) = pick (isEmpty r) (dayFrom n) none
 
--- ---- digits and what they are worth
-
-pub digit-is : (b : ℕ) → isDigit b ≡ true → b ≡ 48 + digitOf b
-unfolding pick
-digit-is b h = rw h (omega (arith, leb-true 48 b (and-both _ _ h .0)))
-
-pub digit-small : (b : ℕ) → digitOf b < 10
-unfolding pick
-digit-small b = go (isDigit b) refl
-  where
-    go : (t : Bool) → isDigit b ≡ t → pick t (b - 48) 0 < 10
-    go true e = omega (arith, leb-true b 57 (and-both _ _ e .1))
-    go false e = omega arith
-
-pub two-of : (x y : ℕ) → x < 10 → y < 10 → twoDigits (x * 10 + y) ≡ (48 + x) ∷ (48 + y) ∷ []
-unfolding twoDigits
-two-of x y h k =
-    let p : 48 + (x * 10 + y) / 10 ≡ 48 + x = omega arith in
-    let q : 48 + (x * 10 + y) % 10 ≡ 48 + y = omega arith in
-    rw (p, q)
+-- ---- eight digits
 
 -- a list of eight
 eight : (P : List ℕ → Type 0) → ((a b c d e f g h : ℕ) → P (a ∷ b ∷ c ∷ d ∷ e ∷ f ∷ g ∷ h ∷ [])) → (v : List ℕ) → length v ≡ 8 → P v
@@ -105,7 +99,7 @@ module _ (a b c d e f g h : ℕ) (pa : a < 10) (pb : b < 10) (pc : c < 10) (pd :
   day-worth = rw (year-digits, month-digits, day-digits, date-digits)
 
 -- eight digits are a date if they are a day's
-eight-day : (v : List ℕ) → length v ≡ 8 → allOf isDigit v ≡ true → keep isDate v ≡ dayFrom (value 0 v)
+pub eight-day : (v : List ℕ) → length v ≡ 8 → allOf isDigit v ≡ true → keep isDate v ≡ dayFrom (value 0 v)
 unfolding keep isDate value _and_
 eight-day v l k = eight (λ (v : List ℕ). allOf isDigit v ≡ true → keep isDate v ≡ dayFrom (value 0 v)) go v l k
   where
@@ -120,18 +114,11 @@ eight-day v l k = eight (λ (v : List ℕ). allOf isDigit v ≡ true → keep is
         rw (k, day-worth (digitOf a) (digitOf b) (digitOf c) (digitOf d) (digitOf e) (digitOf f) (digitOf g) (digitOf h)
         (digit-small a) (digit-small b) (digit-small c) (digit-small d) (digit-small e) (digit-small f) (digit-small g) (digit-small h), ← ea, ← eb, ← ec, ← ed, ← ee, ← ef, ← eg, ← eh)
 
-drop-longer : (k : ℕ) (v : List ℕ) → k < length v → isEmpty (drop k v) ≡ false
-drop-longer k v h = go (drop k v) (omega (arith, length-drop k v))
-  where
-    go : (l : List ℕ) → 0 < length l → isEmpty l ≡ false
-    go [] q = absurd (omega arith)
-    go (x ∷ l) q = refl
-
-no-digits : (v : List ℕ) → allOf isDigit v ≡ false → keep isDate v ≡ none
+pub no-digits : (v : List ℕ) → allOf isDigit v ≡ false → keep isDate v ≡ none
 unfolding keep isDate pick _and_
 no-digits v e = rw (e, and-no-right (eqb (length v) 8) false refl)
 
-no-length : (v : List ℕ) → eqb (length v) 8 ≡ false → keep isDate v ≡ none
+pub no-length : (v : List ℕ) → eqb (length v) 8 ≡ false → keep isDate v ≡ none
 unfolding keep isDate pick _and_
 no-length v e = rw e
 
@@ -167,3 +154,30 @@ pub date-along : (f : Format) (s : List ℕ) → readDate f s ≡ dated (along (
 unfolding readDate zeros withMarks putMark areMarks isMark fits pick _and_
 date-along ical s = date-kept s
 date-along xcal s = marked (withoutMarks dateMarks s) ∙ ap dated (sym (along-marks dateMarks (zeros 8 []) 0 s refl refl))
+
+-- ---- the ways of a reader
+
+module _ (f : Format) {m : ℕ} {s : List ℕ} {c : ℕ} {w : Walk} (p : Walks (datePattern f) true m s c w) where
+  followed : readDate f (rest m s c) ≡ dated (walked true m s w)
+  unfolding cased
+  followed = date-along f (rest m s c) ∙ ap dated (p .is)
+
+  pub date-lost : w .ok ≡ false → readDate f (rest m s c) ≡ none
+  unfolding walked dated pick
+  date-lost h = followed ∙ rw h
+
+  pub date-ended : w .ok ≡ true → isEmpty (rest m s (w .next)) ≡ true → readDate f (rest m s c) ≡ dayFrom (w .n)
+  unfolding walked dated pick cased
+  date-ended h k = followed ∙ rw (h, k)
+
+  pub date-longer : w .ok ≡ true → isEmpty (rest m s (w .next)) ≡ false → readDate f (rest m s c) ≡ none
+  unfolding walked dated pick cased
+  date-longer h k = followed ∙ rw (h, k)
+
+pub day-found : (n : ℕ) → isDay (n / 10000 % 10000) (n / 100 % 100) (n % 100) ≡ true → dayFrom n ≡ some (dateOf (n / 10000 % 10000) (n / 100 % 100) (n % 100))
+unfolding dayFrom pick
+day-found n h = rw h
+
+pub day-missing : (n : ℕ) → isDay (n / 10000 % 10000) (n / 100 % 100) (n % 100) ≡ false → dayFrom n ≡ none
+unfolding dayFrom pick
+day-missing n h = rw h

@@ -1,12 +1,13 @@
 -- `names::name_end` meets its contract.
 use Prim.Native.Nat.{_*_, _-_}
 use lib.ListN.{length}
+use Rattle.octets.specs.Class.{isNameChar}
 use Rattle.names.specs.Runs.{Running, running}
 use Rattle.names.proofs.name_end.Statement.{statement}
 use Rattle.names.proofs.name_end.Tie as tie
 
 abbrev Inv-loop : tie.InvT-loop
-Inv-loop mode s at c₀ c = Running mode s at c
+Inv-loop mode s at c₀ c = Running isNameChar mode s at c
 
 abbrev μ-loop : tie.MeasureT-loop
 μ-loop mode s at c₀ c = 4 * length s - c
