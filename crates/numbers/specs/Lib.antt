@@ -2,22 +2,30 @@
 --     Extra       general laws of tests and readings
 --     Sign        a sign in front of digits
 --     Integer     INTEGER
+--     Cursor      a byte that is known was found at the cursor
+--     ReadInteger INTEGER as the code reads and writes it
+--     PutInteger  a number written digit by digit
 --     Float       FLOAT
 --     FloatLaws   the laws of FLOAT
 --     Worth       what digits are worth, with zeros in front of them and after them
 --     FloatValue  the number that a FLOAT states, and that it is kept
 --     Boolean     BOOLEAN
+--     ReadBoolean BOOLEAN as the code reads it
 --     Geo         GEO, two FLOAT values
 --     Computing   opens all of these, for examples that compute
 --     Examples    computed examples
 pub mod Extra
 pub mod Sign
 pub mod Integer
+pub mod Cursor
+pub mod ReadInteger
+pub mod PutInteger
 pub mod Float
 pub mod FloatLaws
 pub mod Worth
 pub mod FloatValue
 pub mod Boolean
+pub mod ReadBoolean
 pub mod Geo
 pub mod Computing
 pub mod Examples

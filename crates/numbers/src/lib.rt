@@ -1,1 +1,6 @@
-// The values that are numbers: INTEGER, FLOAT, BOOLEAN, GEO. Definitions and their laws are in specs/.
+// The values that are numbers, read through the cursor of `source` and written into the sink of `sink`.
+//     integer   INTEGER
+//     boolean   BOOLEAN
+// Definitions and their laws are in specs/.
+pub mod integer;
+pub mod boolean;
