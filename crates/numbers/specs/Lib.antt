@@ -7,6 +7,9 @@
 --     PutInteger  a number written digit by digit
 --     Float       FLOAT
 --     FloatLaws   the laws of FLOAT
+--     Until       what stands from a cursor on, up to a byte that ends it
+--     FloatParts  FLOAT in the parts that the code finds one after another
+--     Spans       what the code walks over
 --     Worth       what digits are worth, with zeros in front of them and after them
 --     FloatValue  the number that a FLOAT states, and that it is kept
 --     Boolean     BOOLEAN
@@ -23,6 +26,9 @@ pub mod PutInteger
 pub mod Float
 pub mod FloatLaws
 pub mod Worth
+pub mod Until
+pub mod FloatParts
+pub mod Spans
 pub mod FloatValue
 pub mod Boolean
 pub mod ReadBoolean

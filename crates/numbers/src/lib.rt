@@ -1,6 +1,8 @@
 // The values that are numbers, read through the cursor of `source` and written into the sink of `sink`.
 //     integer   INTEGER
 //     boolean   BOOLEAN
+//     scan      digits and zeros passed over, up to a byte that ends them
 // Definitions and their laws are in specs/.
 pub mod integer;
 pub mod boolean;
+pub mod scan;
