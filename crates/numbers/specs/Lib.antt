@@ -10,6 +10,8 @@
 --     Until       what stands from a cursor on, up to a byte that ends it
 --     FloatParts  FLOAT in the parts that the code finds one after another
 --     Spans       what the code walks over
+--     ReadFloat   FLOAT as the code reads and writes it
+--     PutFloat    a FLOAT written part by part
 --     Worth       what digits are worth, with zeros in front of them and after them
 --     FloatValue  the number that a FLOAT states, and that it is kept
 --     Boolean     BOOLEAN
@@ -29,6 +31,8 @@ pub mod Worth
 pub mod Until
 pub mod FloatParts
 pub mod Spans
+pub mod ReadFloat
+pub mod PutFloat
 pub mod FloatValue
 pub mod Boolean
 pub mod ReadBoolean

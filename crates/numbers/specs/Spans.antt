@@ -138,6 +138,10 @@ module _ {s : List ℕ} (u : ℕ) (r : List ℕ) (e : s ≡ spell u r) where
       go true f = rw (eqb-true u 256 f)
       go false f = refl
 
+  -- d is what a test of u answered
+  pub lead-is : {d v : Bool} → d ≡ isDigit u → d ≡ v → leadsInDigit s ≡ v
+  lead-is h k = sym lead-at ∙ sym h ∙ k
+
   pub sign-none : (u ≡ 45 → ⊥) → (u ≡ 43 → ⊥) → unsigned s ≡ s
   unfolding unsigned spell pick _or_
   sign-none h k = rw e (go (eqb u 256))

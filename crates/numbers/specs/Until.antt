@@ -37,6 +37,11 @@ module _ {e m : ℕ} {s : List ℕ} {c : ℕ} {r : Step} (p : Turns e m s c r) w
   pub turn-byte : (r .u ≡ 256 → ⊥) → until e m s c ≡ r .u ∷ until e m s (r .next)
   turn-byte h = p .is ∙ spell-byte (r .u) (until e m s (r .next)) h
 
+  -- a byte that is known was found
+  pub turn-this : (b : ℕ) → r .u ≡ b → eqb b 256 ≡ false → until e m s c ≡ b ∷ until e m s (r .next)
+  unfolding spell pick
+  turn-this b h f = p .is ∙ rw (h, f)
+
   pub turn-end : r .u ≡ 256 → until e m s c ≡ []
   turn-end h = p .is ∙ spell-end (r .u) (until e m s (r .next)) h
 

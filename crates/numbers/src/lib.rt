@@ -2,7 +2,9 @@
 //     integer   INTEGER
 //     boolean   BOOLEAN
 //     scan      digits and zeros passed over, up to a byte that ends them
+//     float     FLOAT
 // Definitions and their laws are in specs/.
 pub mod integer;
 pub mod boolean;
 pub mod scan;
+pub mod float;
