@@ -17,6 +17,7 @@
 --     Boolean     BOOLEAN
 --     ReadBoolean BOOLEAN as the code reads it
 --     Geo         GEO, two FLOAT values
+--     ReadGeo     GEO as the code reads it
 --     Computing   opens all of these, for examples that compute
 --     Examples    computed examples
 pub mod Extra
@@ -37,5 +38,6 @@ pub mod FloatValue
 pub mod Boolean
 pub mod ReadBoolean
 pub mod Geo
+pub mod ReadGeo
 pub mod Computing
 pub mod Examples

@@ -3,8 +3,10 @@
 //     boolean   BOOLEAN
 //     scan      digits and zeros passed over, up to a byte that ends them
 //     float     FLOAT
+//     geo       GEO in text
 // Definitions and their laws are in specs/.
 pub mod integer;
 pub mod boolean;
 pub mod scan;
 pub mod float;
+pub mod geo;
