@@ -11,11 +11,10 @@ use native.Mathlib.Omega.{arith}
 use lib.Dec.{eqb, leb, ltb}
 use lib.ListN.{length, take, drop}
 use borrow.Author.Tests.{ltb-false, lt-ltb, le-ltb, le-leb, leb-true}
-use Rattle.octets.specs.Pick.{pick, within, _and_, _or_, pick-either}
+use Rattle.octets.specs.Pick.{pick, within, _and_, _or_, pick-either, and-both, or-neither}
 use Rattle.octets.specs.Scan.{allOf}
 use Rattle.octets.specs.Append.{_⊕_}
 use Rattle.octets.specs.Words.{starts, holds}
-use Rattle.folding.specs.Extra.{or-false, and-true}
 use Rattle.folding.specs.Unfold.{crlf, blankAt, unfolded, unfolded-byte, unfolded-fold, unfolded-end}
 use Rattle.folding.specs.Lines.{Line, whole, loose, longer, lineStep, linesAfter, linesFrom, lines-some}
 
@@ -89,7 +88,7 @@ folded-first b s = rw (not-over 0 b (omega arith))
 pub fold-unfolded : (s r : List ℕ) (c : ℕ) → holds 13 s ≡ false → blankAt r ≡ false → unfolded (foldFrom c s ⊕ r) ≡ s ⊕ (13 ∷ 10 ∷ unfolded r)
 unfolding foldFrom holds pick _or_ _⊕_
 fold-unfolded [] r c h n = unfolded-end r n
-fold-unfolded (b ∷ s) r c h n = go (isOver c b) (or-false (eqb 13 b) (holds 13 s) h .0) (λ (c : ℕ). fold-unfolded s r c (or-false (eqb 13 b) (holds 13 s) h .1) n)
+fold-unfolded (b ∷ s) r c h n = go (isOver c b) (or-neither (eqb 13 b) (holds 13 s) h .0) (λ (c : ℕ). fold-unfolded s r c (or-neither (eqb 13 b) (holds 13 s) h .1) n)
   where
     go : (t : Bool) → eqb 13 b ≡ false → ((c : ℕ) → unfolded (foldFrom c s ⊕ r) ≡ s ⊕ (13 ∷ 10 ∷ unfolded r)) →
         unfolded ((pick t (13 ∷ 10 ∷ 32 ∷ []) [] ⊕ (b ∷ foldFrom (pick t 1 c + 1) s)) ⊕ r) ≡ (b ∷ s) ⊕ (13 ∷ 10 ∷ unfolded r)
@@ -105,7 +104,7 @@ fits-longer : (c p b : ℕ) (ls : List Line) → 0 < length ls → fits (c + 1) 
 unfolding fits longer _and_
 fits-longer c p b [] n h = absurd (omega arith)
 fits-longer c p b (whole q l ∷ ls) n h =
-    let e = and-true (leb (c + 1 + length l) longest) (fits 0 ls) h in
+    let e = and-both (leb (c + 1 + length l) longest) (fits 0 ls) h in
     let k = leb-true (c + 1 + length l) longest (e .0) in
     rw (le-leb (c + suc (length l)) longest (omega arith)) (e .1)
 fits-longer c p b (loose q ∷ ls) n h = absurd (false≢true h)
@@ -133,7 +132,7 @@ fold-fits : (s : List ℕ) (c p : ℕ) → holds 13 s ≡ false → c ≤ longes
 unfolding foldFrom holds pick linesAfter lineStep starts fits _and_ _or_ _⊕_
 fold-fits [] c p h l = rw (le-leb (c + 0) longest (omega arith))
 fold-fits (b ∷ s) c p h l =
-    go (isOver c b) refl (or-false (eqb 13 b) (holds 13 s) h .0) (λ (c p : ℕ) l. fold-fits s c p (or-false (eqb 13 b) (holds 13 s) h .1) l)
+    go (isOver c b) refl (or-neither (eqb 13 b) (holds 13 s) h .0) (λ (c p : ℕ) l. fold-fits s c p (or-neither (eqb 13 b) (holds 13 s) h .1) l)
   where
     go : (t : Bool) → isOver c b ≡ t → eqb 13 b ≡ false → ((c p : ℕ) → c ≤ longest → fits c (linesFrom p (foldFrom c s)) ≡ true) →
         fits c (linesFrom p (pick t (13 ∷ 10 ∷ 32 ∷ []) [] ⊕ (b ∷ foldFrom (pick t 1 c + 1) s))) ≡ true
@@ -154,7 +153,7 @@ fold-short : (s : List ℕ) (c : ℕ) → inFull s ≡ true → c + length s ≤
 unfolding foldFrom inFull pick _and_ _⊕_
 fold-short [] c h l = refl
 fold-short (b ∷ s) c h l =
-    let e = and-true (leb (width b) (suc (length s))) (inFull s) h in
+    let e = and-both (leb (width b) (suc (length s))) (inFull s) h in
     let w = leb-true (width b) (suc (length s)) (e .0) in
     rw (le-ltb longest (c + width b) (omega arith)) (ap (λ (l : List ℕ). b ∷ l) (fold-short s (c + 1) (e .1) (omega arith)))
 
@@ -172,7 +171,7 @@ column-fits c b = go (isOver c b) refl
 
 tail-width : (b : ℕ) → isTail b ≡ true → width b ≡ 1
 unfolding pick
-tail-width b h = let l = leb-true b 0xBF (and-true (leb 0x80 b) (leb b 0xBF) h .1) in rw (lt-ltb b 0xC0 (omega arith))
+tail-width b h = let l = leb-true b 0xBF (and-both (leb 0x80 b) (leb b 0xBF) h .1) in rw (lt-ltb b 0xC0 (omega arith))
 
 fold-tail : (t r : List ℕ) (c : ℕ) → allOf isTail t ≡ true → c + length t ≤ longest → foldFrom c (t ⊕ r) ≡ t ⊕ foldFrom (c + length t) r
 unfolding foldFrom allOf pick _⊕_

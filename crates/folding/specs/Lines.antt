@@ -10,10 +10,9 @@ use Prim.Native.Nat.{ℕ, zero, suc, _+_, _≤_, _<_}
 use native.Mathlib.Omega.{arith}
 use lib.Dec.{eqb}
 use lib.ListN.{length}
-use Rattle.octets.specs.Pick.{_and_, _or_}
+use Rattle.octets.specs.Pick.{_and_, _or_, or-neither}
 use Rattle.octets.specs.Append.{_⊕_}
 use Rattle.octets.specs.Words.{starts, holds}
-use Rattle.folding.specs.Extra.{or-false}
 use Rattle.folding.specs.Unfold.{crlf}
 
 -- where a line starts, and its bytes; or where a loose line starts
@@ -66,7 +65,7 @@ moved n (loose p) = loose (p + n)
 pub no-break : (s : List ℕ) → holds 13 s ≡ false → holdsBreak s ≡ false
 unfolding holds holdsBreak starts _and_ _or_
 no-break [] h = refl
-no-break (a ∷ s) h = let e = or-false (eqb 13 a) (holds 13 s) h in rw (e .0) (no-break s (e .1))
+no-break (a ∷ s) h = let e = or-neither (eqb 13 a) (holds 13 s) h in rw (e .0) (no-break s (e .1))
 
 -- a line's end does not come earlier because of the CR that ends the line
 break-seam : (a : ℕ) (l r : List ℕ) → starts crlf ((a ∷ l) ⊕ (13 ∷ r)) ≡ starts crlf (a ∷ l)
@@ -78,13 +77,13 @@ pub lines-whole : (l r : List ℕ) (p : ℕ) → holdsBreak l ≡ false → line
 unfolding linesAfter lineStep longer holdsBreak starts _⊕_ _and_
 lines-whole [] r p h = ap (λ (n : ℕ). whole p [] ∷ linesFrom n r) (omega arith)
 lines-whole (a ∷ l) r p h =
-    let e = or-false (starts crlf (a ∷ l)) (holdsBreak l) h in
+    let e = or-neither (starts crlf (a ∷ l)) (holdsBreak l) h in
     rw (break-seam a l (10 ∷ r), e .0, lines-whole l r (p + 1) (e .1)) (ap (λ (n : ℕ). whole p (a ∷ l) ∷ linesFrom n r) (omega arith))
 
 pub lines-loose : (a : ℕ) (l : List ℕ) (p : ℕ) → holdsBreak (a ∷ l) ≡ false → linesFrom p (a ∷ l) ≡ loose p ∷ []
 unfolding linesAfter lineStep longer holdsBreak
-lines-loose a [] p h = rw (or-false (starts crlf (a ∷ [])) (holdsBreak []) h .0)
-lines-loose a (b ∷ l) p h = let e = or-false (starts crlf (a ∷ b ∷ l)) (holdsBreak (b ∷ l)) h in rw (e .0, lines-loose b l (p + 1) (e .1))
+lines-loose a [] p h = rw (or-neither (starts crlf (a ∷ [])) (holdsBreak []) h .0)
+lines-loose a (b ∷ l) p h = let e = or-neither (starts crlf (a ∷ b ∷ l)) (holdsBreak (b ∷ l)) h in rw (e .0, lines-loose b l (p + 1) (e .1))
 
 -- where no line is loose, what follows begins a line
 longer-append : (p a : ℕ) (ls ms : List Line) → noneLoose (longer p a ls) ≡ true → (noneLoose ls ≡ true) × (longer p a (ls ⊕ ms) ≡ longer p a ls ⊕ ms)

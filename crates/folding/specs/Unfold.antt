@@ -3,6 +3,7 @@
 --     unfolded s    the bytes that are kept
 --     places s      the place in s of each of them
 --     origin s w    the place in s of kept byte number w; the length of s where w is past the last
+--     Unfolds       the contract of unfolding into lent bytes;   unfolded-front: what then stands in front
 --     origin-byte, origin-past, origin-monotone: what stands at such a place
 --     unfolded-append: of two texts, where no fold goes over the seam
 use mathlib.Core.Path.{_≡_, refl, sym, ap, _∙_}
@@ -11,11 +12,11 @@ use mathlib.Core.List.{List, [], _∷_}
 use Prim.Native.Nat.{ℕ, zero, suc, _+_, _-_, _≤_, _<_}
 use native.Mathlib.Omega.{arith}
 use lib.Dec.{eqb}
-use lib.ListN.{length, getD, List·getD-eq-default}
-use Rattle.octets.specs.Pick.{_and_, _or_}
+use lib.ListN.{length, getD, List·getD-eq-default, take, drop}
+use Rattle.octets.specs.Pick.{_and_, _or_, or-neither}
+use lib.Seq.{take-at}
 use Rattle.octets.specs.Append.{_⊕_}
 use Rattle.octets.specs.Words.{starts}
-use Rattle.folding.specs.Extra.{or-false}
 
 -- CRLF = %x0D %x0A
 abbrev pub crlf : List ℕ
@@ -59,6 +60,11 @@ places s = placesFrom s 0 0
 unfoldable pub origin : List ℕ → ℕ → ℕ
 origin s w = getD (places s) w (length s)
 
+-- the contract of unfolding: of s, over d, which is left as e; r bytes are kept
+pub record Unfolds (s d e : List ℕ) (r : ℕ) : Type 0 where
+  pub count : r ≡ length (unfolded s)
+  pub is : e ≡ unfolded s ⊕ drop (length (unfolded s)) d
+
 -- ---- laws
 
 -- the front of a text: a byte that is no CR, a fold, the end of a line
@@ -73,6 +79,11 @@ unfolded-fold s = refl
 pub unfolded-end : (s : List ℕ) → blankAt s ≡ false → unfolded (13 ∷ 10 ∷ s) ≡ 13 ∷ 10 ∷ unfolded s
 unfolding keptFrom keep foldAt blankAt starts _and_ _or_
 unfolded-end s h = rw h
+
+-- what stands in front of lent bytes after unfolding
+pub unfolded-front : {s d e : List ℕ} {r : ℕ} → Unfolds s d e r → take r e ≡ unfolded s
+unfolding _⊕_
+unfolded-front {s} {d} {e} {r} u = rw (u .is) (take-at (unfolded s) (drop (length (unfolded s)) d) r (sym (u .count)))
 
 -- there are as many places as kept bytes, and no more than bytes
 places-length : (s : List ℕ) (p k : ℕ) → length (placesFrom s p k) ≡ length (keptFrom s k)
@@ -173,7 +184,7 @@ unfolding origin
 origin-monotone s w v h = place-later s 0 0 w v (length s) (omega arith) h
 
 -- two texts, where no fold goes over the seam
-fold-long : (x : ℕ) (a : List ℕ) → foldAt (x ∷ a) ≡ true → 2 ≤ length a
+pub fold-long : (x : ℕ) (a : List ℕ) → foldAt (x ∷ a) ≡ true → 2 ≤ length a
 unfolding foldAt starts _and_ _or_
 fold-long x [] h = go (eqb 13 x) h
   where
@@ -191,13 +202,13 @@ fold-long x (y ∷ z ∷ a) h = omega arith
 fold-seam : (x : ℕ) (a b : List ℕ) → foldGoesOn b ≡ false → foldAt ((x ∷ a) ⊕ b) ≡ foldAt (x ∷ a)
 unfolding foldAt foldGoesOn blankAt starts _and_ _or_ _⊕_
 fold-seam x [] [] h = refl
-fold-seam x [] (y ∷ b) h = go (eqb 10 y) refl (or-false _ _ h .0)
+fold-seam x [] (y ∷ b) h = go (eqb 10 y) refl (or-neither _ _ h .0)
   where
     go : (u : Bool) → eqb 10 y ≡ u → (u and true) ≡ false → foldAt (x ∷ y ∷ b) ≡ foldAt (x ∷ [])
     go true e k = absurd (false≢true (sym k))
     go false e k = rw e
 fold-seam x (y ∷ []) b h =
-    let e = or-false (starts (32 ∷ []) b) (starts (9 ∷ []) b) (or-false (starts (10 ∷ []) b) (blankAt b) h .1) in
+    let e = or-neither (starts (32 ∷ []) b) (starts (9 ∷ []) b) (or-neither (starts (10 ∷ []) b) (blankAt b) h .1) in
     rw (e .0, e .1)
 fold-seam x (y ∷ z ∷ a) b h = refl
 

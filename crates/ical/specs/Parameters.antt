@@ -3,22 +3,22 @@
 --     statedType          the type that VALUE names, or the property's default; none where VALUE names no type
 --     readParameters      the parameters that a line states, all but VALUE, typed
 --     parametersGood      whether all is permitted, none is repeated, each is readable, and BINARY has ENCODING=BASE64
-use mathlib.Core.Bool.{Bool, true, false, not}
+use mathlib.Core.Bool.{Bool, false, not}
 use mathlib.Core.List.{List, [], _∷_, map}
 use mathlib.Core.Option.{Option, none, some, Option·map}
 use Prim.Native.Nat.{ℕ}
 use Rattle.octets.specs.Ascii.{ascii}
 use Rattle.octets.specs.Pick.{pick, _and_, _or_}
 use Rattle.octets.specs.Class.{upper}
-use Rattle.octets.specs.Words.{same, isOneOf, rowOf, isEmpty}
+use Rattle.octets.specs.Words.{same, isOneOf, isEmpty}
 use Rattle.octets.specs.Lists.{every, anyOne, distinct}
-use Rattle.octets.specs.Reading.{provided, andThen, isRead, readEach}
+use Rattle.octets.specs.Reading.{provided, isRead, readEach}
 use Rattle.model.specs.Calendar.{ical, ValueType, BINARY, TEXT, Value, text, Parameter}
 use Rattle.schema.specs.Types.{typeNamed, sameType}
 use Rattle.schema.specs.Properties.{defaultType, permitsParameter}
 use Rattle.schema.specs.Parameters.{parameterType, isListedParameter, parameterWords, isQuotedParameter}
 use Rattle.values.specs.ReadValue.{readValue}
-use Rattle.lines.specs.ContentLine.{ParamValue, RawParameter, ContentLine}
+use Rattle.lines.specs.ContentLine.{ParamValue, RawParameter}
 
 -- the value of a parameter of a type: TEXT stands as it is, with no escapes
 abbrev pub readTyped : ValueType → List ℕ → Option Value

@@ -1,14 +1,12 @@
 -- The answer for an iCalendar text: the calendar that it states, or its refusal with the place in the bytes as lent.
 --     textVerdict    refusals 1, 2 and 3 in this order, then the first faulty line
 --     readCalendar   the answer
-use mathlib.Core.Bool.{Bool, true, false}
 use mathlib.Core.List.{List, [], _∷_}
 use mathlib.Core.Option.{Option, none, some}
 use Prim.Native.Nat.{ℕ}
 use lib.Dec.{leb}
 use lib.ListN.{length}
 use Rattle.octets.specs.Pick.{pick}
-use Rattle.model.specs.Calendar.{Calendar}
 use Rattle.model.specs.Refusal.{LENGTH, WORK, CHARACTER, FRAME, Verdict, fine, refuse, _otherwise_, Answer, answer}
 use Rattle.folding.specs.Unfold.{unfolded, origin}
 use Rattle.folding.specs.Lines.{Line, lines}

@@ -1,8 +1,7 @@
 -- The property that a content line states in a component, and the faults of its parameters and its value (refusals 7 and 8).
 --     propertyFault k l   the lowest refusal among PARAMETER and VALUE that the line l has in a component k
 --     propertyOf k l      the property that it states
-use mathlib.Core.Bool.{Bool, true, false}
-use mathlib.Core.List.{List, [], _∷_}
+use mathlib.Core.List.{List, []}
 use mathlib.Core.Option.{Option, none, some}
 use Prim.Native.Nat.{ℕ}
 use Rattle.octets.specs.Pick.{pick}

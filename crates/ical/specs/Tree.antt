@@ -3,7 +3,6 @@
 --     entryOf       what a line is: the beginning or the end of a component, or a property
 --     ownOf         the properties of a component, from the lines after its BEGIN
 --     innerOf       the components that the lines begin at depth 0
-use mathlib.Core.Bool.{Bool, true, false}
 use mathlib.Core.List.{List, [], _∷_, map}
 use mathlib.Core.Option.{Option, none, some}
 use Prim.Native.Nat.{ℕ, zero, suc}

@@ -1,6 +1,5 @@
 -- The values of a property in iCalendar text, by its type (RFC 5545, section 3.3 and the value type of each property in section 3.8).
 --     readValues k n t s    the values that s spells for the property n of a component k, of type t; none where the type is not permitted or s does not spell one
-use mathlib.Core.Bool.{Bool, true, false}
 use mathlib.Core.List.{List, [], _∷_, map}
 use mathlib.Core.Option.{Option, none, some, Option·map}
 use Prim.Native.Nat.{ℕ}
@@ -8,12 +7,11 @@ use Rattle.octets.specs.Ascii.{ascii}
 use Rattle.octets.specs.Pick.{pick}
 use Rattle.octets.specs.Class.{upper}
 use Rattle.octets.specs.Words.{same, isOneOf, cutAt}
-use Rattle.octets.specs.Reading.{provided, andThen, readEach}
+use Rattle.octets.specs.Reading.{provided, readEach}
 use Rattle.model.specs.Calendar.{ical, ValueType, TEXT, Value, text}
 use Rattle.schema.specs.Types.{sameType, isTypeOf}
 use Rattle.schema.specs.Properties.{permittedTypes, isListedProperty, propertyWords}
 use Rattle.numbers.specs.Geo.{readGeo}
-use Rattle.texts.specs.Text.{readText}
 use Rattle.texts.specs.TextList.{readTexts}
 use Rattle.texts.specs.RequestStatus.{readRequestStatus}
 use Rattle.values.specs.ReadValue.{readValue}

@@ -1,19 +1,19 @@
 -- The canonical text of a calendar (RFC 5545, sections 3.1 and 3.4): names in capitals, VALUE first and only where it must stand, each line folded.
 --     contentLineOf    the content line of a property
 --     writeCalendar    the canonical text
-use mathlib.Core.Bool.{Bool, true, false, not}
+use mathlib.Core.Bool.{false}
 use mathlib.Core.List.{List, [], _∷_, map}
 use Prim.Native.Nat.{ℕ}
 use Rattle.octets.specs.Ascii.{ascii}
 use Rattle.octets.specs.Pick.{pick, _or_}
 use Rattle.octets.specs.Append.{_⊕_}
 use Rattle.octets.specs.Reading.{readOr}
-use Rattle.model.specs.Calendar.{ValueType, UNKNOWN, Value, typeOf, textIn, Parameter, Property, Components, noMore, component}
+use Rattle.model.specs.Calendar.{ValueType, Value, textIn, Parameter, Property, Components, noMore, component}
 use Rattle.schema.specs.Types.{typeName, sameType}
 use Rattle.schema.specs.Properties.{defaultType}
 use Rattle.schema.specs.Parameters.{isQuotedParameter}
 use Rattle.texts.specs.Quoting.{needsQuotes}
-use Rattle.values.specs.WriteValue.{writeValue, writeValues}
+use Rattle.values.specs.WriteValue.{writeValue, writeValues, typeOfAll}
 use Rattle.folding.specs.Fold.{foldedLine}
 use Rattle.lines.specs.ContentLine.{ParamValue, RawParameter, ContentLine}
 use Rattle.lines.specs.Write.{writeContentLine}
@@ -32,10 +32,6 @@ abbrev pub rawOf : Parameter → RawParameter
 rawOf p = record { name = p .name; values = map (paramValueOf (p .name)) (p .values) }
 
 -- ---- VALUE
-
-abbrev pub typeOfAll : List Value → ValueType
-typeOfAll [] = UNKNOWN
-typeOfAll (v ∷ vs) = typeOf v
 
 -- VALUE stands where the type is not the default of the property's name; an unrecognised property's default is `unknown`
 abbrev pub valueParameter : ValueType → RawParameter

@@ -6,15 +6,15 @@ use mathlib.Core.Bool.{true, false}
 use mathlib.Core.List.{List, _∷_}
 use mathlib.Core.Option.{none, some}
 use Prim.Native.Nat.{ℕ}
-use native.Mathlib.Omega.{arith}
-use Rattle.octets.specs.Pick.{pick, and-yes}
+use Rattle.octets.specs.Pick.{pick, and-yes, pick-case}
 use Rattle.octets.specs.Scan.{allOf}
 use Rattle.octets.specs.Append.{_⊕_, append-empty, append-cons, append-regroup}
 use Rattle.octets.specs.Class.{isNameChar}
 use Rattle.octets.specs.Words.{isEmpty}
-use Rattle.octets.specs.Reading.{provided}
-use Rattle.octets.specs.Many.{One, got, bad, All, ok, no, many}
-use Rattle.lines.specs.Extra.{runOf, afterRun, afterByte, every, pick-case, every-of-each, run-passes, run-joined, after-case, joined-all, many-read}
+use Rattle.octets.specs.Runs.{afterByte, afterRun, byte-case, run-joined, run-passes, runOf}
+use Rattle.octets.specs.Lists.{every}
+use Rattle.octets.specs.Reading.{provided, none-some}
+use Rattle.octets.specs.Many.{One, got, bad, All, ok, no, many, every-of-each, joined-all, many-read, bad-got, none-got}
 use Rattle.lines.specs.ContentLine.{ParamValue, RawParameter, ContentLine, isQSafeChar, isSafeChar, isValueChar, isName, isParamValue, isRawParameter, isContentLine, paramtext, quotedString, paramValue, nextValue, withValues, withFirst, param, nextParam, withValue, contentLine}
 use Rattle.lines.specs.Write.{writeParamValue, writeParameter, writeContentLine}
 use Rattle.lines.specs.RoundTrip.{commaValue, writeParam, parameter-parts}
@@ -32,18 +32,6 @@ record ReadLine (l : ContentLine) (s : List ℕ) : Type 0 where
   valid : isContentLine l ≡ true
   written : writeContentLine l ≡ s
 
--- ---- no item is an item
-
-module _ {A X : Type 0} {a : A} {r : List ℕ} where
-  bad-got : {t : List ℕ} → bad t ≡ got a r → X
-  bad-got e = let z : _≡_ {A = ℕ} 0 1 = cc in absurd (omega arith)
-
-  none-got : One.none ≡ got a r → X
-  none-got e = let z : _≡_ {A = ℕ} 0 1 = cc in absurd (omega arith)
-
-no-line : {A X : Type 0} {a : A} → none ≡ some a → X
-no-line e = let z : _≡_ {A = ℕ} 0 1 = cc in absurd (omega arith)
-
 -- ---- a value of a parameter
 
 text-read : (s : List ℕ) (v : ParamValue) (r : List ℕ) → paramtext s ≡ got v r → ReadValue v r s
@@ -56,7 +44,7 @@ text-read s v r e =
 quoted-read : (s : List ℕ) (v : ParamValue) (r : List ℕ) → quotedString s ≡ got v r → ReadValue v r (34 ∷ s)
 unfolding quotedString isParamValue writeParamValue pick
 quoted-read s v r =
-    after-case (λ o. o ≡ got v r → ReadValue v r (34 ∷ s)) 34 (afterRun isQSafeChar s) (got (record { quoted = true; chars = runOf isQSafeChar s })) (bad s)
+    byte-case (λ o. o ≡ got v r → ReadValue v r (34 ∷ s)) 34 (afterRun isQSafeChar s) (got (record { quoted = true; chars = runOf isQSafeChar s })) (bad s)
     (λ t q e.
     let x : record { quoted = true; chars = runOf isQSafeChar s } ≡ v = cc in
     let y : t ≡ r = cc in
@@ -66,14 +54,14 @@ quoted-read s v r =
 value-read : (s : List ℕ) (v : ParamValue) (r : List ℕ) → paramValue s ≡ got v r → ReadValue v r s
 unfolding paramValue
 value-read s v r =
-    after-case (λ o. o ≡ got v r → ReadValue v r s) 34 s quotedString (paramtext s)
+    byte-case (λ o. o ≡ got v r → ReadValue v r s) 34 s quotedString (paramtext s)
     (λ t q e. rw (← q) (quoted-read t v r e))
     (text-read s v r)
 
-next-value-read : (s : List ℕ) (v : ParamValue) (r : List ℕ) → nextValue s ≡ got v r → (isParamValue v ≡ true) × (commaValue v r ≡ s)
+pub next-value-read : (s : List ℕ) (v : ParamValue) (r : List ℕ) → nextValue s ≡ got v r → (isParamValue v ≡ true) × (commaValue v r ≡ s)
 unfolding nextValue
 next-value-read s v r =
-    after-case (λ o. o ≡ got v r → (isParamValue v ≡ true) × (commaValue v r ≡ s)) 44 s paramValue One.none
+    byte-case (λ o. o ≡ got v r → (isParamValue v ≡ true) × (commaValue v r ≡ s)) 44 s paramValue One.none
     (λ t q e. let i = value-read t v r e in (i .valid, ap (λ (u : List ℕ). 44 ∷ u) (i .written) ∙ q))
     none-got
 
@@ -92,7 +80,7 @@ values-read n v t u p r hn i = go (many nextValue u) refl
         let j = many-read nextValue commaValue (λ a. isParamValue a ≡ true) next-value-read u vs w k in
         let x : record { name = n; values = v ∷ vs } ≡ p = cc in
         let y : w ≡ r = cc in
-        rw (← x, ← y) (record { valid = and-yes _ _ hn (rw (i .valid) (every-of-each isParamValue vs (j .0))); written = parameter-parts n v vs w ∙ rw (j .1, i .written) })
+        rw (← x, ← y) (record { valid = and-yes _ _ hn (and-yes _ _ (i .valid) (every-of-each isParamValue vs (j .0))); written = parameter-parts n v vs w ∙ rw (j .1, i .written) })
     go (no w) k e = bad-got e
 
 first-read : (n t : List ℕ) (p : RawParameter) (r : List ℕ) → isName n ≡ true → withFirst (paramValue t) n ≡ got p r → ReadParam p r (59 ∷ (n ⊕ (61 ∷ t)))
@@ -110,14 +98,14 @@ param-read s p r =
     let n : List ℕ = runOf isNameChar s in
     pick-case (λ o. o ≡ got p r → ReadParam p r (59 ∷ s)) (isEmpty n) (bad s) (afterByte 61 (afterRun isNameChar s) (λ t. withFirst (paramValue t) n) (bad s))
     (λ h. bad-got)
-    (λ h. after-case (λ o. o ≡ got p r → ReadParam p r (59 ∷ s)) 61 (afterRun isNameChar s) (λ t. withFirst (paramValue t) n) (bad s)
+    (λ h. byte-case (λ o. o ≡ got p r → ReadParam p r (59 ∷ s)) 61 (afterRun isNameChar s) (λ t. withFirst (paramValue t) n) (bad s)
     (λ t q e. rw (q, run-joined) at (first-read n t p r (run-name s h) e))
     bad-got)
 
-next-param-read : (s : List ℕ) (p : RawParameter) (r : List ℕ) → nextParam s ≡ got p r → (isRawParameter p ≡ true) × (writeParam p r ≡ s)
+pub next-param-read : (s : List ℕ) (p : RawParameter) (r : List ℕ) → nextParam s ≡ got p r → (isRawParameter p ≡ true) × (writeParam p r ≡ s)
 unfolding nextParam
 next-param-read s p r =
-    after-case (λ o. o ≡ got p r → (isRawParameter p ≡ true) × (writeParam p r ≡ s)) 59 s param One.none
+    byte-case (λ o. o ≡ got p r → (isRawParameter p ≡ true) × (writeParam p r ≡ s)) 59 s param One.none
     (λ t q e. let i = param-read t p r e in (i .valid, i .written ∙ q))
     none-got
 
@@ -131,21 +119,21 @@ rest-read n t l hn = go (many nextParam t) refl
     go : (o : All RawParameter) → many nextParam t ≡ o → withValue o n ≡ some l → ReadLine l (n ⊕ t)
     go (ok ps u) k =
         let j = many-read nextParam writeParam (λ p. isRawParameter p ≡ true) next-param-read t ps u k in
-        after-case (λ o. o ≡ some l → ReadLine l (n ⊕ t)) 58 u (λ v. provided (allOf isValueChar v) (record { name = n; parameters = ps; value = v })) none
+        byte-case (λ o. o ≡ some l → ReadLine l (n ⊕ t)) 58 u (λ v. provided (allOf isValueChar v) (record { name = n; parameters = ps; value = v })) none
         (λ v q. pick-case (λ o. o ≡ some l → ReadLine l (n ⊕ t)) (allOf isValueChar v) (some (record { name = n; parameters = ps; value = v })) none
         (λ h e.
         let x : record { name = n; parameters = ps; value = v } ≡ l = cc in
         rw (← x) (record { valid = and-yes _ _ hn (and-yes _ _ (every-of-each isRawParameter ps (j .0)) h); written = ap (λ (w : List ℕ). n ⊕ w) (joined-all writeParameter ps (58 ∷ v) ∙ rw (q, j .1)) }))
-        (λ h. no-line))
-        no-line
-    go (no u) k = no-line
+        (λ h. none-some))
+        none-some
+    go (no u) k = none-some
 
 line-read : (s : List ℕ) (l : ContentLine) → contentLine s ≡ some l → ReadLine l s
 unfolding contentLine
 line-read s l =
     let n : List ℕ = runOf isNameChar s in
     pick-case (λ o. o ≡ some l → ReadLine l s) (isEmpty n) none (withValue (many nextParam (afterRun isNameChar s)) n)
-    (λ h. no-line)
+    (λ h. none-some)
     (λ h e. rw run-joined at (rest-read n (afterRun isNameChar s) l (run-name s h) e))
 
 pub content-line-accepted : (s : List ℕ) (l : ContentLine) → contentLine s ≡ some l → isContentLine l ≡ true

@@ -2,18 +2,17 @@
 --     safe-qsafe, qsafe-value    SAFE-CHAR within QSAFE-CHAR within VALUE-CHAR
 --     visible-value              what shows is VALUE-CHAR
 --     qsafe-safe                 QSAFE-CHARs without ";", ":" and "," are SAFE-CHARs
-use mathlib.Core.Path.{_≡_, refl, sym}
+use mathlib.Core.Path.{_≡_, refl}
 use mathlib.Core.Bool.{true, false}
 use mathlib.Core.List.{List, [], _∷_}
-use Prim.Native.Nat.{ℕ, _≤_}
+use Prim.Native.Nat.{ℕ}
 use native.Mathlib.Omega.{arith}
-use lib.Dec.{eqb, leb}
-use borrow.Author.Tests.{eqb-false, ne-eqb, leb-true}
-use Rattle.octets.specs.Pick.{pick, pick-no, _or_, or-no}
-use Rattle.octets.specs.Scan.{allOf}
+use lib.Dec.{eqb}
+use borrow.Author.Tests.{ne-eqb}
+use Rattle.octets.specs.Pick.{pick, pick-no, _or_, or-no, or-neither, pick-first, pick-second, within-range, eqb-swap}
+use Rattle.octets.specs.Scan.{allOf, all-weaker}
 use Rattle.octets.specs.Class.{isVisible}
-use Rattle.octets.specs.Words.{holds}
-use Rattle.lines.specs.Extra.{and-both, or-neither, pick-first, pick-second, all-weaker}
+use Rattle.octets.specs.Words.{holds, holds-split}
 use Rattle.lines.specs.ContentLine.{isLineBreak, isValueChar, isQSafeChar, isSafeChar}
 
 safe-qsafe-char : (b : ℕ) → isSafeChar b ≡ true → isQSafeChar b ≡ true
@@ -27,7 +26,7 @@ qsafe-value-char b h = pick-no _ false true (or-neither (isLineBreak b) (eqb b 3
 
 visible-value-char : (b : ℕ) → isVisible b ≡ true → isValueChar b ≡ true
 visible-value-char b h =
-    let l : 33 ≤ b = leb-true 33 b (and-both (leb 33 b) (leb b 126) h .0) in
+    let l = within-range 33 126 b h in
     pick-no _ false true (or-no (eqb b 13) (eqb b 10) (ne-eqb b 13 (λ e. omega arith)) (ne-eqb b 10 (λ e. omega arith)))
 
 pub safe-qsafe : (s : List ℕ) → allOf isSafeChar s ≡ true → allOf isQSafeChar s ≡ true
@@ -41,19 +40,14 @@ visible-value = all-weaker isVisible isValueChar visible-value-char
 
 -- ---- a value that needs no quotes
 
--- the first byte is not b, and the others are not
-holds-none : (b x : ℕ) (s : List ℕ) → holds b (x ∷ s) ≡ false → (eqb x b ≡ false) × (holds b s ≡ false)
-unfolding holds
-holds-none b x s h = let q = or-neither (eqb b x) (holds b s) h in (ne-eqb x b (λ e. eqb-false b x (q .0) (sym e)), q .1)
-
 pub qsafe-safe : (s : List ℕ) → allOf isQSafeChar s ≡ true → holds 59 s ≡ false → holds 58 s ≡ false → holds 44 s ≡ false → allOf isSafeChar s ≡ true
 unfolding allOf pick
 qsafe-safe [] q a b c = refl
 qsafe-safe (x ∷ s) q a b c =
     let e = pick-first (isQSafeChar x) (allOf isQSafeChar s) q in
     let p = or-neither (isLineBreak x) (eqb x 34) (pick-second (isLineBreak x or eqb x 34) true (e .0) .0) in
-    let a′ = holds-none 59 x s a in
-    let b′ = holds-none 58 x s b in
-    let c′ = holds-none 44 x s c in
-    let t : isSafeChar x ≡ true = pick-no _ false true (or-no _ _ (p .0) (or-no _ _ (p .1) (or-no _ _ (a′ .0) (or-no _ _ (b′ .0) (c′ .0))))) in
+    let a′ = holds-split 59 x s a in
+    let b′ = holds-split 58 x s b in
+    let c′ = holds-split 44 x s c in
+    let t : isSafeChar x ≡ true = pick-no _ false true (or-no _ _ (p .0) (or-no _ _ (p .1) (or-no _ _ (eqb-swap 59 x (a′ .0)) (or-no _ _ (eqb-swap 58 x (b′ .0)) (eqb-swap 44 x (c′ .0)))))) in
     rw t (qsafe-safe s (e .1) (a′ .1) (b′ .1) (c′ .1))

@@ -12,9 +12,10 @@ use Rattle.octets.specs.Pick.{pick, _and_, _or_}
 use Rattle.octets.specs.Scan.{allOf}
 use Rattle.octets.specs.Class.{isNameChar}
 use Rattle.octets.specs.Words.{isEmpty}
+use Rattle.octets.specs.Runs.{afterByte, afterRun, runOf}
+use Rattle.octets.specs.Lists.{every}
 use Rattle.octets.specs.Reading.{provided}
 use Rattle.octets.specs.Many.{One, got, bad, All, ok, no, many}
-use Rattle.lines.specs.Extra.{runOf, afterRun, afterByte, every}
 
 -- a value of a parameter: whether it stood between double quotes, and what stood there
 pub record ParamValue : Type 0 where

@@ -7,13 +7,14 @@ use mathlib.Core.Option.{none, some}
 use Prim.Native.Nat.{ℕ}
 use native.Mathlib.Omega.{arith}
 use lib.Dec.{eqb}
-use Rattle.octets.specs.Pick.{pick, _and_, _or_}
-use Rattle.octets.specs.Scan.{allOf}
+use Rattle.octets.specs.Pick.{pick, _and_, _or_, and-both, eqb-apart, pick-second}
+use Rattle.octets.specs.Scan.{allOf, all-split}
 use Rattle.octets.specs.Append.{_⊕_, joined, append-empty, append-cons, append-regroup, length-both}
 use Rattle.octets.specs.Class.{isNameChar}
 use Rattle.octets.specs.Words.{isEmpty, joinedBy}
-use Rattle.octets.specs.Many.{One, got, ok, many, writeAll, Each, many-round}
-use Rattle.lines.specs.Extra.{stops, afterByte, every, apart, and-both, pick-first, pick-second, each-of-every, run-front, after-front, after-is, after-not, joined-all, each-after-all}
+use Rattle.octets.specs.Runs.{after-front, afterByte, byte-missing, byte-there, run-front, stops}
+use Rattle.octets.specs.Lists.{every}
+use Rattle.octets.specs.Many.{One, got, ok, many, writeAll, Each, many-round, each-after-all, each-of-every, joined-all}
 use Rattle.lines.specs.ContentLine.{ParamValue, RawParameter, ContentLine, isQSafeChar, isSafeChar, isValueChar, isName, isParamValue, isRawParameter, isContentLine, paramtext, quotedString, paramValue, nextValue, withValues, withFirst, param, nextParam, withValue, contentLine}
 use Rattle.lines.specs.Write.{writeParamValue, writeParameter, writeContentLine}
 
@@ -51,11 +52,11 @@ colon-follows r = record { safe = refl; quote = refl; comma = refl; name = refl 
 text-no-quote : (c r : List ℕ) → allOf isSafeChar c ≡ true → stops (isByte 34) r ≡ true → stops (isByte 34) (c ⊕ r) ≡ true
 unfolding allOf stops pick _⊕_ _or_
 text-no-quote [] r h g = g
-text-no-quote (x ∷ c) r h g = rw (apart isSafeChar x 34 (pick-first (isSafeChar x) (allOf isSafeChar c) h .0) refl)
+text-no-quote (x ∷ c) r h g = rw (eqb-apart isSafeChar x 34 (all-split isSafeChar x c h .0) refl)
 
 text-round : (c r : List ℕ) → allOf isSafeChar c ≡ true → AfterValue r → paramValue (c ⊕ r) ≡ got (record { quoted = false; chars = c }) r
 unfolding paramValue paramtext
-text-round c r h g = after-not 34 (c ⊕ r) quotedString (paramtext (c ⊕ r)) (text-no-quote c r h (g .quote)) ∙ rw (run-front isSafeChar c r h (g .safe), after-front isSafeChar c r h (g .safe))
+text-round c r h g = byte-missing 34 (c ⊕ r) quotedString (paramtext (c ⊕ r)) (text-no-quote c r h (g .quote)) ∙ rw (run-front isSafeChar c r h (g .safe), after-front isSafeChar c r h (g .safe))
 
 quote-stops : (r : List ℕ) → stops isQSafeChar (34 ∷ r) ≡ true
 unfolding stops pick _or_
@@ -63,7 +64,7 @@ quote-stops r = refl
 
 quoted-round : (c r : List ℕ) → allOf isQSafeChar c ≡ true → paramValue ((34 ∷ (c ⊕ 34 ∷ [])) ⊕ r) ≡ got (record { quoted = true; chars = c }) r
 unfolding paramValue quotedString
-quoted-round c r h = rw (append-cons, append-regroup, append-cons, append-empty, after-is, after-front isQSafeChar c (34 ∷ r) h (quote-stops r), run-front isQSafeChar c (34 ∷ r) h (quote-stops r), after-is)
+quoted-round c r h = rw (append-cons, append-regroup, append-cons, append-empty, byte-there, after-front isQSafeChar c (34 ∷ r) h (quote-stops r), run-front isQSafeChar c (34 ∷ r) h (quote-stops r), byte-there)
 
 value-round : (v : ParamValue) (r : List ℕ) → isParamValue v ≡ true → AfterValue r → paramValue (writeParamValue v ⊕ r) ≡ got v r
 unfolding isParamValue writeParamValue pick
@@ -80,9 +81,9 @@ values-round : (vs : List ParamValue) (r : List ℕ) → Each (λ v. isParamValu
 unfolding nextValue
 values-round vs r h g =
     many-round nextValue commaValue (λ v. isParamValue v ≡ true) AfterValue
-    (λ v t f k. after-is 44 (writeParamValue v ⊕ t) paramValue One.none ∙ value-round v t f k)
+    (λ v t f k. byte-there 44 (writeParamValue v ⊕ t) paramValue One.none ∙ value-round v t f k)
     (λ v t. omega (arith, length-both (writeParamValue v) t))
-    (λ v t k. comma-follows (writeParamValue v ⊕ t)) vs r h (record { safe = g .safe; quote = g .quote }) (after-not 44 r paramValue One.none (g .comma))
+    (λ v t k. comma-follows (writeParamValue v ⊕ t)) vs r h (record { safe = g .safe; quote = g .quote }) (byte-missing 44 r paramValue One.none (g .comma))
 
 -- ---- a parameter
 
@@ -101,7 +102,7 @@ param-round n v vs r hn hv hs g =
     let q = pick-second (isEmpty n) (allOf isNameChar n) hn in
     let t : List ℕ = writeParamValue v ⊕ writeAll commaValue vs r in
     let i = values-round vs r hs g in
-    rw (run-front isNameChar n (61 ∷ t) (q .1) (equals-stops t), after-front isNameChar n (61 ∷ t) (q .1) (equals-stops t), q .0, after-is, value-round v (writeAll commaValue vs r) hv (i .1), i .0)
+    rw (run-front isNameChar n (61 ∷ t) (q .1) (equals-stops t), after-front isNameChar n (61 ∷ t) (q .1) (equals-stops t), q .0, byte-there, value-round v (writeAll commaValue vs r) hv (i .1), i .0)
 
 abbrev pub writeParam : RawParameter → List ℕ → List ℕ
 writeParam p r = writeParameter p ⊕ r
@@ -113,8 +114,8 @@ parameter-round p r h g = let q = and-both (isName (p .name)) (pick (isEmpty (p 
     go : (n : List ℕ) (vs : List ParamValue) → isName n ≡ true → (isEmpty vs ≡ false) × (every isParamValue vs ≡ true) → nextParam (writeParameter (record { name = n; values = vs }) ⊕ r) ≡ got (record { name = n; values = vs }) r
     go n [] hn hs = absurd (false≢true (sym (hs .0)))
     go n (v ∷ vs) hn hs =
-        let q = pick-first (isParamValue v) (every isParamValue vs) (hs .1) in
-        rw (parameter-parts n v vs r, after-is) (param-round n v vs r hn (q .0) (each-of-every isParamValue vs (q .1)) g)
+        let q = and-both (isParamValue v) (every isParamValue vs) (hs .1) in
+        rw (parameter-parts n v vs r, byte-there) (param-round n v vs r hn (q .0) (each-of-every isParamValue vs (q .1)) g)
 
 -- ---- a content line
 
@@ -133,7 +134,7 @@ line-round n ps v hn hp hv =
     let q = pick-second (isEmpty n) (allOf isNameChar n) hn in
     let i = parameters-round ps (58 ∷ v) hp (colon-follows v) (no-parameter v) in
     let t : List ℕ = writeAll writeParam ps (58 ∷ v) in
-    rw (joined-all writeParameter ps (58 ∷ v), run-front isNameChar n t (q .1) (i .1 .name), after-front isNameChar n t (q .1) (i .1 .name), q .0, i .0, after-is, hv)
+    rw (joined-all writeParameter ps (58 ∷ v), run-front isNameChar n t (q .1) (i .1 .name), after-front isNameChar n t (q .1) (i .1 .name), q .0, i .0, byte-there, hv)
 
 pub content-line-read-back : (l : ContentLine) → isContentLine l ≡ true → contentLine (writeContentLine l) ≡ some l
 unfolding isContentLine writeContentLine

@@ -13,14 +13,13 @@ use native.Mathlib.Omega.{arith}
 use lib.Dec.{eqb}
 use lib.ListN.{length}
 use borrow.Author.Tests.{lt-ltb, ltb-true, not-true}
-use Rattle.octets.specs.Pick.{pick, _and_}
-use Rattle.octets.specs.Scan.{allOf}
+use Rattle.octets.specs.Pick.{pick, _and_, and-both}
+use Rattle.octets.specs.Scan.{allOf, all-append, all-split, all-weaker}
 use Rattle.octets.specs.Append.{_⊕_, append-none}
-use Rattle.octets.specs.Class.{isDigit, isVisible}
-use Rattle.octets.specs.Words.{holds, cutAt, noneHolds, joinedBy, eachAfter, cut-joined}
-use Rattle.octets.specs.Reading.{andThen}
+use Rattle.octets.specs.Class.{isDigit, isVisible, digit-visible}
+use Rattle.octets.specs.Words.{holds, cutAt, noneHolds, joinedBy, eachAfter, cut-joined, all-without}
+use Rattle.octets.specs.Reading.{andThen, andThen-some, provided-some, none-some}
 use Rattle.model.specs.Calendar.{Decimal}
-use Rattle.numbers.specs.Extra.{and-both, provided-some, andThen-some, all-implies, all-append, all-cons, all-holds, digit-visible}
 use Rattle.numbers.specs.Sign.{hasMinus, unsigned, isDigits, leadsInDigit, digits-lead, lead-append, signed-minus, signed-rest, signed-all}
 use Rattle.numbers.specs.Float.{decimal, fraction, pointed, spelled, noLeading, kept, noTrailing, normal, readFloat, orZero, afterPoint, writeFloat, leadsInZero, endsInZero, isZero, isNormal}
 
@@ -38,7 +37,7 @@ zero-digits (b ∷ s) h = rw (lt-ltb 0 (suc (length s)) (omega arith)) h
 
 no-point : (s : List ℕ) → allOf isDigit s ≡ true → holds 46 s ≡ false
 unfolding _and_
-no-point s h = all-holds isDigit 46 refl s h
+no-point s h = all-without isDigit 46 refl s h
 
 cut-written : (b a : List ℕ) → allOf isDigit b ≡ true → allOf isDigit a ≡ true → cutAt 46 (orZero b ⊕ afterPoint a) ≡ orZero b ∷ pieces a
 unfolding afterPoint pieces noneHolds joinedBy eachAfter pick
@@ -133,11 +132,11 @@ pub record Digits (d : Decimal) : Type 0 where
 
 pointed-digits : (m : Bool) (ps : List (List ℕ)) (d : Decimal) → pointed m ps ≡ some d → Digits d
 unfolding pointed pick
-pointed-digits m [] d h = let z : _≡_ {A = ℕ} 0 1 = cc in absurd (omega arith)
+pointed-digits m [] d h = none-some h
 pointed-digits m (b ∷ ps) d h = go (isDigits b) refl h
   where
     go : (t : Bool) → isDigits b ≡ t → pick t (andThen (fraction ps) (λ a. some (decimal m b a))) none ≡ some d → Digits d
-    go false e k = let z : _≡_ {A = ℕ} 0 1 = cc in absurd (omega arith)
+    go false e k = none-some k
     go true e k =
         let p = andThen-some (fraction ps) (λ a. some (decimal m b a)) d k in
         let q : decimal m b (p .0) ≡ d = cc (p .2) in
@@ -149,7 +148,7 @@ spelled-digits s d h = pointed-digits (hasMinus s) (cutAt 46 (unsigned s)) d h
 leading-digits : (s : List ℕ) → allOf isDigit s ≡ true → allOf isDigit (noLeading s) ≡ true
 unfolding noLeading pick
 leading-digits [] h = h
-leading-digits (b ∷ s) h = go (eqb b 48) (leading-digits s (all-cons isDigit b s h .1))
+leading-digits (b ∷ s) h = go (eqb b 48) (leading-digits s (all-split isDigit b s h .1))
   where
     go : (t : Bool) → allOf isDigit (noLeading s) ≡ true → allOf isDigit (pick t (noLeading s) (b ∷ s)) ≡ true
     go true k = k
@@ -176,7 +175,7 @@ kept-digits b (c ∷ s) h k = rw h k
 trailing-digits : (s : List ℕ) → allOf isDigit s ≡ true → allOf isDigit (noTrailing s) ≡ true
 unfolding noTrailing
 trailing-digits [] h = h
-trailing-digits (b ∷ s) h = let p = all-cons isDigit b s h in kept-digits b (noTrailing s) (p .0) (trailing-digits s (p .1))
+trailing-digits (b ∷ s) h = let p = all-split isDigit b s h in kept-digits b (noTrailing s) (p .0) (trailing-digits s (p .1))
 
 kept-none : (b : ℕ) (s : List ℕ) → endsInZero s ≡ false → endsInZero (kept b s) ≡ false
 unfolding kept endsInZero pick
@@ -234,8 +233,8 @@ float-all p f m e d h =
     let n = normal-parts d h in
     signed-all p (d .minus) (orZero (d .before) ⊕ afterPoint (d .after)) m
     (all-append p (orZero (d .before)) (afterPoint (d .after))
-    (all-implies isDigit p f (orZero (d .before)) (and-both _ _ (zero-digits (d .before) (n .beforeDigits)) .1))
-    (point-all p (d .after) e (all-implies isDigit p f (d .after) (n .afterDigits))))
+    (all-weaker isDigit p f (orZero (d .before)) (and-both _ _ (zero-digits (d .before) (n .beforeDigits)) .1))
+    (point-all p (d .after) e (all-weaker isDigit p f (d .after) (n .afterDigits))))
 
 pub float-visible : (d : Decimal) → isNormal d ≡ true → allOf isVisible (writeFloat d) ≡ true
 unfolding _and_

@@ -6,8 +6,8 @@
 --     float-same-number       two texts are read as the same FLOAT exactly when they spell the same number
 --     float-keeps-number      what is read is the number that is spelled
 use mathlib.Core.Path.{_≡_, refl, sym, ap, _∙_}
-use mathlib.Core.Bool.{Bool, true, false, not, false≢true}
-use mathlib.Core.List.{List, [], _∷_}
+use mathlib.Core.Bool.{Bool, true, false, not}
+use mathlib.Core.List.{List, []}
 use mathlib.Core.Option.{some}
 use mathlib.Core.Logic.{_↔_}
 use Prim.Native.Nat.{ℕ, _+_, _*_, _^_}
@@ -17,17 +17,16 @@ use lib.Dec.{ltb}
 use lib.ListN.{length}
 use lib.Pow.{pow-add}
 use borrow.Author.Tests.{ltb-true, ltb-false}
-use Rattle.octets.specs.Pick.{_and_}
+use Rattle.octets.specs.Pick.{_and_, and-both}
 use Rattle.octets.specs.Scan.{allOf}
 use Rattle.octets.specs.Append.{_⊕_}
 use Rattle.octets.specs.Class.{isDigit}
-use Rattle.octets.specs.Words.{isEmpty}
-use Rattle.octets.specs.Decimal.{value}
+use Rattle.octets.specs.Words.{empty-is}
+use Rattle.octets.specs.Decimal.{value, value-append, digits-same}
 use Rattle.octets.specs.Reading.{andThen}
 use Rattle.model.specs.Calendar.{Decimal}
-use Rattle.numbers.specs.Extra.{and-both}
 use Rattle.numbers.specs.Float.{decimal, spelled, noLeading, noTrailing, normal, readFloat, isZero, isNormal}
-use Rattle.numbers.specs.Worth.{zeros, value-append, digits-same, front-length, front-value, front-digits, back-length, back-value, back-digits, leading-zeros, trailing-zeros, leading-split, trailing-split}
+use Rattle.numbers.specs.Worth.{zeros, front-length, front-value, front-digits, back-length, back-value, back-digits, leading-zeros, trailing-zeros, leading-split, trailing-split}
 use Rattle.numbers.specs.FloatLaws.{Digits, normal-digits, normal-fixed, spelled-digits, float-accepted}
 
 abbrev pub numerator : Decimal → ℕ
@@ -92,10 +91,6 @@ shorter a =
           ∙ back-value l t (q .0);
     }
 
-empty-true : (s : List ℕ) → isEmpty s ≡ true → s ≡ []
-empty-true [] h = refl
-empty-true (b ∷ s) h = absurd (false≢true h)
-
 -- a normal form is zero exactly when the number is
 zero-normal : (a : Decimal) → Digits a → numerator a ≡ 0 → isZero (normal a) ≡ true
 unfolding noLeading noTrailing value _⊕_ allOf _and_
@@ -107,7 +102,7 @@ zero-number : (a : Decimal) → isZero (normal a) ≡ true → numerator a ≡ 0
 unfolding value _⊕_
 zero-number a h =
     let p = and-both _ _ h in
-    shorter a .worth ∙ rw (empty-true (noLeading (a .before)) (p .0), empty-true (noTrailing (a .after)) (p .1)) (zero-mul (10 ^ shorter a .dropped))
+    shorter a .worth ∙ rw (empty-is (noLeading (a .before)) (p .0), empty-is (noTrailing (a .after)) (p .1)) (zero-mul (10 ^ shorter a .dropped))
 
 -- the sign of the normal form is that of the number
 normal-sign : (a : Decimal) → Digits a → normal a .minus ≡ isNegative a

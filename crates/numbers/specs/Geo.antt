@@ -10,13 +10,12 @@ use native.Mathlib.Omega.{arith}
 use lib.Dec.{eqb}
 use borrow.Author.Tests.{ne-eqb}
 use Rattle.octets.specs.Pick.{pick, _and_}
-use Rattle.octets.specs.Scan.{allOf}
+use Rattle.octets.specs.Scan.{allOf, all-append}
 use Rattle.octets.specs.Append.{_⊕_, append-none}
-use Rattle.octets.specs.Class.{isDigit, isVisible}
-use Rattle.octets.specs.Words.{isEmpty, holds, cutAt, noneHolds, joinedBy, eachAfter, cut-joined}
-use Rattle.octets.specs.Reading.{andThen}
+use Rattle.octets.specs.Class.{isDigit, isVisible, digit-range}
+use Rattle.octets.specs.Words.{isEmpty, holds, cutAt, noneHolds, joinedBy, eachAfter, cut-joined, all-without}
+use Rattle.octets.specs.Reading.{andThen, andThen-some, none-some}
 use Rattle.model.specs.Calendar.{Decimal, Value, geo}
-use Rattle.numbers.specs.Extra.{andThen-some, all-append, all-holds, digit-range}
 use Rattle.numbers.specs.Float.{readFloat, writeFloat, isNormal}
 use Rattle.numbers.specs.FloatLaws.{float-read-back, float-accepted, float-all, float-visible}
 
@@ -38,7 +37,7 @@ writeGeo la lo = writeFloat la ⊕ (59 ∷ writeFloat lo)
 -- ---- laws
 
 no-semicolon : (d : Decimal) → isNormal d ≡ true → holds 59 (writeFloat d) ≡ false
-no-semicolon d h = all-holds (λ b. not (eqb b 59)) 59 refl (writeFloat d) (float-all (λ b. not (eqb b 59)) digit refl refl d h)
+no-semicolon d h = all-without (λ b. not (eqb b 59)) 59 refl (writeFloat d) (float-all (λ b. not (eqb b 59)) digit refl refl d h)
   where
     digit : (b : ℕ) → isDigit b ≡ true → not (eqb b 59) ≡ true
     digit b k = let r = digit-range b k in rw (ne-eqb b 59 (λ e. omega arith))
@@ -61,16 +60,16 @@ pub record IsGeo (v : Value) : Type 0 where
 
 longitude-accepted : (ps : List (List ℕ)) (d : Decimal) → longitude ps ≡ some d → isNormal d ≡ true
 unfolding longitude pick
-longitude-accepted [] d h = let z : _≡_ {A = ℕ} 0 1 = cc in absurd (omega arith)
+longitude-accepted [] d h = none-some h
 longitude-accepted (s ∷ ps) d h = go (isEmpty ps) h
   where
     go : (t : Bool) → pick t (readFloat s) none ≡ some d → isNormal d ≡ true
     go true k = float-accepted s d k
-    go false k = let z : _≡_ {A = ℕ} 0 1 = cc in absurd (omega arith)
+    go false k = none-some k
 
 coordinates-accepted : (ps : List (List ℕ)) (v : Value) → coordinates ps ≡ some v → IsGeo v
 unfolding coordinates
-coordinates-accepted [] v h = let z : _≡_ {A = ℕ} 0 1 = cc in absurd (omega arith)
+coordinates-accepted [] v h = none-some h
 coordinates-accepted (s ∷ ps) v h =
     let p = andThen-some (readFloat s) (λ la. andThen (longitude ps) (λ lo. some (geo la lo))) v h in
     let q = andThen-some (longitude ps) (λ lo. some (geo (p .0) lo)) v (p .2) in

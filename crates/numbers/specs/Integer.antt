@@ -11,13 +11,12 @@ use Prim.Native.Nat.{ℕ, _^_, _≤_, _<_}
 use native.Mathlib.Omega.{arith}
 use lib.Dec.{ltb, leb}
 use borrow.Author.Tests.{lt-ltb, leb-true, ltb-false, le-leb}
-use Rattle.octets.specs.Pick.{pick, _and_, within, within-yes}
-use Rattle.octets.specs.Scan.{allOf}
-use Rattle.octets.specs.Class.{isDigit, isVisible}
+use Rattle.octets.specs.Pick.{pick, _and_, within, within-yes, and-both}
+use Rattle.octets.specs.Scan.{allOf, all-weaker}
+use Rattle.octets.specs.Class.{isDigit, isVisible, digit-visible}
 use Rattle.octets.specs.Decimal.{value, isNumber, digits, digits-value, digits-all, digits-some, digits-number}
-use Rattle.octets.specs.Reading.{provided}
+use Rattle.octets.specs.Reading.{provided, provided-some}
 use Rattle.model.specs.Calendar.{Whole}
-use Rattle.numbers.specs.Extra.{and-both, provided-some, all-implies, digit-visible}
 use Rattle.numbers.specs.Sign.{hasMinus, unsigned, signed, leadsInDigit, digits-lead, signed-minus, signed-rest, signed-all}
 
 -- the largest magnitude of a negative number, and of another
@@ -54,7 +53,7 @@ pub whole-rest : (w : Whole) → unsigned (writeWhole w) ≡ digits 9 (w .magnit
 whole-rest w = signed-rest (w .negative) (digits 9 (w .magnitude)) (lead (w .magnitude))
 
 pub whole-all : (p : ℕ → Bool) → ((b : ℕ) → isDigit b ≡ true → p b ≡ true) → p 45 ≡ true → (w : Whole) → allOf p (writeWhole w) ≡ true
-whole-all p f e w = signed-all p (w .negative) (digits 9 (w .magnitude)) e (all-implies isDigit p f (digits 9 (w .magnitude)) (digits-all 9 (w .magnitude)))
+whole-all p f e w = signed-all p (w .negative) (digits 9 (w .magnitude)) e (all-weaker isDigit p f (digits 9 (w .magnitude)) (digits-all 9 (w .magnitude)))
 
 pub integer-read-back : (w : Whole) → isInteger w ≡ true → readInteger (writeInteger w) ≡ some w
 unfolding pick _and_

@@ -1,5 +1,4 @@
 -- The values that are numbers.
---     Extra       general laws of tests and readings
 --     Sign        a sign in front of digits
 --     Integer     INTEGER
 --     Cursor      a byte that is known was found at the cursor
@@ -20,7 +19,6 @@
 --     ReadGeo     GEO as the code reads it
 --     Computing   opens all of these, for examples that compute
 --     Examples    computed examples
-pub mod Extra
 pub mod Sign
 pub mod Integer
 pub mod Cursor

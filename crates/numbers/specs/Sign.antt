@@ -13,10 +13,9 @@ use lib.Dec.{eqb, ltb}
 use lib.ListN.{length}
 use borrow.Author.Tests.{ne-eqb}
 use Rattle.octets.specs.Pick.{pick, _and_, _or_}
-use Rattle.octets.specs.Scan.{allOf}
+use Rattle.octets.specs.Scan.{allOf, all-split}
 use Rattle.octets.specs.Append.{_⊕_}
-use Rattle.octets.specs.Class.{isDigit}
-use Rattle.numbers.specs.Extra.{all-cons, digit-range}
+use Rattle.octets.specs.Class.{isDigit, digit-range}
 
 -- 45 is -, 43 is +
 unfoldable pub hasMinus : List ℕ → Bool
@@ -42,7 +41,7 @@ leadsInDigit (b ∷ s) = isDigit b
 pub digits-lead : (s : List ℕ) → 0 < length s → allOf isDigit s ≡ true → leadsInDigit s ≡ true
 unfolding leadsInDigit
 digits-lead [] h k = absurd (omega arith)
-digits-lead (b ∷ s) h k = all-cons isDigit b s k .0
+digits-lead (b ∷ s) h k = all-split isDigit b s k .0
 
 pub lead-append : (s t : List ℕ) → leadsInDigit s ≡ true → leadsInDigit (s ⊕ t) ≡ true
 unfolding leadsInDigit _⊕_

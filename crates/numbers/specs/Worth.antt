@@ -1,24 +1,22 @@
 -- What digits are worth, with zeros in front of them and after them.
 --     zeros k            k zeros, 48 each
---     digits-same        as many digits that are worth the same are the same
 --     leading-zeros, trailing-zeros    zeros make no difference to the digits without them
 --     front-value, back-value          zeros in front of digits are worth nothing, each one after them a factor of 10
 --     leading-split, trailing-split    digits are their zeros and the digits without these
 use mathlib.Core.Path.{_≡_, refl, ap, _∙_}
 use mathlib.Core.Bool.{Bool, true, false}
 use mathlib.Core.List.{List, [], _∷_}
-use Prim.Native.Nat.{ℕ, zero, suc, _+_, _-_, _*_, _^_}
+use Prim.Native.Nat.{ℕ, zero, suc, _+_, _*_, _^_}
 use native.Mathlib.Nat.{pow-zero, pow-succ', zero-mul}
 use native.Mathlib.Omega.{arith}
 use lib.Dec.{eqb}
 use lib.ListN.{length}
 use borrow.Author.Tests.{eqb-true}
 use Rattle.octets.specs.Pick.{pick, _and_}
-use Rattle.octets.specs.Scan.{allOf}
+use Rattle.octets.specs.Scan.{allOf, all-append}
 use Rattle.octets.specs.Append.{_⊕_, length-both}
 use Rattle.octets.specs.Class.{isDigit}
-use Rattle.octets.specs.Decimal.{value, digitOf}
-use Rattle.numbers.specs.Extra.{all-cons, all-append, digit-range}
+use Rattle.octets.specs.Decimal.{value, value-append}
 use Rattle.numbers.specs.Float.{noLeading, noTrailing, kept}
 
 unfoldable pub zeros : ℕ → List ℕ
@@ -34,11 +32,6 @@ pub zeros-length : (k : ℕ) → length (zeros k) ≡ k
 unfolding zeros
 zeros-length zero = refl
 zeros-length (suc k) = ap suc (zeros-length k)
-
-pub value-append : (s t : List ℕ) (n : ℕ) → value n (s ⊕ t) ≡ value (value n s) t
-unfolding value _⊕_
-value-append [] t n = refl
-value-append (b ∷ s) t n = value-append s t (n * 10 + digitOf b)
 
 pub value-zeros : (k n : ℕ) → value n (zeros k) ≡ n * 10 ^ k
 unfolding zeros value pick _and_
@@ -60,29 +53,7 @@ unfolding noTrailing _⊕_
 trailing-zeros [] k = only-zeros k
 trailing-zeros (b ∷ s) k = rw (trailing-zeros s k)
 
--- ---- as many digits that are worth the same are the same
-
-digit-same : (b c x y : ℕ) → isDigit b ≡ true → isDigit c ≡ true → x * 10 + digitOf b ≡ y * 10 + digitOf c → (x ≡ y) × (b ≡ c)
-unfolding pick
-digit-same b c x y h k e =
-    let p = digit-range b h in
-    let q = digit-range c k in
-    let f : x * 10 + (b - 48) ≡ y * 10 + (c - 48) = rw (h, k) at e in
-    (omega arith, omega arith)
-
-pub digits-same : (s t : List ℕ) (x y : ℕ) → length s ≡ length t → allOf isDigit s ≡ true → allOf isDigit t ≡ true → value x s ≡ value y t → (x ≡ y) × (s ≡ t)
-unfolding value
-digits-same [] [] x y l h k e = (e, refl)
-digits-same [] (c ∷ t) x y l h k e = absurd (omega arith)
-digits-same (b ∷ s) [] x y l h k e = absurd (omega arith)
-digits-same (b ∷ s) (c ∷ t) x y l h k e =
-    let p = all-cons isDigit b s h in
-    let q = all-cons isDigit c t k in
-    let r = digits-same s t (x * 10 + digitOf b) (y * 10 + digitOf c) (omega arith) (p .1) (q .1) e in
-    let u = digit-same b c x y (p .0) (q .0) (r .0) in
-    (u .0, cc (u .1, r .1))
-
--- digits with zeros in front of them, and after them
+-- ---- digits with zeros in front of them, and after them
 pub front-length : (n : ℕ) (s : List ℕ) → length (zeros n ⊕ s) ≡ n + length s
 front-length n s = rw (length-both (zeros n) s, zeros-length n)
 

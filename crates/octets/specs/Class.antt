@@ -1,10 +1,15 @@
 -- Classes of bytes by the names of RFC 5234 and RFC 5545, and letter case, which is ASCII's.
-use mathlib.Core.Path.{_≡_, refl, ap}
+--     isDigit, isCapital, isSmall, isAlpha, isNameChar, isVisible, isSpace
+--     upper, lower      letters made capital, made small
+--     digit-range, digit-visible, visible-no-space    one class and another
+use mathlib.Core.Path.{_≡_}
 use mathlib.Core.Bool.{Bool, true, false}
-use mathlib.Core.List.{List, [], _∷_, _++_, map}
-use Prim.Native.Nat.{ℕ, _+_, _-_}
+use mathlib.Core.List.{List, [], _∷_}
+use Prim.Native.Nat.{ℕ, _+_, _-_, _≤_}
+use native.Mathlib.Omega.{arith}
 use lib.Dec.{eqb}
-use Rattle.octets.specs.Pick.{pick, within, _or_}
+use borrow.Author.Tests.{ne-eqb}
+use Rattle.octets.specs.Pick.{pick, within, within-range, within-wider, _or_}
 
 -- DIGIT = %x30-39
 abbrev pub isDigit : ℕ → Bool
@@ -46,3 +51,17 @@ upper (b ∷ s) = upperByte b ∷ upper s
 unfoldable pub lower : List ℕ → List ℕ
 lower [] = []
 lower (b ∷ s) = lowerByte b ∷ lower s
+
+-- ---- laws
+
+pub digit-range : (b : ℕ) → isDigit b ≡ true → (48 ≤ b) × (b ≤ 57)
+digit-range b h = within-range 48 57 b h
+
+pub digit-visible : (b : ℕ) → isDigit b ≡ true → isVisible b ≡ true
+digit-visible b h = within-wider 48 57 33 126 b (omega arith) (omega arith) h
+
+pub visible-no-space : (b : ℕ) → isVisible b ≡ true → isSpace b ≡ false
+unfolding _or_
+visible-no-space b h =
+    let p = within-range 33 126 b h in
+    rw (ne-eqb b 32 (λ e. omega arith), ne-eqb b 9 (λ e. omega arith), ne-eqb b 13 (λ e. omega arith), ne-eqb b 10 (λ e. omega arith))

@@ -2,20 +2,22 @@
 --     value n s      what the digits of s are worth after digits that are worth n
 --     isNumber m s   digits alone, at least one, worth no more than m
 --     digits f n     the digits of n without leading zeros, where n < 10 ^ (f + 1)
---     digits-value, digits-all, digits-some: a number is read back from its digits
+--     value-append   what digits are worth after others
+--     digits-value, digits-all, digits-some, digits-short, digits-number    a number is read back from its digits
+--     digits-same    as many digits that are worth the same are the same
 use mathlib.Core.Path.{_≡_, refl, _∙_}
 use mathlib.Core.Bool.{Bool, true, false}
-use mathlib.Core.List.{List, [], _∷_, _++_}
+use mathlib.Core.List.{List, [], _∷_}
 use Prim.Native.Nat.{ℕ, zero, suc, _+_, _-_, _*_, _/_, _%_, _^_, _≤_, _<_}
 use native.Mathlib.Nat.{pow-succ'}
 use native.Mathlib.Omega.{arith}
 use lib.Dec.{leb, ltb}
 use lib.ListN.{length, length-append}
-use borrow.Author.Tests.{lt-ltb, ltb-true, ltb-false, le-leb}
-use Rattle.octets.specs.Pick.{pick, _and_, within, within-yes}
-use Rattle.octets.specs.Scan.{allOf}
+use borrow.Author.Tests.{lt-ltb, ltb-true, le-leb}
+use Rattle.octets.specs.Pick.{pick, _and_, within-yes}
+use Rattle.octets.specs.Scan.{allOf, all-append, all-split}
 use Rattle.octets.specs.Append.{_⊕_}
-use Rattle.octets.specs.Class.{isDigit}
+use Rattle.octets.specs.Class.{isDigit, digit-range}
 
 -- a byte that is no digit counts 0, so that the function is total
 abbrev pub digitOf : ℕ → ℕ
@@ -34,20 +36,10 @@ digits (suc f) n = pick (ltb n 10) ((48 + n) ∷ []) (digits f (n / 10) ⊕ (48 
 
 -- ---- the digits of a number are read back
 
-value-snoc : (s : List ℕ) (n b : ℕ) → value n (s ++ (b ∷ [])) ≡ value n s * 10 + digitOf b
-unfolding value
-value-snoc [] n b = refl
-value-snoc (x ∷ s) n b = value-snoc s (n * 10 + digitOf x) b
-
-all-snoc : (s : List ℕ) (b : ℕ) → allOf isDigit s ≡ true → isDigit b ≡ true → allOf isDigit (s ++ (b ∷ [])) ≡ true
-unfolding allOf pick
-all-snoc [] b p q = rw q
-all-snoc (x ∷ s) b p q = go (isDigit x) p (λ r. all-snoc s b r q)
-  where
-    go : (t : Bool) → pick t (allOf isDigit s) false ≡ true → (allOf isDigit s ≡ true → allOf isDigit (s ++ (b ∷ [])) ≡ true) →
-        pick t (allOf isDigit (s ++ (b ∷ []))) false ≡ true
-    go true p ih = ih p
-    go false p ih = p
+pub value-append : (s t : List ℕ) (n : ℕ) → value n (s ⊕ t) ≡ value (value n s) t
+unfolding value _⊕_
+value-append [] t n = refl
+value-append (b ∷ s) t n = value-append s t (n * 10 + digitOf b)
 
 pub is-digit : (x : ℕ) → x < 10 → isDigit (48 + x) ≡ true
 is-digit x h = within-yes 48 57 (48 + x) (le-leb 48 (48 + x) (omega arith)) (le-leb (48 + x) 57 (omega arith))
@@ -66,7 +58,7 @@ digits-value (suc f) n h = go (ltb n 10) refl (digits-value f (n / 10) (shorter 
   where
     go : (t : Bool) → ltb n 10 ≡ t → value 0 (digits f (n / 10)) ≡ n / 10 → value 0 (pick t ((48 + n) ∷ []) (digits f (n / 10) ⊕ (48 + n % 10) ∷ [])) ≡ n
     go true e ih = rw (digit-of n (ltb-true n 10 e)) (omega arith)
-    go false e ih = value-snoc (digits f (n / 10)) 0 (48 + n % 10) ∙ rw (ih, digit-of (n % 10) (omega arith)) (omega arith)
+    go false e ih = value-append (digits f (n / 10)) ((48 + n % 10) ∷ []) 0 ∙ rw (ih, digit-of (n % 10) (omega arith)) (omega arith)
 
 pub digits-all : (f n : ℕ) → allOf isDigit (digits f n) ≡ true
 unfolding digits allOf _⊕_ pick
@@ -76,7 +68,7 @@ digits-all (suc f) n = go (ltb n 10) refl (digits-all f (n / 10))
     go : (t : Bool) → ltb n 10 ≡ t → allOf isDigit (digits f (n / 10)) ≡ true →
         allOf isDigit (pick t ((48 + n) ∷ []) (digits f (n / 10) ⊕ (48 + n % 10) ∷ [])) ≡ true
     go true e ih = rw (is-digit n (ltb-true n 10 e))
-    go false e ih = all-snoc (digits f (n / 10)) (48 + n % 10) ih (is-digit (n % 10) (omega arith))
+    go false e ih = all-append isDigit (digits f (n / 10)) ((48 + n % 10) ∷ []) ih (rw (is-digit (n % 10) (omega arith)))
 
 pub digits-some : (f n : ℕ) → 0 < length (digits f n)
 unfolding digits _⊕_ pick
@@ -87,7 +79,41 @@ digits-some (suc f) n = go (ltb n 10)
     go true = omega arith
     go false = simp length-append (omega arith)
 
+-- a number below a power of ten has no more digits
+pub digits-short : (f d n : ℕ) → 0 < d → n < 10 ^ d → length (digits f n) ≤ d
+unfolding digits _⊕_ pick
+digits-short f zero n p h = absurd (omega arith)
+digits-short zero (suc k) n p h = omega arith
+digits-short (suc f) (suc zero) n p h = rw (lt-ltb n 10 h) (omega arith)
+digits-short (suc f) (suc (suc k)) n p h = go (ltb n 10) (digits-short f (suc k) (n / 10) (omega arith) (shorter k n h))
+  where
+    go : (t : Bool) → length (digits f (n / 10)) ≤ suc k → length (pick t ((48 + n) ∷ []) (digits f (n / 10) ⊕ (48 + n % 10) ∷ [])) ≤ suc (suc k)
+    go true ih = omega arith
+    go false ih = simp length-append (omega arith)
+
 -- a number that is not too much is a number by its digits
 pub digits-number : (f n most : ℕ) → n < 10 ^ suc f → n ≤ most → isNumber most (digits f n) ≡ true
 unfolding _and_
 digits-number f n most h l = rw (lt-ltb 0 (length (digits f n)) (digits-some f n), digits-all, digits-value f n h, le-leb n most l)
+
+-- ---- as many digits that are worth the same are the same
+
+digit-same : (b c x y : ℕ) → isDigit b ≡ true → isDigit c ≡ true → x * 10 + digitOf b ≡ y * 10 + digitOf c → (x ≡ y) × (b ≡ c)
+unfolding pick
+digit-same b c x y h k e =
+    let p = digit-range b h in
+    let q = digit-range c k in
+    let f : x * 10 + (b - 48) ≡ y * 10 + (c - 48) = rw (h, k) at e in
+    (omega arith, omega arith)
+
+pub digits-same : (s t : List ℕ) (x y : ℕ) → length s ≡ length t → allOf isDigit s ≡ true → allOf isDigit t ≡ true → value x s ≡ value y t → (x ≡ y) × (s ≡ t)
+unfolding value
+digits-same [] [] x y l h k e = (e, refl)
+digits-same [] (c ∷ t) x y l h k e = absurd (omega arith)
+digits-same (b ∷ s) [] x y l h k e = absurd (omega arith)
+digits-same (b ∷ s) (c ∷ t) x y l h k e =
+    let p = all-split isDigit b s h in
+    let q = all-split isDigit c t k in
+    let r = digits-same s t (x * 10 + digitOf b) (y * 10 + digitOf c) (omega arith) (p .1) (q .1) e in
+    let u = digit-same b c x y (p .0) (q .0) (r .0) in
+    (u .0, cc (u .1, r .1))

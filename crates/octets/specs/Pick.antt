@@ -1,10 +1,15 @@
 -- A choice by a test. It is shut, so that a goal keeps its shape and `search` sees the test.
+--     pick, _and_, _or_, within                 a choice, and tests joined
+--     pick-yes, and-yes, or-left, within-yes    what they are, from their tests; and for code, in rule sets, `branching` and others
+--     and-both, or-neither, or-cases, pick-first, pick-second, within-range    what a joined test says of its parts
+--     pick-either, pick-case                    what holds of a choice
 use mathlib.Core.Path.{_≡_, refl, sym, _∙_}
-use mathlib.Core.Bool.{Bool, true, false}
-use Prim.Native.Nat.{ℕ}
+use mathlib.Core.Bool.{Bool, true, false, false≢true}
+use Prim.Native.Nat.{ℕ, _≤_}
+use native.Mathlib.Omega.{arith}
 use lib.Dec.{eqb, leb}
 use borrow.Author.Needs.{needs}
-use borrow.Author.Tests.{eq-eqb, ne-eqb, lt-ltb, le-ltb, le-leb, lt-leb}
+use borrow.Author.Tests.{eq-eqb, ne-eqb, lt-ltb, le-ltb, le-leb, lt-leb, leb-true, eqb-true, eqb-false}
 
 unfoldable pub pick {ℓ} : {A : Type ℓ} → Bool → A → A → A
 pick true a b = a
@@ -23,6 +28,12 @@ pub pick-either : {A : Type 0} (P : A → Type 0) (t : Bool) (a b : A) → P a �
 unfolding pick
 pick-either P true a b p q = p
 pick-either P false a b p q = q
+
+-- what holds of each choice under its test holds of the choice
+pub pick-case : {A : Type 0} (P : A → Type 0) (t : Bool) (a b : A) → (t ≡ true → P a) → (t ≡ false → P b) → P (pick t a b)
+unfolding pick
+pick-case P true a b p q = p refl
+pick-case P false a b p q = q refl
 
 -- both tests
 infixr 40 _and_
@@ -71,6 +82,55 @@ or-no a b p q = rw p q
 
 pub within-yes : (lo hi x : ℕ) → leb lo x ≡ true → leb x hi ≡ true → within lo hi x ≡ true
 within-yes lo hi x p q = and-yes _ _ p q
+
+-- ---- what a joined test says of its parts
+
+pub and-both : (a b : Bool) → (a and b) ≡ true → (a ≡ true) × (b ≡ true)
+unfolding _and_
+and-both true b h = (refl, h)
+and-both false b h = absurd (false≢true h)
+
+pub or-neither : (a b : Bool) → (a or b) ≡ false → (a ≡ false) × (b ≡ false)
+unfolding _or_
+or-neither true b h = absurd (false≢true (sym h))
+or-neither false b h = (refl, h)
+
+pub or-cases : {P : Type 0} (a b : Bool) → (a or b) ≡ true → (a ≡ true → P) → (b ≡ true → P) → P
+unfolding _or_
+or-cases true b h p q = p refl
+or-cases false b h p q = q h
+
+-- a choice that is true, with a side that never is
+pub pick-first : (t a : Bool) → pick t a false ≡ true → (t ≡ true) × (a ≡ true)
+unfolding pick
+pick-first true a h = (refl, h)
+pick-first false a h = absurd (false≢true h)
+
+pub pick-second : (t a : Bool) → pick t false a ≡ true → (t ≡ false) × (a ≡ true)
+unfolding pick
+pick-second true a h = absurd (false≢true h)
+pick-second false a h = (refl, h)
+
+pub within-range : (lo hi x : ℕ) → within lo hi x ≡ true → (lo ≤ x) × (x ≤ hi)
+within-range lo hi x h = let p = and-both (leb lo x) (leb x hi) h in (leb-true lo x (p .0), leb-true x hi (p .1))
+
+-- from narrower bounds to wider ones
+pub within-wider : (lo hi a z x : ℕ) → a ≤ lo → hi ≤ z → within lo hi x ≡ true → within a z x ≡ true
+within-wider lo hi a z x l h w = let p = within-range lo hi x w in within-yes a z x (le-leb a x (omega arith)) (le-leb x z (omega arith))
+
+-- a number that passes a test is not one that fails it
+pub eqb-apart : (p : ℕ → Bool) (x k : ℕ) → p x ≡ true → p k ≡ false → eqb x k ≡ false
+eqb-apart p x k h q = ne-eqb x k (λ e. let z : _≡_ {A = ℕ} 0 1 = cc in omega arith)
+
+-- what passes a test, named otherwise
+pub eqb-passes : (p : ℕ → Bool) (k x : ℕ) → p k ≡ true → eqb x k ≡ true → p x ≡ true
+eqb-passes p k x h e = rw (eqb-true x k e) h
+
+-- two numbers that differ, the other way round
+pub eqb-swap : (a b : ℕ) → eqb a b ≡ false → eqb b a ≡ false
+eqb-swap a b e = ne-eqb b a (λ q. eqb-false a b e (sym q))
+
+-- ---- rules for the branches of code
 
 -- a call's answer r, which is the test t by the callee's contract, was tested
 pub flag-yes : (r t : Bool) → r ≡ t → r ≡ true → t ≡ true

@@ -1,7 +1,7 @@
 -- Loops that go over a list s from its front, an element a turn, with `drop i s` left.
 --     spanLen p s       how many elements at the front pass p;   Span is the invariant
 --     spanEnd p s i     the same from an index i, as an index;   SpanFrom is the invariant, `search scanning-from`
---     allOf p s         whether each element passes p;           All is the invariant
+--     allOf p s         whether each element passes p;           All is the invariant;   all-cons, all-split, all-append, all-parts, all-weaker: its laws
 --     foldl f st s      a state carried over the elements;       Folding is the invariant
 --     foldi f st i s    the same, by a step that is told the index;   FoldingI is the invariant
 -- Each has its start, its turn and its end among the rules `scanning`: `search scanning` answers nearly every need of such a loop.
@@ -14,7 +14,8 @@ use native.Mathlib.Omega.{arith}
 use lib.ListN.{length, getD, take, drop, length-drop, drop-of-length-le}
 use lib.Seq.{drop-cons, take-all, length-take-le}
 use borrow.Author.Needs.{needs}
-use Rattle.octets.specs.Pick.{pick, flag-yes, flag-no}
+use Rattle.octets.specs.Pick.{pick, pick-first, flag-yes, flag-no}
+use Rattle.octets.specs.Append.{_⊕_}
 
 -- one element more
 pub drop-next : (s : List ℕ) (i : ℕ) → i < length s → drop i s ≡ getD s i 0 ∷ drop (i + 1) s
@@ -106,6 +107,32 @@ module _ (p : ℕ → Bool) (s : List ℕ) where
   pub all-end : (i : ℕ) → All p s i → length s ≤ i → true ≡ allOf p s
   unfolding allOf
   all-end i t h = sym (t .left ∙ rw (drop-of-length-le s h))
+
+module _ (p : ℕ → Bool) where
+  pub all-cons : (x : ℕ) (s : List ℕ) → p x ≡ true → allOf p s ≡ true → allOf p (x ∷ s) ≡ true
+  unfolding allOf pick
+  all-cons x s e h = rw e h
+
+  pub all-split : (x : ℕ) (s : List ℕ) → allOf p (x ∷ s) ≡ true → (p x ≡ true) × (allOf p s ≡ true)
+  unfolding allOf
+  all-split x s h = pick-first (p x) (allOf p s) h
+
+  pub all-append : (a b : List ℕ) → allOf p a ≡ true → allOf p b ≡ true → allOf p (a ⊕ b) ≡ true
+  unfolding _⊕_
+  all-append [] b h k = k
+  all-append (x ∷ a) b h k = let q = all-split x a h in all-cons x (a ⊕ b) (q .0) (all-append a b (q .1) k)
+
+  -- what passes a test passes a weaker one
+  pub all-weaker : (q : ℕ → Bool) → ((x : ℕ) → p x ≡ true → q x ≡ true) → (s : List ℕ) → allOf p s ≡ true → allOf q s ≡ true
+  unfolding allOf pick
+  all-weaker q f [] h = refl
+  all-weaker q f (x ∷ s) h = let t = all-split x s h in rw (f x (t .0)) (all-weaker q f s (t .1))
+
+  -- both parts of a list pass, so the whole does
+  pub all-parts : (n : ℕ) (s : List ℕ) → allOf p (take n s) ≡ true → allOf p (drop n s) ≡ true → allOf p s ≡ true
+  all-parts zero s h k = k
+  all-parts (suc n) [] h k = h
+  all-parts (suc n) (x ∷ s) h k = let q = all-split x (take n s) h in all-cons x s (q .0) (all-parts n s (q .1) k)
 
 -- ---- a state carried over the elements
 

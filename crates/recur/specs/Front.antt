@@ -7,9 +7,8 @@ use mathlib.Core.Bool.{Bool, true, false}
 use mathlib.Core.List.{List, [], _∷_}
 use Prim.Native.Nat.{ℕ}
 use Rattle.octets.specs.Pick.{pick}
-use Rattle.octets.specs.Scan.{allOf}
+use Rattle.octets.specs.Scan.{allOf, all-split}
 use Rattle.octets.specs.Append.{_⊕_}
-use Rattle.recur.specs.Extra.{pick-first}
 
 unfoldable pub upTo : (ℕ → Bool) → List ℕ → List ℕ
 upTo p [] = []
@@ -35,24 +34,15 @@ module _ (p q : ℕ → Bool) (apart : (x : ℕ) → q x ≡ true → p x ≡ fa
   unfolding upTo beginsBy allOf _⊕_ pick
   upTo-front [] [] h k = refl
   upTo-front [] (x ∷ d) h k = rw k
-  upTo-front (b ∷ a) d h k = go (pick-first (q b) (allOf q a) h) (λ e. upTo-front a d e k)
-    where
-      go : (q b ≡ true) × (allOf q a ≡ true) → (allOf q a ≡ true → upTo p (a ⊕ d) ≡ a) → pick (p b) [] (b ∷ upTo p (a ⊕ d)) ≡ b ∷ a
-      go e ih = rw (apart b (e .0), ih (e .1))
+  upTo-front (b ∷ a) d h k = let e = all-split q b a h in rw (apart b (e .0), upTo-front a d (e .1) k)
 
   pub fromOn-front : (a d : List ℕ) → allOf q a ≡ true → beginsBy p d ≡ true → fromOn p (a ⊕ d) ≡ d
   unfolding fromOn beginsBy allOf _⊕_ pick
   fromOn-front [] [] h k = refl
   fromOn-front [] (x ∷ d) h k = rw k
-  fromOn-front (b ∷ a) d h k = go (pick-first (q b) (allOf q a) h) (λ e. fromOn-front a d e k)
-    where
-      go : (q b ≡ true) × (allOf q a ≡ true) → (allOf q a ≡ true → fromOn p (a ⊕ d) ≡ d) → pick (p b) (b ∷ (a ⊕ d)) (fromOn p (a ⊕ d)) ≡ d
-      go e ih = rw (apart b (e .0)) (ih (e .1))
+  fromOn-front (b ∷ a) d h k = let e = all-split q b a h in rw (apart b (e .0)) (fromOn-front a d (e .1) k)
 
   pub past-front : (a d : List ℕ) (c : ℕ) → allOf q a ≡ true → p c ≡ true → past p (a ⊕ (c ∷ d)) ≡ d
   unfolding past allOf _⊕_ pick
   past-front [] d c h k = rw k
-  past-front (b ∷ a) d c h k = go (pick-first (q b) (allOf q a) h) (λ e. past-front a d c e k)
-    where
-      go : (q b ≡ true) × (allOf q a ≡ true) → (allOf q a ≡ true → past p (a ⊕ (c ∷ d)) ≡ d) → pick (p b) (a ⊕ (c ∷ d)) (past p (a ⊕ (c ∷ d))) ≡ d
-      go e ih = rw (apart b (e .0)) (ih (e .1))
+  past-front (b ∷ a) d c h k = let e = all-split q b a h in rw (apart b (e .0)) (past-front a d c (e .1) k)

@@ -7,16 +7,16 @@ use mathlib.Core.Bool.{Bool, true, false, false≢true}
 use mathlib.Core.List.{List}
 use mathlib.Core.Option.{Option, none, some}
 use Prim.Native.Nat.{ℕ}
-use Rattle.octets.specs.Pick.{pick, within}
+use Rattle.octets.specs.Pick.{pick, within, and-both, pick-second}
 use Rattle.octets.specs.Scan.{allOf}
 use Rattle.octets.specs.Class.{isCapital}
 use Rattle.octets.specs.Words.{isOneOf}
+use Rattle.octets.specs.Tables.{row-passes}
 use Rattle.octets.specs.Lists.{every}
-use Rattle.octets.specs.Reading.{andThen}
+use Rattle.octets.specs.Reading.{andThen, andThen-some}
 use Rattle.octets.specs.Computing.{octets-compute}
 use Rattle.times.specs.Spelling.{isTimeChar}
 use Rattle.model.specs.Calendar.{Format, ical, Whole, RuleItem, moment, number, word, weekday}
-use Rattle.recur.specs.Extra.{and-left, and-right, pick-second, andThen-some, row-all}
 use Rattle.recur.specs.Parts.{ItemForm, wordOf, enddate, counting, unsigned, signed, weekdaynum, Part, partTable, partOf, weekdays}
 use Rattle.recur.specs.Item.{readWord, readCounting, readUnsigned, readSigned, readEnddate, isOrdinal, isUnsigned, readForm, writeItem, isOfForm, readItem, isFor, isItem}
 use Rattle.recur.specs.NumberLaws.{isEnough, counting-read-back, unsigned-read-back, signed-read-back, counting-accepted, unsigned-accepted, signed-accepted}
@@ -62,8 +62,8 @@ form-written f weekdaynum (moment m) s h = absurd (false≢true h)
 form-written f weekdaynum (number w) s h = absurd (false≢true h)
 form-written f weekdaynum (word w) s h = absurd (false≢true h)
 form-written f weekdaynum (weekday o y) s h =
-    let q = and-right (isOrdinal o) (isOneOf y weekdays) h in
-    (weekday-read-back f o y (and-left (isOrdinal o) (isOneOf y weekdays) h) q, weekday-characters o y q)
+    let q = and-both (isOrdinal o) (isOneOf y weekdays) h .1 in
+    (weekday-read-back f o y (and-both (isOrdinal o) (isOneOf y weekdays) h .0) q, weekday-characters o y q)
 
 -- a number that is not negative
 unsigned-is : (lo hi : ℕ) (w : Whole) → (w .negative ≡ false) × (within lo hi (w .magnitude) ≡ true) → isUnsigned lo hi (number w) ≡ true
@@ -100,7 +100,7 @@ unfolding every octets-compute
 table-sound = refl
 
 part-sound : (n : List ℕ) (r : Part) → partOf n ≡ some r → isSound (r .form) ≡ true
-part-sound n r e = row-all (λ (r : Part). r .name) (λ (r : Part). isSound (r .form)) n partTable r table-sound e
+part-sound n r e = row-passes (λ (r : Part). r .name) n (λ (r : Part). isSound (r .form)) partTable r table-sound e
 
 item-written : (f : Format) (n : List ℕ) (i : RuleItem) → isItem n i ≡ true →
     (readItem f n (writeItem f i) ≡ some i) × (allOf isTimeChar (writeItem ical i) ≡ true)

@@ -1,5 +1,4 @@
 -- RECUR (RFC 5545, section 3.3.10): recurrence rules.
---     Extra        what this crate wants of lists, tests and readings in general
 --     Front        a list cut at its first byte that passes a test
 --     Parts        the parts of a rule in the schema's order, and what an item of each is
 --     Item         one item of a part, read and written
@@ -11,7 +10,6 @@
 --     RuleLaws     a rule is read back from its text, and what is read is a rule
 --     Computing    opens all definitions, for examples that compute
 --     Examples     computed examples
-pub mod Extra
 pub mod Front
 pub mod Parts
 pub mod Item

@@ -6,66 +6,39 @@ use mathlib.Core.Path.{_≡_, refl}
 use mathlib.Core.Bool.{Bool, true, false}
 use mathlib.Core.List.{List, [], _∷_}
 use mathlib.Core.Option.{some}
-use Prim.Native.Nat.{ℕ, zero, suc, _+_, _*_, _/_, _%_, _^_, _≤_, _<_}
-use native.Mathlib.Nat.{pow-succ'}
+use Prim.Native.Nat.{ℕ, _^_, _≤_, _<_}
 use native.Mathlib.Omega.{arith}
 use lib.Dec.{eqb, leb, ltb}
-use lib.ListN.{length, length-append}
-use borrow.Author.Tests.{le-leb, leb-true, lt-ltb, ltb-true, ne-eqb}
-use Rattle.octets.specs.Pick.{pick, _and_, _or_, within, and-yes, or-left, or-right}
-use Rattle.octets.specs.Scan.{allOf}
-use Rattle.octets.specs.Append.{_⊕_}
+use lib.ListN.{length}
+use borrow.Author.Tests.{le-leb, leb-true, ltb-true, ne-eqb}
+use Rattle.octets.specs.Pick.{pick, _and_, _or_, within, and-yes, or-left, or-right, and-both, pick-first, within-range}
+use Rattle.octets.specs.Scan.{allOf, all-weaker}
 use Rattle.octets.specs.Class.{isDigit}
-use Rattle.octets.specs.Decimal.{value, isNumber, digits, digits-value, digits-all, digits-number}
+use Rattle.octets.specs.Decimal.{value, isNumber, digits, digits-value, digits-all, digits-number, digits-short}
+use Rattle.octets.specs.Reading.{provided-some}
 use Rattle.model.specs.Calendar.{Whole}
-use Rattle.recur.specs.Extra.{and-left, and-right, pick-first, provided-some, all-weaker}
 use Rattle.recur.specs.Item.{whole, isNumeral, isShort, isMinus, afterSign, readCounting, readUnsigned, readSigned, writeWhole}
-
--- ---- how many digits
-
-shorter : (k n : ℕ) → n < 10 ^ suc (suc k) → n / 10 < 10 ^ suc k
-shorter k n h = let g : n < 10 * 10 ^ suc k = rw pow-succ' at h in omega arith
-
-digits-short : (f k n : ℕ) → n < 10 ^ suc k → length (digits f n) ≤ suc k
-unfolding digits _⊕_ pick
-digits-short zero k n h = omega arith
-digits-short (suc f) zero n h = rw (lt-ltb n 10 h) (omega arith)
-digits-short (suc f) (suc k) n h = go (ltb n 10) (digits-short f k (n / 10) (shorter k n h))
-  where
-    go : (t : Bool) → length (digits f (n / 10)) ≤ suc k → length (pick t ((48 + n) ∷ []) (digits f (n / 10) ⊕ (48 + n % 10) ∷ [])) ≤ suc (suc k)
-    go true ih = omega arith
-    go false ih = simp length-append (omega arith)
-
-digits-fit : (d n : ℕ) → 0 < d → n < 10 ^ d → length (digits 9 n) ≤ d
-digits-fit zero n p h = absurd (omega arith)
-digits-fit (suc k) n p h = digits-short 9 k n h
 
 -- ---- a number's digits
 
-within-low : (lo hi n : ℕ) → within lo hi n ≡ true → lo ≤ n
-within-low lo hi n h = leb-true lo n (and-left (leb lo n) (leb n hi) h)
-
-within-high : (lo hi n : ℕ) → within lo hi n ≡ true → n ≤ hi
-within-high lo hi n h = leb-true n hi (and-right (leb lo n) (leb n hi) h)
-
 numeral : (lo hi n : ℕ) → hi ≤ 2147483647 → within lo hi n ≡ true → isNumeral lo hi (digits 9 n) ≡ true
 numeral lo hi n b h =
-    let l : lo ≤ n = within-low lo hi n h in
-    let g : n ≤ hi = within-high lo hi n h in
+    let l : lo ≤ n = within-range lo hi n h .0 in
+    let g : n ≤ hi = within-range lo hi n h .1 in
     and-yes (isNumber hi (digits 9 n)) (leb lo (value 0 (digits 9 n))) (digits-number 9 n hi (omega arith) g) (rw (digits-value 9 n (omega arith)) (le-leb lo n l))
 
 numeral-within : (lo hi : ℕ) (s : List ℕ) → isNumeral lo hi s ≡ true → within lo hi (value 0 s) ≡ true
 numeral-within lo hi s h =
-    let p : isNumber hi s ≡ true = and-left (isNumber hi s) (leb lo (value 0 s)) h in
+    let p : isNumber hi s ≡ true = and-both (isNumber hi s) (leb lo (value 0 s)) h .0 in
     and-yes (leb lo (value 0 s)) (leb (value 0 s) hi)
-    (and-right (isNumber hi s) (leb lo (value 0 s)) h)
-    (and-right (allOf isDigit s) (leb (value 0 s) hi) (and-right (ltb 0 (length s)) (allOf isDigit s and leb (value 0 s) hi) p))
+    (and-both (isNumber hi s) (leb lo (value 0 s)) h .1)
+    (and-both (allOf isDigit s) (leb (value 0 s) hi) (and-both (ltb 0 (length s)) (allOf isDigit s and leb (value 0 s) hi) p .1) .1)
 
 -- ---- signs
 
 digit-sign : (b : ℕ) → isDigit b ≡ true → (eqb b 43 ≡ false) × (eqb b 45 ≡ false)
 digit-sign b h =
-    let l : 48 ≤ b = within-low 48 57 b h in
+    let l : 48 ≤ b = within-range 48 57 b h .0 in
     (ne-eqb b 43 (λ e. omega arith), ne-eqb b 45 (λ e. omega arith))
 
 no-minus : (s : List ℕ) → allOf isDigit s ≡ true → isMinus s ≡ false
@@ -100,7 +73,7 @@ pub counting-read-back : (w : Whole) → w .negative ≡ false → within 1 2147
 unfolding pick
 counting-read-back w e h =
     let n = w .magnitude in
-    let g : n ≤ 2147483647 = within-high 1 2147483647 n h in
+    let g : n ≤ 2147483647 = within-range 1 2147483647 n h .1 in
     rw (e, numeral 1 2147483647 n (omega arith) h, digits-value 9 n (omega arith))
 
 -- d digits are enough, and ten are
@@ -109,20 +82,20 @@ isEnough d hi = ltb 0 d and ltb hi (10 ^ d) and leb hi 2147483647
 
 enough-short : (d lo hi n : ℕ) → isEnough d hi ≡ true → within lo hi n ≡ true → isShort d (digits 9 n) ≡ true
 enough-short d lo hi n s h =
-    let g : n ≤ hi = within-high lo hi n h in
-    let a : 0 < d = ltb-true 0 d (and-left (ltb 0 d) (ltb hi (10 ^ d) and leb hi 2147483647) s) in
-    let b : hi < 10 ^ d = ltb-true hi (10 ^ d) (and-left (ltb hi (10 ^ d)) (leb hi 2147483647) (and-right (ltb 0 d) (ltb hi (10 ^ d) and leb hi 2147483647) s)) in
-    le-leb (length (digits 9 n)) d (digits-fit d n a (omega arith))
+    let g : n ≤ hi = within-range lo hi n h .1 in
+    let a : 0 < d = ltb-true 0 d (and-both (ltb 0 d) (ltb hi (10 ^ d) and leb hi 2147483647) s .0) in
+    let b : hi < 10 ^ d = ltb-true hi (10 ^ d) (and-both (ltb hi (10 ^ d)) (leb hi 2147483647) (and-both (ltb 0 d) (ltb hi (10 ^ d) and leb hi 2147483647) s .1) .0) in
+    le-leb (length (digits 9 n)) d (digits-short 9 d n a (omega arith))
 
 enough-most : (d hi : ℕ) → isEnough d hi ≡ true → hi ≤ 2147483647
-enough-most d hi s = leb-true hi 2147483647 (and-right (ltb hi (10 ^ d)) (leb hi 2147483647) (and-right (ltb 0 d) (ltb hi (10 ^ d) and leb hi 2147483647) s))
+enough-most d hi s = leb-true hi 2147483647 (and-both (ltb hi (10 ^ d)) (leb hi 2147483647) (and-both (ltb 0 d) (ltb hi (10 ^ d) and leb hi 2147483647) s .1) .1)
 
 module _ (d lo hi : ℕ) (enough : isEnough d hi ≡ true) (w : Whole) where
   pub unsigned-read-back : w .negative ≡ false → within lo hi (w .magnitude) ≡ true → readUnsigned d lo hi (writeWhole w) ≡ some w
   unfolding pick _and_
   unsigned-read-back e h =
       let n = w .magnitude in
-      let g : n ≤ hi = within-high lo hi n h in
+      let g : n ≤ hi = within-range lo hi n h .1 in
       let m : hi ≤ 2147483647 = enough-most d hi enough in
       rw (e, enough-short d lo hi n enough h, numeral lo hi n m h, digits-value 9 n (omega arith))
 
@@ -130,7 +103,7 @@ module _ (d lo hi : ℕ) (enough : isEnough d hi ≡ true) (w : Whole) where
   unfolding pick _and_
   signed-read-back h =
       let n = w .magnitude in
-      let g : n ≤ hi = within-high 1 hi n h in
+      let g : n ≤ hi = within-range 1 hi n h .1 in
       let m : hi ≤ 2147483647 = enough-most d hi enough in
       rw (written-minus w, written-digits w, enough-short d 1 hi n enough h, numeral 1 hi n m h, digits-value 9 n (omega arith))
 
@@ -145,13 +118,13 @@ module _ (d : ℕ) where
   pub unsigned-accepted : (lo hi : ℕ) (s : List ℕ) (w : Whole) → readUnsigned d lo hi s ≡ some w → (w .negative ≡ false) × (within lo hi (w .magnitude) ≡ true)
   unsigned-accepted lo hi s w h =
       let e = provided-some (isShort d s and isNumeral lo hi s) (whole false (value 0 s)) w h in
-      rw (← (e .1)) (refl, numeral-within lo hi s (and-right (isShort d s) (isNumeral lo hi s) (e .0)))
+      rw (← (e .1)) (refl, numeral-within lo hi s (and-both (isShort d s) (isNumeral lo hi s) (e .0) .1))
 
   pub signed-accepted : (hi : ℕ) (s : List ℕ) (w : Whole) → readSigned d hi s ≡ some w → within 1 hi (w .magnitude) ≡ true
   signed-accepted hi s w h =
       let t = afterSign s in
       let e = provided-some (isShort d t and isNumeral 1 hi t) (whole (isMinus s) (value 0 t)) w h in
-      rw (← (e .1)) (numeral-within 1 hi t (and-right (isShort d t) (isNumeral 1 hi t) (e .0)))
+      rw (← (e .1)) (numeral-within 1 hi t (and-both (isShort d t) (isNumeral 1 hi t) (e .0) .1))
 
 -- ---- characters
 

@@ -9,11 +9,11 @@ use mathlib.Core.Bool.{Bool, true, false, false≢true}
 use mathlib.Core.List.{List, [], _∷_, map}
 use mathlib.Core.Option.{Option, none, some}
 use Prim.Native.Nat.{ℕ}
-use Rattle.octets.specs.Pick.{pick, _and_, _or_}
-use Rattle.octets.specs.Words.{same, same-self, same-true, isOneOf, rowOf}
+use Rattle.octets.specs.Pick.{pick, _and_, _or_, or-neither, pick-second}
+use Rattle.octets.specs.Words.{same, same-self, same-true, isOneOf, rowOf, same-swap}
+use Rattle.octets.specs.Tables.{row-named, row-none, row-passes}
 use Rattle.octets.specs.Lists.{every, distinct}
 use Rattle.model.specs.Calendar.{RulePart}
-use Rattle.recur.specs.Extra.{or-none, pick-second, row-all, row-is}
 use Rattle.recur.specs.Rule.{nameOf, partNamed, withPart, inOrder, afterNamed, isOrdered}
 
 -- ---- parts in order
@@ -24,18 +24,12 @@ unfolding isOneOf isOrdered afterNamed pick _or_
 ordered-lacks n [] [] h o = refl
 ordered-lacks n [] (p ∷ ps) h o = absurd (false≢true o)
 ordered-lacks n (m ∷ ns) [] h o = refl
-ordered-lacks n (m ∷ ns) (p ∷ ps) h o = go (same m (p .part)) refl o (or-none (same n m) (isOneOf n ns) h) (λ l. ordered-lacks n ns l)
+ordered-lacks n (m ∷ ns) (p ∷ ps) h o = go (same m (p .part)) refl o (or-neither (same n m) (isOneOf n ns) h) (λ l. ordered-lacks n ns l)
   where
     go : (t : Bool) → same m (p .part) ≡ t → isOrdered ns (pick t ps (p ∷ ps)) ≡ true → (same n m ≡ false) × (isOneOf n ns ≡ false) →
         ((l : List RulePart) → isOneOf n ns ≡ false → isOrdered ns l ≡ true → isOneOf n (map nameOf l) ≡ false) → (same n (p .part) or isOneOf n (map nameOf ps)) ≡ false
     go true e k f ih = rw (← (same-true m (p .part) e), f .0) (ih ps (f .1) k)
     go false e k f ih = ih (p ∷ ps) (f .1) k
-
--- no part has a name that stands nowhere
-lacks-none : (n : List ℕ) (ps : List RulePart) → isOneOf n (map nameOf ps) ≡ false → partNamed n ps ≡ none
-unfolding isOneOf rowOf pick _or_
-lacks-none n [] h = refl
-lacks-none n (p ∷ ps) h = let e = or-none (same n (p .part)) (isOneOf n (map nameOf ps)) h in rw (e .0) (lacks-none n ps (e .1))
 
 pub once-ordered : (ns : List (List ℕ)) (ps : List RulePart) → distinct ns ≡ true → isOrdered ns ps ≡ true → distinct (map nameOf ps) ≡ true
 unfolding distinct isOrdered afterNamed pick
@@ -49,20 +43,13 @@ once-ordered (n ∷ ns) (p ∷ ps) h o = go (same n (p .part)) refl o (pick-seco
     go true e k f ih = rw (← (same-true n (p .part) e), ordered-lacks n ns ps (f .0) k) (ih ps (f .1) k)
     go false e k f ih = ih (p ∷ ps) (f .1) k
 
-same-turned : (s t : List ℕ) → same s t ≡ false → same t s ≡ false
-same-turned s t h = go (same t s) refl
-  where
-    go : (b : Bool) → same t s ≡ b → b ≡ false
-    go true e = absurd (false≢true (sym h ∙ rw (same-true t s e) (same-self s)))
-    go false e = refl
-
 -- a part in front is passed over where its name is none of the names
 order-skip : (ns : List (List ℕ)) (p : RulePart) (ps : List RulePart) → isOneOf (p .part) ns ≡ false → inOrder ns (p ∷ ps) ≡ inOrder ns ps
 unfolding inOrder isOneOf rowOf pick
 order-skip [] p ps h = refl
 order-skip (n ∷ ns) p ps h =
-    let e = or-none (same (p .part) n) (isOneOf (p .part) ns) h in
-    rw (same-turned (p .part) n (e .0), order-skip ns p ps (e .1))
+    let e = or-neither (same (p .part) n) (isOneOf (p .part) ns) h in
+    rw (same-swap (p .part) n (e .0), order-skip ns p ps (e .1))
 
 pub order-back : (ns : List (List ℕ)) (ps : List RulePart) → distinct ns ≡ true → isOrdered ns ps ≡ true → inOrder ns ps ≡ ps
 unfolding inOrder distinct isOrdered afterNamed withPart rowOf isOneOf pick
@@ -76,15 +63,15 @@ order-back (n ∷ ns) (p ∷ ps) h o = go (same n (p .part)) refl o (pick-second
         withPart (pick t (some p) (partNamed n ps)) (inOrder ns (p ∷ ps)) ≡ p ∷ ps
     go true e k f ih = ap (λ (l : List RulePart). p ∷ l) (order-skip ns p ps (rw (← (same-true n (p .part) e)) (f .0)) ∙ ih ps (f .1) k)
     go false e k f ih =
-        let g = or-none (same n (p .part)) (isOneOf n (map nameOf ps)) (ordered-lacks n ns (p ∷ ps) (f .0) k) in
-        rw (lacks-none n ps (g .1)) (ih (p ∷ ps) (f .1) k)
+        let g = or-neither (same n (p .part)) (isOneOf n (map nameOf ps)) (ordered-lacks n ns (p ∷ ps) (f .0) k) in
+        rw (row-none nameOf n ps (g .1)) (ih (p ∷ ps) (f .1) k)
 
 -- ---- parts put in order
 
 lacks-after : (n : List ℕ) (ps : List RulePart) → isOneOf n (map nameOf ps) ≡ false → afterNamed n ps ≡ ps
 unfolding isOneOf afterNamed pick
 lacks-after n [] h = refl
-lacks-after n (p ∷ ps) h = rw (or-none (same n (p .part)) (isOneOf n (map nameOf ps)) h .0)
+lacks-after n (p ∷ ps) h = rw (or-neither (same n (p .part)) (isOneOf n (map nameOf ps)) h .0)
 
 pub ordered-order : (ns : List (List ℕ)) (ps : List RulePart) → distinct ns ≡ true → isOrdered ns (inOrder ns ps) ≡ true
 unfolding inOrder distinct isOrdered afterNamed withPart pick
@@ -94,7 +81,7 @@ ordered-order (n ∷ ns) ps h = go (partNamed n ps) refl (pick-second (isOneOf n
     go : (o : Option RulePart) → partNamed n ps ≡ o → (isOneOf n ns ≡ false) × (distinct ns ≡ true) → (distinct ns ≡ true → isOrdered ns (inOrder ns ps) ≡ true) →
         isOrdered ns (afterNamed n (withPart o (inOrder ns ps))) ≡ true
     go none e f ih = rw (lacks-after n (inOrder ns ps) (ordered-lacks n ns (inOrder ns ps) (f .0) (ih (f .1)))) (ih (f .1))
-    go (some p) e f ih = rw (← (row-is nameOf n ps p e), same-self n) (ih (f .1))
+    go (some p) e f ih = rw (row-named nameOf n ps p e, same-self n) (ih (f .1))
 
 pub every-order : (q : RulePart → Bool) (ns : List (List ℕ)) (ps : List RulePart) → every q ps ≡ true → every q (inOrder ns ps) ≡ true
 unfolding inOrder withPart every _and_
@@ -103,11 +90,11 @@ every-order q (n ∷ ns) ps h = go (partNamed n ps) refl (every-order q ns ps h)
   where
     go : (o : Option RulePart) → partNamed n ps ≡ o → every q (inOrder ns ps) ≡ true → every q (withPart o (inOrder ns ps)) ≡ true
     go none e ih = ih
-    go (some p) e ih = rw (row-all nameOf q n ps p h e) ih
+    go (some p) e ih = rw (row-passes nameOf n q ps p h e) ih
 
 -- the other names: none is found after them that was not found before
 order-none : (n : List ℕ) (ns : List (List ℕ)) (ps : List RulePart) → distinct ns ≡ true → isOneOf n ns ≡ false → partNamed n (inOrder ns ps) ≡ none
-order-none n ns ps h o = lacks-none n (inOrder ns ps) (ordered-lacks n ns (inOrder ns ps) o (ordered-order ns ps h))
+order-none n ns ps h o = row-none nameOf n (inOrder ns ps) (ordered-lacks n ns (inOrder ns ps) o (ordered-order ns ps h))
 
 pub named-order : (n : List ℕ) (ns : List (List ℕ)) (ps : List RulePart) → distinct ns ≡ true → isOneOf n ns ≡ true → partNamed n (inOrder ns ps) ≡ partNamed n ps
 unfolding inOrder withPart distinct isOneOf rowOf pick _or_
@@ -120,6 +107,6 @@ named-order n (m ∷ ns) ps h o = go (partNamed m ps) refl (same n m) refl o (pi
     go none e false s k f ih = ih (f .1) k
     go (some p) e true s k f ih =
         let z : n ≡ m = same-true n m s in
-        let w : same n (p .part) ≡ true = rw (← (row-is nameOf m ps p e)) s in
+        let w : same n (p .part) ≡ true = rw (row-named nameOf m ps p e) s in
         rw (w, z) (sym e)
-    go (some p) e false s k f ih = rw (← (row-is nameOf m ps p e), s) (ih (f .1) k)
+    go (some p) e false s k f ih = rw (row-named nameOf m ps p e, s) (ih (f .1) k)

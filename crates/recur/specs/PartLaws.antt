@@ -6,25 +6,25 @@ use mathlib.Core.Path.{_≡_, refl, sym}
 use mathlib.Core.Bool.{Bool, true, false, false≢true}
 use mathlib.Core.List.{List, [], _∷_, map}
 use mathlib.Core.Option.{Option, none, some}
-use Prim.Native.Nat.{ℕ, _≤_}
+use Prim.Native.Nat.{ℕ}
 use native.Mathlib.Omega.{arith}
-use lib.Dec.{eqb, leb}
-use borrow.Author.Tests.{leb-true, ne-eqb}
-use Rattle.octets.specs.Pick.{pick, _and_, and-yes}
-use Rattle.octets.specs.Scan.{allOf}
+use borrow.Author.Tests.{ne-eqb}
+use Rattle.octets.specs.Pick.{pick, _and_, and-yes, and-both, within-range}
+use Rattle.octets.specs.Scan.{allOf, all-append, all-weaker}
 use Rattle.octets.specs.Append.{append-none}
 use Rattle.octets.specs.Class.{isCapital, upper}
-use Rattle.octets.specs.Words.{isEmpty, holds, noneHolds, onto, cutAt, joinedBy, eachAfter, cut-joined}
-use Rattle.octets.specs.Lists.{every}
-use Rattle.octets.specs.Reading.{andThen, consRead, readEach}
+use Rattle.octets.specs.Letters.{upper-capitals}
+use Rattle.octets.specs.Words.{isEmpty, holds, noneHolds, cutAt, joinedBy, eachAfter, cut-joined, all-without, cut-some}
+use Rattle.octets.specs.Tables.{row-named, row-passes}
+use Rattle.octets.specs.Lists.{every, all-joined, none-holds}
+use Rattle.octets.specs.Reading.{andThen, consRead, readEach, andThen-some, consRead-some, each-accepted, each-read-back}
 use Rattle.octets.specs.Computing.{octets-compute}
 use Rattle.times.specs.Spelling.{isTimeChar}
 use Rattle.model.specs.Calendar.{ical, RuleItem, RulePart}
-use Rattle.recur.specs.Extra.{and-left, and-right, and-both, andThen-some, consRead-some, all-weaker, all-both, all-lacks, row-all, row-is, each-read-back, each-accepted, none-holds, all-joined}
 use Rattle.recur.specs.Front.{upTo, past, beginsBy, upTo-front, past-front}
 use Rattle.recur.specs.Parts.{Part, partTable, partOf, isListPart}
 use Rattle.recur.specs.Item.{readItem, writeItem, isFor, isItem}
-use Rattle.recur.specs.WordLaws.{upper-capitals, capital-char}
+use Rattle.recur.specs.WordLaws.{capital-char}
 use Rattle.recur.specs.ItemLaws.{item-read-back, item-accepted, item-characters}
 use Rattle.recur.specs.Rule.{rulePart, isEquals, itemsOf, readPart, writePart, isAmount, isPart}
 
@@ -41,32 +41,32 @@ item-name n i h = go (partOf n) refl h
     go : (o : Option Part) → partOf n ≡ o → isFor o i ≡ true → allOf isCapital n ≡ true
     go none e k = absurd (false≢true k)
     go (some r) e k =
-        rw (row-is (λ (r : Part). r .name) n partTable r e) (row-all (λ (r : Part). r .name) (λ (r : Part). allOf isCapital (r .name)) n partTable r names-capital e)
+        rw (← (row-named (λ (r : Part). r .name) n partTable r e)) (row-passes (λ (r : Part). r .name) n (λ (r : Part). allOf isCapital (r .name)) partTable r names-capital e)
 
 part-name : (n : List ℕ) (is : List RuleItem) → isPart (rulePart n is) ≡ true → allOf isCapital n ≡ true
 unfolding _and_ every
 part-name n [] h = absurd (false≢true h)
 part-name n (i ∷ is) h =
-    item-name n i (and-both (isItem n i) (every (isItem n) is) (and-right (isAmount (isListPart n) (i ∷ is)) (every (isItem n) (i ∷ is)) h) .0)
+    item-name n i (and-both (isItem n i) (every (isItem n) is) (and-both (isAmount (isListPart n) (i ∷ is)) (every (isItem n) (i ∷ is)) h .1) .0)
 
 part-items : (p : RulePart) → isPart p ≡ true → every (isItem (p .part)) (p .items) ≡ true
-part-items p h = and-right (isAmount (isListPart (p .part)) (p .items)) (every (isItem (p .part)) (p .items)) h
+part-items p h = and-both (isAmount (isListPart (p .part)) (p .items)) (every (isItem (p .part)) (p .items)) h .1
 
 capital-equals : (b : ℕ) → isCapital b ≡ true → isEquals b ≡ false
-capital-equals b h = ne-eqb b 61 (λ e. let g : 65 ≤ b = leb-true 65 b (and-left (leb 65 b) (leb b 90) h) in omega arith)
+capital-equals b h = ne-eqb b 61 (λ e. let g = within-range 65 90 b h in omega arith)
 
 -- ---- the items of a part
 
 item-lacks-comma : (n : List ℕ) (i : RuleItem) → isItem n i ≡ true → holds 44 (writeItem ical i) ≡ false
 unfolding isTimeChar octets-compute
-item-lacks-comma n i h = all-lacks isTimeChar 44 refl (writeItem ical i) (item-characters n i h)
+item-lacks-comma n i h = all-without isTimeChar 44 refl (writeItem ical i) (item-characters n i h)
 
 -- the characters of items are cut where they were joined
 items-cut : (n : List ℕ) (is : List RuleItem) → isPart (rulePart n is) ≡ true → itemsOf n (joinedBy 44 (map (writeItem ical) is)) ≡ map (writeItem ical) is
 unfolding pick _and_ joinedBy eachAfter
 items-cut n [] h = absurd (false≢true h)
 items-cut n (i ∷ is) h =
-    go (isListPart n) is (and-left (isAmount (isListPart n) (i ∷ is)) (every (isItem n) (i ∷ is)) h)
+    go (isListPart n) is (and-both (isAmount (isListPart n) (i ∷ is)) (every (isItem n) (i ∷ is)) h .0)
     (none-holds (isItem n) (writeItem ical) 44 (item-lacks-comma n) (i ∷ is) (part-items (rulePart n (i ∷ is)) h))
   where
     go : (t : Bool) (l : List RuleItem) → isAmount t (i ∷ l) ≡ true → noneHolds 44 (map (writeItem ical) (i ∷ l)) ≡ true →
@@ -90,16 +90,6 @@ part-read-back p h =
     )
 
 -- there is one item at least, and one only where there is no list
-cut-some : (c : ℕ) (s : List ℕ) → isEmpty (cutAt c s) ≡ false
-unfolding cutAt pick onto
-cut-some c [] = refl
-cut-some c (b ∷ s) = go (eqb b c) (cutAt c s)
-  where
-    go : (t : Bool) (l : List (List ℕ)) → isEmpty (pick t ([] ∷ l) (onto b l)) ≡ false
-    go true l = refl
-    go false [] = refl
-    go false (p ∷ l) = refl
-
 several-amount : (reading : List ℕ → Option RuleItem) (ss : List (List ℕ)) (is : List RuleItem) → isEmpty ss ≡ false → readEach reading ss ≡ some is → isAmount true is ≡ true
 unfolding readEach pick
 several-amount reading [] is e h = absurd (false≢true (sym e))
@@ -141,5 +131,5 @@ pub part-characters : (q : ℕ → Bool) → ((s : List ℕ) → allOf isTimeCha
 unfolding allOf pick
 part-characters q k e c p h =
     let n = p .part in
-    all-both q n (61 ∷ joinedBy 44 (map (writeItem ical) (p .items))) (k n (all-weaker isCapital isTimeChar capital-char n (part-name n (p .items) h)))
+    all-append q n (61 ∷ joinedBy 44 (map (writeItem ical) (p .items))) (k n (all-weaker isCapital isTimeChar capital-char n (part-name n (p .items) h)))
     (rw e (all-joined (isItem n) (writeItem ical) q 44 c (λ i g. k (writeItem ical i) (item-characters n i g)) (p .items) (part-items p h)))

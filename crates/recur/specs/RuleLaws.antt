@@ -9,16 +9,15 @@ use mathlib.Core.Option.{some}
 use Prim.Native.Nat.{ℕ}
 use lib.Dec.{eqb}
 use Rattle.octets.specs.Ascii.{ascii}
-use Rattle.octets.specs.Pick.{pick, _and_, _or_, and-yes, or-left}
-use Rattle.octets.specs.Scan.{allOf}
+use Rattle.octets.specs.Pick.{pick, _and_, _or_, and-yes, or-left, and-both}
+use Rattle.octets.specs.Scan.{allOf, all-weaker}
 use Rattle.octets.specs.Class.{isVisible}
-use Rattle.octets.specs.Words.{holds, cutAt, rowOf, cut-joined}
-use Rattle.octets.specs.Lists.{every, distinct}
-use Rattle.octets.specs.Reading.{andThen, readEach, isRead}
+use Rattle.octets.specs.Words.{holds, cutAt, rowOf, cut-joined, all-without}
+use Rattle.octets.specs.Lists.{every, distinct, all-joined, none-holds}
+use Rattle.octets.specs.Reading.{andThen, readEach, isRead, andThen-some, each-accepted, each-read-back, provided-some}
 use Rattle.octets.specs.Computing.{octets-compute}
 use Rattle.times.specs.Spelling.{isTimeChar, chars-visible}
 use Rattle.model.specs.Calendar.{RulePart}
-use Rattle.recur.specs.Extra.{and-left, and-right, provided-some, andThen-some, all-weaker, all-lacks, each-read-back, each-accepted, none-holds, all-joined}
 use Rattle.recur.specs.Parts.{partNames}
 use Rattle.recur.specs.Rule.{readPart, writePart, isPart, nameOf, isComplete, inOrder, isOrdered, ruled, readRule, writeRule, isRule}
 use Rattle.recur.specs.OrderLaws.{once-ordered, order-back, ordered-order, every-order, named-order}
@@ -31,13 +30,13 @@ names-once = refl
 -- ---- what a rule is
 
 rule-ordered : (r : List RulePart) → isRule r ≡ true → isOrdered partNames r ≡ true
-rule-ordered r h = and-left (isOrdered partNames r) (isComplete r and every isPart r) h
+rule-ordered r h = and-both (isOrdered partNames r) (isComplete r and every isPart r) h .0
 
 rule-complete : (r : List RulePart) → isRule r ≡ true → isComplete r ≡ true
-rule-complete r h = and-left (isComplete r) (every isPart r) (and-right (isOrdered partNames r) (isComplete r and every isPart r) h)
+rule-complete r h = and-both (isComplete r) (every isPart r) (and-both (isOrdered partNames r) (isComplete r and every isPart r) h .1) .0
 
 rule-parts : (r : List RulePart) → isRule r ≡ true → every isPart r ≡ true
-rule-parts r h = and-right (isComplete r) (every isPart r) (and-right (isOrdered partNames r) (isComplete r and every isPart r) h)
+rule-parts r h = and-both (isComplete r) (every isPart r) (and-both (isOrdered partNames r) (isComplete r and every isPart r) h .1) .1
 
 -- ---- read back
 
@@ -48,7 +47,7 @@ isPartChar b = isTimeChar b or eqb b 61 or eqb b 44
 part-lacks : (p : RulePart) → isPart p ≡ true → holds 59 (writePart p) ≡ false
 unfolding isPartChar isTimeChar octets-compute
 part-lacks p h =
-    all-lacks isPartChar 59 refl (writePart p)
+    all-without isPartChar 59 refl (writePart p)
     (part-characters isPartChar (all-weaker isTimeChar isPartChar (λ b e. or-left (isTimeChar b) (eqb b 61 or eqb b 44) e)) refl refl p h)
 
 rule-cut : (r : List RulePart) → isRule r ≡ true → cutAt 59 (writeRule r) ≡ map writePart r
@@ -88,7 +87,7 @@ rule-accepted s r h =
     rw (← (f .1))
     (and-yes (isOrdered partNames q) (isComplete q and every isPart q) (ordered-order partNames ps names-once)
     (and-yes (isComplete q) (every isPart q)
-    (same-complete ps ∙ and-right (distinct (map nameOf ps)) (isComplete ps) (f .0))
+    (same-complete ps ∙ and-both (distinct (map nameOf ps)) (isComplete ps) (f .0) .1)
     (every-order isPart partNames ps (each-accepted readPart isPart part-accepted (cutAt 59 s) ps (e .1)))))
 
 -- ---- visible

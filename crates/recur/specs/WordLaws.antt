@@ -1,27 +1,26 @@
 -- Words and weekdays of rule parts are read back, and what is read is one.
 --     word-read-back, word-accepted          FREQ, WKST
 --     weekday-read-back, weekday-accepted    BYDAY
---     upper-capitals                         capitals stay as they are
 --     word-characters, number-characters, weekday-characters    they are written with digits, capitals and signs
 use mathlib.Core.Path.{_≡_, refl}
 use mathlib.Core.Bool.{Bool, true, false}
 use mathlib.Core.List.{List, [], _∷_}
 use mathlib.Core.Option.{Option, none, some}
-use Prim.Native.Nat.{ℕ, _<_, _≤_}
+use Prim.Native.Nat.{ℕ, _<_}
 use native.Mathlib.Omega.{arith}
 use lib.Dec.{eqb, leb}
-use borrow.Author.Tests.{leb-true, lt-leb, eqb-true}
-use Rattle.octets.specs.Pick.{pick, _and_, _or_, and-yes, and-no-left, or-left, or-right, or-no}
-use Rattle.octets.specs.Scan.{allOf}
+use borrow.Author.Tests.{lt-leb, eqb-true}
+use Rattle.octets.specs.Pick.{pick, _and_, _or_, and-yes, and-no-left, or-left, or-right, or-no, within-range}
+use Rattle.octets.specs.Scan.{allOf, all-append, all-weaker}
 use Rattle.octets.specs.Append.{_⊕_}
-use Rattle.octets.specs.Class.{isDigit, isCapital, isSmall, isAlpha, upper}
+use Rattle.octets.specs.Class.{isDigit, isCapital, isSmall, isAlpha}
+use Rattle.octets.specs.Letters.{upper-capitals}
 use Rattle.octets.specs.Words.{isOneOf}
-use Rattle.octets.specs.Lists.{every}
-use Rattle.octets.specs.Reading.{andThen}
+use Rattle.octets.specs.Lists.{every, word-passes}
+use Rattle.octets.specs.Reading.{andThen, andThen-some, provided-some, none-some}
 use Rattle.octets.specs.Computing.{octets-compute}
 use Rattle.times.specs.Spelling.{isTimeChar}
 use Rattle.model.specs.Calendar.{Format, ical, xcal, Whole, RuleItem, weekday}
-use Rattle.recur.specs.Extra.{and-right, pick-first, provided-some, andThen-some, all-weaker, all-both, one-of-all}
 use Rattle.recur.specs.Front.{upTo, fromOn, beginsBy, upTo-front, fromOn-front}
 use Rattle.recur.specs.Parts.{weekdays}
 use Rattle.recur.specs.Item.{inCapitals, readWord, afterSign, readSigned, writeWhole, readOrdinal, writeOrdinal, isOrdinal, readWeekday, isWeekdaynum}
@@ -29,20 +28,9 @@ use Rattle.recur.specs.NumberLaws.{isEnough, isNumberChar, signed-read-b
 
 -- ---- words
 
-capital-small : (b : ℕ) → isCapital b ≡ true → isSmall b ≡ false
-capital-small b h = and-no-left (leb 97 b) (leb b 122) (lt-leb 97 b (let g : b ≤ 90 = leb-true b 90 (and-right (leb 65 b) (leb b 90) h) in omega arith))
-
-pub upper-capitals : (s : List ℕ) → allOf isCapital s ≡ true → upper s ≡ s
-unfolding upper allOf pick
-upper-capitals [] h = refl
-upper-capitals (b ∷ s) h = go (pick-first (isCapital b) (allOf isCapital s) h) (upper-capitals s)
-  where
-    go : (isCapital b ≡ true) × (allOf isCapital s ≡ true) → (allOf isCapital s ≡ true → upper s ≡ s) → upper (b ∷ s) ≡ b ∷ s
-    go e ih = rw (capital-small b (e .0), ih (e .1))
-
 pub word-read-back : (f : Format) (ws : List (List ℕ)) (w : List ℕ) → every (allOf isCapital) ws ≡ true → isOneOf w ws ≡ true → readWord f ws w ≡ some w
 unfolding pick
-word-read-back ical ws w c h = rw (upper-capitals w (one-of-all (allOf isCapital) w ws c h), h)
+word-read-back ical ws w c h = rw (upper-capitals w (word-passes (allOf isCapital) ws w c h), h)
 word-read-back xcal ws w c h = rw h
 
 pub word-accepted : (f : Format) (ws : List (List ℕ)) (s w : List ℕ) → readWord f ws s ≡ some w → isOneOf w ws ≡ true
@@ -58,7 +46,7 @@ number-alpha b h = go (isDigit b) refl h
     below l = or-no (isCapital b) (isSmall b) (and-no-left (leb 65 b) (leb b 90) (lt-leb 65 b l)) (and-no-left (leb 97 b) (leb b 122) (lt-leb 97 b (omega arith)))
 
     go : (t : Bool) → isDigit b ≡ t → (t or eqb b 45) ≡ true → isAlpha b ≡ false
-    go true e k = below (let g : b ≤ 57 = leb-true b 57 (and-right (leb 48 b) (leb b 57) e) in omega arith)
+    go true e k = below (let g = within-range 48 57 b e in omega arith)
     go false e k = below (let g : b ≡ 45 = eqb-true b 45 k in omega arith)
 
 weekdays-begin : every (beginsBy isAlpha) weekdays ≡ true
@@ -76,7 +64,7 @@ ordinal-characters (some w) = whole-characters w
 
 some-ordinal : (s : List ℕ) (w : Whole) → readSigned 2 53 s ≡ some w → readOrdinal s ≡ some (some w)
 unfolding octets-compute afterSign
-some-ordinal [] w h = let z : _≡_ {A = ℕ} 0 1 = cc in absurd (omega arith)
+some-ordinal [] w h = none-some h
 some-ordinal (b ∷ s) w h = rw h
 
 ordinal-read-back : (o : Option Whole) → isOrdinal o ≡ true → readOrdinal (writeOrdinal o) ≡ some o
@@ -98,7 +86,7 @@ pub weekday-read-back : (f : Format) (o : Option Whole) (d : List ℕ) → isOrd
 unfolding andThen
 weekday-read-back f o d p q =
     let c = ordinal-characters o in
-    let b = one-of-all (beginsBy isAlpha) d weekdays weekdays-begin q in
+    let b = word-passes (beginsBy isAlpha) weekdays d weekdays-begin q in
     rw (
       upTo-front isAlpha isNumberChar number-alpha (writeOrdinal o) d c b,
       fromOn-front isAlpha isNumberChar number-alpha (writeOrdinal o) d c b,
@@ -128,11 +116,11 @@ number-char b h = go (isDigit b) h
     go false k = or-right (isCapital b) (eqb b 43 or eqb b 45) (or-right (eqb b 43) (eqb b 45) k)
 
 pub word-characters : (ws : List (List ℕ)) (w : List ℕ) → every (allOf isCapital) ws ≡ true → isOneOf w ws ≡ true → allOf isTimeChar w ≡ true
-word-characters ws w c h = all-weaker isCapital isTimeChar capital-char w (one-of-all (allOf isCapital) w ws c h)
+word-characters ws w c h = all-weaker isCapital isTimeChar capital-char w (word-passes (allOf isCapital) ws w c h)
 
 pub number-characters : (w : Whole) → allOf isTimeChar (writeWhole w) ≡ true
 number-characters w = all-weaker isNumberChar isTimeChar number-char (writeWhole w) (whole-characters w)
 
 pub weekday-characters : (o : Option Whole) (d : List ℕ) → isOneOf d weekdays ≡ true → allOf isTimeChar (writeOrdinal o ⊕ d) ≡ true
 weekday-characters o d q =
-    all-both isTimeChar (writeOrdinal o) d (all-weaker isNumberChar isTimeChar number-char (writeOrdinal o) (ordinal-characters o)) (word-characters weekdays d weekdays-capital q)
+    all-append isTimeChar (writeOrdinal o) d (all-weaker isNumberChar isTimeChar number-char (writeOrdinal o) (ordinal-characters o)) (word-characters weekdays d weekdays-capital q)

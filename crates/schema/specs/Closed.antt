@@ -3,22 +3,24 @@
 --     parameter-words-plain, property-words-plain   the words of closed sets are such
 --     parameter-words-text, property-words-text     what has a closed set takes one TEXT
 use mathlib.Core.Path.{_≡_, refl}
-use mathlib.Core.Bool.{Bool, true, false, not, false≢true}
+use mathlib.Core.Bool.{Bool, true, false, not}
 use mathlib.Core.List.{List, [], _∷_, map}
 use mathlib.Core.Option.{Option, none, some}
 use Prim.Native.Nat.{ℕ}
 use native.Mathlib.Omega.{arith}
 use lib.Dec.{eqb, ltb}
 use lib.ListN.{length}
+use borrow.Author.Tests.{not-true}
 use Rattle.octets.specs.Ascii.{ascii}
-use Rattle.octets.specs.Pick.{pick, _and_, _or_, pick-either}
+use Rattle.octets.specs.Pick.{pick, _and_, _or_, pick-either, and-both}
 use Rattle.octets.specs.Scan.{allOf}
 use Rattle.octets.specs.Class.{isNameChar, upper}
-use Rattle.octets.specs.Reading.{andThen, isRead}
-use Rattle.octets.specs.Words.{same, isEmpty, isOneOf, rowOf}
+use Rattle.octets.specs.Words.{same, isEmpty, isOneOf, rowOf, empty-is}
+use Rattle.octets.specs.Tables.{row-any-passes, row-none, row-passes}
+use Rattle.octets.specs.Lists.{every, word-passes}
+use Rattle.octets.specs.Reading.{andThen, isRead, none-some}
 use Rattle.octets.specs.Computing.{octets-compute}
-use Rattle.model.specs.Calendar.{ValueType, TEXT}
-use Rattle.schema.specs.Extra.{every, and-left, and-right, row-passes, row-none, any-passes, word-passes}
+use Rattle.model.specs.Calendar.{TEXT}
 use Rattle.schema.specs.Types.{sameType, same-type-true}
 use Rattle.schema.specs.Parameters.{isListedParameter, parameterTable, parameterRow, unrecognisedParameter, parameterType, parameterWords}
 use Rattle.schema.specs.Properties.{isListedProperty, propertyRow, defaultType, permittedTypes, propertyWords, wordsTable, statusTable, WordsRow}
@@ -39,12 +41,12 @@ everyPlain (some ws) = every isPlain ws
 
 plain-of : (o : Option (List (List ℕ))) (ws : List (List ℕ)) (w : List ℕ) → everyPlain o ≡ true → o ≡ some ws → isOneOf w ws ≡ true → isPlain w ≡ true
 unfolding everyPlain
-plain-of none ws w a e h = let z : _≡_ {A = ℕ} 0 1 = cc in absurd (omega arith)
+plain-of none ws w a e h = none-some e
 plain-of (some vs) ws w a e h = let q : vs ≡ ws = cc in word-passes isPlain ws w (rw q at a) h
 
 parameters-plain : (q : List ℕ) → everyPlain (parameterWords q) ≡ true
-unfolding octets-compute parameterRow every everyPlain
-parameters-plain q = any-passes (λ r. r .name) q (λ r. everyPlain (r .words)) unrecognisedParameter parameterTable refl refl
+unfolding octets-compute parameterRow everyPlain
+parameters-plain q = row-any-passes (λ r. r .name) q (λ r. everyPlain (r .words)) unrecognisedParameter parameterTable refl refl
 
 words-plain : (w : List ℕ) (rs : List WordsRow) → every (λ r. every isPlain (r .words)) rs ≡ true →
     everyPlain (andThen (rowOf (λ r. r .name) w rs) (λ r. some (r .words))) ≡ true
@@ -56,11 +58,11 @@ words-plain w rs a = go (rowOf (λ r. r .name) w rs) refl
     go (some r) e = row-passes (λ r. r .name) w (λ r. every isPlain (r .words)) rs r a e
 
 sets-plain : every (λ r. every isPlain (r .words)) wordsTable ≡ true
-unfolding octets-compute every
+unfolding octets-compute
 sets-plain = refl
 
 status-plain : every (λ r. every isPlain (r .words)) statusTable ≡ true
-unfolding octets-compute every
+unfolding octets-compute
 status-plain = refl
 
 properties-plain : (c p : List ℕ) → everyPlain (propertyWords c p) ≡ true
@@ -75,17 +77,13 @@ property-words-plain c p ws w e h = plain-of (propertyWords c p) ws w (propertie
 
 -- ---- their types
 
-is-not : (b : Bool) → not b ≡ true → b ≡ false
-is-not true h = absurd (false≢true h)
-is-not false h = refl
-
 row-text : (q : List ℕ) → pick (isRead (parameterWords q)) (sameType (parameterType q) TEXT and not (isListedParameter q)) true ≡ true
-unfolding octets-compute parameterRow sameType every
-row-text q = any-passes (λ r. r .name) q (λ r. pick (isRead (r .words)) (sameType (r .type) TEXT and not (r .listed)) true) unrecognisedParameter parameterTable refl refl
+unfolding octets-compute parameterRow sameType
+row-text q = row-any-passes (λ r. r .name) q (λ r. pick (isRead (r .words)) (sameType (r .type) TEXT and not (r .listed)) true) unrecognisedParameter parameterTable refl refl
 
 pub parameter-words-text : (q : List ℕ) (ws : List (List ℕ)) → parameterWords q ≡ some ws → (parameterType q ≡ TEXT) × (isListedParameter q ≡ false)
 unfolding isRead pick
-parameter-words-text q ws e = (same-type-true _ _ (and-left _ _ both), is-not _ (and-right _ _ both))
+parameter-words-text q ws e = (same-type-true _ _ (and-both _ _ both .0), not-true _ (and-both _ _ both .1))
   where
     both : (sameType (parameterType q) TEXT and not (isListedParameter q)) ≡ true
     both = rw e at (row-text q)
@@ -95,7 +93,7 @@ isOneText : List ℕ → Bool
 isOneText p = sameType (defaultType p) TEXT and isEmpty (propertyRow p .others) and not (isListedProperty p)
 
 closed-texts : every isOneText (ascii "STATUS" ∷ map (λ r. r .name) wordsTable) ≡ true
-unfolding octets-compute isOneText propertyRow sameType every
+unfolding octets-compute isOneText propertyRow sameType
 closed-texts = refl
 
 -- a property with a closed set is STATUS or a row of the table
@@ -106,6 +104,7 @@ closed-named c p ws e = go (same p (ascii "STATUS")) e
     rows : (b : Bool) → isOneOf p (map (λ r. r .name) wordsTable) ≡ b → andThen (rowOf (λ r. r .name) p wordsTable) (λ r. some (r .words)) ≡ some ws → b ≡ true
     rows true h k = refl
     rows false h k = let z : _≡_ {A = ℕ} 0 1 = cc (row-none (λ r. r .name) p wordsTable h) in absurd (omega arith)
+
     go : (b : Bool) → pick b (andThen (rowOf (λ r. r .name) c statusTable) (λ r. some (r .words))) (andThen (rowOf (λ r. r .name) p wordsTable) (λ r. some (r .words))) ≡ some ws →
         (b or isOneOf p (map (λ r. r .name) wordsTable)) ≡ true
     go true k = refl
@@ -114,12 +113,9 @@ closed-named c p ws e = go (same p (ascii "STATUS")) e
 pub property-words-text : (c p : List ℕ) (ws : List (List ℕ)) → propertyWords c p ≡ some ws → (permittedTypes p ≡ TEXT ∷ []) × (isListedProperty p ≡ false)
 unfolding isOneText
 property-words-text c p ws e =
-    let d : defaultType p ≡ TEXT = same-type-true _ _ (and-left _ _ passed) in
-    let o : propertyRow p .others ≡ [] = emptied (propertyRow p .others) (and-left _ _ (and-right _ _ passed)) in
-    (cc, is-not _ (and-right _ _ (and-right _ _ passed)))
+    let d : defaultType p ≡ TEXT = same-type-true _ _ (and-both _ _ passed .0) in
+    let o : propertyRow p .others ≡ [] = empty-is (propertyRow p .others) (and-both _ _ (and-both _ _ passed .1) .0) in
+    (cc, not-true _ (and-both _ _ (and-both _ _ passed .1) .1))
   where
     passed : isOneText p ≡ true
     passed = word-passes isOneText _ p closed-texts (closed-named c p ws e)
-    emptied : (l : List ValueType) → isEmpty l ≡ true → l ≡ []
-    emptied [] h = refl
-    emptied (x ∷ l) h = absurd (false≢true h)

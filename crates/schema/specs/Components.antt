@@ -12,10 +12,10 @@ use mathlib.Core.List.{List, [], _∷_, map}
 use mathlib.Core.Option.{Option, none, some}
 use Prim.Native.Nat.{ℕ}
 use Rattle.octets.specs.Ascii.{ascii}
-use Rattle.octets.specs.Append.{_⊕_}
 use Rattle.octets.specs.Pick.{pick}
-use Rattle.octets.specs.Reading.{andThen, readOr}
+use Rattle.octets.specs.Append.{_⊕_}
 use Rattle.octets.specs.Words.{same, isOneOf, rowOf}
+use Rattle.octets.specs.Reading.{andThen, readOr}
 
 pub record Occurrence : Type 0 where
   pub property : List ℕ
@@ -53,31 +53,31 @@ eventprop =
     one (ascii "DTSTAMP") ∷
     one (ascii "DTSTART") ∷
     one (ascii "UID") ∷
-    optional (ascii "CLASS") ∷                 -- line 430
+    optional (ascii "CLASS") ∷  -- line 430
     optional (ascii "CREATED") ∷
     optional (ascii "DESCRIPTION") ∷
     optional (ascii "GEO") ∷
-    optional (ascii "LAST-MODIFIED") ∷         -- property-last-mod
+    optional (ascii "LAST-MODIFIED") ∷  -- property-last-mod
     optional (ascii "LOCATION") ∷
     optional (ascii "ORGANIZER") ∷
     optional (ascii "PRIORITY") ∷
-    optional (ascii "SEQUENCE") ∷              -- property-seq
-    optional (ascii "STATUS") ∷                -- property-status-event
+    optional (ascii "SEQUENCE") ∷  -- property-seq
+    optional (ascii "STATUS") ∷  -- property-status-event
     optional (ascii "SUMMARY") ∷
     optional (ascii "TRANSP") ∷
     optional (ascii "URL") ∷
-    optional (ascii "RECURRENCE-ID") ∷         -- property-recurid
-    optional (ascii "RRULE") ∷                 -- line 445
-    optional (ascii "DTEND") ∷                 -- line 447: (property-dtend | property-duration)?
+    optional (ascii "RECURRENCE-ID") ∷  -- property-recurid
+    optional (ascii "RRULE") ∷  -- line 445
+    optional (ascii "DTEND") ∷  -- line 447: (property-dtend | property-duration)?
     optional (ascii "DURATION") ∷
-    any (ascii "ATTACH") ∷                     -- line 449
+    any (ascii "ATTACH") ∷  -- line 449
     any (ascii "ATTENDEE") ∷
     any (ascii "CATEGORIES") ∷
     any (ascii "COMMENT") ∷
     any (ascii "CONTACT") ∷
     any (ascii "EXDATE") ∷
-    any (ascii "REQUEST-STATUS") ∷             -- property-rstatus
-    any (ascii "RELATED-TO") ∷                 -- property-related
+    any (ascii "REQUEST-STATUS") ∷  -- property-rstatus
+    any (ascii "RELATED-TO") ∷  -- property-related
     any (ascii "RESOURCES") ∷
     any (ascii "RDATE") ∷
     []
@@ -87,7 +87,7 @@ abbrev pub todoprop : List Occurrence
 todoprop =
     one (ascii "DTSTAMP") ∷
     one (ascii "UID") ∷
-    optional (ascii "CLASS") ∷                 -- line 474
+    optional (ascii "CLASS") ∷  -- line 474
     optional (ascii "COMPLETED") ∷
     optional (ascii "CREATED") ∷
     optional (ascii "DESCRIPTION") ∷
@@ -95,18 +95,18 @@ todoprop =
     optional (ascii "LAST-MODIFIED") ∷
     optional (ascii "LOCATION") ∷
     optional (ascii "ORGANIZER") ∷
-    optional (ascii "PERCENT-COMPLETE") ∷      -- property-percent
+    optional (ascii "PERCENT-COMPLETE") ∷  -- property-percent
     optional (ascii "PRIORITY") ∷
     optional (ascii "RECURRENCE-ID") ∷
     optional (ascii "SEQUENCE") ∷
-    optional (ascii "STATUS") ∷                -- property-status-todo
+    optional (ascii "STATUS") ∷  -- property-status-todo
     optional (ascii "SUMMARY") ∷
     optional (ascii "URL") ∷
-    optional (ascii "RRULE") ∷                 -- line 490
-    optional (ascii "DTSTART") ∷               -- line 492: ((property-dtstart?, property-dtend?) | (property-dtstart, property-duration)?)
+    optional (ascii "RRULE") ∷  -- line 490
+    optional (ascii "DTSTART") ∷  -- line 492: ((property-dtstart?, property-dtend?) | (property-dtstart, property-duration)?)
     optional (ascii "DTEND") ∷
     optional (ascii "DURATION") ∷
-    any (ascii "ATTACH") ∷                     -- line 497
+    any (ascii "ATTACH") ∷  -- line 497
     any (ascii "ATTENDEE") ∷
     any (ascii "CATEGORIES") ∷
     any (ascii "COMMENT") ∷
@@ -123,23 +123,23 @@ abbrev pub jourprop : List Occurrence
 jourprop =
     one (ascii "DTSTAMP") ∷
     one (ascii "UID") ∷
-    optional (ascii "CLASS") ∷                 -- line 519
+    optional (ascii "CLASS") ∷  -- line 519
     optional (ascii "CREATED") ∷
     optional (ascii "DTSTART") ∷
     optional (ascii "LAST-MODIFIED") ∷
     optional (ascii "ORGANIZER") ∷
     optional (ascii "RECURRENCE-ID") ∷
     optional (ascii "SEQUENCE") ∷
-    optional (ascii "STATUS") ∷                -- property-status-jour
+    optional (ascii "STATUS") ∷  -- property-status-jour
     optional (ascii "SUMMARY") ∷
     optional (ascii "URL") ∷
-    optional (ascii "RRULE") ∷                 -- line 530
-    any (ascii "ATTACH") ∷                     -- line 532
+    optional (ascii "RRULE") ∷  -- line 530
+    any (ascii "ATTACH") ∷  -- line 532
     any (ascii "ATTENDEE") ∷
     any (ascii "CATEGORIES") ∷
     any (ascii "COMMENT") ∷
     any (ascii "CONTACT") ∷
-    optional (ascii "DESCRIPTION") ∷           -- line 537
+    optional (ascii "DESCRIPTION") ∷  -- line 537
     any (ascii "EXDATE") ∷
     any (ascii "RELATED-TO") ∷
     any (ascii "RDATE") ∷
@@ -151,13 +151,13 @@ abbrev pub fbprop : List Occurrence
 fbprop =
     one (ascii "DTSTAMP") ∷
     one (ascii "UID") ∷
-    optional (ascii "CONTACT") ∷               -- line 554
+    optional (ascii "CONTACT") ∷  -- line 554
     optional (ascii "DTSTART") ∷
     optional (ascii "DTEND") ∷
     optional (ascii "DURATION") ∷
     optional (ascii "ORGANIZER") ∷
     optional (ascii "URL") ∷
-    any (ascii "ATTENDEE") ∷                   -- line 561
+    any (ascii "ATTENDEE") ∷  -- line 561
     any (ascii "COMMENT") ∷
     any (ascii "FREEBUSY") ∷
     any (ascii "REQUEST-STATUS") ∷
@@ -167,7 +167,7 @@ fbprop =
 abbrev pub timezoneprop : List Occurrence
 timezoneprop =
     one (ascii "TZID") ∷
-    optional (ascii "LAST-MODIFIED") ∷         -- line 573
+    optional (ascii "LAST-MODIFIED") ∷  -- line 573
     optional (ascii "TZURL") ∷
     []
 
@@ -177,8 +177,8 @@ tzprop =
     one (ascii "DTSTART") ∷
     one (ascii "TZOFFSETTO") ∷
     one (ascii "TZOFFSETFROM") ∷
-    optional (ascii "RRULE") ∷                 -- line 596
-    any (ascii "COMMENT") ∷                    -- line 598
+    optional (ascii "RRULE") ∷  -- line 596
+    any (ascii "COMMENT") ∷  -- line 598
     any (ascii "RDATE") ∷
     any (ascii "TZNAME") ∷
     []
@@ -187,10 +187,10 @@ tzprop =
 abbrev pub audioprop : List Occurrence
 audioprop =
     one (ascii "ACTION") ∷
-    one (ascii "TRIGGER") ∷                    -- line 612
-    optional (ascii "DURATION") ∷              -- line 614: (property-duration, property-repeat)?
+    one (ascii "TRIGGER") ∷  -- line 612
+    optional (ascii "DURATION") ∷  -- line 614: (property-duration, property-repeat)?
     optional (ascii "REPEAT") ∷
-    optional (ascii "ATTACH") ∷                -- line 616
+    optional (ascii "ATTACH") ∷  -- line 616
     []
 
 -- type-emailprop, line 619
@@ -200,10 +200,10 @@ emailprop =
     one (ascii "DESCRIPTION") ∷
     one (ascii "TRIGGER") ∷
     one (ascii "SUMMARY") ∷
-    some⁺ (ascii "ATTENDEE") ∷                 -- line 625
-    optional (ascii "DURATION") ∷              -- line 627: (property-duration, property-repeat)?
+    some⁺ (ascii "ATTENDEE") ∷  -- line 625
+    optional (ascii "DURATION") ∷  -- line 627: (property-duration, property-repeat)?
     optional (ascii "REPEAT") ∷
-    any (ascii "ATTACH") ∷                     -- line 629
+    any (ascii "ATTACH") ∷  -- line 629
     []
 
 -- type-dispprop, line 632
@@ -212,7 +212,7 @@ dispprop =
     one (ascii "ACTION") ∷
     one (ascii "DESCRIPTION") ∷
     one (ascii "TRIGGER") ∷
-    optional (ascii "DURATION") ∷              -- line 637: (property-duration, property-repeat)?
+    optional (ascii "DURATION") ∷  -- line 637: (property-duration, property-repeat)?
     optional (ascii "REPEAT") ∷
     []
 
@@ -238,14 +238,14 @@ abbrev pub componentTable : List ComponentRow
 componentTable =
     -- line 394, with type-component, line 406
     record { name = ascii "VCALENDAR"; subcomponents = ascii "VEVENT" ∷ ascii "VTODO" ∷ ascii "VJOURNAL" ∷ ascii "VFREEBUSY" ∷ ascii "VTIMEZONE" ∷ []; occurrences = calprops } ∷
-    record { name = ascii "VEVENT"; subcomponents = ascii "VALARM" ∷ []; occurrences = eventprop } ∷                           -- line 418
-    record { name = ascii "VTODO"; subcomponents = ascii "VALARM" ∷ []; occurrences = todoprop } ∷                             -- line 463
-    record { name = ascii "VJOURNAL"; subcomponents = []; occurrences = jourprop } ∷                                           -- line 511
-    record { name = ascii "VFREEBUSY"; subcomponents = []; occurrences = fbprop } ∷                                            -- line 546
-    record { name = ascii "VTIMEZONE"; subcomponents = ascii "STANDARD" ∷ ascii "DAYLIGHT" ∷ []; occurrences = timezoneprop } ∷ -- line 569
-    record { name = ascii "STANDARD"; subcomponents = []; occurrences = tzprop } ∷                                             -- line 583
-    record { name = ascii "DAYLIGHT"; subcomponents = []; occurrences = tzprop } ∷                                             -- line 587
-    record { name = ascii "VALARM"; subcomponents = []; occurrences = [] } ∷                                                   -- line 605: see alarmTable
+    record { name = ascii "VEVENT"; subcomponents = ascii "VALARM" ∷ []; occurrences = eventprop } ∷  -- line 418
+    record { name = ascii "VTODO"; subcomponents = ascii "VALARM" ∷ []; occurrences = todoprop } ∷  -- line 463
+    record { name = ascii "VJOURNAL"; subcomponents = []; occurrences = jourprop } ∷  -- line 511
+    record { name = ascii "VFREEBUSY"; subcomponents = []; occurrences = fbprop } ∷  -- line 546
+    record { name = ascii "VTIMEZONE"; subcomponents = ascii "STANDARD" ∷ ascii "DAYLIGHT" ∷ []; occurrences = timezoneprop } ∷  -- line 569
+    record { name = ascii "STANDARD"; subcomponents = []; occurrences = tzprop } ∷  -- line 583
+    record { name = ascii "DAYLIGHT"; subcomponents = []; occurrences = tzprop } ∷  -- line 587
+    record { name = ascii "VALARM"; subcomponents = []; occurrences = [] } ∷  -- line 605: see alarmTable
     []
 
 abbrev pub componentNames : List (List ℕ)

@@ -1,7 +1,6 @@
 -- One name that opens every shut definition of this crate, and octets', for examples that compute: `unfolding schema-compute`.
 use Prim.Native.Nat.{ℕ}
 use Rattle.octets.specs.Computing.{octets-compute}
-use Rattle.schema.specs.Extra.{every}
 use Rattle.schema.specs.Types.{typeNamed, sameType, isTypeOf}
 use Rattle.schema.specs.Parameters.{parameterRow, isKnownParameter}
 use Rattle.schema.specs.Components.{componentRow, alarmOccurrences, mayStand}
@@ -9,5 +8,5 @@ use Rattle.schema.specs.Properties.{propertyRow, isKnownProperty, permit
 use Rattle.schema.specs.Counts.{tally, eachOften, actionOf, complete}
 
 unfoldable pub schema-compute : ℕ
-unfolding octets-compute every typeNamed sameType isTypeOf parameterRow isKnownParameter componentRow alarmOccurrences mayStand propertyRow isKnownProperty permitsParameter propertyWords tally eachOften actionOf complete
+unfolding octets-compute typeNamed sameType isTypeOf parameterRow isKnownParameter componentRow alarmOccurrences mayStand propertyRow isKnownProperty permitsParameter propertyWords tally eachOften actionOf complete
 schema-compute = 0

@@ -12,8 +12,8 @@ use Prim.Native.Nat.{ℕ, suc}
 use lib.Dec.{eqb, leb}
 use Rattle.octets.specs.Ascii.{ascii}
 use Rattle.octets.specs.Pick.{pick, _and_, _or_}
-use Rattle.octets.specs.Reading.{andThen, readOr}
 use Rattle.octets.specs.Words.{same, rowOf}
+use Rattle.octets.specs.Reading.{andThen, readOr}
 use Rattle.model.specs.Calendar.{Value, binary, boolean, calAddress, date, dateTime, duration, float, integer, periodExplicit, periodStart, recur, text, time, uri, utcOffset, unknown, geo, requestStatus, Property}
 use Rattle.schema.specs.Components.{Occurrence, occurrencesOf, alarmOccurrences, isAlarm}
 use Rattle.schema.specs.Properties.{propertyNames}
@@ -62,10 +62,10 @@ alarmPair ps = eqb (tally (ascii "DURATION") ps) (tally (ascii "REPEAT") ps)
 abbrev pub pairsOf : List ℕ → List Property → Bool → Bool
 pairsOf c ps sub =
     pick (same c (ascii "VEVENT")) (eventPair ps)
-        (pick (same c (ascii "VTODO")) (todoPair ps)
-            (pick (same c (ascii "VTIMEZONE")) sub
-                (pick (isAlarm c) (alarmPair ps)
-                    true)))
+    (pick (same c (ascii "VTODO")) (todoPair ps)
+    (pick (same c (ascii "VTIMEZONE")) sub
+    (pick (isAlarm c) (alarmPair ps)
+    true)))
 
 -- ---- the list that decides
 

@@ -4,12 +4,12 @@ use mathlib.Core.Bool.{Bool, true, false, not}
 use mathlib.Core.List.{List, [], _∷_, map}
 use mathlib.Core.Option.{none, some}
 use Prim.Native.Nat.{ℕ}
-use lib.Dec.{eqb}
 use lib.ListN.{length}
 use Rattle.octets.specs.Ascii.{ascii}
-use Rattle.octets.specs.Pick.{pick, _and_}
+use Rattle.octets.specs.Pick.{pick}
 use Rattle.octets.specs.Append.{joined}
-use Rattle.octets.specs.Words.{isOneOf, count}
+use Rattle.octets.specs.Words.{isOneOf}
+use Rattle.octets.specs.Lists.{distinct, every}
 use Rattle.model.specs.Calendar.{BOOLEAN, CAL-ADDRESS, DATE, DATE-TIME, DURATION, FLOAT, PERIOD, TEXT, URI, UTC-OFFSET, UNKNOWN, text, Property}
 use Rattle.schema.specs.Types.{typeName, valueTypes, typeNamed}
 use Rattle.schema.specs.Parameters.{parameterNames, parameterType, isListedParameter, isQuotedParameter, parameterWords}
@@ -20,12 +20,6 @@ use Rattle.schema.specs.Computing.{schema-compute}
 
 -- ---- the tables agree
 
--- each word of a list is in another
-allIn : List (List ℕ) → List (List ℕ) → Bool
-unfolding schema-compute
-allIn [] ws = true
-allIn (v ∷ vs) ws = isOneOf v ws and allIn vs ws
-
 -- the words of a list that a test passes, and the others
 passing : (List ℕ → Bool) → List (List ℕ) → List (List ℕ)
 unfolding schema-compute
@@ -35,26 +29,20 @@ passing f (w ∷ ws) = pick (f w) (w ∷ passing f ws) (passing f ws)
 failing : (List ℕ → Bool) → List (List ℕ) → List (List ℕ)
 failing f ws = passing (λ w. not (f w)) ws
 
--- no word stands twice
-distinct : List (List ℕ) → Bool
-unfolding schema-compute
-distinct [] = true
-distinct (w ∷ ws) = eqb (count w ws) 0 and distinct ws
-
 sizes : map length (componentNames ∷ propertyNames ∷ parameterNames ∷ map typeName valueTypes ∷ []) ≡ 9 ∷ 46 ∷ 19 ∷ 14 ∷ []
 sizes = refl
 
 names-distinct : map distinct (componentNames ∷ propertyNames ∷ parameterNames ∷ map typeName (UNKNOWN ∷ valueTypes) ∷ []) ≡ true ∷ true ∷ true ∷ true ∷ []
-unfolding schema-compute distinct
+unfolding schema-compute
 names-distinct = refl
 
 -- no list has a property twice; what a VALARM may have is three lists
 lists-distinct : failing (λ c. distinct (standingIn c)) componentNames ≡ ascii "VALARM" ∷ []
-unfolding schema-compute distinct passing failing
+unfolding schema-compute passing failing
 lists-distinct = refl
 
 alarm-lists-distinct : map (λ r. distinct (map (λ o. o .property) (r .occurrences))) alarmTable ≡ true ∷ true ∷ true ∷ []
-unfolding schema-compute distinct
+unfolding schema-compute
 alarm-lists-distinct = refl
 
 -- ACTION's words are those that name a list
@@ -80,8 +68,8 @@ parameters-used : failing (λ q. isOneOf q (joined (map (λ r. r .parameters) pr
 unfolding schema-compute passing failing
 parameters-used = refl
 
-subcomponents-known : allIn (joined (map subcomponentsOf componentNames)) componentNames ≡ true
-unfolding schema-compute allIn
+subcomponents-known : every (λ k. isOneOf k componentNames) (joined (map subcomponentsOf componentNames)) ≡ true
+unfolding schema-compute
 subcomponents-known = refl
 
 -- ---- what they answer

@@ -1,7 +1,6 @@
 -- The schema as tables: what may stand where, how often, with which parameters and types.
 -- "The schema" is the RELAX NG schema of RFC 6321, errata 3042, 3050 and 3314 applied; lines are counted from its heading, `# RELAX NG Schema for iCalendar in XML`.
 -- `tools/check-schema.py` compares the tables with it.
---     Extra       laws of tables
 --     Types       the value types by name
 --     Parameters  parameters: type, whether listed, whether quoted, closed sets
 --     Components  components: subcomponents, and how often each property stands
@@ -10,9 +9,12 @@
 --     Closed      laws of closed sets
 --     Counts      the tallies of a component compared with its list (refusal 9)
 --     Tallies     laws of counting
+--     Numbers     names by their numbers, and the rows of numbers
+--     Cells       tables that a definition fills
+--     Columns     what the tables say, by numbers
+--     Sets        closed sets, by numbers
 --     Computing   opens all of these, for examples that compute
 --     Examples    the tables computed
-pub mod Extra
 pub mod Types
 pub mod Parameters
 pub mod Components
@@ -21,5 +23,9 @@ pub mod Rows
 pub mod Closed
 pub mod Counts
 pub mod Tallies
+pub mod Numbers
+pub mod Cells
+pub mod Columns
+pub mod Sets
 pub mod Computing
 pub mod Examples

@@ -12,8 +12,8 @@ use mathlib.Core.Option.{Option, some}
 use Prim.Native.Nat.{ℕ}
 use Rattle.octets.specs.Ascii.{ascii}
 use Rattle.octets.specs.Pick.{pick, _and_}
-use Rattle.octets.specs.Reading.{andThen, readOr}
 use Rattle.octets.specs.Words.{same, isOneOf, rowOf}
+use Rattle.octets.specs.Reading.{andThen, readOr}
 use Rattle.model.specs.Calendar.{ValueType, BINARY, CAL-ADDRESS, DATE, DATE-TIME, DURATION, FLOAT, INTEGER, PERIOD, RECUR, TEXT, URI, UTC-OFFSET, UNKNOWN}
 use Rattle.schema.specs.Types.{valueTypes, sameType}
 use Rattle.schema.specs.Parameters.{isKnownParameter}
@@ -57,60 +57,60 @@ organizerParameters = ascii "CN" ∷ ascii "DIR" ∷ ascii "SENT-BY" ∷ ascii "
 abbrev pub propertyTable : List PropertyRow
 propertyTable =
     -- 3.7 Calendar Properties
-    takesOne (ascii "CALSCALE") TEXT [] [] ∷                                                     -- 3.7.1, line 644
-    takesOne (ascii "METHOD") TEXT [] [] ∷                                                       -- 3.7.2, line 653
-    takesOne (ascii "PRODID") TEXT [] [] ∷                                                       -- 3.7.3, line 662
-    takesOne (ascii "VERSION") TEXT [] [] ∷                                                      -- 3.7.4, line 671
+    takesOne (ascii "CALSCALE") TEXT [] [] ∷  -- 3.7.1, line 644
+    takesOne (ascii "METHOD") TEXT [] [] ∷  -- 3.7.2, line 653
+    takesOne (ascii "PRODID") TEXT [] [] ∷  -- 3.7.3, line 662
+    takesOne (ascii "VERSION") TEXT [] [] ∷  -- 3.7.4, line 671
     -- 3.8.1 Descriptive Component Properties
-    takesOne (ascii "ATTACH") URI (BINARY ∷ []) (ascii "FMTTYPE" ∷ ascii "ENCODING" ∷ []) ∷      -- 3.8.1.1, line 684
-    takesMany (ascii "CATEGORIES") TEXT [] language ∷                                            -- 3.8.1.2, line 696
-    takesOne (ascii "CLASS") TEXT [] [] ∷                                                        -- 3.8.1.3, line 707
-    takesOne (ascii "COMMENT") TEXT [] altrepLanguage ∷                                          -- 3.8.1.4, line 720
-    takesOne (ascii "DESCRIPTION") TEXT [] altrepLanguage ∷                                      -- 3.8.1.5, line 732
-    takesOne (ascii "GEO") FLOAT [] [] ∷                                                         -- 3.8.1.6, line 744: latitude and longitude
-    takesOne (ascii "LOCATION") TEXT [] altrepLanguage ∷                                         -- 3.8.1.7, line 754
-    takesOne (ascii "PERCENT-COMPLETE") INTEGER [] [] ∷                                          -- 3.8.1.8, line 767
-    takesOne (ascii "PRIORITY") INTEGER [] [] ∷                                                  -- 3.8.1.9, line 776
-    takesMany (ascii "RESOURCES") TEXT [] altrepLanguage ∷                                       -- 3.8.1.10, line 785
-    takesOne (ascii "STATUS") TEXT [] [] ∷                                                       -- 3.8.1.11, lines 797, 808, 820
-    takesOne (ascii "SUMMARY") TEXT [] altrepLanguage ∷                                          -- 3.8.1.12, line 833
+    takesOne (ascii "ATTACH") URI (BINARY ∷ []) (ascii "FMTTYPE" ∷ ascii "ENCODING" ∷ []) ∷  -- 3.8.1.1, line 684
+    takesMany (ascii "CATEGORIES") TEXT [] language ∷  -- 3.8.1.2, line 696
+    takesOne (ascii "CLASS") TEXT [] [] ∷  -- 3.8.1.3, line 707
+    takesOne (ascii "COMMENT") TEXT [] altrepLanguage ∷  -- 3.8.1.4, line 720
+    takesOne (ascii "DESCRIPTION") TEXT [] altrepLanguage ∷  -- 3.8.1.5, line 732
+    takesOne (ascii "GEO") FLOAT [] [] ∷  -- 3.8.1.6, line 744: latitude and longitude
+    takesOne (ascii "LOCATION") TEXT [] altrepLanguage ∷  -- 3.8.1.7, line 754
+    takesOne (ascii "PERCENT-COMPLETE") INTEGER [] [] ∷  -- 3.8.1.8, line 767
+    takesOne (ascii "PRIORITY") INTEGER [] [] ∷  -- 3.8.1.9, line 776
+    takesMany (ascii "RESOURCES") TEXT [] altrepLanguage ∷  -- 3.8.1.10, line 785
+    takesOne (ascii "STATUS") TEXT [] [] ∷  -- 3.8.1.11, lines 797, 808, 820
+    takesOne (ascii "SUMMARY") TEXT [] altrepLanguage ∷  -- 3.8.1.12, line 833
     -- 3.8.2 Date and Time Component Properties
-    takesOne (ascii "COMPLETED") DATE-TIME [] [] ∷                                               -- 3.8.2.1, line 847
-    takesOne (ascii "DTEND") DATE-TIME (DATE ∷ []) tzid ∷                                        -- 3.8.2.2, line 856
-    takesOne (ascii "DUE") DATE-TIME (DATE ∷ []) tzid ∷                                          -- 3.8.2.3, line 868: stands in no component
-    takesOne (ascii "DTSTART") DATE-TIME (DATE ∷ []) tzid ∷                                      -- 3.8.2.4, line 880
-    takesOne (ascii "DURATION") DURATION [] [] ∷                                                 -- 3.8.2.5, line 892
-    takesMany (ascii "FREEBUSY") PERIOD [] (ascii "FBTYPE" ∷ []) ∷                               -- 3.8.2.6, line 901
-    takesOne (ascii "TRANSP") TEXT [] [] ∷                                                       -- 3.8.2.7, line 913
+    takesOne (ascii "COMPLETED") DATE-TIME [] [] ∷  -- 3.8.2.1, line 847
+    takesOne (ascii "DTEND") DATE-TIME (DATE ∷ []) tzid ∷  -- 3.8.2.2, line 856
+    takesOne (ascii "DUE") DATE-TIME (DATE ∷ []) tzid ∷  -- 3.8.2.3, line 868: stands in no component
+    takesOne (ascii "DTSTART") DATE-TIME (DATE ∷ []) tzid ∷  -- 3.8.2.4, line 880
+    takesOne (ascii "DURATION") DURATION [] [] ∷  -- 3.8.2.5, line 892
+    takesMany (ascii "FREEBUSY") PERIOD [] (ascii "FBTYPE" ∷ []) ∷  -- 3.8.2.6, line 901
+    takesOne (ascii "TRANSP") TEXT [] [] ∷  -- 3.8.2.7, line 913
     -- 3.8.3 Time Zone Component Properties
-    takesOne (ascii "TZID") TEXT [] [] ∷                                                         -- 3.8.3.1, line 927
-    takesOne (ascii "TZNAME") TEXT [] language ∷                                                 -- 3.8.3.2, line 936
-    takesOne (ascii "TZOFFSETFROM") UTC-OFFSET [] [] ∷                                           -- 3.8.3.3, line 947
-    takesOne (ascii "TZOFFSETTO") UTC-OFFSET [] [] ∷                                             -- 3.8.3.4, line 956
-    takesOne (ascii "TZURL") URI [] [] ∷                                                         -- 3.8.3.5, line 965
+    takesOne (ascii "TZID") TEXT [] [] ∷  -- 3.8.3.1, line 927
+    takesOne (ascii "TZNAME") TEXT [] language ∷  -- 3.8.3.2, line 936
+    takesOne (ascii "TZOFFSETFROM") UTC-OFFSET [] [] ∷  -- 3.8.3.3, line 947
+    takesOne (ascii "TZOFFSETTO") UTC-OFFSET [] [] ∷  -- 3.8.3.4, line 956
+    takesOne (ascii "TZURL") URI [] [] ∷  -- 3.8.3.5, line 965
     -- 3.8.4 Relationship Component Properties
-    takesOne (ascii "ATTENDEE") CAL-ADDRESS [] attendeeParameters ∷                              -- 3.8.4.1, line 976
-    takesOne (ascii "CONTACT") TEXT [] altrepLanguage ∷                                          -- 3.8.4.2, line 997
-    takesOne (ascii "ORGANIZER") CAL-ADDRESS [] organizerParameters ∷                            -- 3.8.4.3, line 1009
-    takesOne (ascii "RECURRENCE-ID") DATE-TIME (DATE ∷ []) (ascii "TZID" ∷ ascii "RANGE" ∷ []) ∷ -- 3.8.4.4, line 1023
-    takesOne (ascii "RELATED-TO") TEXT [] (ascii "RELTYPE" ∷ []) ∷                               -- 3.8.4.5, line 1036
-    takesOne (ascii "URL") URI [] [] ∷                                                           -- 3.8.4.6, line 1047
-    takesOne (ascii "UID") TEXT [] [] ∷                                                          -- 3.8.4.7, line 1056
+    takesOne (ascii "ATTENDEE") CAL-ADDRESS [] attendeeParameters ∷  -- 3.8.4.1, line 976
+    takesOne (ascii "CONTACT") TEXT [] altrepLanguage ∷  -- 3.8.4.2, line 997
+    takesOne (ascii "ORGANIZER") CAL-ADDRESS [] organizerParameters ∷  -- 3.8.4.3, line 1009
+    takesOne (ascii "RECURRENCE-ID") DATE-TIME (DATE ∷ []) (ascii "TZID" ∷ ascii "RANGE" ∷ []) ∷  -- 3.8.4.4, line 1023
+    takesOne (ascii "RELATED-TO") TEXT [] (ascii "RELTYPE" ∷ []) ∷  -- 3.8.4.5, line 1036
+    takesOne (ascii "URL") URI [] [] ∷  -- 3.8.4.6, line 1047
+    takesOne (ascii "UID") TEXT [] [] ∷  -- 3.8.4.7, line 1056
     -- 3.8.5 Recurrence Component Properties
-    takesMany (ascii "EXDATE") DATE-TIME (DATE ∷ []) tzid ∷                                      -- 3.8.5.1, line 1067
-    takesMany (ascii "RDATE") DATE-TIME (DATE ∷ PERIOD ∷ []) tzid ∷                              -- 3.8.5.2, line 1079
-    takesOne (ascii "RRULE") RECUR [] [] ∷                                                       -- 3.8.5.3, line 1092
+    takesMany (ascii "EXDATE") DATE-TIME (DATE ∷ []) tzid ∷  -- 3.8.5.1, line 1067
+    takesMany (ascii "RDATE") DATE-TIME (DATE ∷ PERIOD ∷ []) tzid ∷  -- 3.8.5.2, line 1079
+    takesOne (ascii "RRULE") RECUR [] [] ∷  -- 3.8.5.3, line 1092
     -- 3.8.6 Alarm Component Properties
-    takesOne (ascii "ACTION") TEXT [] [] ∷                                                       -- 3.8.6.1, line 1103
-    takesOne (ascii "REPEAT") INTEGER [] [] ∷                                                    -- 3.8.6.2, line 1116
-    takesOne (ascii "TRIGGER") DURATION (DATE-TIME ∷ []) (ascii "RELATED" ∷ []) ∷                -- 3.8.6.3, line 1125
+    takesOne (ascii "ACTION") TEXT [] [] ∷  -- 3.8.6.1, line 1103
+    takesOne (ascii "REPEAT") INTEGER [] [] ∷  -- 3.8.6.2, line 1116
+    takesOne (ascii "TRIGGER") DURATION (DATE-TIME ∷ []) (ascii "RELATED" ∷ []) ∷  -- 3.8.6.3, line 1125
     -- 3.8.7 Change Management Component Properties
-    takesOne (ascii "CREATED") DATE-TIME [] [] ∷                                                 -- 3.8.7.1, line 1145
-    takesOne (ascii "DTSTAMP") DATE-TIME [] [] ∷                                                 -- 3.8.7.2, line 1154
-    takesOne (ascii "LAST-MODIFIED") DATE-TIME [] [] ∷                                           -- 3.8.7.3, line 1163
-    takesOne (ascii "SEQUENCE") INTEGER [] [] ∷                                                  -- 3.8.7.4, line 1172
+    takesOne (ascii "CREATED") DATE-TIME [] [] ∷  -- 3.8.7.1, line 1145
+    takesOne (ascii "DTSTAMP") DATE-TIME [] [] ∷  -- 3.8.7.2, line 1154
+    takesOne (ascii "LAST-MODIFIED") DATE-TIME [] [] ∷  -- 3.8.7.3, line 1163
+    takesOne (ascii "SEQUENCE") INTEGER [] [] ∷  -- 3.8.7.4, line 1172
     -- 3.8.8 Miscellaneous Component Properties
-    takesOne (ascii "REQUEST-STATUS") TEXT [] language ∷                                         -- 3.8.8.3, line 1183: code, description, data
+    takesOne (ascii "REQUEST-STATUS") TEXT [] language ∷  -- 3.8.8.3, line 1183: code, description, data
     []
 
 -- what stands for a property that is no row: one value of any type, `unknown` where no VALUE is given
@@ -139,8 +139,8 @@ isListedProperty w = propertyRow w .listed
 unfoldable pub permitsParameter : List ℕ → ValueType → List ℕ → Bool
 permitsParameter p t q =
     pick (isKnownParameter q and isKnownProperty p)
-        (isOneOf q (propertyRow p .parameters) and pick (same q (ascii "RELATED")) (sameType t DURATION) true)
-        true
+    (isOneOf q (propertyRow p .parameters) and pick (same q (ascii "RELATED")) (sameType t DURATION) true)
+    true
 
 -- ---- closed sets
 
@@ -152,19 +152,19 @@ pub record WordsRow : Type 0 where
 -- by property
 abbrev pub wordsTable : List WordsRow
 wordsTable =
-    record { name = ascii "CALSCALE"; words = ascii "GREGORIAN" ∷ [] } ∷                                           -- line 648
-    record { name = ascii "VERSION"; words = ascii "2.0" ∷ [] } ∷                                                  -- line 675
-    record { name = ascii "CLASS"; words = ascii "PUBLIC" ∷ ascii "PRIVATE" ∷ ascii "CONFIDENTIAL" ∷ [] } ∷        -- line 711
-    record { name = ascii "TRANSP"; words = ascii "OPAQUE" ∷ ascii "TRANSPARENT" ∷ [] } ∷                          -- line 917
-    record { name = ascii "ACTION"; words = ascii "AUDIO" ∷ ascii "DISPLAY" ∷ ascii "EMAIL" ∷ [] } ∷               -- line 1107
+    record { name = ascii "CALSCALE"; words = ascii "GREGORIAN" ∷ [] } ∷  -- line 648
+    record { name = ascii "VERSION"; words = ascii "2.0" ∷ [] } ∷  -- line 675
+    record { name = ascii "CLASS"; words = ascii "PUBLIC" ∷ ascii "PRIVATE" ∷ ascii "CONFIDENTIAL" ∷ [] } ∷  -- line 711
+    record { name = ascii "TRANSP"; words = ascii "OPAQUE" ∷ ascii "TRANSPARENT" ∷ [] } ∷  -- line 917
+    record { name = ascii "ACTION"; words = ascii "AUDIO" ∷ ascii "DISPLAY" ∷ ascii "EMAIL" ∷ [] } ∷  -- line 1107
     []
 
 -- of STATUS, by component
 abbrev pub statusTable : List WordsRow
 statusTable =
-    record { name = ascii "VEVENT"; words = ascii "TENTATIVE" ∷ ascii "CONFIRMED" ∷ ascii "CANCELLED" ∷ [] } ∷                              -- line 797
-    record { name = ascii "VTODO"; words = ascii "NEEDS-ACTION" ∷ ascii "COMPLETED" ∷ ascii "IN-PROCESS" ∷ ascii "CANCELLED" ∷ [] } ∷       -- line 808
-    record { name = ascii "VJOURNAL"; words = ascii "DRAFT" ∷ ascii "FINAL" ∷ ascii "CANCELLED" ∷ [] } ∷                                    -- line 820
+    record { name = ascii "VEVENT"; words = ascii "TENTATIVE" ∷ ascii "CONFIRMED" ∷ ascii "CANCELLED" ∷ [] } ∷  -- line 797
+    record { name = ascii "VTODO"; words = ascii "NEEDS-ACTION" ∷ ascii "COMPLETED" ∷ ascii "IN-PROCESS" ∷ ascii "CANCELLED" ∷ [] } ∷  -- line 808
+    record { name = ascii "VJOURNAL"; words = ascii "DRAFT" ∷ ascii "FINAL" ∷ ascii "CANCELLED" ∷ [] } ∷  -- line 820
     []
 
 abbrev wordsBy : List ℕ → List WordsRow → Option (List (List ℕ))

@@ -9,15 +9,17 @@ use mathlib.Core.List.{List, _∷_, map}
 use Prim.Native.Nat.{ℕ}
 use lib.Dec.{ltb}
 use lib.ListN.{length}
-use Rattle.octets.specs.Append.{_⊕_}
-use Rattle.octets.specs.Pick.{pick, _and_, _or_, pick-either, and-no-left, and-no-right}
+use borrow.Author.Tests.{not-true}
+use Rattle.octets.specs.Pick.{pick, _and_, _or_, pick-either, and-no-left, and-no-right, and-both}
 use Rattle.octets.specs.Scan.{allOf}
+use Rattle.octets.specs.Append.{_⊕_}
 use Rattle.octets.specs.Class.{isNameChar, upper, lower}
-use Rattle.octets.specs.Reading.{readOr}
 use Rattle.octets.specs.Words.{same, isOneOf, same-true}
+use Rattle.octets.specs.Tables.{row-any-passes, row-known-passes, row-none}
+use Rattle.octets.specs.Lists.{every, word-passes}
+use Rattle.octets.specs.Reading.{readOr}
 use Rattle.octets.specs.Computing.{octets-compute}
 use Rattle.model.specs.Calendar.{ValueType, CAL-ADDRESS, URI, UNKNOWN}
-use Rattle.schema.specs.Extra.{every, and-left, and-right, row-none, known-passes, any-passes, word-passes}
 use Rattle.schema.specs.Types.{sameType, isTypeOf, same-type-self, type-any}
 use Rattle.schema.specs.Parameters.{parameterTable, parameterRow, parameterNames, isKnownParameter, unrecognisedParameter, parameterType, isQuotedParameter}
 use Rattle.schema.specs.Components.{Occurrence, componentTable, componentRow, componentNames, subcomponentsOf, standingIn, isAlarm, mayStand, unknownComponent, audioprop, dispprop, emailprop, occurrencesOf}
@@ -41,22 +43,22 @@ abbrev pub isCapitalName : List ℕ → Bool
 isCapitalName w = ltb 0 (length w) and allOf isNameChar w and same (upper (lower w)) w
 
 pub property-name : (w : List ℕ) → isKnownProperty w ≡ true → isCapitalName w ≡ true
-unfolding octets-compute every
+unfolding octets-compute
 property-name w h = known-property-passes isCapitalName refl w h
 
 pub parameter-name : (w : List ℕ) → isKnownParameter w ≡ true → isCapitalName w ≡ true
-unfolding octets-compute every
+unfolding octets-compute
 parameter-name w h = known-parameter-passes isCapitalName refl w h
 
 pub component-name : (w : List ℕ) → isOneOf w componentNames ≡ true → isCapitalName w ≡ true
-unfolding octets-compute every
+unfolding octets-compute
 component-name w h = known-component-passes isCapitalName refl w h
 
 pub name-capital : (w : List ℕ) → isCapitalName w ≡ true → upper (lower w) ≡ w
-name-capital w h = same-true _ _ (and-right _ _ (and-right _ _ h))
+name-capital w h = same-true _ _ (and-both _ _ (and-both _ _ h .1) .1)
 
 pub name-is-name : (w : List ℕ) → isCapitalName w ≡ true → allOf isNameChar w ≡ true
-name-is-name w h = and-left _ _ (and-right _ _ h)
+name-is-name w h = and-both _ _ (and-both _ _ h .1) .0
 
 -- ---- unrecognised ones
 
@@ -89,20 +91,17 @@ default-permitted w = rw (same-type-self (defaultType w))
 
 -- no known property has an `unknown` value
 pub known-types : (w : List ℕ) → isKnownProperty w ≡ true → isTypeOf UNKNOWN (permittedTypes w) ≡ false
-unfolding octets-compute isKnownProperty propertyRow isTypeOf sameType every
-known-types w h = go _ (known-passes (λ r. r .name) w (λ r. not (isTypeOf UNKNOWN (r .default ∷ r .others))) unrecognisedProperty propertyTable refl h)
-  where
-    go : (t : Bool) → not t ≡ true → t ≡ false
-    go true k = absurd (false≢true k)
-    go false k = refl
+unfolding octets-compute isKnownProperty propertyRow isTypeOf sameType
+known-types w h = not-true _ (row-known-passes (λ r. r .name) w (λ r. not (isTypeOf UNKNOWN (r .default ∷ r .others))) unrecognisedProperty propertyTable refl h)
 
 -- the quoted parameters are those whose values are a URI or a calendar address
 pub quoted-type : (w : List ℕ) → isQuotedParameter w ≡ (sameType (parameterType w) URI or sameType (parameterType w) CAL-ADDRESS)
-unfolding octets-compute parameterRow sameType every
-quoted-type w = agree _ _ (any-passes (λ r. r .name) w (λ r. pick (r .quoted) (isAddress (r .type)) (not (isAddress (r .type)))) unrecognisedParameter parameterTable refl refl)
+unfolding octets-compute parameterRow sameType
+quoted-type w = agree _ _ (row-any-passes (λ r. r .name) w (λ r. pick (r .quoted) (isAddress (r .type)) (not (isAddress (r .type)))) unrecognisedParameter parameterTable refl refl)
   where
     isAddress : ValueType → Bool
     isAddress t = sameType t URI or sameType t CAL-ADDRESS
+
     agree : (a b : Bool) → pick a b (not b) ≡ true → a ≡ b
     agree true b k = sym k
     agree false true k = absurd (false≢true k)
@@ -114,13 +113,13 @@ everyKnown : List Occurrence → Bool
 everyKnown os = every isKnownProperty (map (λ o. o .property) os)
 
 all-known : (c : List ℕ) → every isKnownProperty (standingIn c) ≡ true
-unfolding octets-compute componentRow isKnownProperty every everyKnown
+unfolding octets-compute componentRow isKnownProperty everyKnown
 all-known c = pick-either (λ os. everyKnown os ≡ true) (isAlarm c) (audioprop ⊕ dispprop ⊕ emailprop) (occurrencesOf c) refl
-    (any-passes (λ r. r .name) c (λ r. everyKnown (r .occurrences)) unknownComponent componentTable refl refl)
+    (row-any-passes (λ r. r .name) c (λ r. everyKnown (r .occurrences)) unknownComponent componentTable refl refl)
 
 all-components : (c : List ℕ) → every (λ w. isOneOf w componentNames) (subcomponentsOf c) ≡ true
-unfolding octets-compute componentRow every
-all-components c = any-passes (λ r. r .name) c (λ r. every (λ w. isOneOf w componentNames) (r .subcomponents)) unknownComponent componentTable refl refl
+unfolding octets-compute componentRow
+all-components c = row-any-passes (λ r. r .name) c (λ r. every (λ w. isOneOf w componentNames) (r .subcomponents)) unknownComponent componentTable refl refl
 
 pub stand-known : (c p : List ℕ) → mayStand c p ≡ true → isKnownProperty p ≡ true
 unfolding mayStand

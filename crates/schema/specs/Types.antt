@@ -14,30 +14,31 @@ use lib.Dec.{eqb}
 use lib.ListN.{getD}
 use borrow.Author.Tests.{eq-eqb, eqb-true}
 use Rattle.octets.specs.Ascii.{ascii}
-use Rattle.octets.specs.Pick.{_or_}
-use Rattle.octets.specs.Computing.{octets-compute}
+use Rattle.octets.specs.Pick.{_or_, and-both}
 use Rattle.octets.specs.Scan.{allOf}
 use Rattle.octets.specs.Class.{isNameChar, upper, lower}
 use Rattle.octets.specs.Words.{same, rowOf, same-true}
+use Rattle.octets.specs.Tables.{row-named, row-passes}
+use Rattle.octets.specs.Lists.{every}
+use Rattle.octets.specs.Computing.{octets-compute}
 use Rattle.model.specs.Calendar.{ValueType, BINARY, BOOLEAN, CAL-ADDRESS, DATE, DATE-TIME, DURATION, FLOAT, INTEGER, PERIOD, RECUR, TEXT, TIME, URI, UTC-OFFSET, UNKNOWN}
-use Rattle.schema.specs.Extra.{every, and-left, and-right, row-named, row-passes}
 
 abbrev pub typeName : ValueType → List ℕ
-typeName BINARY = ascii "BINARY"               -- 3.3.1,  schema line 189
-typeName BOOLEAN = ascii "BOOLEAN"             -- 3.3.2,  line 195
-typeName CAL-ADDRESS = ascii "CAL-ADDRESS"     -- 3.3.3,  line 201
-typeName DATE = ascii "DATE"                   -- 3.3.4,  line 211
-typeName DATE-TIME = ascii "DATE-TIME"         -- 3.3.5,  line 221
-typeName DURATION = ascii "DURATION"           -- 3.3.6,  line 234
-typeName FLOAT = ascii "FLOAT"                 -- 3.3.7,  line 240
-typeName INTEGER = ascii "INTEGER"             -- 3.3.8,  line 246
-typeName PERIOD = ascii "PERIOD"               -- 3.3.9,  line 252
-typeName RECUR = ascii "RECUR"                 -- 3.3.10, line 268
-typeName TEXT = ascii "TEXT"                   -- 3.3.11, line 354
-typeName TIME = ascii "TIME"                   -- 3.3.12, line 364
-typeName URI = ascii "URI"                     -- 3.3.13, line 370
-typeName UTC-OFFSET = ascii "UTC-OFFSET"       -- 3.3.14, line 376
-typeName UNKNOWN = ascii "UNKNOWN"             -- line 382
+typeName BINARY = ascii "BINARY"  -- 3.3.1,  schema line 189
+typeName BOOLEAN = ascii "BOOLEAN"  -- 3.3.2,  line 195
+typeName CAL-ADDRESS = ascii "CAL-ADDRESS"  -- 3.3.3,  line 201
+typeName DATE = ascii "DATE"  -- 3.3.4,  line 211
+typeName DATE-TIME = ascii "DATE-TIME"  -- 3.3.5,  line 221
+typeName DURATION = ascii "DURATION"  -- 3.3.6,  line 234
+typeName FLOAT = ascii "FLOAT"  -- 3.3.7,  line 240
+typeName INTEGER = ascii "INTEGER"  -- 3.3.8,  line 246
+typeName PERIOD = ascii "PERIOD"  -- 3.3.9,  line 252
+typeName RECUR = ascii "RECUR"  -- 3.3.10, line 268
+typeName TEXT = ascii "TEXT"  -- 3.3.11, line 354
+typeName TIME = ascii "TIME"  -- 3.3.12, line 364
+typeName URI = ascii "URI"  -- 3.3.13, line 370
+typeName UTC-OFFSET = ascii "UTC-OFFSET"  -- 3.3.14, line 376
+typeName UNKNOWN = ascii "UNKNOWN"  -- line 382
 
 abbrev pub valueTypes : List ValueType
 valueTypes = BINARY ∷ BOOLEAN ∷ CAL-ADDRESS ∷ DATE ∷ DATE-TIME ∷ DURATION ∷ FLOAT ∷ INTEGER ∷ PERIOD ∷ RECUR ∷ TEXT ∷ TIME ∷ URI ∷ UTC-OFFSET ∷ []
@@ -121,17 +122,17 @@ unfolding typeNamed
 type-named-is w t h = row-named typeName w valueTypes t h
 
 pub type-named-listed : (w : List ℕ) (t : ValueType) → typeNamed w ≡ some t → isTypeOf t valueTypes ≡ true
-unfolding octets-compute typeNamed isTypeOf sameType every
+unfolding octets-compute typeNamed isTypeOf sameType
 type-named-listed w t h = row-passes typeName w (λ u. isTypeOf u valueTypes) valueTypes t refl h
 
 -- what holds of each of a list of types holds of one that is in the list
 pub listed-passes : (p : ValueType → Bool) (t : ValueType) (ts : List ValueType) → every p ts ≡ true → isTypeOf t ts ≡ true → p t ≡ true
 unfolding every isTypeOf _or_
 listed-passes p t [] a h = absurd (false≢true h)
-listed-passes p t (u ∷ ts) a h = go (sameType t u) refl h (listed-passes p t ts (and-right _ _ a))
+listed-passes p t (u ∷ ts) a h = go (sameType t u) refl h (listed-passes p t ts (and-both _ _ a .1))
   where
     go : (b : Bool) → sameType t u ≡ b → (b or isTypeOf t ts) ≡ true → (isTypeOf t ts ≡ true → p t ≡ true) → p t ≡ true
-    go true e k ih = ap p (same-type-true t u e) ∙ and-left _ _ a
+    go true e k ih = ap p (same-type-true t u e) ∙ and-both _ _ a .0
     go false e k ih = ih k
 
 -- every type is one of the fourteen, or UNKNOWN
@@ -159,9 +160,9 @@ type-passes p a t = listed-passes p t (UNKNOWN ∷ valueTypes) a (type-any t)
 
 -- a type's name is a name, in capitals
 pub type-name-is-name : (t : ValueType) → allOf isNameChar (typeName t) ≡ true
-unfolding octets-compute every
+unfolding octets-compute
 type-name-is-name t = type-passes (λ u. allOf isNameChar (typeName u)) refl t
 
 pub type-name-capital : (t : ValueType) → upper (lower (typeName t)) ≡ typeName t
-unfolding octets-compute every
+unfolding octets-compute
 type-name-capital t = same-true _ _ (type-passes (λ u. same (upper (lower (typeName u))) (typeName u)) refl t)

@@ -16,9 +16,10 @@ rest m s c = pick (eqb m 0) (drop c s) []
 unfoldable pub spell : ℕ → List ℕ → List ℕ
 spell u r = pick (eqb u 256) [] (u ∷ r)
 
--- `moved` and `inside`: unless it is the end, the cursor has moved on, and is within bounds
+-- `moved`, `inside` and `plain`: unless it is the end, the cursor has moved on, and is within bounds; over bytes as they stand, within the length
 pub record Reads (m : ℕ) (s : List ℕ) (c : ℕ) (r : Step) : Type 0 where
   pub is : rest m s c ≡ spell (r .u) (rest m s (r .next))
   pub small : r .u ≤ 256
   pub moved : c < r .next + r .u / 256 * 2 ^ 64
   pub inside : r .next ≤ 4 * length s + r .u / 256 * 2 ^ 64
+  pub plain : m ≡ 0 → (r .u ≡ 256 → ⊥) → r .next ≤ length s

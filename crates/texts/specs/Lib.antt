@@ -1,5 +1,4 @@
 -- Values that are characters.
---     Extra           general laws of tests, readings and bytes
 --     Text            TEXT, escaped and unescaped, and the splitter of escaped text
 --     Escaped         the bytes of escaped text: one line
 --     TextList        lists of TEXT: CATEGORIES, RESOURCES
@@ -8,9 +7,14 @@
 --     Binary          BINARY, base64 characters
 --     Unknown         values of the type unknown
 --     Quoting         parameter values between double quotes
+--     Unescaped       TEXT followed a byte at a time
+--     Kept            the answer of a reader of characters, and its loops
+--     Written         TEXT written
+--     Items           the items of a list of TEXT, found at a cursor
+--     StatusParts     the parts of a REQUEST-STATUS, found at a cursor
+--     Elements        TEXT written as elements of XML
 --     Computing       opens all of these, for examples that compute
 --     Examples        computed examples
-pub mod Extra
 pub mod Text
 pub mod Escaped
 pub mod TextList
@@ -19,5 +23,11 @@ pub mod Uri
 pub mod Binary
 pub mod Unknown
 pub mod Quoting
+pub mod Unescaped
+pub mod Kept
+pub mod Written
+pub mod Items
+pub mod StatusParts
+pub mod Elements
 pub mod Computing
 pub mod Examples

@@ -9,10 +9,9 @@ use mathlib.Core.Bool.{Bool, true, false}
 use mathlib.Core.List.{List, [], _∷_}
 use Prim.Native.Nat.{ℕ}
 use lib.Dec.{eqb}
-use Rattle.octets.specs.Pick.{pick, pick-either, _and_, _or_}
+use Rattle.octets.specs.Pick.{pick, pick-either, _and_, _or_, or-neither}
 use Rattle.octets.specs.Append.{_⊕_}
-use Rattle.octets.specs.Words.{holds, starts}
-use Rattle.texts.specs.Extra.{or-false-left, or-false-right, holds-neither}
+use Rattle.octets.specs.Words.{holds, starts, holds-neither}
 
 --   param-value   = paramtext / quoted-string
 --   paramtext     = *SAFE-CHAR
@@ -41,17 +40,17 @@ param-opens always s h = go (always or needsQuotes s)
   where
     bare : (l : List ℕ) → holds 34 l ≡ false → starts (34 ∷ []) l ≡ false
     bare [] k = refl
-    bare (b ∷ l) k = rw (or-false-left (eqb 34 b) _ k)
+    bare (b ∷ l) k = rw (or-neither (eqb 34 b) _ k .0)
 
     go : (t : Bool) → starts (34 ∷ []) (pick t (quoted s) s) ≡ t
     go true = refl
     go false = bare s h
 
 pub plain-no-colon : (s : List ℕ) → needsQuotes s ≡ false → holds 58 s ≡ false
-plain-no-colon s h = or-false-left (holds 58 s) _ h
+plain-no-colon s h = or-neither (holds 58 s) _ h .0
 
 pub plain-no-semicolon : (s : List ℕ) → needsQuotes s ≡ false → holds 59 s ≡ false
-plain-no-semicolon s h = or-false-left (holds 59 s) (holds 44 s) (or-false-right (holds 58 s) _ h)
+plain-no-semicolon s h = or-neither (holds 59 s) (holds 44 s) (or-neither (holds 58 s) _ h .1) .0
 
 pub plain-no-comma : (s : List ℕ) → needsQuotes s ≡ false → holds 44 s ≡ false
-plain-no-comma s h = or-false-right (holds 59 s) (holds 44 s) (or-false-right (holds 58 s) _ h)
+plain-no-comma s h = or-neither (holds 59 s) (holds 44 s) (or-neither (holds 58 s) _ h .1) .1

@@ -8,12 +8,10 @@ use mathlib.Core.Bool.{true, false}
 use mathlib.Core.List.{List, [], _∷_, map}
 use mathlib.Core.Option.{Option, none, some}
 use Prim.Native.Nat.{ℕ}
-use native.Mathlib.Omega.{arith}
 use Rattle.octets.specs.Pick.{_or_}
-use Rattle.octets.specs.Words.{holds, joinedBy, noneHolds}
-use Rattle.octets.specs.Reading.{andThen}
+use Rattle.octets.specs.Words.{holds, joinedBy, noneHolds, joined-without}
+use Rattle.octets.specs.Reading.{andThen, andThen-some, none-some}
 use Rattle.model.specs.Calendar.{Value, requestStatus}
-use Rattle.texts.specs.Extra.{joined-without}
 use Rattle.texts.specs.Text.{splitText, writeText, split-read-back}
 use Rattle.texts.specs.Escaped.{each-one-line, each-no-return}
 
@@ -64,19 +62,14 @@ pub record IsStatus (v : Value) : Type 0 where
   pub is : v ≡ requestStatus code description extra
 
 status-of : (ps : List (List ℕ)) (v : Value) → statusOf ps ≡ some v → IsStatus v
-status-of [] v h = let z : _≡_ {A = ℕ} 0 1 = cc in absurd (omega arith)
-status-of (c ∷ []) v h = let z : _≡_ {A = ℕ} 0 1 = cc in absurd (omega arith)
+status-of [] v h = none-some h
+status-of (c ∷ []) v h = none-some h
 status-of (c ∷ d ∷ []) v h = record { code = c; description = d; extra = none; is = cc }
 status-of (c ∷ d ∷ x ∷ []) v h = record { code = c; description = d; extra = some x; is = cc }
-status-of (c ∷ d ∷ x ∷ p ∷ ps) v h = let z : _≡_ {A = ℕ} 0 1 = cc in absurd (omega arith)
+status-of (c ∷ d ∷ x ∷ p ∷ ps) v h = none-some h
 
 pub request-status-accepted : (s : List ℕ) (v : Value) → readRequestStatus s ≡ some v → IsStatus v
-unfolding andThen
-request-status-accepted s v h = go (splitText 59 s) h
-  where
-    go : (o : Option (List (List ℕ))) → andThen o statusOf ≡ some v → IsStatus v
-    go none k = let z : _≡_ {A = ℕ} 0 1 = cc in absurd (omega arith)
-    go (some ps) k = status-of ps v k
+request-status-accepted s v h = let q = andThen-some (splitText 59 s) statusOf v h in status-of (q .0) v (q .2)
 
 -- no LF, and a CR only where a part has one
 pub request-status-one-line : (code description : List ℕ) (x : Option (List ℕ)) → holds 10 (writeRequestStatus code description x) ≡ false

@@ -7,9 +7,8 @@ use mathlib.Core.Bool.{true, false}
 use mathlib.Core.List.{List, _∷_, map}
 use mathlib.Core.Option.{Option, some}
 use Prim.Native.Nat.{ℕ}
-use Rattle.octets.specs.Words.{isEmpty, holds, joinedBy, noneHolds}
 use Rattle.octets.specs.Pick.{_or_}
-use Rattle.texts.specs.Extra.{joined-without}
+use Rattle.octets.specs.Words.{isEmpty, holds, joinedBy, noneHolds, joined-without}
 use Rattle.texts.specs.Text.{splitText, writeText, split-read-back, split-some}
 use Rattle.texts.specs.Escaped.{each-one-line, each-no-return}
 

@@ -3,19 +3,18 @@
 --     readUri s    the characters
 --     uri-read-back, uri-kept, uri-accepted, uri-visible, uri-unquoted
 use mathlib.Core.Path.{_≡_, refl, _∙_}
-use mathlib.Core.Bool.{Bool, true, false, false≢true}
+use mathlib.Core.Bool.{Bool, true, false}
 use mathlib.Core.List.{List, [], _∷_}
 use mathlib.Core.Option.{Option, none, some}
 use Prim.Native.Nat.{ℕ, _≤_}
 use native.Mathlib.Omega.{arith}
 use lib.Dec.{eqb}
-use borrow.Author.Tests.{eqb-true, ne-eqb, le-leb}
-use Rattle.octets.specs.Pick.{pick, pick-yes, _and_, _or_, within, within-yes, or-left}
-use Rattle.octets.specs.Scan.{allOf}
+use borrow.Author.Tests.{ne-eqb, le-leb}
+use Rattle.octets.specs.Pick.{pick, pick-yes, _and_, _or_, within, within-yes, or-left, and-both, or-cases, or-neither, within-range, pick-second, eqb-passes}
+use Rattle.octets.specs.Scan.{allOf, all-weaker}
 use Rattle.octets.specs.Class.{isAlpha, isCapital, isSmall, isDigit, isVisible}
-use Rattle.octets.specs.Words.{holds}
-use Rattle.octets.specs.Reading.{provided}
-use Rattle.texts.specs.Extra.{or-false-left, and-true-left, and-true-right, or-cases, within-low, within-high, provided-test, provided-is, all-weaker, all-without}
+use Rattle.octets.specs.Words.{holds, all-without}
+use Rattle.octets.specs.Reading.{provided, provided-some}
 
 --   uri    = <As defined in Section 3 of [RFC3986]>: scheme ":" ..
 --   scheme = ALPHA *( ALPHA / DIGIT / "+" / "-" / "." )
@@ -51,10 +50,10 @@ pub uri-read-back : (v : List ℕ) → isUri v ≡ true → readUri v ≡ some v
 uri-read-back v h = pick-yes (isUri v) (some v) none h
 
 pub uri-kept : (s v : List ℕ) → readUri s ≡ some v → s ≡ v
-uri-kept s v h = provided-is (isUri s) s v h
+uri-kept s v h = provided-some (isUri s) s v h .1
 
 pub uri-accepted : (s v : List ℕ) → readUri s ≡ some v → isUri v ≡ true
-uri-accepted s v h = rw (← (uri-kept s v h)) (provided-test (isUri s) s v h)
+uri-accepted s v h = rw (← (uri-kept s v h)) (provided-some (isUri s) s v h .0)
 
 -- a character that shows and is no double quote
 abbrev isPlain : ℕ → Bool
@@ -65,10 +64,7 @@ unfolding pick
 plain-between b l h = rw (ne-eqb b 34 (λ e. omega arith)) (within-yes 33 126 b (le-leb 33 b (omega arith)) (le-leb b 126 (omega arith)))
 
 plain-within : (lo hi b : ℕ) → 35 ≤ lo → hi ≤ 126 → within lo hi b ≡ true → isPlain b ≡ true
-plain-within lo hi b l h w = let p : lo ≤ b = within-low lo hi b w in let q : b ≤ hi = within-high lo hi b w in plain-between b (omega arith) (omega arith)
-
-plain-is : (n b : ℕ) → isPlain n ≡ true → eqb b n ≡ true → isPlain b ≡ true
-plain-is n b h e = rw (eqb-true b n e) h
+plain-within lo hi b l h w = let p = within-range lo hi b w in plain-between b (omega arith) (omega arith)
 
 plain-scheme : (b : ℕ) → isSchemeChar b ≡ true → isPlain b ≡ true
 unfolding pick _and_
@@ -76,39 +72,30 @@ plain-scheme b h =
     or-cases (isAlpha b) _ h
     (λ k. or-cases (isCapital b) (isSmall b) k (plain-within 65 90 b (omega arith) (omega arith)) (plain-within 97 122 b (omega arith) (omega arith)))
     (λ k. or-cases (isDigit b) _ k (plain-within 48 57 b (omega arith) (omega arith))
-    (λ k. or-cases (eqb b 43) _ k (plain-is 43 b refl) (λ k. or-cases (eqb b 45) (eqb b 46) k (plain-is 45 b refl) (plain-is 46 b refl))))
+    (λ k. or-cases (eqb b 43) _ k (eqb-passes isPlain 43 b refl) (λ k. or-cases (eqb b 45) (eqb b 46) k (eqb-passes isPlain 45 b refl) (eqb-passes isPlain 46 b refl))))
 
 plain-char : (b : ℕ) → isUriChar b ≡ true → isPlain b ≡ true
 unfolding pick
-plain-char b h = go (isOutside b) refl h
-  where
-    go : (t : Bool) → isOutside b ≡ t → pick t false (isVisible b) ≡ true → isPlain b ≡ true
-    go true e k = absurd (false≢true k)
-    go false e k = rw (or-false-left (eqb b 34) _ e) k
+plain-char b h = let p = pick-second (isOutside b) (isVisible b) h in rw (or-neither (eqb b 34) _ (p .0) .0) (p .1)
 
 plain-in : (past : Bool) (b : ℕ) → inUri past b ≡ true → isPlain b ≡ true
 unfolding pick _and_
 plain-in true b h = plain-char b h
-plain-in false b h = or-cases (eqb b 58) (isSchemeChar b) h (plain-is 58 b refl) (plain-scheme b)
+plain-in false b h = or-cases (eqb b 58) (isSchemeChar b) h (eqb-passes isPlain 58 b refl) (plain-scheme b)
 
 plain-from : (s : List ℕ) (past : Bool) → uriFrom past s ≡ true → allOf isPlain s ≡ true
 unfolding uriFrom allOf
 plain-from [] past h = refl
 plain-from (b ∷ s) past h =
-    pick-yes (isPlain b) (allOf isPlain s) false (plain-in past b (and-true-left (inUri past b) _ h)) ∙ plain-from s (past or eqb b 58) (and-true-right (inUri past b) _ h)
+    pick-yes (isPlain b) (allOf isPlain s) false (plain-in past b (and-both (inUri past b) _ h .0)) ∙ plain-from s (past or eqb b 58) (and-both (inUri past b) _ h .1)
 
 uri-plain : (v : List ℕ) → isUri v ≡ true → allOf isPlain v ≡ true
 unfolding isUri allOf
 uri-plain [] h = refl
-uri-plain (b ∷ s) h = pick-yes (isPlain b) (allOf isPlain s) false (plain-scheme b (or-left (isAlpha b) _ (and-true-left (isAlpha b) _ h))) ∙ plain-from s false (and-true-right (isAlpha b) _ h)
+uri-plain (b ∷ s) h = pick-yes (isPlain b) (allOf isPlain s) false (plain-scheme b (or-left (isAlpha b) _ (and-both (isAlpha b) _ h .0))) ∙ plain-from s false (and-both (isAlpha b) _ h .1)
 
 plain-visible : (b : ℕ) → isPlain b ≡ true → isVisible b ≡ true
-unfolding pick
-plain-visible b h = go (eqb b 34) h
-  where
-    go : (t : Bool) → pick t false (isVisible b) ≡ true → isVisible b ≡ true
-    go true k = absurd (false≢true k)
-    go false k = k
+plain-visible b h = pick-second (eqb b 34) (isVisible b) h .1
 
 pub uri-visible : (v : List ℕ) → isUri v ≡ true → allOf isVisible v ≡ true
 uri-visible v h = all-weaker isPlain isVisible plain-visible v (uri-plain v h)

@@ -1,1 +1,46 @@
-// Values that are characters: TEXT and lists of it, REQUEST-STATUS, URI, BINARY, unknown, quoted parameter values. Definitions and their laws are in specs/.
+// TEXT and lists of it, URI, BINARY and unknown values, read through a cursor and written. Definitions and laws are in specs/.
+
+ghost use mathlib.Core.Path.{_≡_};
+ghost use Rattle.texts.specs.Kept.{isKept};
+
+mod binary;
+mod elements;
+mod items;
+mod request;
+mod text;
+mod unknown;
+mod uri;
+mod written;
+
+pub use binary::read_binary;
+pub use elements::put_text_element;
+pub use elements::put_texts_xml;
+pub use items::item_end;
+pub use request::read_request_status;
+pub use text::read_one_text;
+pub use text::read_text;
+pub use unknown::read_unknown;
+pub use uri::read_uri;
+pub use written::put_text_escaped;
+pub use written::put_text_xml;
+
+// A value that is kept by its characters: the cursor at their end; or none that is of the type.
+pub enum Kept {
+    Chars(usize),
+    Bad,
+}
+
+// A REQUEST-STATUS: the cursor of the first semicolon, the cursor behind it, and that of the second one or of the end; or none.
+pub enum Status {
+    Parts(usize, usize, usize),
+    NoStatus,
+}
+
+pub fn is_kept(k: Kept) -> bool
+    ensures { λ r. ⌜ r ≡ isKept k ⌝ }
+{
+    match k {
+        Kept::Chars(_) => true,
+        Kept::Bad => false,
+    }
+}

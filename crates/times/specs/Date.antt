@@ -11,14 +11,13 @@ use Prim.Native.Nat.{ℕ, _%_}
 use lib.Dec.{eqb}
 use borrow.Author.Tests.{eqb-true}
 use lib.ListN.{length, take, drop}
-use Rattle.octets.specs.Pick.{pick, _and_, _or_, within}
+use Rattle.octets.specs.Pick.{pick, _and_, _or_, within, and-both}
 use Rattle.octets.specs.Scan.{allOf}
 use Rattle.octets.specs.Class.{isDigit, isVisible}
 use Rattle.octets.specs.Words.{holds}
 use Rattle.octets.specs.Decimal.{value}
 use Rattle.octets.specs.Reading.{andThen}
 use Rattle.model.specs.Calendar.{Format, ical, xcal}
-use Rattle.times.specs.Extra.{and-left, and-right}
 use Rattle.times.specs.Spelling.{Mark, mark, withMarks, withoutMarks, keep, fits}
 use Rattle.times.specs.Spelling.{Chars, chars-digits, chars-visible, chars-no-comma, keep-yes, keep-is, keep-accepted, marked-read-back, marked-accepted, marked-exact}
 
@@ -58,11 +57,11 @@ writeDate xcal v = withMarks dateMarks v
 
 pub date-length : (v : List ℕ) → isDate v ≡ true → length v ≡ 8
 unfolding isDate
-date-length v h = eqb-true _ _ (and-left _ _ h)
+date-length v h = eqb-true _ _ (and-both _ _ h .0)
 
 pub date-chars : Chars isDate
 unfolding isDate
-date-chars v h = chars-digits v (and-left _ _ (and-right _ _ h))
+date-chars v h = chars-digits v (and-both _ _ (and-both _ _ h .1) .0)
 
 pub date-read-back : (f : Format) (v : List ℕ) → isDate v ≡ true → readDate f (writeDate f v) ≡ some v
 unfolding readDate writeDate fits _and_

@@ -10,13 +10,12 @@ use mathlib.Core.Option.{Option, none, some}
 use Prim.Native.Nat.{ℕ, _≤_, _<_}
 use native.Mathlib.Omega.{arith}
 use lib.ListN.{length, take, drop, length-drop}
-use Rattle.octets.specs.Pick.{_and_, _or_}
-use Rattle.octets.specs.Scan.{allOf}
+use Rattle.octets.specs.Pick.{_and_, _or_, and-both}
+use Rattle.octets.specs.Scan.{allOf, all-parts}
 use Rattle.octets.specs.Class.{isVisible, upper}
 use Rattle.octets.specs.Words.{holds}
 use Rattle.octets.specs.Reading.{andThen}
 use Rattle.model.specs.Calendar.{Format, ical, xcal}
-use Rattle.times.specs.Extra.{and-left, and-right, all-parts}
 use Rattle.times.specs.Spelling.{Mark, mark, withMarks, withoutMarks, keep, begins, fits}
 use Rattle.times.specs.Spelling.{isTimeChar, Chars, chars-begins, chars-visible, chars-upper, chars-no-comma, chars-no-slash, keep-yes, keep-is, keep-accepted, marked-read-back, marked-accepted, marked-exact, marks-length, fits-longer}
 use Rattle.times.specs.Date.{isDate, readDate, writeDate, dateMarks, date-chars, date-length, date-accepted, date-exact}
@@ -43,11 +42,11 @@ writeDateTime xcal v = withMarks dateTimeMarks v
 tail-length : (s : List ℕ) → begins 84 isTime s ≡ true → 7 ≤ length s
 unfolding begins
 tail-length [] h = absurd (false≢true h)
-tail-length (b ∷ s) h = omega (arith, time-length s (and-right _ _ h))
+tail-length (b ∷ s) h = omega (arith, time-length s (and-both _ _ h .1))
 
 pub date-time-length : (v : List ℕ) → isDateTime v ≡ true → 15 ≤ length v
 unfolding isDateTime
-date-time-length v h = omega (arith, tail-length (drop 8 v) (and-right _ _ h), length-drop 8 v)
+date-time-length v h = omega (arith, tail-length (drop 8 v) (and-both _ _ h .1), length-drop 8 v)
 
 t-char : isTimeChar 84 ≡ true
 unfolding isTimeChar _or_ _and_
@@ -56,7 +55,7 @@ t-char = refl
 pub date-time-chars : Chars isDateTime
 unfolding isDateTime
 date-time-chars v h =
-    all-parts isTimeChar 8 v (date-chars (take 8 v) (and-left _ _ h)) (chars-begins 84 isTime t-char time-chars (drop 8 v) (and-right _ _ h))
+    all-parts isTimeChar 8 v (date-chars (take 8 v) (and-both _ _ h .0)) (chars-begins 84 isTime t-char time-chars (drop 8 v) (and-both _ _ h .1))
 
 marks-fit : (v : List ℕ) → isDateTime v ≡ true → fits dateTimeMarks (length v) ≡ true
 unfolding fits _and_

@@ -15,17 +15,17 @@ use mathlib.Core.Path.{_≡_, refl}
 use mathlib.Core.Bool.{Bool, true, false}
 use mathlib.Core.List.{List, [], _∷_}
 use mathlib.Core.Option.{Option, some}
-use Prim.Native.Nat.{ℕ, suc}
+use Prim.Native.Nat.{ℕ}
 use lib.Dec.{eqb, ltb}
 use borrow.Author.Tests.{eqb-true}
 use lib.ListN.{drop}
-use Rattle.octets.specs.Pick.{pick, _and_, _or_, or-left}
-use Rattle.octets.specs.Scan.{allOf, spanLen}
+use Rattle.octets.specs.Pick.{pick, _and_, _or_, or-left, and-both, or-cases}
+use Rattle.octets.specs.Scan.{allOf, spanLen, all-parts}
 use Rattle.octets.specs.Class.{isDigit, isVisible, upper}
 use Rattle.octets.specs.Words.{holds, isEmpty}
+use Rattle.octets.specs.Runs.{run-passes, runOf}
 use Rattle.model.specs.Calendar.{Format, ical, xcal}
-use Rattle.times.specs.Extra.{and-left, and-right, or-cases, all-cons}
-use Rattle.times.specs.Spelling.{isTimeChar, keep, begins, Chars, digit-char, chars-empty, chars-begins, chars-or, chars-visible, chars-upper, chars-no-comma, chars-no-slash, keep-yes, keep-accepted}
+use Rattle.times.specs.Spelling.{isTimeChar, keep, begins, Chars, chars-empty, chars-digits, chars-begins, chars-or, chars-visible, chars-upper, chars-no-comma, chars-no-slash, keep-yes, keep-accepted}
 
 -- 1*DIGIT and a letter, and then a rest that passes a test
 unfoldable pub counted : ℕ → (List ℕ → Bool) → List ℕ → Bool
@@ -81,18 +81,12 @@ writeDuration f v = v
 -- ---- laws
 
 after-digits : (s : List ℕ) → allOf isTimeChar (drop (spanLen isDigit s) s) ≡ true → allOf isTimeChar s ≡ true
-unfolding spanLen pick
-after-digits [] h = h
-after-digits (b ∷ s) h = go (isDigit b) refl h (after-digits s)
-  where
-    go : (t : Bool) → isDigit b ≡ t → allOf isTimeChar (drop (pick t (suc (spanLen isDigit s)) 0) (b ∷ s)) ≡ true → (allOf isTimeChar (drop (spanLen isDigit s) s) ≡ true → allOf isTimeChar s ≡ true) →
-        allOf isTimeChar (b ∷ s) ≡ true
-    go true e k ih = all-cons isTimeChar b s (digit-char b e) (ih k)
-    go false e k ih = k
+unfolding runOf
+after-digits s h = all-parts isTimeChar (spanLen isDigit s) s (chars-digits (runOf isDigit s) (run-passes isDigit s)) h
 
 chars-counted : (c : ℕ) (rest : List ℕ → Bool) → isTimeChar c ≡ true → Chars rest → Chars (counted c rest)
 unfolding counted
-chars-counted c rest e r s h = after-digits s (chars-begins c rest e r (drop (spanLen isDigit s) s) (and-right _ _ h))
+chars-counted c rest e r s h = after-digits s (chars-begins c rest e r (drop (spanLen isDigit s) s) (and-both _ _ h .1))
 
 chars-optional : (rule : List ℕ → Bool) → Chars rule → Chars (optional rule)
 unfolding optional
@@ -134,7 +128,7 @@ duration-chars s h = chars-or unsigned (begins 45 unsigned) unsigned-chars (char
 no-plus : (v : List ℕ) → isDuration v ≡ true → begins 43 unsigned v ≡ false
 unfolding isDuration unsigned begins _and_
 no-plus [] h = refl
-no-plus (b ∷ s) h = or-cases _ _ h (λ e. rw (eqb-true b 80 (and-left _ _ e))) (λ e. rw (eqb-true b 45 (and-left _ _ e)))
+no-plus (b ∷ s) h = or-cases _ _ h (λ e. rw (eqb-true b 80 (and-both _ _ e .0))) (λ e. rw (eqb-true b 45 (and-both _ _ e .0)))
 
 kept-is-read : (v : List ℕ) → isDuration v ≡ true → durationOf v ≡ some v
 unfolding durationOf pick
@@ -146,7 +140,7 @@ read-is-kept [] v h = keep-accepted isDuration [] v h
 read-is-kept (b ∷ s) v h = go (eqb b 43 and unsigned s) refl h
   where
     go : (t : Bool) → (eqb b 43 and unsigned s) ≡ t → pick t (some s) (keep isDuration (b ∷ s)) ≡ some v → isDuration v ≡ true
-    go true e k = let q : s ≡ v = cc in rw (← q) (or-left _ _ (and-right _ _ e))
+    go true e k = let q : s ≡ v = cc in rw (← q) (or-left _ _ (and-both _ _ e .1))
     go false e k = keep-accepted isDuration (b ∷ s) v k
 
 pub duration-read-back : (f : Format) (v : List ℕ) → isDuration v ≡ true → readDuration f (writeDuration f v) ≡ some v

@@ -8,11 +8,10 @@ use Prim.Native.Nat.{ℕ, _+_, _/_, _%_, _≤_, _<_}
 use native.Mathlib.Omega.{arith}
 use borrow.Author.Tests.{le-leb}
 use Rattle.octets.specs.Pick.{pick, _and_, within}
+use Rattle.octets.specs.Scan.{allOf, all-cons}
 use Rattle.octets.specs.Append.{_⊕_}
-use Rattle.octets.specs.Scan.{allOf}
 use Rattle.octets.specs.Class.{isDigit}
 use Rattle.octets.specs.Decimal.{value, is-digit, digit-of}
-use Rattle.times.specs.Extra.{all-cons}
 use Rattle.times.specs.Date.{daysInMonth, isDay, isDate}
 
 unfoldable pub twoDigits : ℕ → List ℕ

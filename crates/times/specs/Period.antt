@@ -7,19 +7,19 @@ use mathlib.Core.Path.{_≡_, refl, sym, ap, _∙_}
 use mathlib.Core.Bool.{Bool, true, false, false≢true}
 use mathlib.Core.List.{List, [], _∷_, _++_}
 use mathlib.Core.Option.{Option, some}
-use Prim.Native.Nat.{ℕ, suc}
+use Prim.Native.Nat.{ℕ}
 use lib.Dec.{eqb}
 use lib.ListN.{length, take, drop}
 use lib.Seq.{take-append-seam, drop-append-seam}
 use borrow.Author.Tests.{eqb-true, ne-eqb}
-use Rattle.octets.specs.Pick.{pick, _and_, _or_, or-left}
+use Rattle.octets.specs.Pick.{pick, _and_, _or_, or-left, and-both, or-cases}
+use Rattle.octets.specs.Scan.{allOf, spanLen, all-append, all-cons, all-split, all-weaker}
 use Rattle.octets.specs.Append.{_⊕_}
-use Rattle.octets.specs.Scan.{allOf, spanLen}
 use Rattle.octets.specs.Class.{isDigit, isVisible, upper}
-use Rattle.octets.specs.Words.{holds}
-use Rattle.octets.specs.Reading.{andThen}
+use Rattle.octets.specs.Words.{holds, all-without}
+use Rattle.octets.specs.Runs.{span-front, stops-at}
+use Rattle.octets.specs.Reading.{andThen, andThen-some}
 use Rattle.model.specs.Calendar.{ical, Value, periodExplicit, periodStart}
-use Rattle.times.specs.Extra.{and-left, and-right, or-cases, all-head, all-tail, all-cons, all-join, all-holds, all-weaken, then-some}
 use Rattle.times.specs.Spelling.{isTimeChar, begins, chars-upper, char-visible}
 use Rattle.times.specs.Date.{isDate}
 use Rattle.times.specs.DateTime.{isDateTime, readDateTime, writeDateTime, date-time-chars, date-time-read-back, date-time-accepted}
@@ -57,9 +57,8 @@ unfolding isNoSlash isTimeChar pick _or_ _and_
 char-no-slash b h = rw (ne-eqb b 47 (λ e. false≢true (ap isTimeChar (sym e) ∙ h)))
 
 slash-found : (a b : List ℕ) → allOf isTimeChar a ≡ true → slashAt (a ++ (47 ∷ b)) ≡ length a
-unfolding spanLen isNoSlash pick
-slash-found [] b h = refl
-slash-found (x ∷ a) b h = rw (char-no-slash x (all-head isTimeChar x a h)) (ap suc (slash-found a b (all-tail isTimeChar x a h)))
+unfolding isNoSlash pick
+slash-found a b h = span-front isNoSlash a (47 ∷ b) (all-weaker isTimeChar isNoSlash char-no-slash a h) (stops-at isNoSlash 47 b refl)
 
 date-time-read : (v : List ℕ) → isDateTime v ≡ true → readDateTime ical v ≡ some v
 unfolding writeDateTime
@@ -78,11 +77,11 @@ cut-at-slash start end h =
 -- a date-time begins with a digit, a duration does not
 date-time-first : (b : ℕ) (s : List ℕ) → isDateTime (b ∷ s) ≡ true → isDigit b ≡ true
 unfolding isDateTime isDate
-date-time-first b s h = all-head isDigit b (take 7 s) (and-left _ _ (and-right _ _ (and-left _ _ h)))
+date-time-first b s h = all-split isDigit b (take 7 s) (and-both _ _ (and-both _ _ (and-both _ _ h .0) .1) .0) .0
 
 duration-first : (b : ℕ) (s : List ℕ) → isDuration (b ∷ s) ≡ true → isDigit b ≡ false
 unfolding isDuration unsigned begins _and_
-duration-first b s h = or-cases _ _ h (λ e. rw (eqb-true b 80 (and-left _ _ e))) (λ e. rw (eqb-true b 45 (and-left _ _ e)))
+duration-first b s h = or-cases _ _ h (λ e. rw (eqb-true b 80 (and-both _ _ e .0))) (λ e. rw (eqb-true b 45 (and-both _ _ e .0)))
 
 not-both : (v : List ℕ) → isDuration v ≡ true → isDateTime v ≡ false
 unfolding isDuration unsigned begins _or_
@@ -107,15 +106,16 @@ pub period-accepted : (P : Value → Type 0) → ((start end : List ℕ) → isD
     (s : List ℕ) (v : Value) → readPeriod s ≡ some v → P v
 unfolding readPeriod periodFrom pick
 period-accepted P explicit started s v h =
-    then-some (readDateTime ical (take (slashAt s) s)) (λ start. periodFrom start (drop 1 (drop (slashAt s) s))) v h
-    (λ start e k. go start (drop 1 (drop (slashAt s) s)) (date-time-accepted ical _ start e) k)
+    let q = andThen-some (readDateTime ical (take (slashAt s) s)) (λ start. periodFrom start (drop 1 (drop (slashAt s) s))) v h in
+    go (q .0) (drop 1 (drop (slashAt s) s)) (date-time-accepted ical _ (q .0) (q .1)) (q .2)
   where
     both : (start r : List ℕ) (t : Bool) → isDateTime (upper r) ≡ t → isDateTime start ≡ true →
         pick t (some (periodExplicit start (upper r))) (andThen (readDuration ical r) (λ d. some (periodStart start d))) ≡ some v → P v
     both start r true e h k = let q : periodExplicit start (upper r) ≡ v = cc in rw (← q) (explicit start (upper r) h e)
     both start r false e h k =
-        then-some (readDuration ical r) (λ d. some (periodStart start d)) v k
-        (λ d e k. let q : periodStart start d ≡ v = cc in rw (← q) (started start d h (duration-accepted ical r d e)))
+        let p = andThen-some (readDuration ical r) (λ d. some (periodStart start d)) v k in
+        let q : periodStart start (p .0) ≡ v = cc (p .2) in
+        rw (← q) (started start (p .0) h (duration-accepted ical r (p .0) (p .1)))
 
     go : (start r : List ℕ) → isDateTime start ≡ true → periodFrom start r ≡ some v → P v
     go start r h k = both start r (isDateTime (upper r)) refl h k
@@ -125,16 +125,16 @@ period-accepted P explicit started s v h =
 period-chars : (start end : List ℕ) → allOf isTimeChar start ≡ true → allOf isTimeChar end ≡ true → allOf isPeriodChar (writePeriod start end) ≡ true
 unfolding writePeriod isPeriodChar isTimeChar _or_ _and_
 period-chars start end h k =
-    all-join isPeriodChar start (47 ∷ end) (all-weaken isTimeChar isPeriodChar (λ b e. or-left _ _ e) start h)
-    (all-cons isPeriodChar 47 end refl (all-weaken isTimeChar isPeriodChar (λ b e. or-left _ _ e) end k))
+    all-append isPeriodChar start (47 ∷ end) (all-weaker isTimeChar isPeriodChar (λ b e. or-left _ _ e) start h)
+    (all-cons isPeriodChar 47 end refl (all-weaker isTimeChar isPeriodChar (λ b e. or-left _ _ e) end k))
 
 period-visible : (s : List ℕ) → allOf isPeriodChar s ≡ true → allOf isVisible s ≡ true
 unfolding isPeriodChar _and_
-period-visible s h = all-weaken isPeriodChar isVisible (λ b e. or-cases (isTimeChar b) (eqb b 47) e (λ c. char-visible b c) (λ c. rw (eqb-true b 47 c))) s h
+period-visible s h = all-weaker isPeriodChar isVisible (λ b e. or-cases (isTimeChar b) (eqb b 47) e (λ c. char-visible b c) (λ c. rw (eqb-true b 47 c))) s h
 
 period-no-comma : (s : List ℕ) → allOf isPeriodChar s ≡ true → holds 44 s ≡ false
 unfolding isPeriodChar isTimeChar _or_ _and_
-period-no-comma s h = all-holds isPeriodChar 44 refl s h
+period-no-comma s h = all-without isPeriodChar 44 refl s h
 
 module _ (start end : List ℕ) (h : isDateTime start ≡ true) where
   pub period-explicit-visible : isDateTime end ≡ true → allOf isVisible (writePeriod start end) ≡ true

@@ -18,12 +18,12 @@ use native.Mathlib.Omega.{arith}
 use lib.Dec.{eqb, leb}
 use lib.ListN.{length}
 use borrow.Author.Tests.{eq-eqb, eqb-true, leb-true, le-leb, lt-leb}
-use Rattle.octets.specs.Pick.{pick, _and_, _or_, and-yes}
-use Rattle.octets.specs.Scan.{allOf}
+use Rattle.octets.specs.Pick.{pick, _and_, _or_, and-yes, and-both, or-cases}
+use Rattle.octets.specs.Scan.{allOf, all-cons, all-weaker}
 use Rattle.octets.specs.Class.{isDigit, isCapital, isSmall, isVisible, upper}
-use Rattle.octets.specs.Words.{holds, isEmpty}
-use Rattle.octets.specs.Reading.{provided, andThen, consRead}
-use Rattle.times.specs.Extra.{and-left, and-right, or-cases, all-cons, all-weaken, all-holds, all-upper, provided-test, provided-is, then-some, cons-some}
+use Rattle.octets.specs.Letters.{upper-same}
+use Rattle.octets.specs.Words.{holds, isEmpty, all-without}
+use Rattle.octets.specs.Reading.{provided, andThen, consRead, provided-some, andThen-some, consRead-some, none-some}
 
 -- 43 is +, 45 is -
 unfoldable pub isTimeChar : ℕ → Bool
@@ -72,14 +72,14 @@ fits (m ∷ ms) n = leb (m .place) n and fits ms (suc n)
 
 char-least : (b : ℕ) → isTimeChar b ≡ true → 43 ≤ b
 unfolding isTimeChar
-char-least b h = or-cases _ _ h (λ d. omega (arith, leb-true 48 b (and-left _ _ d)))
-    (λ h. or-cases _ _ h (λ c. omega (arith, leb-true 65 b (and-left _ _ c)))
+char-least b h = or-cases _ _ h (λ d. omega (arith, leb-true 48 b (and-both _ _ d .0)))
+    (λ h. or-cases _ _ h (λ c. omega (arith, leb-true 65 b (and-both _ _ c .0)))
     (λ h. or-cases _ _ h (λ e. omega (arith, eqb-true b 43 e)) (λ e. omega (arith, eqb-true b 45 e))))
 
 char-most : (b : ℕ) → isTimeChar b ≡ true → b ≤ 90
 unfolding isTimeChar
-char-most b h = or-cases _ _ h (λ d. omega (arith, leb-true b 57 (and-right _ _ d)))
-    (λ h. or-cases _ _ h (λ c. omega (arith, leb-true b 90 (and-right _ _ c)))
+char-most b h = or-cases _ _ h (λ d. omega (arith, leb-true b 57 (and-both _ _ d .1)))
+    (λ h. or-cases _ _ h (λ c. omega (arith, leb-true b 90 (and-both _ _ c .1)))
     (λ h. or-cases _ _ h (λ e. omega (arith, eqb-true b 43 e)) (λ e. omega (arith, eqb-true b 45 e))))
 
 pub char-visible : (b : ℕ) → isTimeChar b ≡ true → isVisible b ≡ true
@@ -99,7 +99,7 @@ abbrev pub Chars : (List ℕ → Bool) → Type 0
 Chars test = (s : List ℕ) → test s ≡ true → allOf isTimeChar s ≡ true
 
 pub chars-digits : Chars (allOf isDigit)
-chars-digits s h = all-weaken isDigit isTimeChar digit-char s h
+chars-digits s h = all-weaker isDigit isTimeChar digit-char s h
 
 pub chars-empty : Chars isEmpty
 unfolding allOf
@@ -109,20 +109,20 @@ chars-empty (b ∷ s) h = absurd (false≢true h)
 pub chars-begins : (c : ℕ) (rest : List ℕ → Bool) → isTimeChar c ≡ true → Chars rest → Chars (begins c rest)
 unfolding begins
 chars-begins c rest e r [] h = absurd (false≢true h)
-chars-begins c rest e r (b ∷ s) h = all-cons isTimeChar b s (rw (eqb-true b c (and-left _ _ h)) e) (r s (and-right _ _ h))
+chars-begins c rest e r (b ∷ s) h = all-cons isTimeChar b s (rw (eqb-true b c (and-both _ _ h .0)) e) (r s (and-both _ _ h .1))
 
 pub chars-or : (p q : List ℕ → Bool) → Chars p → Chars q → Chars (λ s. p s or q s)
 chars-or p q f g s h = or-cases (p s) (q s) h (λ e. f s e) (λ e. g s e)
 
 -- what follows for such a spelling
 pub chars-visible : (s : List ℕ) → allOf isTimeChar s ≡ true → allOf isVisible s ≡ true
-chars-visible s h = all-weaken isTimeChar isVisible char-visible s h
+chars-visible s h = all-weaker isTimeChar isVisible char-visible s h
 
 pub chars-upper : (s : List ℕ) → allOf isTimeChar s ≡ true → upper s ≡ s
-chars-upper s h = all-upper isTimeChar char-not-small s h
+chars-upper s h = upper-same isTimeChar char-not-small s h
 
 pub chars-without : (c : ℕ) → isTimeChar c ≡ false → (s : List ℕ) → allOf isTimeChar s ≡ true → holds c s ≡ false
-chars-without c e s h = all-holds isTimeChar c e s h
+chars-without c e s h = all-without isTimeChar c e s h
 
 pub chars-no-comma : (s : List ℕ) → allOf isTimeChar s ≡ true → holds 44 s ≡ false
 unfolding isTimeChar _or_ _and_
@@ -140,14 +140,14 @@ keep-yes test v h = rw h
 
 pub keep-is : (test : List ℕ → Bool) (s v : List ℕ) → keep test s ≡ some v → s ≡ v
 unfolding keep
-keep-is test s v h = provided-is (test s) s v h
+keep-is test s v h = provided-some (test s) s v h .1
 
 pub keep-accepted : (test : List ℕ → Bool) (s v : List ℕ) → keep test s ≡ some v → test v ≡ true
 unfolding keep
-keep-accepted test s v h = let e : s ≡ v = provided-is (test s) s v h in rw (← e) (provided-test (test s) s v h)
+keep-accepted test s v h = let p = provided-some (test s) s v h in rw (← (p .1)) (p .0)
 
 pub marked-accepted : (test : List ℕ → Bool) (o : Option (List ℕ)) (v : List ℕ) → andThen o (keep test) ≡ some v → test v ≡ true
-marked-accepted test o v h = then-some o (keep test) v h (λ a e k. keep-accepted test a v k)
+marked-accepted test o v h = let q = andThen-some o (keep test) v h in keep-accepted test (q .0) v (q .2)
 
 -- ---- marks that are put in are taken out, and only those
 
@@ -171,35 +171,35 @@ take-put (suc n) c (b ∷ s) h = rw (take-put n c s (omega arith))
 
 take-exact : (n c : ℕ) (s v : List ℕ) → takeMark n c s ≡ some v → s ≡ putMark n c v
 unfolding takeMark putMark
-take-exact zero c [] v h = let z : _≡_ {A = ℕ} 0 1 = cc in absurd (omega arith)
+take-exact zero c [] v h = none-some h
 take-exact zero c (b ∷ s) v h =
-    let p : b ≡ c = eqb-true b c (provided-test _ s v h) in
-    let q : s ≡ v = provided-is _ s v h in
-    cc
-take-exact (suc n) c [] v h = let z : _≡_ {A = ℕ} 0 1 = cc in absurd (omega arith)
+    let p = provided-some (eqb b c) s v h in
+    let q : b ≡ c = eqb-true b c (p .0) in
+    cc (p .1, q)
+take-exact (suc n) c [] v h = none-some h
 take-exact (suc n) c (b ∷ s) v h =
-    cons-some b (takeMark n c s) v h (λ l e k. rw (← k) (ap (λ (r : List ℕ). b ∷ r) (take-exact n c s l e)))
+    let q = consRead-some b (takeMark n c s) v h in rw (← (q .2)) (ap (λ (r : List ℕ). b ∷ r) (take-exact n c s (q .0) (q .1)))
 
 pub marks-taken-out : (ms : List Mark) (s : List ℕ) → fits ms (length s) ≡ true → withoutMarks ms (withMarks ms s) ≡ some s
 unfolding withMarks withoutMarks fits andThen
 marks-taken-out [] s h = refl
 marks-taken-out (m ∷ ms) s h =
-    rw (marks-taken-out ms (putMark (m .place) (m .sign) s) (rw put-length (and-right _ _ h)))
-    (take-put (m .place) (m .sign) s (leb-true _ _ (and-left _ _ h)))
+    rw (marks-taken-out ms (putMark (m .place) (m .sign) s) (rw put-length (and-both _ _ h .1)))
+    (take-put (m .place) (m .sign) s (leb-true _ _ (and-both _ _ h .0)))
 
 pub marks-exact : (ms : List Mark) (s v : List ℕ) → withoutMarks ms s ≡ some v → s ≡ withMarks ms v
 unfolding withMarks withoutMarks
 marks-exact [] s v h = cc
 marks-exact (m ∷ ms) s v h =
-    then-some (withoutMarks ms s) (takeMark (m .place) (m .sign)) v h
-    (λ a e k. marks-exact ms s a e ∙ ap (withMarks ms) (take-exact (m .place) (m .sign) a v k))
+    let q = andThen-some (withoutMarks ms s) (takeMark (m .place) (m .sign)) v h in
+    marks-exact ms s (q .0) (q .1) ∙ ap (withMarks ms) (take-exact (m .place) (m .sign) (q .0) v (q .2))
 
 -- marks fit a longer spelling too
 pub fits-longer : (ms : List Mark) (n k : ℕ) → fits ms n ≡ true → n ≤ k → fits ms k ≡ true
 unfolding fits
 fits-longer [] n k h l = refl
 fits-longer (m ∷ ms) n k h l =
-    and-yes _ _ (le-leb (m .place) k (omega (arith, leb-true (m .place) n (and-left _ _ h)))) (fits-longer ms (suc n) (suc k) (and-right _ _ h) (omega arith))
+    and-yes _ _ (le-leb (m .place) k (omega (arith, leb-true (m .place) n (and-both _ _ h .0)))) (fits-longer ms (suc n) (suc k) (and-both _ _ h .1) (omega arith))
 
 -- reading without marks what was written with them, and only that
 pub marked-read-back : (test : List ℕ → Bool) (ms : List Mark) (v : List ℕ) → test v ≡ true → fits ms (length v) ≡ true → andThen (withoutMarks ms (withMarks ms v)) (keep test) ≡ some v
@@ -207,4 +207,6 @@ unfolding andThen
 marked-read-back test ms v h k = rw (marks-taken-out ms v k) (keep-yes test v h)
 
 pub marked-exact : (test : List ℕ → Bool) (ms : List Mark) (s v : List ℕ) → andThen (withoutMarks ms s) (keep test) ≡ some v → s ≡ withMarks ms v
-marked-exact test ms s v h = then-some (withoutMarks ms s) (keep test) v h (λ a e k. marks-exact ms s a e ∙ ap (withMarks ms) (keep-is test a v k))
+marked-exact test ms s v h =
+    let q = andThen-some (withoutMarks ms s) (keep test) v h in
+    marks-exact ms s (q .0) (q .1) ∙ ap (withMarks ms) (keep-is test (q .0) v (q .2))

@@ -11,15 +11,14 @@ use Prim.Native.Nat.{ℕ, _≤_}
 use lib.Dec.{leb}
 use borrow.Author.Tests.{leb-true}
 use lib.ListN.{length, take, drop}
-use Rattle.octets.specs.Pick.{pick, _and_, _or_}
-use Rattle.octets.specs.Scan.{allOf}
 use Rattle.octets.specs.Ascii.{ascii}
+use Rattle.octets.specs.Pick.{pick, _and_, _or_, and-both, or-cases}
+use Rattle.octets.specs.Scan.{allOf, all-parts}
 use Rattle.octets.specs.Class.{isDigit, isVisible, upper}
 use Rattle.octets.specs.Words.{same, isEmpty, same-true}
 use Rattle.octets.specs.Decimal.{value}
 use Rattle.octets.specs.Reading.{andThen}
 use Rattle.model.specs.Calendar.{Format, ical, xcal}
-use Rattle.times.specs.Extra.{and-left, and-right, or-cases, all-parts}
 use Rattle.times.specs.Spelling.{Mark, mark, withMarks, withoutMarks, keep, fits}
 use Rattle.times.specs.Spelling.{isTimeChar, Chars, chars-digits, chars-empty, chars-visible, chars-upper, keep-yes, keep-accepted, marked-read-back, marked-accepted, marked-exact, fits-longer}
 
@@ -47,11 +46,11 @@ writeTime xcal v = withMarks timeMarks v
 
 pub time-length : (v : List ℕ) → isTime v ≡ true → 6 ≤ length v
 unfolding isTime
-time-length v h = leb-true _ _ (and-left _ _ h)
+time-length v h = leb-true _ _ (and-both _ _ h .0)
 
 pub clock-chars : Chars isClock
 unfolding isClock
-clock-chars v h = chars-digits v (and-left _ _ h)
+clock-chars v h = chars-digits v (and-both _ _ h .0)
 
 z-chars : allOf isTimeChar (ascii "Z") ≡ true
 unfolding isTimeChar allOf pick _or_ _and_
@@ -60,8 +59,8 @@ z-chars = refl
 pub time-chars : Chars isTime
 unfolding isTime
 time-chars v h =
-    all-parts isTimeChar 6 v (clock-chars (take 6 v) (and-left _ _ (and-right _ _ h)))
-    (or-cases (isEmpty (drop 6 v)) (same (drop 6 v) (ascii "Z")) (and-right _ _ (and-right _ _ h)) (λ e. chars-empty (drop 6 v) e)
+    all-parts isTimeChar 6 v (clock-chars (take 6 v) (and-both _ _ (and-both _ _ h .1) .0))
+    (or-cases (isEmpty (drop 6 v)) (same (drop 6 v) (ascii "Z")) (and-both _ _ (and-both _ _ h .1) .1) (λ e. chars-empty (drop 6 v) e)
     (λ e. rw (same-true (drop 6 v) (ascii "Z") e) z-chars))
 
 time-marks-fit : (v : List ℕ) → isTime v ≡ true → fits timeMarks (length v) ≡ true

@@ -12,14 +12,13 @@ use native.Mathlib.Omega.{arith}
 use lib.Dec.{eqb, ltb}
 use borrow.Author.Tests.{eqb-true}
 use lib.ListN.{length}
-use Rattle.octets.specs.Pick.{pick, _and_, _or_}
+use Rattle.octets.specs.Pick.{pick, _and_, _or_, and-both, or-cases}
 use Rattle.octets.specs.Scan.{allOf}
 use Rattle.octets.specs.Class.{isVisible}
 use Rattle.octets.specs.Words.{holds}
 use Rattle.octets.specs.Decimal.{value}
-use Rattle.octets.specs.Reading.{andThen}
+use Rattle.octets.specs.Reading.{andThen, none-some}
 use Rattle.model.specs.Calendar.{Format, ical, xcal}
-use Rattle.times.specs.Extra.{and-left, and-right, or-cases}
 use Rattle.times.specs.Spelling.{Mark, mark, withMarks, withoutMarks, keep, begins, fits}
 use Rattle.times.specs.Spelling.{isTimeChar, Chars, chars-begins, chars-or, chars-visible, chars-no-comma, keep-yes, keep-is, keep-accepted, marked-read-back, marked-accepted, marked-exact, marks-length}
 use Rattle.times.specs.Time.{isClock, clock-chars}
@@ -60,11 +59,11 @@ writeUtcOffset xcal v = withMarks (pick (eqb (length v) 5) minuteMarks secondMar
 
 shift-chars : Chars isShift
 unfolding isShift
-shift-chars s h = clock-chars s (and-right _ _ h)
+shift-chars s h = clock-chars s (and-both _ _ h .1)
 
 some-shift-chars : Chars isSomeShift
 unfolding isSomeShift
-some-shift-chars s h = shift-chars s (and-left _ _ h)
+some-shift-chars s h = shift-chars s (and-both _ _ h .0)
 
 pub utc-offset-chars : Chars isUtcOffset
 unfolding isUtcOffset isTimeChar _or_ _and_
@@ -74,14 +73,14 @@ utc-offset-chars s h =
 -- five characters or seven
 shift-length : {P : Type 0} (s : List ℕ) → isShift s ≡ true → (length s ≡ 4 → P) → (length s ≡ 6 → P) → P
 unfolding isShift
-shift-length s h p q = or-cases _ _ (and-left _ _ h) (λ e. p (eqb-true _ _ e)) (λ e. q (eqb-true _ _ e))
+shift-length s h p q = or-cases _ _ (and-both _ _ h .0) (λ e. p (eqb-true _ _ e)) (λ e. q (eqb-true _ _ e))
 
 pub utc-offset-length : {P : Type 0} (v : List ℕ) → isUtcOffset v ≡ true → (length v ≡ 5 → P) → (length v ≡ 7 → P) → P
 unfolding isUtcOffset begins isSomeShift
 utc-offset-length [] h p q = or-cases false false h (λ e. absurd (false≢true e)) (λ e. absurd (false≢true e))
 utc-offset-length (b ∷ s) h p q =
-    or-cases _ _ h (λ e. shift-length s (and-right _ _ e) (λ l. p (ap suc l)) (λ l. q (ap suc l)))
-    (λ e. shift-length s (and-left _ _ (and-right _ _ e)) (λ l. p (ap suc l)) (λ l. q (ap suc l)))
+    or-cases _ _ h (λ e. shift-length s (and-both _ _ e .1) (λ l. p (ap suc l)) (λ l. q (ap suc l)))
+    (λ e. shift-length s (and-both _ _ (and-both _ _ e .1) .0) (λ l. p (ap suc l)) (λ l. q (ap suc l)))
 
 pub utc-offset-read-back : (f : Format) (v : List ℕ) → isUtcOffset v ≡ true → readUtcOffset f (writeUtcOffset f v) ≡ some v
 unfolding readUtcOffset writeUtcOffset pick fits _and_
@@ -102,7 +101,7 @@ two-lengths {P} s v h p q = go (eqb (length s) 6) (eqb (length s) 9) refl refl h
         pick t (andThen (withoutMarks minuteMarks s) (keep isUtcOffset)) (pick u (andThen (withoutMarks secondMarks s) (keep isUtcOffset)) none) ≡ some v → P
     go true u e d k = p (eqb-true _ _ e) k
     go false true e d k = q (eqb-true _ _ d) k
-    go false false e d k = let z : _≡_ {A = ℕ} 0 1 = cc in absurd (omega arith)
+    go false false e d k = none-some k
 
 pub utc-offset-accepted : (f : Format) (s v : List ℕ) → readUtcOffset f s ≡ some v → isUtcOffset v ≡ true
 unfolding readUtcOffset

@@ -1,11 +1,11 @@
 -- The characters that an input may hold, in UTF-8.
---     Extra    what a joined test says of its parts
 --     Utf8     where a list of bytes holds anything else
+--     Automaton  the check, a byte at a time
 --     Spell    the bytes of a code point
 --     Computing  opens all of these, for examples that compute
 --     Examples   computed
-pub mod Extra
 pub mod Utf8
+pub mod Automaton
 pub mod Spell
 pub mod Computing
 pub mod Examples

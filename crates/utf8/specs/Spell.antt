@@ -11,10 +11,9 @@ use native.Mathlib.Omega.{arith}
 use lib.Dec.{eqb, leb, ltb}
 use lib.ListN.{length}
 use borrow.Author.Tests.{lt-ltb, le-ltb, le-leb, lt-leb, leb-true, eqb-true, ne-eqb, ltb-true, ltb-false}
-use Rattle.octets.specs.Pick.{pick, pick-no, pick-either, within, within-yes, _and_, _or_, and-no-right, or-no, or-left, or-right}
+use Rattle.octets.specs.Pick.{pick, pick-no, pick-either, within, within-yes, _and_, _or_, and-no-right, or-no, or-left, or-right, and-both, or-cases}
 use Rattle.octets.specs.Scan.{allOf}
 use Rattle.octets.specs.Append.{_⊕_, append-none}
-use Rattle.utf8.specs.Extra.{and-true, or-either}
 use Rattle.utf8.specs.Utf8.{isAscii, isTail, more, low, high, highAfter, tails, badFrom, firstBad, ascii-first}
 
 -- the tail byte with the last six bits of n
@@ -108,7 +107,7 @@ unfolding pick _and_
 third-within a b d h t = go (eqb a 0xEF) refl (eqb b 0xBF) refl
   where
     go : (u : Bool) → eqb a 0xEF ≡ u → (v : Bool) → eqb b 0xBF ≡ v → within 0x80 (pick (u and v) 0xBD 0xBF) d ≡ true
-    go true e true f = within-yes 0x80 0xBD d (and-true (leb 0x80 d) (leb d 0xBF) t .0) (le-leb d 0xBD (h (eqb-true a 0xEF e) (eqb-true b 0xBF f)))
+    go true e true f = within-yes 0x80 0xBD d (and-both (leb 0x80 d) (leb d 0xBF) t .0) (le-leb d 0xBD (h (eqb-true a 0xEF e) (eqb-true b 0xBF f)))
     go true e false f = t
     go false e v f = t
 
@@ -165,15 +164,15 @@ spelt-four c l h i s =
 pub spell-first : (c : ℕ) → isCharacter c ≡ true → (i : ℕ) (s : List ℕ) → badFrom 0 i (spell c ⊕ s) ≡ badFrom 0 (i + length (spell c)) s
 unfolding isCharacter
 spell-first c h =
-    or-either (within 0x20 0x7E c) _ h (λ e. let l = bounds 0x20 0x7E e in spelt-one c (omega arith) (or-left _ _ e)) (λ h.
-    or-either (eqb c 9) _ h (λ e. let l = eqb-true c 9 e in spelt-one c (omega arith) (or-right _ _ (or-left _ _ e))) (λ h.
-    or-either (eqb c 10) _ h (λ e. let l = eqb-true c 10 e in spelt-one c (omega arith) (or-right _ _ (or-right _ _ (or-left _ _ e)))) (λ h.
-    or-either (within 0x80 0xD7FF c) _ h (λ e. let l = bounds 0x80 0xD7FF e in short (ltb c 0x800) refl (l .0) (l .1)) (λ h.
-    or-either (within 0xE000 0xFFFD c) _ h (λ e. let l = bounds 0xE000 0xFFFD e in spelt-three c (omega arith) (l .1) (omega arith)) (λ e.
+    or-cases (within 0x20 0x7E c) _ h (λ e. let l = bounds 0x20 0x7E e in spelt-one c (omega arith) (or-left _ _ e)) (λ h.
+    or-cases (eqb c 9) _ h (λ e. let l = eqb-true c 9 e in spelt-one c (omega arith) (or-right _ _ (or-left _ _ e))) (λ h.
+    or-cases (eqb c 10) _ h (λ e. let l = eqb-true c 10 e in spelt-one c (omega arith) (or-right _ _ (or-right _ _ (or-left _ _ e)))) (λ h.
+    or-cases (within 0x80 0xD7FF c) _ h (λ e. let l = bounds 0x80 0xD7FF e in short (ltb c 0x800) refl (l .0) (l .1)) (λ h.
+    or-cases (within 0xE000 0xFFFD c) _ h (λ e. let l = bounds 0xE000 0xFFFD e in spelt-three c (omega arith) (l .1) (omega arith)) (λ e.
     let l = bounds 0x10000 0x10FFFF e in spelt-four c (l .0) (l .1))))))
   where
     bounds : (lo hi : ℕ) → within lo hi c ≡ true → (lo ≤ c) × (c ≤ hi)
-    bounds lo hi e = let f = and-true (leb lo c) (leb c hi) e in (leb-true lo c (f .0), leb-true c hi (f .1))
+    bounds lo hi e = let f = and-both (leb lo c) (leb c hi) e in (leb-true lo c (f .0), leb-true c hi (f .1))
 
     short : (t : Bool) → ltb c 0x800 ≡ t → 0x80 ≤ c → c ≤ 0xD7FF → First c
     short true e l h = spelt-two c l (ltb-true c 0x800 e)

@@ -13,12 +13,11 @@ use native.Mathlib.Omega.{arith}
 use lib.Dec.{eqb, leb}
 use lib.ListN.{length}
 use borrow.Author.Tests.{le-leb, leb-true}
-use Rattle.octets.specs.Pick.{pick, within, within-yes, or-left, pick-either, _and_, _or_}
+use Rattle.octets.specs.Pick.{pick, within, within-yes, or-left, pick-either, _and_, _or_, and-both}
 use Rattle.octets.specs.Scan.{allOf}
 use Rattle.octets.specs.Append.{_⊕_}
 use Rattle.octets.specs.Class.{isVisible}
 use Rattle.octets.specs.Reading.{isRead}
-use Rattle.utf8.specs.Extra.{and-true}
 
 -- a character of one byte that is allowed: TAB, LF, CR, and from the space to the tilde
 abbrev pub isAscii : ℕ → Bool
@@ -121,7 +120,7 @@ unfolding tails _⊕_ _and_
 tails-append a b zero lo hi l h = (omega arith, refl)
 tails-append [] b (suc n) lo hi l h = absurd (false≢true h)
 tails-append (x ∷ a) b (suc n) lo hi l h =
-    let e = and-true (within lo hi x) (tails n 0x80 (highAfter l x) false a) h in
+    let e = and-both (within lo hi x) (tails n 0x80 (highAfter l x) false a) h in
     let ih = tails-append a b n 0x80 (highAfter l x) false (e .1) in
     (omega (arith, ih .0), rw (e .0) (ih .1))
 
@@ -136,7 +135,7 @@ from-append (x ∷ a) b zero i l h = go (isSequence x a) refl h (λ l h. from-ap
         (more x ≤ length a → badFrom (more x) (i + 1) a ≡ none → badFrom (more x) (i + 1) (a ⊕ b) ≡ badFrom 0 (i + suc (length a)) b) →
         badFrom 0 i ((x ∷ a) ⊕ b) ≡ badFrom 0 (i + suc (length a)) b
     go true e h ih =
-        let s = and-true (leb (more x) 3) (tails (more x) (low x) (high x) (eqb x 0xEF) a) e in
+        let s = and-both (leb (more x) 3) (tails (more x) (low x) (high x) (eqb x 0xEF) a) e in
         let t = tails-append a b (more x) (low x) (high x) (eqb x 0xEF) (s .1) in
         rw (s .0, t .1) (ih (t .0) h)
     go false e h ih = absurd (let z : _≡_ {A = ℕ} 0 1 = cc in omega arith)
@@ -159,13 +158,13 @@ unfolding tails tailAt _⊕_ _and_
 tails-split a b zero lo hi l p q t h = refl
 tails-split [] [] (suc n) lo hi l p q t h = h
 tails-split [] (y ∷ b) (suc n) lo hi l p q t h =
-    let e = and-true (within lo hi y) (tails n 0x80 (highAfter l y) false b) h .0 in
-    let f = and-true (leb lo y) (leb y hi) e in
+    let e = and-both (within lo hi y) (tails n 0x80 (highAfter l y) false b) h .0 in
+    let f = and-both (leb lo y) (leb y hi) e in
     let g = leb-true lo y (f .0) in
     let k = leb-true y hi (f .1) in
     absurd (false≢true (sym t ∙ within-yes 0x80 0xBF y (le-leb 0x80 y (omega arith)) (le-leb y 0xBF (omega arith))))
 tails-split (x ∷ a) b (suc n) lo hi l p q t h =
-    let e = and-true (within lo hi x) (tails n 0x80 (highAfter l x) false (a ⊕ b)) h in
+    let e = and-both (within lo hi x) (tails n 0x80 (highAfter l x) false (a ⊕ b)) h in
     let m : highAfter l x ≤ 0xBF = pick-either (λ k. k ≤ 0xBF) _ _ _ (omega arith) (omega arith) in
     rw (e .0) (tails-split a b n 0x80 (highAfter l x) false (omega arith) m t (e .1))
 
@@ -178,7 +177,7 @@ from-split (x ∷ a) b zero i l t h = go (isSequence x (a ⊕ b)) refl h (λ l h
     go : (u : Bool) → isSequence x (a ⊕ b) ≡ u → pick u (badFrom (more x) (i + 1) (a ⊕ b)) (some i) ≡ none →
         (more x ≤ length a → badFrom (more x) (i + 1) (a ⊕ b) ≡ none → badFrom (more x) (i + 1) a ≡ none) → badFrom 0 i (x ∷ a) ≡ none
     go true e h ih =
-        let s = and-true (leb (more x) 3) (tails (more x) (low x) (high x) (eqb x 0xEF) (a ⊕ b)) e in
+        let s = and-both (leb (more x) 3) (tails (more x) (low x) (high x) (eqb x 0xEF) (a ⊕ b)) e in
         let t = tails-split a b (more x) (low x) (high x) (eqb x 0xEF) (low-least x) (high-most x) t (s .1) in
         rw (s .0, t) (ih (tails-append a b (more x) (low x) (high x) (eqb x 0xEF) t .0) h)
     go false e h ih = absurd (let z : _≡_ {A = ℕ} 0 1 = cc in omega arith)
@@ -210,6 +209,6 @@ visible-good s h = all-good s 0 isVisible wide h
   where
     wide : (b : ℕ) → isVisible b ≡ true → isAscii b ≡ true
     wide b h =
-        let e = and-true (leb 33 b) (leb b 126) h in
+        let e = and-both (leb 33 b) (leb b 126) h in
         let l = leb-true 33 b (e .0) in
         or-left _ _ (within-yes 0x20 0x7E b (le-leb 0x20 b (omega arith)) (e .1))

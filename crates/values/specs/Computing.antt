@@ -5,9 +5,11 @@ use Rattle.times.specs.Computing.{times-compute}
 use Rattle.numbers.specs.Computing.{numbers-compute}
 use Rattle.texts.specs.Computing.{texts-compute}
 use Rattle.recur.specs.Computing.{recur-compute}
+use Rattle.schema.specs.Computing.{schema-compute}
 use Rattle.values.specs.ReadValue.{readValue}
 use Rattle.values.specs.WriteValue.{writeValue, writeValues, characters}
+use Rattle.values.specs.Valid.{isParameter, areValuesOf, areParameters, isProperty}
 
 unfoldable pub values-compute : ℕ
-unfolding octets-compute times-compute numbers-compute texts-compute recur-compute readValue writeValue writeValues characters
+unfolding octets-compute schema-compute times-compute numbers-compute texts-compute recur-compute readValue writeValue writeValues characters isParameter areValuesOf areParameters isProperty
 values-compute = 0

@@ -1,7 +1,13 @@
 -- A value of any type.
 --     ReadValue    read from iCalendar text and from XML character data
 --     WriteValue   written to iCalendar text and as XML character data
+--     ReadBack     what a kept value is; what is written is read back
+--     Valid        what a parameter and a property of a calendar are
+--     Characters   the characters that values are written in
 --     Computing    opens all of these, for examples that compute
 pub mod ReadValue
 pub mod WriteValue
+pub mod ReadBack
+pub mod Valid
+pub mod Characters
 pub mod Computing

@@ -10,11 +10,10 @@ use native.Mathlib.Omega.{arith}
 use lib.ListN.{length}
 use borrow.Author.Tests.{lt-ltb}
 use Rattle.octets.specs.Ascii.{ascii}
-use Rattle.octets.specs.Pick.{pick, _and_, _or_}
+use Rattle.octets.specs.Pick.{pick, _and_, _or_, and-both}
 use Rattle.octets.specs.Append.{_⊕_}
 use Rattle.octets.specs.Words.{same, same-self}
 use Rattle.model.specs.Refusal.{fine}
-use Rattle.xml.specs.Extra.{and-left, and-right}
 use Rattle.xml.specs.Marks.{Mark, opens, closes, char, refers, marks, documentMarks}
 use Rattle.xml.specs.WellFormed.{hasRoom, closesTop, move, followed, check, xmlVerdict}
 use Rattle.xml.specs.Nodes.{noNodes, element, endPlaceBy, endPlace, nodesBy, nodes, rootBy, rootNode, documentNodes}
@@ -89,17 +88,17 @@ unfolding isWritable
 check-content nothing d p ms e top st h l = ap (λ (m : List Mark). check m e true (top ∷ st)) (no-marks p ms)
 check-content (child nm inner next) zero p ms e top st h l = absurd (false≢true h)
 check-content (child nm inner next) (suc d) p ms e top st h l =
-    let both : (isWritable inner d and isWritable next (suc d)) ≡ true = and-right (isName nm) _ h in
+    let both : (isWritable inner d and isWritable next (suc d)) ≡ true = and-both (isName nm) _ h .1 in
     let after : List Mark = closes (endTagPlace nm inner p) nm ∷ (contentMarks next (nextPlace nm inner p) ⊕ ms) in
     ap (λ (m : List Mark). check m e true (top ∷ st)) (element-marks nm inner next p ms)
     ∙ check-opens p nm (contentMarks inner (innerPlace nm p) ⊕ after) e top st (omega arith)
-    ∙ check-content inner d (innerPlace nm p) after e nm (top ∷ st) (and-left _ (isWritable next (suc d)) both) (omega arith)
+    ∙ check-content inner d (innerPlace nm p) after e nm (top ∷ st) (and-both _ (isWritable next (suc d)) both .0) (omega arith)
     ∙ check-closes (endTagPlace nm inner p) nm _ e (top ∷ st)
-    ∙ check-content next (suc d) (nextPlace nm inner p) ms e top st (and-right (isWritable inner d) _ both) l
+    ∙ check-content next (suc d) (nextPlace nm inner p) ms e top st (and-both (isWritable inner d) _ both .1) l
 check-content (characters s next) d p ms e top st h l =
     ap (λ (m : List Mark). check m e true (top ∷ st)) (characters-marks s next p ms)
     ∙ check-characters s p _ e top st
-    ∙ check-content next d (p + length (escaped s)) ms e top st (and-right _ (isWritable next d) h) l
+    ∙ check-content next d (p + length (escaped s)) ms e top st (and-both _ (isWritable next d) h .1) l
 
 pub document-well-formed : (c : Content) → isWritable c 15 ≡ true → xmlVerdict (documentOf (written c)) ≡ fine
 unfolding xmlVerdict check move hasRoom followed closesTop pick _and_ _or_ same

@@ -6,7 +6,6 @@
 --     WellFormed    whether a document is within the profile, and where it is not
 --     Nodes         the content of a document as a tree
 --     Escape        writing: character data, tags, elements, the document
---     Extra         facts of bytes and tests
 --     Reads         tags and character data that are written are read back as marks
 --     Content       the content of an element as it is written
 --     ReadBack      content that is written is read back as nodes
@@ -20,7 +19,6 @@ pub mod Marks
 pub mod WellFormed
 pub mod Nodes
 pub mod Escape
-pub mod Extra
 pub mod Reads
 pub mod Content
 pub mod ReadBack

@@ -10,10 +10,9 @@ use Prim.Native.Nat.{ℕ, zero, suc, _+_}
 use native.Mathlib.Omega.{arith}
 use lib.ListN.{length}
 use borrow.Author.Tests.{not-true}
-use Rattle.octets.specs.Pick.{pick, _and_}
+use Rattle.octets.specs.Pick.{pick, _and_, and-both}
 use Rattle.octets.specs.Append.{_⊕_, append-empty, append-regroup, append-none, length-both}
 use Rattle.octets.specs.Words.{holds}
-use Rattle.xml.specs.Extra.{and-left, and-right}
 use Rattle.xml.specs.Marks.{Mark, opens, closes, char, refers, marks}
 use Rattle.xml.specs.Nodes.{Nodes, noNodes, element, literal, referred, endPlaceBy, endPlace, nodesBy, nodes, charactersOf, hasElement}
 use Rattle.xml.specs.Escape.{escapedByte, escaped, startTag, endTag, elementOf}
@@ -43,21 +42,21 @@ unfolding written isWritable contentMarks
 content-marks nothing d r p h f = ap (marks p) (append-empty r) ∙ ap (λ (q : ℕ). marks q r) (omega arith) ∙ sym (append-empty (marks (p + 0) r))
 content-marks (child nm inner next) zero r p h f = absurd (false≢true h)
 content-marks (child nm inner next) (suc d) r p h f =
-    let named : isName nm ≡ true = and-left (isName nm) _ h in
-    let both : (isWritable inner d and isWritable next (suc d)) ≡ true = and-right (isName nm) _ h in
+    let named : isName nm ≡ true = and-both (isName nm) _ h .0 in
+    let both : (isWritable inner d and isWritable next (suc d)) ≡ true = and-both (isName nm) _ h .1 in
     ap (marks p) (element-front nm (written inner) (written next) r)
     ∙ marks-start nm (written inner ⊕ (endTag nm ⊕ (written next ⊕ r))) p named
     ∙ ap (λ (ms : List Mark). opens p nm ∷ ms)
-    (content-marks inner d (endTag nm ⊕ (written next ⊕ r)) (innerPlace nm p) (and-left _ (isWritable next (suc d)) both) (follows-end nm (written next ⊕ r))
+    (content-marks inner d (endTag nm ⊕ (written next ⊕ r)) (innerPlace nm p) (and-both _ (isWritable next (suc d)) both .0) (follows-end nm (written next ⊕ r))
     ∙ ap (λ (ms : List Mark). contentMarks inner (innerPlace nm p) ⊕ ms)
     (marks-end nm (written next ⊕ r) (endTagPlace nm inner p) named
-    ∙ ap (λ (ms : List Mark). closes (endTagPlace nm inner p) nm ∷ ms) (content-marks next (suc d) r (nextPlace nm inner p) (and-right (isWritable inner d) _ both) f)))
+    ∙ ap (λ (ms : List Mark). closes (endTagPlace nm inner p) nm ∷ ms) (content-marks next (suc d) r (nextPlace nm inner p) (and-both (isWritable inner d) _ both .1) f)))
     ∙ marks-regroup _ _ _ _ _
     ∙ ap (λ (q : ℕ). contentMarks (child nm inner next) p ⊕ marks q r) (element-length nm (written inner) (written next) p)
 content-marks (characters s next) d r p h f =
     ap (marks p) (append-regroup (escaped s) (written next) r)
-    ∙ marks-characters s (written next ⊕ r) p (not-true (holds 13 s) (and-left _ (isWritable next d) h)) (follows-content next r f)
-    ∙ ap (λ (ms : List Mark). characterMarks s p ⊕ ms) (content-marks next d r (p + length (escaped s)) (and-right (not (holds 13 s)) _ h) f)
+    ∙ marks-characters s (written next ⊕ r) p (not-true (holds 13 s) (and-both _ (isWritable next d) h .0)) (follows-content next r f)
+    ∙ ap (λ (ms : List Mark). characterMarks s p ⊕ ms) (content-marks next d r (p + length (escaped s)) (and-both (not (holds 13 s)) _ h .1) f)
     ∙ sym (append-regroup (characterMarks s p) _ _)
     ∙ ap (λ (q : ℕ). contentMarks (characters s next) p ⊕ marks q r) (omega (arith, length-both (escaped s) (written next)))
 

@@ -13,16 +13,16 @@ use native.Mathlib.Omega.{arith}
 use lib.Dec.{eqb}
 use lib.ListN.{length, length-append}
 use lib.Seq.{take-append-seam, drop-append-seam}
-use borrow.Author.Tests.{ne-eqb, eqb-true, eqb-false}
+use borrow.Author.Tests.{ne-eqb, eqb-true}
 use Rattle.octets.specs.Ascii.{ascii}
-use Rattle.octets.specs.Pick.{pick, _and_, _or_}
+use Rattle.octets.specs.Pick.{pick, _and_, _or_, and-both, and-no-right, eqb-swap}
 use Rattle.octets.specs.Scan.{spanLen, allOf}
 use Rattle.octets.specs.Append.{_⊕_}
 use Rattle.octets.specs.Class.{isAlpha, isNameChar}
 use Rattle.octets.specs.Words.{starts, holds}
+use Rattle.octets.specs.Runs.{span-front, stops-at}
 use Rattle.octets.specs.Reading.{andThen}
 use Rattle.utf8.specs.Spell.{spell}
-use Rattle.xml.specs.Extra.{and-left, and-right, span-word}
 use Rattle.xml.specs.Pieces.{from, first, exactly, S?, Name, nameOf, both, _then_}
 use Rattle.xml.specs.Token.{Token, STag, ETag, CharByte, Reference, Fault, startBy, endBy, tag, reference, literalByte, token}
 use Rattle.xml.specs.Marks.{Mark, opens, closes, char, refers, marksBy, scan, marks}
@@ -46,11 +46,11 @@ scan-skip (x ∷ a) r p = scan-skip a r (p + 1) ∙ ap (λ (q : ℕ). scan r q 0
 module _ (a : ℕ) (w r : List ℕ) (h : isName (a ∷ w) ≡ true) where
   alpha : isAlpha a ≡ true
   unfolding isName
-  alpha = and-left (isAlpha a) (allOf isNameChar (a ∷ w)) h
+  alpha = and-both (isAlpha a) (allOf isNameChar (a ∷ w)) h .0
 
   named : spanLen isNameChar ((a ∷ w) ++ (62 ∷ r)) ≡ suc (length w)
   unfolding isName _or_ _and_
-  named = span-word isNameChar (a ∷ w) 62 r (and-right (isAlpha a) (allOf isNameChar (a ∷ w)) h) refl
+  named = span-front isNameChar (a ∷ w) (62 ∷ r) (and-both (isAlpha a) (allOf isNameChar (a ∷ w)) h .1) (stops-at isNameChar 62 r refl)
 
   name-read : Name ((a ∷ w) ++ (62 ∷ r)) ≡ some (suc (length w))
   unfolding Name first pick
@@ -184,11 +184,7 @@ front-cases P b r f g = go (eqb b 38) (eqb b 60) (eqb b 62) g
 
 follows-byte : (b : ℕ) (r : List ℕ) → Follows r → Follows (escapedByte b ⊕ r)
 unfolding starts _and_
-follows-byte b r h = record { no-greater = front-cases (λ s. starts (ascii ">") s ≡ false) b r (λ x. refl) (λ e. rw (ne-eqb 62 b (λ q. eqb-false b 62 e (sym q)))); no-bracket = front-cases (λ s. starts (ascii "]>") s ≡ false) b r (λ x. refl) (λ e. rw (h .no-greater) (none (eqb 93 b))) }
-  where
-    none : (t : Bool) → (t and false) ≡ false
-    none true = refl
-    none false = refl
+follows-byte b r h = record { no-greater = front-cases (λ s. starts (ascii ">") s ≡ false) b r (λ x. refl) (λ e. rw (eqb-swap b 62 e)); no-bracket = front-cases (λ s. starts (ascii "]>") s ≡ false) b r (λ x. refl) (λ e. rw (h .no-greater) (and-no-right (eqb 93 b) false refl)) }
 
 pub follows-characters : (s r : List ℕ) → Follows r → Follows (escaped s ⊕ r)
 unfolding escaped _⊕_
@@ -214,7 +210,7 @@ marks-characters (b ∷ s) r p h f = go (eqb 13 b) refl h (marks-characters s r 
     go true e k ih = absurd (false≢true (sym k))
     go false e k ih =
         ap (marks p) (append-assoc (escapedByte b) (escaped s) r)
-        ∙ character-read (escaped s ++ r) p b (ne-eqb b 13 (λ q. eqb-false 13 b e (sym q))) (follows-characters s r f .no-bracket)
+        ∙ character-read (escaped s ++ r) p b (eqb-swap 13 b e) (follows-characters s r f .no-bracket)
         ∙ ap (λ (ms : List Mark). characterMark p b ∷ ms)
         (ih k f ∙ ap (λ (q : ℕ). characterMarks s (p + length (escapedByte b)) ++ marks q r) (omega (arith, length-append (escapedByte b) (escaped s))))
 

@@ -1,1 +1,7 @@
-// The XML profile: tokens, well-formedness, the tree of a document, writing. Definitions and their laws are in specs/.
+// The XML profile: definitions and laws are in specs/. Here: writing character data and tags.
+mod markup;
+
+pub use markup::put_end_tag;
+pub use markup::put_escaped;
+pub use markup::put_escaped_byte;
+pub use markup::put_start_tag;

@@ -1,0 +1,30 @@
+-- `names::put_cased` meets its contract.
+use native.Mathlib.Omega.{arith}
+use Rattle.names.specs.Case.{cased-small}
+use Rattle.source.specs.Facts.{byte-small}
+use Prim.Native.Nat.{_*_, _-_}
+use lib.ListN.{length}
+use Rattle.names.specs.Runs.{Copying, copying, copying-more}
+use Rattle.names.proofs.put_cased.Statement.{statement}
+use Rattle.names.proofs.put_cased.Tie as tie
+
+abbrev Inv-loop : tie.InvT-loop
+Inv-loop out₀ o k mode s at p₀ c₀ out p c = Copying k mode s at out₀ o out p c
+
+abbrev μ-loop : tie.MeasureT-loop
+μ-loop out₀ o k mode s at p₀ c₀ out p c = 4 * length s - c
+
+pub put-cased-spec : {M : Type 1} → statement M
+put-cased-spec = tie.close (tie.spec
+    Inv-loop
+    μ-loop
+    (λ c. search copying)  -- loop-holds
+    (λ c κs. search copying)  -- unit-requires
+    (λ c. search copying)  -- same-length
+    (λ c. search copying)  -- returns
+    (λ c κs. search copying)  -- cased-unit-requires
+    (λ c. omega (arith, cased-small (c .before .before .before .before .before .before .before .args .k) (c .before .before .before .unit .result .u) (byte-small (c .before .before .before .unit .ensures) (c .before .before .if1 .left))))  -- cast-put
+    (λ c κs. search copying)  -- put-requires
+    (λ c. search copying)  -- loop-less
+    (λ c. copying-more (c .before .before .before .before .before .before .before .loop .inv) (c .before .before .before .before .before .before .unit .ensures) (c .before .before .before .before .before .if1 .left) (c .before .before .before .before .cased-unit .ensures) (c .before .before .put .ensures))  -- loop-again
+    )

@@ -1,0 +1,15 @@
+-- Names and words: compared and written in a given case, and looked up in a table.
+--     Case       a word in a given case, byte by byte
+--     Table      a table of names, the place of a name in it, and the row of a list by that place
+--     Known      what is said of a word, by its place in a list of known words
+--     Matching   the walk over a table
+--     Runs       a run of bytes, and the loops that compare and write a word
+--     Computing  one name that opens all of them
+--     Examples   lookups that compute
+pub mod Case
+pub mod Table
+pub mod Known
+pub mod Matching
+pub mod Runs
+pub mod Computing
+pub mod Examples

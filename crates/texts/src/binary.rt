@@ -1,0 +1,145 @@
+// BINARY. See specs/Binary.antt.
+use crate::Kept;
+use octets::is_alpha;
+use octets::is_capital;
+use octets::is_digit;
+use octets::is_small;
+use octets::is_space;
+use source::unit;
+ghost use mathlib.Core.Path.{_≡_};
+ghost use Prim.Native.Nat.{_≤_};
+ghost use lib.Dec.{eqb};
+ghost use Rattle.octets.specs.Pick.{_or_, _and_};
+ghost use Rattle.octets.specs.Class.{isSpace};
+ghost use Rattle.model.specs.Calendar.{formatOf};
+ghost use Rattle.source.specs.Source.{rest};
+ghost use Rattle.texts.specs.Kept.{isKept};
+ghost use Rattle.texts.specs.Binary.{isBase64, base64Value, padFits, inGroup, nextPlace, binaryChars, isBinary};
+
+fn is_base64(u: usize) -> bool
+    ensures { λ r. ⌜ r ≡ isBase64 u ⌝ }
+{
+    if is_alpha(u) {
+        return true;
+    }
+    if is_digit(u) {
+        return true;
+    }
+    if u == 43 {
+        return true;
+    }
+    u == 47
+}
+
+// What a character is worth.
+fn worth(u: usize) -> usize
+    ensures { λ r. ⌜ r ≡ base64Value u ⌝ }
+{
+    if is_capital(u) {
+        return u - 65;
+    }
+    if is_small(u) {
+        return u - 71;
+    }
+    if is_digit(u) {
+        return u + 4;
+    }
+    if u == 43 {
+        return 62;
+    }
+    if u == 47 {
+        return 63;
+    }
+    0
+}
+
+// Whether `=` may stand at a place, after the character `last`.
+fn pad_fits(n: usize, last: usize) -> bool
+    ensures { λ r. ⌜ r ≡ padFits n last ⌝ }
+{
+    if n == 4 {
+        return true;
+    }
+    if n == 2 {
+        return worth(last) % 16 == 0;
+    }
+    if n == 3 {
+        return worth(last) % 4 == 0;
+    }
+    false
+}
+
+fn in_group(n: usize, last: usize, u: usize) -> bool
+    ensures { λ r. ⌜ r ≡ inGroup n last u ⌝ }
+{
+    if u == 61 {
+        return pad_fits(n, last);
+    }
+    if is_base64(u) {
+        return n < 4;
+    }
+    false
+}
+
+// The place after a character.
+fn next_place(n: usize, u: usize) -> usize
+    requires { ⌜ n ≤ 5 ⌝ }
+    ensures { λ r. ⌜ r ≡ nextPlace n u ⌝ }
+{
+    if u == 61 {
+        if n == 2 {
+            return 4;
+        }
+        return 5;
+    }
+    if n == 3 {
+        return 0;
+    }
+    n + 1
+}
+
+// Whether a character is passed over: white space, in XML.
+fn is_passed(xcal: bool, u: usize) -> bool
+    ensures { λ r. ⌜ r ≡ (xcal and isSpace u) ⌝ }
+{
+    if xcal {
+        return is_space(u);
+    }
+    false
+}
+
+fn ended(n: usize, at: usize) -> Kept
+    ensures { λ r. ⌜ isKept r ≡ (eqb n 0 or eqb n 5) ⌝ }
+{
+    if n == 0 {
+        return Kept::Chars(at);
+    }
+    if n == 5 {
+        return Kept::Chars(at);
+    }
+    Kept::Bad
+}
+
+pub fn read_binary(xcal: bool, mode: usize, s: &[u8], at: usize) -> Kept
+    ensures { λ r. ⌜ isKept r ≡ isBinary (binaryChars (formatOf xcal) (rest mode (now (s .entry)) at)) ⌝ }
+{
+    let mut n = 0;
+    let mut last = 0;
+    let mut c = at;
+    loop {
+        let t = unit(mode, s, c);
+        let u = t.u;
+        if u == 256 {
+            return ended(n, c);
+        }
+        if is_passed(xcal, u) {
+            c = t.next;
+        } else if in_group(n, last, u) {
+            n = next_place(n, u);
+            last = u;
+            c = t.next;
+        } else {
+            return Kept::Bad;
+        }
+    }
+}

@@ -1,0 +1,112 @@
+// TEXT as iCalendar text writes it, single or between separators. See specs/Text.antt and specs/Unescaped.antt.
+use crate::Kept;
+use source::unit;
+ghost use mathlib.Core.Path.{_≡_};
+ghost use mathlib.Core.Bool.{true, false};
+ghost use Rattle.octets.specs.Pick.{pick};
+ghost use Rattle.octets.specs.Reading.{isRead};
+ghost use Rattle.source.specs.Source.{rest};
+ghost use Rattle.texts.specs.Text.{isBreak, isEscaped, opens, splitText, readText};
+ghost use Rattle.texts.specs.Unescaped.{isNewline, isEscape, inText};
+ghost use Rattle.texts.specs.Kept.{isKept};
+
+// Comma or semicolon.
+pub fn is_break(u: usize) -> bool
+    ensures { λ r. ⌜ r ≡ isBreak u ⌝ }
+{
+    if u == 44 {
+        return true;
+    }
+    u == 59
+}
+
+// A character that is written with a backslash before it.
+pub fn is_escaped(u: usize) -> bool
+    ensures { λ r. ⌜ r ≡ isEscaped u ⌝ }
+{
+    if is_break(u) {
+        return true;
+    }
+    u == 92
+}
+
+fn is_newline(u: usize) -> bool
+    ensures { λ r. ⌜ r ≡ isNewline u ⌝ }
+{
+    if u == 110 {
+        return true;
+    }
+    u == 78
+}
+
+// What may stand after a backslash.
+fn is_escape(u: usize) -> bool
+    ensures { λ r. ⌜ r ≡ isEscape u ⌝ }
+{
+    if is_newline(u) {
+        return true;
+    }
+    is_escaped(u)
+}
+
+fn in_text(after: bool, sep: usize, u: usize) -> bool
+    ensures { λ r. ⌜ r ≡ inText after sep u ⌝ }
+{
+    if after {
+        return is_escape(u);
+    }
+    if u == 92 {
+        return true;
+    }
+    if is_break(u) {
+        return u == sep;
+    }
+    true
+}
+
+// Whether a backslash stands open after a byte.
+pub fn is_opening(after: bool, u: usize) -> bool
+    ensures { λ r. ⌜ r ≡ opens after u ⌝ }
+{
+    if after {
+        return false;
+    }
+    u == 92
+}
+
+// At the end no backslash may stand open.
+fn ended(after: bool, at: usize) -> Kept
+    ensures { λ r. ⌜ isKept r ≡ pick after false true ⌝ }
+{
+    if after {
+        return Kept::Bad;
+    }
+    Kept::Chars(at)
+}
+
+// Texts between bare separators: 44 comma, 59 semicolon, 0 none.
+pub fn read_text(sep: usize, mode: usize, s: &[u8], at: usize) -> Kept
+    ensures { λ r. ⌜ isKept r ≡ isRead (splitText sep (rest mode (now (s .entry)) at)) ⌝ }
+{
+    let mut after = false;
+    let mut c = at;
+    loop {
+        let t = unit(mode, s, c);
+        let u = t.u;
+        if u == 256 {
+            return ended(after, c);
+        }
+        if in_text(after, sep, u) {
+            after = is_opening(after, u);
+            c = t.next;
+        } else {
+            return Kept::Bad;
+        }
+    }
+}
+
+pub fn read_one_text(mode: usize, s: &[u8], at: usize) -> Kept
+    ensures { λ r. ⌜ isKept r ≡ isRead (readText (rest mode (now (s .entry)) at)) ⌝ }
+{
+    read_text(0, mode, s, at)
+}

@@ -1,0 +1,133 @@
+// URI and CAL-ADDRESS. See specs/Uri.antt.
+use crate::Kept;
+use octets::is_alpha;
+use octets::is_digit;
+use octets::is_visible;
+use source::unit;
+ghost use mathlib.Core.Path.{_≡_};
+ghost use mathlib.Core.Bool.{false};
+ghost use lib.Dec.{eqb};
+ghost use Rattle.octets.specs.Pick.{_or_};
+ghost use Rattle.source.specs.Source.{rest};
+ghost use Rattle.texts.specs.Kept.{isKept};
+ghost use Rattle.texts.specs.Uri.{isSchemeChar, isOutside, isUriChar, inUri, uriFrom, isUri};
+
+fn is_scheme_char(u: usize) -> bool
+    ensures { λ r. ⌜ r ≡ isSchemeChar u ⌝ }
+{
+    if is_alpha(u) {
+        return true;
+    }
+    if is_digit(u) {
+        return true;
+    }
+    if u == 43 {
+        return true;
+    }
+    if u == 45 {
+        return true;
+    }
+    u == 46
+}
+
+// `"`, `<`, `>`, `\`, `^`, the grave accent, `{`, `|`, `}`.
+fn is_outside(u: usize) -> bool
+    ensures { λ r. ⌜ r ≡ isOutside u ⌝ }
+{
+    if u == 34 {
+        return true;
+    }
+    if u == 60 {
+        return true;
+    }
+    if u == 62 {
+        return true;
+    }
+    if u == 92 {
+        return true;
+    }
+    if u == 94 {
+        return true;
+    }
+    if u == 96 {
+        return true;
+    }
+    if u == 123 {
+        return true;
+    }
+    if u == 124 {
+        return true;
+    }
+    u == 125
+}
+
+fn is_uri_char(u: usize) -> bool
+    ensures { λ r. ⌜ r ≡ isUriChar u ⌝ }
+{
+    if is_outside(u) {
+        return false;
+    }
+    is_visible(u)
+}
+
+fn in_uri(past: bool, u: usize) -> bool
+    ensures { λ r. ⌜ r ≡ inUri past u ⌝ }
+{
+    if past {
+        return is_uri_char(u);
+    }
+    if u == 58 {
+        return true;
+    }
+    is_scheme_char(u)
+}
+
+fn ended(past: bool, at: usize) -> Kept
+    ensures { λ r. ⌜ isKept r ≡ past ⌝ }
+{
+    if past {
+        return Kept::Chars(at);
+    }
+    Kept::Bad
+}
+
+fn past_colon(past: bool, u: usize) -> bool
+    ensures { λ r. ⌜ r ≡ (past or eqb u 58) ⌝ }
+{
+    if past {
+        return true;
+    }
+    u == 58
+}
+
+// What follows the first letter.
+fn read_after(mode: usize, s: &[u8], from: usize) -> Kept
+    ensures { λ r. ⌜ isKept r ≡ uriFrom false (rest mode (now (s .entry)) from) ⌝ }
+{
+    let mut past = false;
+    let mut c = from;
+    loop {
+        let t = unit(mode, s, c);
+        let u = t.u;
+        if u == 256 {
+            return ended(past, c);
+        }
+        if in_uri(past, u) {
+            past = past_colon(past, u);
+            c = t.next;
+        } else {
+            return Kept::Bad;
+        }
+    }
+}
+
+pub fn read_uri(mode: usize, s: &[u8], at: usize) -> Kept
+    ensures { λ r. ⌜ isKept r ≡ isUri (rest mode (now (s .entry)) at) ⌝ }
+{
+    let t = unit(mode, s, at);
+    let u = t.u;
+    if is_alpha(u) {
+        return read_after(mode, s, t.next);
+    }
+    Kept::Bad
+}

@@ -1,0 +1,16 @@
+-- `times::days_in_month` meets its contract. Assumes nothing.
+use Rattle.octets.specs.Pick.{branching}
+use Rattle.times.specs.Date.{daysInMonth}
+use Rattle.times.proofs.date.days_in_month.Statement.{statement}
+use Rattle.times.proofs.date.days_in_month.Tie as tie
+
+pub days-in-month-spec : {M : Type 1} → statement M
+unfolding daysInMonth
+days-in-month-spec = tie.close (tie.spec
+    (λ c κs. search branching)  -- is-leap-year-requires
+    (λ c. search branching)  -- returns
+    (λ c. search branching)  -- returns-2
+    (λ c κs. search branching)  -- has-thirty-days-requires
+    (λ c. search branching)  -- returns-3
+    (λ c. search branching)  -- returns-4
+    )

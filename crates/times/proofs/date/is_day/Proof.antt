@@ -1,0 +1,15 @@
+-- `times::is_day` meets its contract. Assumes nothing.
+use Rattle.octets.specs.Pick.{branching}
+use Rattle.times.specs.Date.{isDay}
+use Rattle.times.proofs.date.is_day.Statement.{statement}
+use Rattle.times.proofs.date.is_day.Tie as tie
+
+pub is-day-spec : {M : Type 1} → statement M
+unfolding isDay
+is-day-spec = tie.close (tie.spec
+    (λ c κs. search branching)  -- days-in-month-requires
+    (λ c κs. search branching)  -- is-within-requires
+    (λ c κs. search branching)  -- is-within-requires-2
+    (λ c. rw (← (c .before .before .before .days-in-month .ensures)) (search branching))  -- returns
+    (λ c. search branching)  -- returns-2
+    )

@@ -1,0 +1,12 @@
+-- `times::is_leap_year` meets its contract. Assumes nothing.
+use Rattle.octets.specs.Pick.{branching}
+use Rattle.times.specs.Date.{isLeapYear}
+use Rattle.times.proofs.date.is_leap_year.Statement.{statement}
+use Rattle.times.proofs.date.is_leap_year.Tie as tie
+
+pub is-leap-year-spec : {M : Type 1} → statement M
+unfolding isLeapYear
+is-leap-year-spec = tie.close (tie.spec
+    (λ c. search branching)  -- returns
+    (λ c. search branching)  -- returns-2
+    )

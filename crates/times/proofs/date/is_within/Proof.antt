@@ -1,0 +1,10 @@
+-- `times::is_within` meets its contract. Assumes nothing.
+use Rattle.octets.specs.Pick.{branching}
+use Rattle.times.proofs.date.is_within.Statement.{statement}
+use Rattle.times.proofs.date.is_within.Tie as tie
+
+pub is-within-spec : {M : Type 1} → statement M
+is-within-spec = tie.close (tie.spec
+    (λ c. search branching)  -- returns
+    (λ c. search branching)  -- returns-2
+    )

@@ -1,0 +1,10 @@
+-- `times::is_digit` meets its contract. Assumes nothing.
+use Rattle.octets.specs.Pick.{branching}
+use Rattle.times.proofs.follow.is_digit.Statement.{statement}
+use Rattle.times.proofs.follow.is_digit.Tie as tie
+
+pub is-digit-spec : {M : Type 1} → statement M
+is-digit-spec = tie.close (tie.spec
+    (λ c. search branching)  -- returns
+    (λ c. search branching)  -- returns-2
+    )

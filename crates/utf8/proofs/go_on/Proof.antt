@@ -1,0 +1,10 @@
+-- `utf8::go_on` meets its contract.
+use Rattle.octets.specs.Pick.{branching}
+use Rattle.utf8.proofs.go_on.Statement.{statement}
+use Rattle.utf8.proofs.go_on.Tie as tie
+
+pub go-on-spec : {M : Type 1} → statement M
+go-on-spec = tie.close (tie.spec
+    (λ c κs. search branching)  -- highest-next-requires
+    (λ c. cc)  -- returns
+    )

@@ -1,0 +1,10 @@
+-- `utf8::is_within` meets its contract.
+use Rattle.octets.specs.Pick.{branching}
+use Rattle.utf8.proofs.is_within.Statement.{statement}
+use Rattle.utf8.proofs.is_within.Tie as tie
+
+pub is-within-spec : {M : Type 1} → statement M
+is-within-spec = tie.close (tie.spec
+    (λ c. search branching)  -- returns
+    (λ c. search branching)  -- returns-2
+    )
