@@ -18,7 +18,9 @@
 --     DurationAt DURATION read at a cursor
 --     UtcOffset  UTC-OFFSET
 --     OffsetAlong  UTC-OFFSET by its patterns
+--     OffsetWritten  UTC-OFFSET written
 --     Period     PERIOD in iCalendar text
+--     PeriodAt   PERIOD read at a cursor
 --     Computing  opens all of these, for examples that compute
 --     Examples   readings and writings, computed
 pub mod Extra
@@ -39,6 +41,8 @@ pub mod Duration
 pub mod DurationAt
 pub mod UtcOffset
 pub mod OffsetAlong
+pub mod OffsetWritten
 pub mod Period
+pub mod PeriodAt
 pub mod Computing
 pub mod Examples
