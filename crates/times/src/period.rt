@@ -1,4 +1,22 @@
 // PERIOD in iCalendar text. See specs/Period.antt and specs/PeriodAt.antt.
+ghost use mathlib.Core.Path.{_≡_};
+ghost use mathlib.Core.Bool.{true, false};
+ghost use mathlib.Core.Option.{none};
+ghost use Rattle.octets.specs.Reading.{isRead};
+ghost use Rattle.model.specs.Calendar.{ical};
+ghost use Rattle.times.specs.DateTime.{readDateTime};
+ghost use Rattle.source.specs.Source.{rest};
+ghost use Rattle.times.specs.Letters.{cased};
+ghost use Rattle.times.specs.DateTimeAlong.{momentBy};
+ghost use Rattle.times.specs.Period.{readPeriod};
+ghost use Rattle.times.specs.PeriodAt.{Cuts, periodBy, Periods};
+use crate::letters::letter;
+use crate::date_time::DateTimeRead;
+use crate::date_time::follow_date_time;
+use crate::date_time::moment_from;
+use crate::date_time::read_date_time;
+use crate::duration::DurationRead;
+use crate::duration::read_duration;
 
 // Whether a slash stands after the start's digits, the kind of the zone before it, and the cursor after it.
 pub struct Cut {
@@ -11,4 +29,90 @@ pub struct Cut {
 pub enum PeriodRead {
     Between(usize, usize, bool, usize),
     NoPeriod,
+}
+
+fn slash_at(mode: usize, s: &[u8], at: usize) -> Cut
+    ensures { λ r. ⌜ Cuts mode (now (s .entry)) at r ⌝ }
+{
+    let a = letter(false, mode, s, at);
+    let u = a.u;
+    if u == 47 {
+        return Cut {
+            ok: true,
+            k: 0,
+            next: a.next,
+        };
+    }
+    if u == 90 {
+        let b = letter(false, mode, s, a.next);
+        let v = b.u;
+        if v == 47 {
+            return Cut {
+                ok: true,
+                k: 1,
+                next: b.next,
+            };
+        }
+        return Cut {
+            ok: false,
+            k: 0,
+            next: at,
+        };
+    }
+    Cut {
+        ok: false,
+        k: 0,
+        next: at,
+    }
+}
+
+// A period whose start is a date-time, and which has no end after its slash.
+fn with_duration(mode: usize, s: &[u8], n: usize, k: usize, at: usize) -> PeriodRead
+    requires { ⌜ (isRead (momentBy n k) ≡ true) × (readDateTime ical (rest mode (now s) at) ≡ none) ⌝ }
+    ensures { λ r. ⌜ Periods (periodBy n k (cased false (rest mode (now (s .entry)) at))) mode (now (s .entry)) r ⌝ }
+{
+    let d = read_duration(false, mode, s, at);
+    match d {
+        DurationRead::Span(neg, c) => PeriodRead::Between(n, k, false, at),
+        DurationRead::NoDuration => PeriodRead::NoPeriod,
+    }
+}
+
+// A period whose start is a date-time.
+fn with_end(mode: usize, s: &[u8], n: usize, k: usize, at: usize) -> PeriodRead
+    requires { ⌜ isRead (momentBy n k) ≡ true ⌝ }
+    ensures { λ r. ⌜ Periods (periodBy n k (cased false (rest mode (now (s .entry)) at))) mode (now (s .entry)) r ⌝ }
+{
+    let e = read_date_time(false, mode, s, at);
+    match e {
+        DateTimeRead::Moment(y, m, d, h, i, c, z) => PeriodRead::Between(n, k, true, at),
+        DateTimeRead::NoDateTime => with_duration(mode, s, n, k, at),
+    }
+}
+
+// The period whose start's digits are worth `n`, with what stands from the cursor `at`, after the slash.
+fn period_from(mode: usize, s: &[u8], n: usize, k: usize, at: usize) -> PeriodRead
+    ensures { λ r. ⌜ Periods (periodBy n k (cased false (rest mode (now (s .entry)) at))) mode (now (s .entry)) r ⌝ }
+{
+    let b = moment_from(n, k);
+    match b {
+        DateTimeRead::Moment(y, m, d, h, i, c, z) => with_end(mode, s, n, k, at),
+        DateTimeRead::NoDateTime => PeriodRead::NoPeriod,
+    }
+}
+
+pub fn read_period(mode: usize, s: &[u8], at: usize) -> PeriodRead
+    ensures { λ r. ⌜ Periods (readPeriod (rest mode (now (s .entry)) at)) mode (now (s .entry)) r ⌝ }
+{
+    let w = follow_date_time(false, mode, s, at);
+    let ok = w.ok;
+    if ok {
+        let c = slash_at(mode, s, w.next);
+        let cut = c.ok;
+        if cut {
+            return period_from(mode, s, w.n, c.k, c.next);
+        }
+        return PeriodRead::NoPeriod;
+    }
+    PeriodRead::NoPeriod
 }
