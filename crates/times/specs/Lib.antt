@@ -21,6 +21,7 @@
 --     OffsetWritten  UTC-OFFSET written
 --     Period     PERIOD in iCalendar text
 --     PeriodAt   PERIOD read at a cursor
+--     PeriodWritten  PERIOD written
 --     Computing  opens all of these, for examples that compute
 --     Examples   readings and writings, computed
 pub mod Extra
@@ -44,5 +45,6 @@ pub mod OffsetAlong
 pub mod OffsetWritten
 pub mod Period
 pub mod PeriodAt
+pub mod PeriodWritten
 pub mod Computing
 pub mod Examples

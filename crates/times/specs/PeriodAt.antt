@@ -337,11 +337,11 @@ kept-none test l h = go (test l) h
     go true q = let z : _≡_ {A = ℕ} 0 1 = cc in absurd (omega arith)
     go false q = refl
 
-end-read : (l : List ℕ) → readDateTime ical l ≡ keep isDateTime (cased false l)
+pub end-read : (l : List ℕ) → readDateTime ical l ≡ keep isDateTime (cased false l)
 unfolding readDateTime cased
 end-read l = refl
 
-duration-read : (l : List ℕ) → readDuration ical l ≡ durationOf (cased false l)
+pub duration-read : (l : List ℕ) → readDuration ical l ≡ durationOf (cased false l)
 unfolding readDuration cased
 duration-read l = refl
 

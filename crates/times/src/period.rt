@@ -2,21 +2,26 @@
 ghost use mathlib.Core.Path.{_≡_};
 ghost use mathlib.Core.Bool.{true, false};
 ghost use mathlib.Core.Option.{none};
-ghost use Rattle.octets.specs.Reading.{isRead};
-ghost use Rattle.model.specs.Calendar.{ical};
-ghost use Rattle.times.specs.DateTime.{readDateTime};
+ghost use Rattle.octets.specs.Reading.{isRead, orNothing};
+ghost use Rattle.model.specs.Calendar.{ical, xcal};
+ghost use Rattle.times.specs.DateTime.{readDateTime, writeDateTime};
 ghost use Rattle.source.specs.Source.{rest};
 ghost use Rattle.times.specs.Letters.{cased};
 ghost use Rattle.times.specs.DateTimeAlong.{momentBy};
 ghost use Rattle.times.specs.Period.{readPeriod};
 ghost use Rattle.times.specs.PeriodAt.{Cuts, periodBy, Periods};
+ghost use Rattle.times.specs.PeriodWritten.{startXml, endXml, endBytes};
+ghost use Rattle.sink.specs.Sink.{Put};
 use crate::letters::letter;
 use crate::date_time::DateTimeRead;
 use crate::date_time::follow_date_time;
 use crate::date_time::moment_from;
 use crate::date_time::read_date_time;
+use crate::date_time::put_moment;
+use crate::date_time::put_date_time;
 use crate::duration::DurationRead;
 use crate::duration::read_duration;
+use crate::duration::put_duration;
 
 // Whether a slash stands after the start's digits, the kind of the zone before it, and the cursor after it.
 pub struct Cut {
@@ -115,4 +120,47 @@ pub fn read_period(mode: usize, s: &[u8], at: usize) -> PeriodRead
         return PeriodRead::NoPeriod;
     }
     PeriodRead::NoPeriod
+}
+
+// The date-time of fourteen digits that are worth `n`, to XML.
+fn put_start(out: &mut [u8], o: usize, n: usize, k: usize) -> usize
+    ensures { λ r. ⌜ Put (now (out .entry)) (now (out .exit)) o r (orNothing (writeDateTime xcal) (momentBy n k)) ⌝ }
+{
+    let b = moment_from(n, k);
+    match b {
+        DateTimeRead::Moment(y, m, d, h, i, c, z) => put_moment(out, o, true, y, m, d, h, i, c, z),
+        DateTimeRead::NoDateTime => o,
+    }
+}
+
+// What stands after the slash, to XML.
+fn put_end(out: &mut [u8], o: usize, explicit: bool, mode: usize, s: &[u8], at: usize) -> usize
+    ensures { λ r. ⌜ Put (now (out .entry)) (now (out .exit)) o r (endBytes explicit (rest mode (now (s .entry)) at)) ⌝ }
+{
+    if explicit {
+        return put_date_time(out, o, false, true, mode, s, at);
+    }
+    put_duration(out, o, false, true, mode, s, at)
+}
+
+// The start of a period, to XML.
+pub fn put_period_start(out: &mut [u8], o: usize, mode: usize, s: &[u8], at: usize) -> usize
+    ensures { λ r. ⌜ Put (now (out .entry)) (now (out .exit)) o r (orNothing startXml (readPeriod (rest mode (now (s .entry)) at))) ⌝ }
+{
+    let r = read_period(mode, s, at);
+    match r {
+        PeriodRead::Between(n, k, x, c) => put_start(out, o, n, k),
+        PeriodRead::NoPeriod => o,
+    }
+}
+
+// The end of a period, or its duration, to XML.
+pub fn put_period_end(out: &mut [u8], o: usize, mode: usize, s: &[u8], at: usize) -> usize
+    ensures { λ r. ⌜ Put (now (out .entry)) (now (out .exit)) o r (orNothing endXml (readPeriod (rest mode (now (s .entry)) at))) ⌝ }
+{
+    let r = read_period(mode, s, at);
+    match r {
+        PeriodRead::Between(n, k, x, c) => put_end(out, o, x, mode, s, c),
+        PeriodRead::NoPeriod => o,
+    }
 }
