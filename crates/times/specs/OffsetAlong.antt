@@ -26,7 +26,6 @@ use Rattle.octets.specs.Reading.{provided, andThen}
 use Rattle.model.specs.Calendar.{Format, ical, xcal, formatOf}
 use Rattle.source.specs.Source.{rest, spell, Reads}
 use Rattle.source.specs.declared.Step.{Step}
-use Rattle.times.specs.Extra.{and-left, and-right, all-head, all-tail}
 use Rattle.times.specs.Spelling.{Mark, keep, begins, withMarks, withoutMarks, putMark, fits, marks-exact, marks-length}
 use Rattle.times.specs.Pattern.{Followed, reached, lost, passes, tally, along, zeros, digitsAt, followedBy, isMark, areMarks, along-marks, along-digits}
 use Rattle.times.specs.Time.{isClock}

@@ -12,8 +12,8 @@ use lib.Dec.{eqb, leb}
 use lib.ListN.{length, take, drop, take-append-drop}
 use borrow.Author.Tests.{eqb-true, eqb-false, eq-eqb, ne-eqb, leb-true}
 use borrow.Author.Needs.{needs}
-use Rattle.octets.specs.Pick.{pick, _and_, _or_, flag-yes, flag-no}
-use Rattle.octets.specs.Scan.{allOf, spanLen}
+use Rattle.octets.specs.Pick.{pick, _and_, _or_, flag-yes, flag-no, and-both}
+use Rattle.octets.specs.Scan.{allOf, spanLen, all-split}
 use Rattle.octets.specs.Ascii.{ascii}
 use Rattle.octets.specs.Class.{isSmall, upperByte, upper}
 use Rattle.octets.specs.Words.{isEmpty, same}
@@ -22,7 +22,6 @@ use Rattle.model.specs.Calendar.{Format, ical, Value, periodExplicit, periodSta
 use Rattle.source.specs.Source.{rest, spell}
 use Rattle.source.specs.Facts.{spell-byte, spell-end}
 use Rattle.source.specs.declared.Step.{Step}
-use Rattle.times.specs.Extra.{and-left, and-right, all-head, all-tail, all-cons, provided-test}
 use Rattle.times.specs.Spelling.{keep, begins}
 use Rattle.times.specs.Pattern.{Followed, reached, lost, passes, tally, along}
 use Rattle.times.specs.Letters.{cased, Spells}
@@ -128,7 +127,7 @@ left-clean : (p : List ℕ) (n : ℕ) (a : List ℕ) → allOf isNoSlash a ≡ t
 unfolding along leftClean pick
 left-clean [] n a h = h
 left-clean (c ∷ p) n [] h = refl
-left-clean (c ∷ p) n (b ∷ a) h = go (passes c b) (left-clean p (tally c n b) a (all-tail isNoSlash b a h))
+left-clean (c ∷ p) n (b ∷ a) h = go (passes c b) (left-clean p (tally c n b) a (all-split isNoSlash b a h .1))
   where
     go : (t : Bool) → leftClean (along p (tally c n b) a) ≡ true → leftClean (pick t (along p (tally c n b) a) lost) ≡ true
     go true ih = ih
@@ -146,13 +145,13 @@ unfolding pick
 capital-slash b = go (isSmall b) refl
   where
     go : (t : Bool) → isSmall b ≡ t → eqb (pick t (b - 32) b) 47 ≡ eqb b 47
-    go true e = let l = leb-true 97 b (and-left _ _ e) in ne-eqb (b - 32) 47 (omega arith) ∙ sym (ne-eqb b 47 (omega arith))
+    go true e = let l = leb-true 97 b (and-both _ _ e .0) in ne-eqb (b - 32) 47 (omega arith) ∙ sym (ne-eqb b 47 (omega arith))
     go false e = refl
 
 upper-clean : (a : List ℕ) → allOf isNoSlash a ≡ true → allOf isNoSlash (upper a) ≡ true
 unfolding upper isNoSlash
 upper-clean [] h = h
-upper-clean (b ∷ a) h = all-cons isNoSlash (upperByte b) (upper a) (rw capital-slash (all-head isNoSlash b a h)) (upper-clean a (all-tail isNoSlash b a h))
+upper-clean (b ∷ a) h = all-cons isNoSlash (upperByte b) (upper a) (rw capital-slash (all-split isNoSlash b a h .0)) (upper-clean a (all-split isNoSlash b a h .1))
 
 upper-cut : (d : List ℕ) → isCut d ≡ true → isCut (upper d) ≡ true
 unfolding upper isCut
@@ -177,13 +176,13 @@ other-zone n l = rw (clock-longer (n % 1000000) 2 refl, then-none (dayFrom (n / 
 start-cut : (n : ℕ) (r x : List ℕ) → allOf isNoSlash r ≡ true → cutPeriod n (afterStart (r ++ (47 ∷ x))) ≡ periodBy n (zone r) x
 unfolding afterStart slashed cutPeriod zone same pick _and_
 start-cut n [] x h = refl
-start-cut n (b ∷ []) x h = rw (no-slash-here b (all-head isNoSlash b [] h)) (go (eqb b 90))
+start-cut n (b ∷ []) x h = rw (no-slash-here b (all-split isNoSlash b [] h .0)) (go (eqb b 90))
   where
     go : (t : Bool) → cutPeriod n (pick t (cut 1 x) uncut) ≡ periodBy n (pick (t and true) 1 2) x
     go true = refl
     go false = other-zone n x
 start-cut n (b ∷ c ∷ r) x h =
-    rw (no-slash-here b (all-head isNoSlash b (c ∷ r) h), no-slash-here c (all-head isNoSlash c r (all-tail isNoSlash b (c ∷ r) h))) (go (eqb b 90))
+    rw (no-slash-here b (all-split isNoSlash b (c ∷ r) h .0), no-slash-here c (all-split isNoSlash c r (all-split isNoSlash b (c ∷ r) h .1) .0)) (go (eqb b 90))
   where
     go : (t : Bool) → cutPeriod n (pick t uncut uncut) ≡ periodBy n (pick (t and false) 1 2) x
     go true = other-zone n x
@@ -193,13 +192,13 @@ start-cut n (b ∷ c ∷ r) x h =
 start-uncut : (r : List ℕ) → allOf isNoSlash r ≡ true → afterStart r ≡ uncut
 unfolding afterStart slashed pick
 start-uncut [] h = refl
-start-uncut (b ∷ []) h = rw (no-slash-here b (all-head isNoSlash b [] h)) (go (eqb b 90))
+start-uncut (b ∷ []) h = rw (no-slash-here b (all-split isNoSlash b [] h .0)) (go (eqb b 90))
   where
     go : (t : Bool) → pick t uncut uncut ≡ uncut
     go true = refl
     go false = refl
 start-uncut (b ∷ c ∷ r) h =
-    rw (no-slash-here b (all-head isNoSlash b (c ∷ r) h), no-slash-here c (all-head isNoSlash c r (all-tail isNoSlash b (c ∷ r) h))) (go (eqb b 90))
+    rw (no-slash-here b (all-split isNoSlash b (c ∷ r) h .0), no-slash-here c (all-split isNoSlash c r (all-split isNoSlash b (c ∷ r) h .1) .0)) (go (eqb b 90))
   where
     go : (t : Bool) → pick t uncut uncut ≡ uncut
     go true = refl
