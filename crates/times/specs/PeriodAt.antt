@@ -13,11 +13,11 @@ use lib.ListN.{length, take, drop, take-append-drop}
 use borrow.Author.Tests.{eqb-true, eqb-false, eq-eqb, ne-eqb, leb-true}
 use borrow.Author.Needs.{needs}
 use Rattle.octets.specs.Pick.{pick, _and_, _or_, flag-yes, flag-no, and-both}
-use Rattle.octets.specs.Scan.{allOf, spanLen, all-split}
+use Rattle.octets.specs.Scan.{allOf, spanLen, all-split, all-cons}
 use Rattle.octets.specs.Ascii.{ascii}
 use Rattle.octets.specs.Class.{isSmall, upperByte, upper}
 use Rattle.octets.specs.Words.{isEmpty, same}
-use Rattle.octets.specs.Reading.{provided, andThen, isRead}
+use Rattle.octets.specs.Reading.{provided, andThen, isRead, provided-some}
 use Rattle.model.specs.Calendar.{Format, ical, Value, periodExplicit, periodStart}
 use Rattle.source.specs.Source.{rest, spell}
 use Rattle.source.specs.Facts.{spell-byte, spell-end}
@@ -326,7 +326,7 @@ pub record Periods (o : Option Value) (m : ℕ) (s : List ℕ) (r : PeriodRead) 
 
 kept-test : (test : List ℕ → Bool) (l v : List ℕ) → keep test l ≡ some v → test l ≡ true
 unfolding keep
-kept-test test l v h = provided-test (test l) l v h
+kept-test test l v h = provided-some (test l) l v h .0
 
 kept-none : (test : List ℕ → Bool) (l : List ℕ) → keep test l ≡ none → test l ≡ false
 unfolding keep pick
