@@ -1,12 +1,11 @@
--- What iCalendar text states can be carried to XML (RFC 6321, section 1: every calendar of iCalendar text has an xCal form).
+-- What iCalendar text states can be carried to XML (RFC 6321, section 3): what text asks of a calendar gives what XML asks of it.
 --     stated-valid    a calendar that text states is one that can be carried to XML and back
 use mathlib.Core.Path.{_≡_, refl, sym, ap, _∙_}
 use mathlib.Core.Bool.{Bool, true, false, not, false≢true}
 use mathlib.Core.List.{List, [], _∷_}
 use mathlib.Core.Option.{Option, none, some}
 use Prim.Native.Nat.{ℕ}
-use Rattle.octets.specs.Ascii.{ascii}
-use Rattle.octets.specs.Pick.{_and_, _or_, and-yes, and-both, or-cases}
+use Rattle.octets.specs.Pick.{_and_, and-yes, and-both, or-cases}
 use Rattle.octets.specs.Class.{isVisible, upper}
 use Rattle.octets.specs.Words.{same, holds, noneHolds, none-split, all-without, isOneOf}
 use Rattle.octets.specs.Lists.{every, every-both}
@@ -26,7 +25,7 @@ use Rattle.values.specs.Valid.{isWordIn, isChosen, isParameter, areParameters, 
 use Rattle.values.specs.Characters.{isValueText, isParameterText}
 use Rattle.lines.specs.ContentLine.{isName}
 use Rattle.ical.specs.LineLaws.{isLineParameter, isLineProperty}
-use Rattle.ical.specs.ValidCalendar.{isGoodValue, isGoodParameter, isStated, hasComponents, ValidIn, atTop, Valid, Stated, stated}
+use Rattle.ical.specs.ValidCalendar.{isGoodValue, isGoodParameter, isStated, hasComponents, ValidIn, atTop, Valid, stated}
 use Rattle.xcal.specs.WriteXml.{isNoMore}
 use Rattle.xcal.specs.SoundContent.{isClean}
 use Rattle.xcal.specs.CleanValues.{isCleanData, isCleanValue}

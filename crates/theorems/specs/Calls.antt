@@ -5,6 +5,7 @@
 --     States k c      its text states the calendar c (without any writer)
 --     TextCall, isTextAccepted, textOf    the same of a call to text
 --     given           what an accepted call states, and that its XML is the document of this
+--     states-accepted a call whose text states a calendar, with room for its document, is accepted
 use mathlib.Core.Path.{_≡_, refl, sym, ap, _∙_}
 use mathlib.Core.Bool.{Bool, true, false, false≢true}
 use mathlib.Core.List.{List, [], _∷_}
@@ -20,9 +21,9 @@ use Rattle.ical.specs.ReadText.{readCalendar}
 use Rattle.ical.specs.AcceptedText.{accepted-valid}
 use Rattle.xcal.specs.WriteXml.{writeDocument}
 use Rattle.xcal.specs.Carried.{isValid}
-use Rattle.mallettriton.specs.Conversion.{Converted, result, fault, converted, Outcome, written, refusal, outcome, contents}
+use Rattle.mallettriton.specs.Conversion.{Converted, result, converted, Outcome, written, refusal, outcome, contents}
 use Rattle.mallettriton.specs.ToXml.{toXml, toXmlOutcome, toXmlOutput}
-use Rattle.mallettriton.specs.ToText.{toText, toTextOutcome, toTextOutput}
+use Rattle.mallettriton.specs.ToText.{toTextOutcome, toTextOutput}
 use Rattle.theorems.specs.Bridge.{stated-valid}
 
 -- ---- answers
@@ -78,10 +79,10 @@ take-front [] b = refl
 take-front (x ∷ a) b = ap (λ (l : List ℕ). x ∷ l) (take-front a b)
 
 -- where an input gives s, and the output has room for it
-pub result-given : (s out : List ℕ) → length s ≤ length out →
-    (isWritten (outcome (result s) (length out)) ≡ true) × (take (bytesOf (outcome (result s) (length out))) (contents (result s) out) ≡ s)
+pub result-given : (a : Converted) (s out : List ℕ) → a ≡ result s → length s ≤ length out →
+    (isWritten (outcome a (length out)) ≡ true) × (take (bytesOf (outcome a (length out))) (contents a out) ≡ s)
 unfolding outcome contents pick
-result-given s out l = rw (le-leb (length s) (length out) l) (refl, take-front s (drop (length s) out))
+result-given a s out e l = rw (e, le-leb (length s) (length out) l) (refl, take-front s (drop (length s) out))
 
 -- what was read, where an answer was written
 record Read (write : Calendar → List ℕ) (a : Answer) (out : List ℕ) : Type 0 where
@@ -113,6 +114,10 @@ given k h =
     let r = written-read writeDocument (readCalendar (k .input) (length (k .work))) (k .output) h in
     let v = accepted-valid (k .input) (length (k .work)) (r .calendar) (r .states) in
     record { calendar = r .calendar; states = r .states; valid = stated-valid (r .calendar) (v .0) (v .1); xml = r .bytes }
+
+pub states-accepted : (k : Call) (c : Calendar) → States k c → length (writeDocument c) ≤ length (k .output) → (isAccepted k ≡ true) × (xmlOf k ≡ writeDocument c)
+unfolding toXml
+states-accepted k c s l = result-given (toXml (k .input) (length (k .work))) (writeDocument c) (k .output) (ap (converted writeDocument) s) l
 
 accepted-same : (c d : Calendar) → accepted c ≡ accepted d → c ≡ d
 accepted-same c d e = cc

@@ -4,6 +4,7 @@
 --     same-stream            the XML of two lists of calls, joined, is the same exactly where the accepted ones state the same calendars in the same order
 -- Lent buffers may hold any bytes before a call.
 use mathlib.Core.Path.{_≡_, refl, sym, ap, _∙_}
+use mathlib.Core.Logic.{_↔_}
 use mathlib.Core.Bool.{Bool, true, false}
 use mathlib.Core.List.{List, [], _∷_, map}
 use Prim.Native.Nat.{ℕ}
@@ -26,12 +27,13 @@ same-calendar k l g f e = (g .calendar, g .states, f .states ∙ ap accepted (sy
 calendar-same : (k l : Call) (g : Given k) (f : Given l) → SameCalendar k l → g .calendar ≡ f .calendar
 calendar-same k l g f s = states-one k (g .calendar) (s .0) (g .states) (s .1) ∙ states-one l (s .0) (f .calendar) (s .2) (f .states)
 
-pub same-xml : (k l : Call) → isAccepted k ≡ true → isAccepted l ≡ true → (xmlOf k ≡ xmlOf l → SameCalendar k l) × (SameCalendar k l → xmlOf k ≡ xmlOf l)
+pub same-xml : (k l : Call) → isAccepted k ≡ true → isAccepted l ≡ true → (xmlOf k ≡ xmlOf l) ↔ SameCalendar k l
 same-xml k l h j =
     let g = given k h in
-    let f = given l j in
-    (λ e. same-calendar k l g f (document-same (g .calendar) (f .calendar) (g .valid) (f .valid) (sym (g .xml) ∙ e ∙ f .xml)),
-     λ s. g .xml ∙ ap writeDocument (calendar-same k l g f s) ∙ sym (f .xml))
+    let f = given l j in (
+      λ e. same-calendar k l g f (document-same (g .calendar) (f .calendar) (g .valid) (f .valid) (sym (g .xml) ∙ e ∙ f .xml)),
+      λ s. g .xml ∙ ap writeDocument (calendar-same k l g f s) ∙ sym (f .xml),
+    )
 
 pub no-proper-beginning : (k l : Call) → isAccepted k ≡ true → isAccepted l ≡ true → (more : List ℕ) → xmlOf k ⊕ more ≡ xmlOf l → more ≡ []
 no-proper-beginning k l h j more e =
@@ -97,6 +99,5 @@ same-joined (k ∷ ks) [] a b s = absurd s
 same-joined (k ∷ ks) (l ∷ ls) a b s =
     ap (λ (x : List ℕ). x ⊕ joined (map xmlOf ks)) (same-xml k l (a .0) (b .0) .1 (s .0)) ∙ ap (λ (x : List ℕ). xmlOf l ⊕ x) (same-joined ks ls (a .1) (b .1) (s .1))
 
-pub same-stream : (ks ls : List Call) →
-    (streamOf ks ≡ streamOf ls → SameCalendars (acceptedOnes ks) (acceptedOnes ls)) × (SameCalendars (acceptedOnes ks) (acceptedOnes ls) → streamOf ks ≡ streamOf ls)
+pub same-stream : (ks ls : List Call) → (streamOf ks ≡ streamOf ls) ↔ SameCalendars (acceptedOnes ks) (acceptedOnes ls)
 same-stream ks ls = (joined-same (acceptedOnes ks) (acceptedOnes ls) (ones-accepted ks) (ones-accepted ls), same-joined (acceptedOnes ks) (acceptedOnes ls) (ones-accepted ks) (ones-accepted ls))

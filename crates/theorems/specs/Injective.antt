@@ -12,7 +12,7 @@ use Rattle.octets.specs.Pick.{and-both}
 use Rattle.octets.specs.Append.{_⊕_, joined, append-none, append-regroup}
 use Rattle.octets.specs.Lists.{every, every-both}
 use Rattle.model.specs.Calendar.{Calendar}
-use Rattle.xml.specs.Escape.{declaration, rootStart, endTag, documentOf}
+use Rattle.xml.specs.Escape.{declaration, rootStart, endTag}
 use Rattle.xml.specs.Reads.{isName}
 use Rattle.xml.specs.Marks.{Mark, opens, marks, documentMarks}
 use Rattle.xml.specs.Nodes.{rootBy, rootNode, documentNodes}

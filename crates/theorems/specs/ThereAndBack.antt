@@ -2,12 +2,12 @@
 --     there-and-back    of an accepted call whose XML is within the input limit: a call to text with this XML and room enough is accepted and gives the
 --                       canonical text of the same calendar; where that text is within the limit, a call to XML with it, a work room no shorter and
 --                       room enough is accepted and gives the same XML, byte for byte
-use mathlib.Core.Path.{_≡_, refl, sym, ap, _∙_}
+use mathlib.Core.Path.{_≡_, sym, ap, _∙_}
 use mathlib.Core.Bool.{true}
 use mathlib.Core.List.{List}
 use Prim.Native.Nat.{ℕ, _≤_}
 use native.Mathlib.Omega.{arith}
-use lib.ListN.{length, take}
+use lib.ListN.{length}
 use Rattle.model.specs.Calendar.{Calendar}
 use Rattle.ical.specs.ReadText.{limit, readCalendar}
 use Rattle.ical.specs.WriteText.{writeCalendar}
@@ -15,18 +15,14 @@ use Rattle.ical.specs.AcceptedText.{accepted-valid, accepted-back}
 use Rattle.xcal.specs.WriteXml.{writeDocument}
 use Rattle.xcal.specs.ReadDocument.{readDocument}
 use Rattle.xcal.specs.DocumentBack.{document-back}
-use Rattle.mallettriton.specs.Conversion.{Converted, result, converted, outcome, contents}
+use Rattle.mallettriton.specs.Conversion.{result, converted}
 use Rattle.mallettriton.specs.ToXml.{toXml}
 use Rattle.mallettriton.specs.ToText.{toText}
 use Rattle.theorems.specs.Bridge.{stated-valid}
-use Rattle.theorems.specs.Calls.{isWritten, bytesOf, Call, isAccepted, xmlOf, States, TextCall, isTextAccepted, textOf, result-given, given, states-one}
+use Rattle.theorems.specs.Calls.{Call, isAccepted, xmlOf, States, TextCall, isTextAccepted, textOf, result-given, given, states-one}
 
 within-too : (a b : List ℕ) (n : ℕ) → a ≡ b → length a ≤ n → length b ≤ n
 within-too a b n e h = let q : length a ≡ length b = ap length e in omega arith
-
-by-result : (a : Converted) (s out : List ℕ) → a ≡ result s → length s ≤ length out →
-    (isWritten (outcome a (length out)) ≡ true) × (take (bytesOf (outcome a (length out))) (contents a out) ≡ s)
-by-result a s out e l = rw e (result-given s out l)
 
 -- the XML of a call is the document of the calendar that it states
 xml-is : (k : Call) (c : Calendar) → isAccepted k ≡ true → States k c → xmlOf k ≡ writeDocument c
@@ -50,13 +46,16 @@ pub there-and-back : (k : Call) (c : Calendar) → isAccepted k ≡ true → Sta
     (isTextAccepted t ≡ true)
     × (textOf t ≡ writeCalendar c)
     × ((again : Call) → again .input ≡ textOf t → length (textOf t) ≤ limit → length (textOf t) ≤ length (again .work) → length (xmlOf k) ≤ length (again .output) →
-      (isAccepted again ≡ true) × (xmlOf again ≡ xmlOf k))
+    (isAccepted again ≡ true) × (xmlOf again ≡ xmlOf k))
 there-and-back k c h s l t i r =
     let x : xmlOf k ≡ writeDocument c = xml-is k c h s in
-    let a = by-result (toText (t .input)) (writeCalendar c) (t .output) (document-text k c (t .input) s (i ∙ x) (within-too (xmlOf k) (t .input) limit (sym i) l)) r in
-    (a .0, a .1, λ again j m w o.
-      let b = by-result (toXml (again .input) (length (again .work))) (writeDocument c) (again .output)
+    let a = result-given (toText (t .input)) (writeCalendar c) (t .output) (document-text k c (t .input) s (i ∙ x) (within-too (xmlOf k) (t .input) limit (sym i) l)) r in (
+      a .0,
+      a .1,
+      λ again j m w o.
+          let b = result-given (toXml (again .input) (length (again .work))) (writeDocument c) (again .output)
           (text-document k c (again .input) (length (again .work)) s (j ∙ a .1)
           (within-too (textOf t) (again .input) limit (sym j) m) (within-too (textOf t) (again .input) (length (again .work)) (sym j) w))
           (within-too (xmlOf k) (writeDocument c) (length (again .output)) x o) in
-      (b .0, b .1 ∙ sym x))
+          (b .0, b .1 ∙ sym x),
+    )
