@@ -15,12 +15,12 @@ ghost use Rattle.numbers.specs.FloatParts.{front};
 ghost use Rattle.numbers.specs.ReadFloat.{Shaped, floatOf};
 use crate::scan::digits_end;
 use crate::scan::has_minus;
-use crate::scan::is_digit;
 use crate::scan::only_digits;
 use crate::scan::only_zeros;
 use crate::scan::sign_end;
 use crate::scan::unit_to;
 use crate::scan::zeros_end;
+use octets::is_digit;
 use sink::put;
 
 // A number: whether it is negative, the cursor of the first digit that counts, and the cursor of the digits after the point.
