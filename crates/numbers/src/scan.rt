@@ -6,8 +6,8 @@ ghost use Rattle.numbers.specs.Float.{noLeading, noTrailing};
 ghost use Rattle.numbers.specs.Until.{until, Turns};
 ghost use Rattle.numbers.specs.FloatParts.{afterDigits};
 use octets::is_digit;
-use source::unit;
 use source::Step;
+use source::unit;
 
 // The byte at the cursor; 256 at the byte `stop` and at the end.
 pub fn unit_to(stop: usize, mode: usize, s: &[u8], at: usize) -> Step
