@@ -2,6 +2,7 @@
 --     Sign        a sign in front of digits
 --     Integer     INTEGER
 --     Cursor      a byte that is known was found at the cursor
+--     Digit       a byte that was compared is a digit, or none
 --     ReadInteger INTEGER as the code reads and writes it
 --     PutInteger  a number written digit by digit
 --     Float       FLOAT
@@ -22,6 +23,7 @@
 pub mod Sign
 pub mod Integer
 pub mod Cursor
+pub mod Digit
 pub mod ReadInteger
 pub mod PutInteger
 pub mod Float

@@ -3,27 +3,26 @@
 --     numberIn most s      the same of s itself, which must have a digit
 --     wholeOf              what the answer of `read_integer` states
 --     wholeIs m n          the number of sign m and magnitude n
-use mathlib.Core.Path.{_≡_, refl, sym, _∙_}
+use mathlib.Core.Path.{_≡_, refl, _∙_}
 use mathlib.Core.Bool.{Bool, true, false}
 use mathlib.Core.List.{List, [], _∷_}
 use mathlib.Core.Option.{Option, none, some}
-use Prim.Native.Nat.{ℕ, zero, suc, _+_, _-_, _*_, _/_, _%_, _≤_, _<_}
+use Prim.Native.Nat.{ℕ, _+_, _-_, _*_, _≤_, _<_}
 use native.Mathlib.Omega.{arith}
 use lib.Dec.{eqb, leb, ltb}
 use lib.ListN.{length}
-use borrow.Author.Needs.{needs}
-use borrow.Author.Tests.{eq-eqb, ne-eqb, lt-ltb, le-ltb, le-leb, lt-leb, leb-true, leb-false}
-use Rattle.octets.specs.Pick.{pick, _and_, _or_, within-yes, and-no-left, and-no-right}
+use borrow.Author.Tests.{ne-eqb, lt-ltb, le-leb, lt-leb, leb-true}
+use Rattle.octets.specs.Pick.{pick, _and_, _or_}
 use Rattle.octets.specs.Scan.{allOf}
-use Rattle.octets.specs.Append.{_⊕_}
 use Rattle.octets.specs.Class.{isDigit}
-use Rattle.octets.specs.Decimal.{value, digitOf, isNumber, digits}
+use Rattle.octets.specs.Decimal.{value, digitOf, isNumber}
 use Rattle.octets.specs.Reading.{provided}
 use Rattle.model.specs.Calendar.{Whole}
 use Rattle.source.specs.Source.{rest, spell, Reads}
 use Rattle.source.specs.declared.Step.{Step}
+use Rattle.numbers.specs.Digit.{is-digit, below-digit, above-digit}
 use Rattle.numbers.specs.Sign.{hasMinus, unsigned}
-use Rattle.numbers.specs.Integer.{most, whole, readInteger}
+use Rattle.numbers.specs.Integer.{whole, readInteger}
 use Rattle.numbers.specs.declared.integer.IntegerRead.{IntegerRead}
 use Rattle.numbers.specs.declared.integer.IntegerRead.the-variants.{Value, Bad}
 
@@ -44,15 +43,6 @@ unfoldable pub wholeFrom : Bool → ℕ → Option Whole
 wholeFrom m n = pick (eqb n 4294967295) none (some (whole m n))
 
 -- ---- digits to the end, one a turn
-
-is-digit : (b : ℕ) → 48 ≤ b → b ≤ 57 → isDigit b ≡ true
-is-digit b h k = within-yes 48 57 b (le-leb 48 b h) (le-leb b 57 k)
-
-below-digit : (b : ℕ) → b < 48 → isDigit b ≡ false
-below-digit b h = and-no-left (leb 48 b) (leb b 57) (lt-leb 48 b h)
-
-above-digit : (b : ℕ) → 57 < b → isDigit b ≡ false
-above-digit b h = and-no-right (leb 48 b) (leb b 57) (lt-leb b 57 h)
 
 -- digits never make a number less
 grows : (s : List ℕ) (n : ℕ) → n ≤ value n s

@@ -12,10 +12,10 @@ use mathlib.Core.List.{List, [], _∷_, _++_}
 use Prim.Native.Nat.{ℕ, zero, suc, _+_, _-_, _≤_, _<_}
 use native.Mathlib.Numerals.{add-one}
 use native.Mathlib.Omega.{arith}
-use lib.Dec.{eqb, leb, ltb}
+use lib.Dec.{eqb, ltb}
 use lib.ListN.{length}
-use borrow.Author.Tests.{eq-eqb, ne-eqb, eqb-true, lt-ltb, lt-leb, le-leb}
-use Rattle.octets.specs.Pick.{pick, _and_, _or_, within-yes, and-no-left, and-no-right}
+use borrow.Author.Tests.{eq-eqb, ne-eqb, eqb-true, lt-ltb}
+use Rattle.octets.specs.Pick.{pick, _and_, _or_}
 use Rattle.octets.specs.Scan.{allOf}
 use Rattle.octets.specs.Append.{_⊕_, append-none}
 use Rattle.octets.specs.Class.{isDigit}
@@ -25,15 +25,6 @@ use Rattle.numbers.specs.Sign.{hasMinus, unsigned, isDigits, leadsInDigi
 use Rattle.numbers.specs.Float.{noLeading, kept, noTrailing, orZero, afterPoint}
 use Rattle.numbers.specs.Worth.{zeros, only-zeros}
 use Rattle.numbers.specs.FloatParts.{front, afterDigits}
-
-pub is-digit : (b : ℕ) → 48 ≤ b → b ≤ 57 → isDigit b ≡ true
-is-digit b h k = within-yes 48 57 b (le-leb 48 b h) (le-leb b 57 k)
-
-pub below-digit : (b : ℕ) → b < 48 → isDigit b ≡ false
-below-digit b h = and-no-left (leb 48 b) (leb b 57) (lt-leb 48 b h)
-
-pub above-digit : (b : ℕ) → 57 < b → isDigit b ≡ false
-above-digit b h = and-no-right (leb 48 b) (leb b 57) (lt-leb b 57 h)
 
 all-is : (s : List ℕ) → allOf isDigit s ≡ isEmpty (afterDigits s)
 unfolding allOf afterDigits pick

@@ -15,12 +15,12 @@ ghost use Rattle.numbers.specs.FloatParts.{front};
 ghost use Rattle.numbers.specs.ReadFloat.{Shaped, floatOf};
 use crate::scan::digits_end;
 use crate::scan::has_minus;
-use crate::scan::is_digit;
 use crate::scan::only_digits;
 use crate::scan::only_zeros;
 use crate::scan::sign_end;
 use crate::scan::unit_to;
 use crate::scan::zeros_end;
+use octets::is_digit;
 use sink::put;
 
 // A number: whether it is negative, the cursor of the first digit that counts, and the cursor of the digits after the point.
@@ -192,14 +192,31 @@ fn put_after(out: &mut [u8], o: usize, stop: usize, mode: usize, s: &[u8], at: u
     put_trimmed(out, q, stop, mode, s, at)
 }
 
-fn put_magnitude(out: &mut [u8], o: usize, stop: usize, mode: usize, s: &[u8], first: usize, after: usize) -> usize
+fn put_magnitude(
+    out: &mut [u8],
+    o: usize,
+    stop: usize,
+    mode: usize,
+    s: &[u8],
+    first: usize,
+    after: usize,
+) -> usize
     ensures { λ r. ⌜ Put (now (out .entry)) (now (out .exit)) o r (orZero (front (until stop mode (now (s .entry)) first)) ⊕ afterPoint (noTrailing (until stop mode (now (s .entry)) after))) ⌝ }
 {
     let q = put_before(out, o, stop, mode, s, first);
     put_after(out, q, stop, mode, s, after)
 }
 
-fn put_decimal(out: &mut [u8], o: usize, minus: bool, stop: usize, mode: usize, s: &[u8], first: usize, after: usize) -> usize
+fn put_decimal(
+    out: &mut [u8],
+    o: usize,
+    minus: bool,
+    stop: usize,
+    mode: usize,
+    s: &[u8],
+    first: usize,
+    after: usize,
+) -> usize
     ensures { λ r. ⌜ Put (now (out .entry)) (now (out .exit)) o r (writeFloat (decimal minus (front (until stop mode (now (s .entry)) first)) (noTrailing (until stop mode (now (s .entry)) after)))) ⌝ }
 {
     if minus {
@@ -209,10 +226,19 @@ fn put_decimal(out: &mut [u8], o: usize, minus: bool, stop: usize, mode: usize, 
     put_magnitude(out, o, stop, mode, s, first, after)
 }
 
-pub fn put_float_to(out: &mut [u8], o: usize, stop: usize, mode: usize, s: &[u8], at: usize) -> usize
+pub fn put_float_to(
+    out: &mut [u8],
+    o: usize,
+    stop: usize,
+    mode: usize,
+    s: &[u8],
+    at: usize,
+) -> usize
     ensures { λ r. ⌜ Put (now (out .entry)) (now (out .exit)) o r (orNothing writeFloat (readFloat (until stop mode (now (s .entry)) at))) ⌝ }
 {
-    let FloatRead::Good(minus, first, after) = float_to(stop, mode, s, at) else { return o; };
+    let FloatRead::Good(minus, first, after) = float_to(stop, mode, s, at) else {
+        return o;
+    };
     put_decimal(out, o, minus, stop, mode, s, first, after)
 }
 

@@ -5,8 +5,8 @@ ghost use Rattle.octets.specs.Reading.{isRead};
 ghost use Rattle.numbers.specs.Float.{readFloat};
 ghost use Rattle.numbers.specs.Until.{until};
 ghost use Rattle.numbers.specs.ReadGeo.{Parted, ReadsGeo};
-use crate::float::float_to;
 use crate::float::FloatRead;
+use crate::float::float_to;
 use source::unit;
 
 // The cursor of the longitude.
@@ -43,7 +43,9 @@ fn part_end(c: usize, mode: usize, s: &[u8], at: usize) -> Mark
 fn is_float(stop: usize, mode: usize, s: &[u8], at: usize) -> bool
     ensures { λ r. ⌜ isRead (readFloat (until stop mode (now (s .entry)) at)) ≡ r ⌝ }
 {
-    let FloatRead::Good(minus, first, after) = float_to(stop, mode, s, at) else { return false; };
+    let FloatRead::Good(minus, first, after) = float_to(stop, mode, s, at) else {
+        return false;
+    };
     true
 }
 

@@ -121,6 +121,8 @@ pub fn put_whole(out: &mut [u8], o: usize, neg: bool, m: u32) -> usize
 pub fn put_integer(out: &mut [u8], o: usize, mode: usize, s: &[u8], at: usize) -> usize
     ensures { λ r. ⌜ Put (now (out .entry)) (now (out .exit)) o r (orNothing writeInteger (readInteger (rest mode (now (s .entry)) at))) ⌝ }
 {
-    let IntegerRead::Value(neg, m) = read_integer(mode, s, at) else { return o; };
+    let IntegerRead::Value(neg, m) = read_integer(mode, s, at) else {
+        return o;
+    };
     put_whole(out, o, neg, m)
 }

@@ -5,8 +5,8 @@
 //     float     FLOAT
 //     geo       GEO in text
 // Definitions and their laws are in specs/.
-pub mod integer;
 pub mod boolean;
-pub mod scan;
 pub mod float;
 pub mod geo;
+pub mod integer;
+pub mod scan;

@@ -1,13 +1,13 @@
 // Digits and zeros passed over, from the cursor up to the byte `stop`; to the end where `stop` is 256.
 ghost use mathlib.Core.Path.{_≡_};
-ghost use Rattle.octets.specs.Class.{isDigit};
 ghost use Rattle.octets.specs.Words.{isEmpty};
 ghost use Rattle.numbers.specs.Sign.{hasMinus, unsigned, isDigits};
 ghost use Rattle.numbers.specs.Float.{noLeading, noTrailing};
 ghost use Rattle.numbers.specs.Until.{until, Turns};
 ghost use Rattle.numbers.specs.FloatParts.{afterDigits};
-use source::unit;
+use octets::is_digit;
 use source::Step;
+use source::unit;
 
 // The byte at the cursor; 256 at the byte `stop` and at the end.
 pub fn unit_to(stop: usize, mode: usize, s: &[u8], at: usize) -> Step
@@ -20,15 +20,6 @@ pub fn unit_to(stop: usize, mode: usize, s: &[u8], at: usize) -> Step
         return Step { u: 256, next: n };
     }
     Step { u: u, next: n }
-}
-
-pub fn is_digit(u: usize) -> bool
-    ensures { λ r. ⌜ r ≡ isDigit u ⌝ }
-{
-    if u < 48 {
-        return false;
-    }
-    u <= 57
 }
 
 // After the digits.

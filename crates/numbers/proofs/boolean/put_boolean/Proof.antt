@@ -1,4 +1,4 @@
--- `numbers::put_boolean` meets its contract.
+-- `numbers::boolean::put_boolean` meets its contract.
 use Rattle.sink.specs.Sink.{writing}
 use Rattle.numbers.proofs.boolean.put_boolean.Statement.{statement}
 use Rattle.numbers.proofs.boolean.put_boolean.Tie as tie

@@ -1,4 +1,4 @@
--- `numbers::read_boolean` meets its contract.
+-- `numbers::boolean::read_boolean` meets its contract.
 use borrow.Author.Needs.{needs}
 use Rattle.numbers.proofs.boolean.read_boolean.Statement.{statement}
 use Rattle.numbers.proofs.boolean.read_boolean.Tie as tie

@@ -1,4 +1,4 @@
--- `numbers::float_to` meets its contract.
+-- `numbers::float::float_to` meets its contract.
 use Rattle.numbers.specs.ReadFloat.{float-good, float-bad}
 use borrow.Author.Needs.{needs}
 use Rattle.numbers.proofs.float.float_to.Statement.{statement}

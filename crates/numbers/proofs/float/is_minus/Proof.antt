@@ -1,4 +1,4 @@
--- `numbers::is_minus` meets its contract.
+-- `numbers::float::is_minus` meets its contract.
 use mathlib.Core.Path.{_∙_}
 use Rattle.numbers.specs.ReadFloat.{minus-digit, minus-zero, minus-after}
 use Rattle.numbers.specs.Spans.{lead-is}

@@ -1,4 +1,4 @@
--- `numbers::put_after` meets its contract.
+-- `numbers::float::put_after` meets its contract.
 use mathlib.Core.Path.{sym, _∙_}
 use Rattle.numbers.specs.PutInteger.{put-front}
 use Rattle.numbers.specs.PutFloat.{put-same}

@@ -1,4 +1,4 @@
--- `numbers::put_before` meets its contract.
+-- `numbers::float::put_before` meets its contract.
 use mathlib.Core.Path.{sym}
 use Rattle.numbers.specs.PutFloat.{put-same}
 use Rattle.numbers.specs.Spans.{lead-is, lead-some, lead-none}

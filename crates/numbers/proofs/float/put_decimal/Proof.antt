@@ -1,4 +1,4 @@
--- `numbers::put_decimal` meets its contract.
+-- `numbers::float::put_decimal` meets its contract.
 use Rattle.numbers.specs.PutInteger.{putting}
 use Rattle.sink.specs.Sink.{writing}
 use Rattle.numbers.proofs.float.put_decimal.Statement.{statement}

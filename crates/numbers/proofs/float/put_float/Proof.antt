@@ -1,4 +1,4 @@
--- `numbers::put_float` meets its contract.
+-- `numbers::float::put_float` meets its contract.
 use Rattle.numbers.specs.PutFloat.{put-all-float}
 use Rattle.sink.specs.Sink.{writing}
 use Rattle.numbers.proofs.float.put_float.Statement.{statement}

@@ -1,4 +1,4 @@
--- `numbers::put_float_to` meets its contract.
+-- `numbers::float::put_float_to` meets its contract.
 use borrow.Author.Needs.{needs}
 use Rattle.sink.specs.Sink.{writing}
 use Rattle.numbers.proofs.float.put_float_to.Statement.{statement}

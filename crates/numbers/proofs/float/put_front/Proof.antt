@@ -1,10 +1,11 @@
--- `numbers::put_front` meets its contract.
+-- `numbers::float::put_front` meets its contract.
 use lib.ListN.{length}
 use native.Mathlib.Omega.{arith}
 use Prim.Native.Nat.{_-_, _*_}
 use mathlib.Core.Path.{_≡_}
 use Rattle.sink.specs.Sink.{Todo, todo-step, todo-done, writing}
-use Rattle.numbers.specs.Spans.{is-digit, below-digit, above-digit, front-end, front-more, front-stop}
+use Rattle.numbers.specs.Digit.{is-digit, below-digit, above-digit}
+use Rattle.numbers.specs.Spans.{front-end, front-more, front-stop}
 use Rattle.numbers.specs.FloatParts.{front}
 use Rattle.numbers.specs.Until.{until, turn-byte, turn-end}
 use Rattle.sink.specs.Sink.{writing}

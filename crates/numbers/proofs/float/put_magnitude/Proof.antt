@@ -1,4 +1,4 @@
--- `numbers::put_magnitude` meets its contract.
+-- `numbers::float::put_magnitude` meets its contract.
 use Rattle.sink.specs.Sink.{writing}
 use Rattle.numbers.proofs.float.put_magnitude.Statement.{statement}
 use Rattle.numbers.proofs.float.put_magnitude.Tie as tie

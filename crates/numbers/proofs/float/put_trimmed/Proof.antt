@@ -1,4 +1,4 @@
--- `numbers::put_trimmed` meets its contract.
+-- `numbers::float::put_trimmed` meets its contract.
 use lib.ListN.{length}
 use native.Mathlib.Omega.{arith}
 use Prim.Native.Nat.{_≤_, _-_, _*_}

@@ -1,4 +1,4 @@
--- `numbers::put_waiting` meets its contract.
+-- `numbers::float::put_waiting` meets its contract.
 use Rattle.sink.specs.Sink.{writing}
 use Rattle.numbers.proofs.float.put_waiting.Statement.{statement}
 use Rattle.numbers.proofs.float.put_waiting.Tie as tie

@@ -1,4 +1,4 @@
--- `numbers::put_zeros` meets its contract.
+-- `numbers::float::put_zeros` meets its contract.
 use lib.ListN.{length}
 use native.Mathlib.Omega.{arith}
 use mathlib.Core.Path.{_≡_}

@@ -1,4 +1,4 @@
--- `numbers::read_float` meets its contract.
+-- `numbers::float::read_float` meets its contract.
 use Rattle.numbers.specs.ReadFloat.{float-all}
 use borrow.Author.Needs.{needs}
 use Rattle.numbers.proofs.float.read_float.Statement.{statement}

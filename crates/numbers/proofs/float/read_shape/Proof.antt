@@ -1,4 +1,4 @@
--- `numbers::read_shape` meets its contract.
+-- `numbers::float::read_shape` meets its contract.
 use mathlib.Core.Path.{refl, _∙_}
 use Rattle.numbers.specs.ReadFloat.{shape-none, shape-whole, shape-pointed, shape-other}
 use Rattle.numbers.specs.Spans.{lead-is}

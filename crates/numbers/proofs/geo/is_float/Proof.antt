@@ -1,4 +1,4 @@
--- `numbers::is_float` meets its contract.
+-- `numbers::geo::is_float` meets its contract.
 use Rattle.numbers.specs.ReadGeo.{read-some, read-none}
 use borrow.Author.Needs.{needs}
 use Rattle.numbers.proofs.geo.is_float.Statement.{statement}

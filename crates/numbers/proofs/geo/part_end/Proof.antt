@@ -1,4 +1,4 @@
--- `numbers::part_end` meets its contract.
+-- `numbers::geo::part_end` meets its contract.
 use lib.ListN.{length}
 use native.Mathlib.Omega.{arith}
 use Prim.Native.Nat.{_-_, _*_}

@@ -1,4 +1,4 @@
--- `numbers::read_geo` meets its contract.
+-- `numbers::geo::read_geo` meets its contract.
 use Rattle.numbers.specs.ReadGeo.{geo-single, geo-triple, geo-no-latitude, geo-no-longitude, geo-both}
 use borrow.Author.Needs.{needs}
 use Rattle.numbers.proofs.geo.read_geo.Statement.{statement}

@@ -1,4 +1,4 @@
--- `numbers::put_digits`, which calls itself, meets its contract.
+-- `numbers::integer::put_digits`, which calls itself, meets its contract.
 use Rattle.numbers.specs.PutInteger.{putting}
 use Prim.Native.Nat.{ℕ, _<_}
 use borrow.Fn.Kinds.{In}

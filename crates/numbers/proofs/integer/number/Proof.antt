@@ -1,4 +1,4 @@
--- `numbers::number` meets its contract.
+-- `numbers::integer::number` meets its contract.
 use mathlib.Core.Path.{_≡_, refl, _∙_}
 use Rattle.numbers.specs.ReadInteger.{number-none, number-some}
 use Rattle.source.specs.Facts.{rest-byte, rest-end}

@@ -1,4 +1,4 @@
--- `numbers::put_integer` meets its contract.
+-- `numbers::integer::put_integer` meets its contract.
 use borrow.Author.Needs.{needs}
 use Rattle.numbers.specs.PutInteger.{putting}
 use Rattle.numbers.proofs.integer.put_integer.Statement.{statement}

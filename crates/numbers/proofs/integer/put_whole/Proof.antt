@@ -1,4 +1,4 @@
--- `numbers::put_whole` meets its contract.
+-- `numbers::integer::put_whole` meets its contract.
 use Rattle.numbers.specs.PutInteger.{putting}
 use Rattle.numbers.proofs.integer.put_whole.Statement.{statement}
 use Rattle.numbers.proofs.integer.put_whole.Tie as tie

@@ -1,4 +1,4 @@
--- `numbers::read_integer` meets its contract.
+-- `numbers::integer::read_integer` meets its contract.
 use mathlib.Core.Path.{_≡_, refl, _∙_}
 use Rattle.numbers.specs.ReadInteger.{integer-minus, integer-plus, integer-plain}
 use Rattle.numbers.specs.Cursor.{rest-this}

@@ -1,4 +1,4 @@
--- `numbers::signed` meets its contract.
+-- `numbers::integer::signed` meets its contract.
 use Rattle.numbers.specs.ReadInteger.{whole-none, whole-zero, whole-some}
 use borrow.Author.Needs.{needs}
 use Rattle.numbers.proofs.integer.signed.Statement.{statement}

@@ -1,4 +1,4 @@
--- `numbers::worth` meets its contract.
+-- `numbers::integer::worth` meets its contract.
 use lib.ListN.{length}
 use native.Mathlib.Omega.{arith}
 use Prim.Native.Nat.{_≤_, _-_, _*_}

@@ -1,4 +1,4 @@
--- `numbers::has_minus` meets its contract.
+-- `numbers::scan::has_minus` meets its contract.
 use Rattle.numbers.specs.Spans.{minus-at}
 use borrow.Author.Needs.{needs}
 use Rattle.numbers.proofs.scan.has_minus.Statement.{statement}

@@ -1,4 +1,4 @@
--- `numbers::only_digits` meets its contract.
+-- `numbers::scan::only_digits` meets its contract.
 use mathlib.Core.Path.{_∙_}
 use Rattle.numbers.specs.Spans.{all-none, all-after}
 use Rattle.numbers.specs.Until.{turn-byte, turn-end}

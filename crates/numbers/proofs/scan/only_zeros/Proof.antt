@@ -1,4 +1,4 @@
--- `numbers::only_zeros` meets its contract.
+-- `numbers::scan::only_zeros` meets its contract.
 use lib.ListN.{length}
 use native.Mathlib.Omega.{arith}
 use Prim.Native.Nat.{_-_, _*_}

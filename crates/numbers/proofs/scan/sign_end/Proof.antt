@@ -1,4 +1,4 @@
--- `numbers::sign_end` meets its contract.
+-- `numbers::scan::sign_end` meets its contract.
 use native.Mathlib.Omega.{arith}
 use Rattle.numbers.specs.Spans.{sign-minus, sign-plus, sign-none}
 use Rattle.numbers.specs.Until.{turn-byte}

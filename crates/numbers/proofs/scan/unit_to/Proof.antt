@@ -1,4 +1,4 @@
--- `numbers::unit_to` meets its contract.
+-- `numbers::scan::unit_to` meets its contract.
 use native.Mathlib.Omega.{arith}
 use Rattle.numbers.specs.Until.{turn-on, turn-stop}
 use borrow.Author.Needs.{needs}

@@ -1,4 +1,4 @@
--- `numbers::zeros_end` meets its contract.
+-- `numbers::scan::zeros_end` meets its contract.
 use lib.ListN.{length}
 use native.Mathlib.Omega.{arith}
 use Prim.Native.Nat.{_-_, _*_}
