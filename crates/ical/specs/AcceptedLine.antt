@@ -1,5 +1,6 @@
 -- What a content line with no fault states can be written as a content line again: its names are names, and its free characters are such that a line can have.
 --     line-accepted, line-property    what a line with no fault states is such a property
+--     alone-is, status-parts, text-made, unknown-is    what a value was read from;   own-every: what all parameters pass, those but VALUE pass
 use mathlib.Core.Path.{_≡_, refl, sym, _∙_}
 use mathlib.Core.Bool.{Bool, true, false, not, false≢true}
 use mathlib.Core.List.{List, [], _∷_, map}
@@ -51,7 +52,7 @@ nothing-free v e = rw e
 value-text : (v : Value) → isParameterText v ≡ true → isValueText v ≡ true
 value-text v h = and-both _ _ h .0
 
-alone-is : (ps : List (List ℕ)) (s : List ℕ) → alone ps ≡ some s → ps ≡ s ∷ []
+pub alone-is : (ps : List (List ℕ)) (s : List ℕ) → alone ps ≡ some s → ps ≡ s ∷ []
 alone-is [] s h = none-some h
 alone-is (p ∷ []) s h = let q : p ≡ s = cc in rw q
 alone-is (p ∷ q ∷ ps) s h = none-some h
@@ -62,7 +63,7 @@ text-free s x h e =
     rw (← (alone-is (a .0) x (a .2))) (split-without 13 0 s (a .0) refl h (a .1))
 
 -- what a constructor was put to
-text-made : (o : Option (List ℕ)) (x : List ℕ) → Option·map text o ≡ some (text x) → o ≡ some x
+pub text-made : (o : Option (List ℕ)) (x : List ℕ) → Option·map text o ≡ some (text x) → o ≡ some x
 text-made none x h = none-some h
 text-made (some y) x h = let q : y ≡ x = cc in rw q
 
@@ -71,7 +72,7 @@ unknown-made none x h = none-some h
 unknown-made (some y) x h = let q : y ≡ x = cc in rw q
 
 -- a raw value is what stands there
-unknown-is : (t : ValueType) (s x : List ℕ) → UNKNOWN ≡ t → readValue ical t s ≡ some (unknown x) → s ≡ x
+pub unknown-is : (t : ValueType) (s x : List ℕ) → UNKNOWN ≡ t → readValue ical t s ≡ some (unknown x) → s ≡ x
 unfolding readValue
 unknown-is t s x u h = unknown-kept s x (unknown-made (readUnknown s) x (rw (← u) at h))
 
@@ -141,7 +142,7 @@ parameter-line r p q h =
     and-yes _ _ (rw (d .named) (name-upper (r .name) (a .0)))
     (each-accepted-of (readParamValue (upper (r .name))) isParameterText isParamValue (λ v x k e. param-value-free (upper (r .name)) v x k e) (r .values) (p .values) (pick-second _ _ (a .1) .1) (d .each))
 
-own-every : (q : RawParameter → Bool) (rs : List RawParameter) → every q rs ≡ true → every q (ownParameters rs) ≡ true
+pub own-every : (q : RawParameter → Bool) (rs : List RawParameter) → every q rs ≡ true → every q (ownParameters rs) ≡ true
 unfolding ownParameters every
 own-every q [] h = refl
 own-every q (r ∷ rs) h =
@@ -163,7 +164,7 @@ geo-free : (s : List ℕ) (v : Value) → readGeo s ≡ some v → isValueText v
 unfolding noneHolds
 geo-free s v h = rw (geo-accepted s v h .both)
 
-status-parts : (ps : List (List ℕ)) (v : Value) → statusOf ps ≡ some v → freeIn v ≡ ps
+pub status-parts : (ps : List (List ℕ)) (v : Value) → statusOf ps ≡ some v → freeIn v ≡ ps
 status-parts [] v h = none-some h
 status-parts (c ∷ []) v h = none-some h
 status-parts (c ∷ d ∷ []) v h = let q : requestStatus c d none ≡ v = cc in rw (← q)

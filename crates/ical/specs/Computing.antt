@@ -15,7 +15,10 @@ use Rattle.ical.specs.Tree.{entryBy, entryOf, ownOf, innerOf, calendarOf
 use Rattle.ical.specs.ReadText.{linesVerdict, keptVerdict, placed, textVerdict, readCalendar}
 use Rattle.ical.specs.WriteText.{withValue, contentLineOf, propertyLines, writeCalendar}
 use Rattle.ical.specs.LineLaws.{isLineProperty}
+use Rattle.ical.specs.ValidCalendar.{isStated}
+use Rattle.ical.specs.TreeBack.{propertiesBefore, linesBefore}
+use Rattle.ical.specs.Turned.{turned}
 
 unfoldable pub ical-compute : ℕ
-unfolding octets-compute _otherwise_ folding-compute utf8-compute schema-compute values-compute lines-compute readParamValue readParameter statedType ownParameters parametersGood readValues faultAs propertyOf begins ends states namesCarried moveBy moveOf onward ended nesting entryBy entryOf ownOf innerOf calendarOf linesVerdict keptVerdict placed textVerdict readCalendar withValue contentLineOf propertyLines writeCalendar isLineProperty
+unfolding octets-compute _otherwise_ folding-compute utf8-compute schema-compute values-compute lines-compute readParamValue readParameter statedType ownParameters parametersGood readValues faultAs propertyOf begins ends states namesCarried moveBy moveOf onward ended nesting entryBy entryOf ownOf innerOf calendarOf linesVerdict keptVerdict placed textVerdict readCalendar withValue contentLineOf propertyLines writeCalendar isLineProperty isStated propertiesBefore linesBefore turned
 ical-compute = 0

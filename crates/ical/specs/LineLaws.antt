@@ -1,6 +1,7 @@
 -- The content line of a property is one that the grammar has, so that its bytes are read back as that line.
 --     isLineProperty    a property whose names are names, and whose free characters a content line can have
 --     line-is-line, line-read-back
+--     chosen-valid, property-value-valid    a value of a parameter or of a property is spelled as its type says
 use mathlib.Core.Path.{_≡_, refl, _∙_}
 use mathlib.Core.Bool.{Bool, true, false, false≢true}
 use mathlib.Core.List.{List, [], _∷_, map}
@@ -156,7 +157,7 @@ with-value-are n t rs h = pick-either (λ (l : List RawParameter). every isRawPa
 
 -- ---- values
 
-chosen-valid : (o : Option (List (List ℕ))) (t : ValueType) (v : Value) → isChosen o t v ≡ true → isValue v ≡ true
+pub chosen-valid : (o : Option (List (List ℕ))) (t : ValueType) (v : Value) → isChosen o t v ≡ true → isValue v ≡ true
 chosen-valid none t v h = and-both _ _ (and-both _ _ h .1) .1
 chosen-valid (some words) t v h = go (textIn v) refl h
   where
@@ -164,7 +165,7 @@ chosen-valid (some words) t v h = go (textIn v) refl h
     go none e k = absurd (false≢true k)
     go (some s) e k = rw (text-in v s e)
 
-property-value-valid : (k n : List ℕ) (t : ValueType) (v : Value) → isPropertyValue k n t v ≡ true → isValue v ≡ true
+pub property-value-valid : (k n : List ℕ) (t : ValueType) (v : Value) → isPropertyValue k n t v ≡ true → isValue v ≡ true
 unfolding pick
 property-value-valid k n t v h = go (hasOwnValues n) h
   where

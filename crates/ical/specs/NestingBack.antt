@@ -1,34 +1,32 @@
 -- The verdict on the lines of a calendar: none of them is refused.
 --     nesting-back     the verdict on the lines of a calendar is fine, wherever they stand
-use mathlib.Core.Path.{_≡_, refl, sym, ap, _∙_}
-use mathlib.Core.Bool.{Bool, true, false, not}
+use mathlib.Core.Path.{_≡_, refl, _∙_}
+use mathlib.Core.Bool.{Bool, true, false}
 use mathlib.Core.List.{List, [], _∷_, map}
-use mathlib.Core.Option.{Option, none, some}
 use Prim.Native.Nat.{ℕ, _+_}
 use lib.ListN.{length}
 use Rattle.octets.specs.Ascii.{ascii}
-use Rattle.octets.specs.Pick.{pick, pick-yes, _and_, _or_, and-yes, and-both}
+use Rattle.octets.specs.Pick.{pick, _and_, _or_, and-yes, and-both}
 use Rattle.octets.specs.Scan.{allOf}
 use Rattle.octets.specs.Class.{isVisible, upper}
 use Rattle.octets.specs.Words.{same, isOneOf, same-self}
-use Rattle.octets.specs.Lists.{every, every-both, every-map}
+use Rattle.octets.specs.Lists.{every, every-both}
 use Rattle.octets.specs.Computing.{octets-compute}
 use Rattle.model.specs.Calendar.{Parameter, Property, Components, noMore, component}
-use Rattle.model.specs.Refusal.{Verdict, fine}
+use Rattle.model.specs.Refusal.{fine}
 use Rattle.schema.specs.Types.{sameType}
 use Rattle.schema.specs.Components.{subcomponentsOf}
 use Rattle.schema.specs.Properties.{defaultType}
 use Rattle.schema.specs.Counts.{complete}
 use Rattle.values.specs.WriteValue.{typeOfAll}
 use Rattle.folding.specs.Text.{wholeLines}
-use Rattle.lines.specs.ContentLine.{RawParameter, ContentLine, contentLine}
+use Rattle.lines.specs.ContentLine.{RawParameter}
 use Rattle.lines.specs.Names.{startsOffName, isCarriedName}
-use Rattle.ical.specs.Statement.{propertyOf, propertyFault}
-use Rattle.ical.specs.Nesting.{Open, Move, on, stop, opened, mayBegin, beginIn, begins, ends, states, mayHold, namesCarried, moveBy, moveOf, move, onward, ended, nesting}
+use Rattle.ical.specs.Nesting.{Open, on, opened, mayBegin, beginIn, begins, ends, states, namesCarried, moveBy, moveOf, move, onward, ended, nesting}
 use Rattle.ical.specs.WriteText.{rawOf, valueParameter, withValue, contentLineOf}
 use Rattle.ical.specs.PropertyLaws.{property-read-back, property-no-fault}
 use Rattle.ical.specs.Turned.{turned, complete-turned}
-use Rattle.ical.specs.ValidCalendar.{isGoodParameter, isStated, Stated, stated, hasComponents, ValidIn, Valid, atTop, isPlain, inside-plain, top-plain, plain-name}
+use Rattle.ical.specs.ValidCalendar.{isGoodParameter, isStated, Stated, stated, hasComponents, ValidIn, Valid, atTop, inside-plain, top-plain, plain-name}
 use Rattle.ical.specs.TreeBack.{beginOf, endOf, lineOf, propertiesBefore, linesBefore, linesOf, framing, begin-line, end-line, property-line}
 
 -- ---- an open component
@@ -67,7 +65,7 @@ value-carried : isCarriedName (ascii "VALUE") ≡ true
 unfolding isCarriedName startsOffName octets-compute
 value-carried = refl
 
-abbrev isCarriedRaw : RawParameter → Bool
+abbrev pub isCarriedRaw : RawParameter → Bool
 isCarriedRaw r = isCarriedName (r .name)
 
 raw-carried : (ps : List Parameter) → every isGoodParameter ps ≡ true → every isCarriedRaw (map rawOf ps) ≡ true

@@ -4,29 +4,27 @@
 --     begin-line, end-line, property-line    these lines are read as content lines
 --     tree-back         the components that the lines of a calendar state, wherever they stand
 use mathlib.Core.Path.{_≡_, refl, sym, ap, _∙_}
-use mathlib.Core.Bool.{Bool, true, false}
+use mathlib.Core.Bool.{true}
 use mathlib.Core.List.{List, [], _∷_, map}
-use mathlib.Core.Option.{Option, none, some}
-use Prim.Native.Nat.{ℕ, zero, suc, _+_}
+use mathlib.Core.Option.{some}
+use Prim.Native.Nat.{ℕ, suc, _+_}
 use lib.ListN.{length}
 use Rattle.octets.specs.Ascii.{ascii}
-use Rattle.octets.specs.Pick.{pick, _and_, _or_, and-yes}
+use Rattle.octets.specs.Pick.{pick, and-yes}
 use Rattle.octets.specs.Scan.{allOf}
 use Rattle.octets.specs.Append.{_⊕_, joined}
 use Rattle.octets.specs.Class.{isVisible, upper}
-use Rattle.octets.specs.Words.{same, isOneOf}
 use Rattle.octets.specs.Lists.{every, every-both}
 use Rattle.octets.specs.Computing.{octets-compute}
 use Rattle.model.specs.Calendar.{Property, Components, noMore, component}
 use Rattle.schema.specs.Components.{subcomponentsOf}
-use Rattle.folding.specs.Lines.{Line, whole, loose}
 use Rattle.folding.specs.Text.{wholeLines}
 use Rattle.lines.specs.ContentLine.{ContentLine, isName, isContentLine, contentLine}
 use Rattle.lines.specs.Chars.{visible-value}
 use Rattle.lines.specs.Write.{writeContentLine}
 use Rattle.lines.specs.RoundTrip.{content-line-read-back}
 use Rattle.ical.specs.Statement.{propertyOf}
-use Rattle.ical.specs.Tree.{Entry, begin, end, property, nothing, entryBy, entryOf, ownOf, innerOf, calendarOf}
+use Rattle.ical.specs.Tree.{Entry, begin, end, property, entryBy, entryOf, ownOf, innerOf, calendarOf}
 use Rattle.ical.specs.WriteText.{contentLineOf}
 use Rattle.ical.specs.PropertyLaws.{property-read-back}
 use Rattle.ical.specs.LineLaws.{line-read-back}

@@ -1,7 +1,7 @@
 -- The properties of a component with the last first, as an open component keeps them: the schema's counts do not mind the order, for ACTION stands at most once.
 --     turned ps seen     the properties ps, the last first, in front of those seen before
---     complete-turned    what is complete in one order is complete in the other
-use mathlib.Core.Path.{_≡_, refl, sym, ap, _∙_}
+--     complete-turned, complete-turned-back    what is complete in one order is complete in the other
+use mathlib.Core.Path.{_≡_, refl, sym, _∙_}
 use mathlib.Core.Bool.{Bool, true, false, false≢true}
 use mathlib.Core.List.{List, [], _∷_}
 use mathlib.Core.Option.{Option, none, some}
@@ -14,11 +14,11 @@ use Rattle.octets.specs.Pick.{pick, _or_, and-both}
 use Rattle.octets.specs.Words.{same, isOneOf, same-true, rowOf}
 use Rattle.octets.specs.Lists.{every}
 use Rattle.octets.specs.Tables.{row-any-passes, row-passes}
-use Rattle.octets.specs.Reading.{andThen, andThen-some, none-some}
+use Rattle.octets.specs.Reading.{andThen, andThen-some}
 use Rattle.octets.specs.Computing.{octets-compute}
 use Rattle.model.specs.Calendar.{Property}
-use Rattle.schema.specs.Components.{Occurrence, AlarmRow, alarmTable, componentTable, componentRow, unknownComponent, occurrencesOf, alarmOccurrences, isAlarm}
-use Rattle.schema.specs.Properties.{propertyNames, isKnownProperty}
+use Rattle.schema.specs.Components.{Occurrence, alarmTable, componentTable, componentRow, unknownComponent, occurrencesOf, alarmOccurrences, isAlarm}
+use Rattle.schema.specs.Properties.{propertyNames}
 use Rattle.schema.specs.Counts.{tally, occurrenceIn, isAtMost, isOften, eachOften, firstText, actionOf, listFor, oftenFor, complete}
 use Rattle.schema.specs.Tallies.{complete-same}
 
@@ -131,7 +131,16 @@ action-turned (p ∷ ps) seen h n = go (same action (p .name)) refl h (action-tu
     go true e k ih = action-seen ps (p ∷ seen) (omega arith) ∙ rw e
     go false e k ih = ih k (rw e n)
 
-pub complete-turned : (c : List ℕ) (ps : List Property) (sub : Bool) → complete c ps sub ≡ true → complete c (turned ps []) sub ≡ true
+same-turned : (c : List ℕ) (ps : List Property) (sub : Bool) → tally action ps ≤ 1 → complete c (turned ps []) sub ≡ complete c ps sub
 unfolding tally
-complete-turned c ps sub h =
-    complete-same c sub (turned ps []) ps (λ w k. tally-turned w ps [] ∙ omega arith) (action-turned ps [] (action-once c ps sub h) refl) ∙ h
+same-turned c ps sub n = complete-same c sub (turned ps []) ps (λ w k. tally-turned w ps [] ∙ omega arith) (action-turned ps [] n refl)
+
+pub complete-turned : (c : List ℕ) (ps : List Property) (sub : Bool) → complete c ps sub ≡ true → complete c (turned ps []) sub ≡ true
+complete-turned c ps sub h = same-turned c ps sub (action-once c ps sub h) ∙ h
+
+pub complete-turned-back : (c : List ℕ) (ps : List Property) (sub : Bool) → complete c (turned ps []) sub ≡ true → complete c ps sub ≡ true
+unfolding tally
+complete-turned-back c ps sub h =
+    let e = tally-turned action ps [] in
+    let n = action-once c (turned ps []) sub h in
+    sym (same-turned c ps sub (omega arith)) ∙ h

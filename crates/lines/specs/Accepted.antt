@@ -58,7 +58,7 @@ value-read s v r =
     (λ t q e. rw (← q) (quoted-read t v r e))
     (text-read s v r)
 
-next-value-read : (s : List ℕ) (v : ParamValue) (r : List ℕ) → nextValue s ≡ got v r → (isParamValue v ≡ true) × (commaValue v r ≡ s)
+pub next-value-read : (s : List ℕ) (v : ParamValue) (r : List ℕ) → nextValue s ≡ got v r → (isParamValue v ≡ true) × (commaValue v r ≡ s)
 unfolding nextValue
 next-value-read s v r =
     byte-case (λ o. o ≡ got v r → (isParamValue v ≡ true) × (commaValue v r ≡ s)) 44 s paramValue One.none
@@ -102,7 +102,7 @@ param-read s p r =
     (λ t q e. rw (q, run-joined) at (first-read n t p r (run-name s h) e))
     bad-got)
 
-next-param-read : (s : List ℕ) (p : RawParameter) (r : List ℕ) → nextParam s ≡ got p r → (isRawParameter p ≡ true) × (writeParam p r ≡ s)
+pub next-param-read : (s : List ℕ) (p : RawParameter) (r : List ℕ) → nextParam s ≡ got p r → (isRawParameter p ≡ true) × (writeParam p r ≡ s)
 unfolding nextParam
 next-param-read s p r =
     byte-case (λ o. o ≡ got p r → (isRawParameter p ≡ true) × (writeParam p r ≡ s)) 59 s param One.none

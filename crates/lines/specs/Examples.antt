@@ -6,9 +6,10 @@ use mathlib.Core.Option.{some}
 use Prim.Native.Nat.{ℕ}
 use Rattle.octets.specs.Ascii.{ascii}
 use Rattle.octets.specs.Reading.{isRead}
-use Rattle.lines.specs.ContentLine.{ParamValue, RawParameter, ContentLine, contentLine, isContentLine}
+use Rattle.lines.specs.ContentLine.{ParamValue, RawParameter, ContentLine, nextParam, contentLine, isContentLine}
 use Rattle.lines.specs.Write.{writeContentLine}
 use Rattle.lines.specs.Names.{isCarriedName}
+use Rattle.lines.specs.Items.{items}
 use Rattle.lines.specs.Computing.{lines-compute}
 
 abbrev bare : List ℕ → ParamValue
@@ -84,3 +85,8 @@ lines-refused = refl
 pub names : map isCarriedName (ascii "SUMMARY" ∷ ascii "x-a" ∷ ascii "XM" ∷ ascii "X-XML" ∷ ascii "1A" ∷ ascii "-A" ∷ ascii "xMl" ∷ ascii "XMLNS" ∷ []) ≡ (true ∷ true ∷ true ∷ true ∷ false ∷ false ∷ false ∷ false ∷ [])
 unfolding lines-compute
 names = refl
+
+-- what is read of parameters before a fault
+pub parameters : map (items nextParam) (ascii ";A=1,\"2\";B=:v" ∷ ascii ";A=1;B" ∷ ascii ":v" ∷ []) ≡ ((parameter (ascii "A") (bare (ascii "1") ∷ quote (ascii "2") ∷ []) ∷ parameter (ascii "B") (bare [] ∷ []) ∷ []) ∷ (parameter (ascii "A") (bare (ascii "1") ∷ []) ∷ []) ∷ [] ∷ [])
+unfolding lines-compute
+parameters = refl

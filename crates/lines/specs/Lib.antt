@@ -5,6 +5,13 @@
 --     Accepted     what is read is a content line, written as it stood
 --     Chars        its classes of characters, one within the other
 --     Names        names that can be carried (refusal 5)
+--     Items        what a repetition reads before it ends or meets a fault
+--     Cursor       the parts of a line read through a cursor: positions, runs of characters, items
+--     Repeating    items one after another, through a cursor
+--     Values       values of a parameter, through a cursor
+--     Params       parameters, through a cursor
+--     Line         a content line, through a cursor
+--     Carried      names that can be carried, through a cursor
 --     Computing    opens all of these, for examples that compute
 --     Examples     lines that are read, lines that are refused, lines that are written
 pub mod ContentLine
@@ -13,5 +20,12 @@ pub mod RoundTrip
 pub mod Accepted
 pub mod Chars
 pub mod Names
+pub mod Items
+pub mod Cursor
+pub mod Repeating
+pub mod Values
+pub mod Params
+pub mod Line
+pub mod Carried
 pub mod Computing
 pub mod Examples

@@ -1,1 +1,54 @@
-// Content lines: the grammar of RFC 5545, section 3.1, and names that can be carried. Definitions are in specs/.
+// Content lines, RFC 5545, section 3.1, read through a cursor: the source is cut at the line's end by the caller. Definitions and laws are in specs/.
+
+mod carried;
+mod line;
+mod param;
+mod runs;
+mod value;
+
+pub use carried::is_carried_name;
+pub use carried::names_carried;
+pub use line::line_at;
+pub use param::next_param;
+pub use value::next_value;
+pub use value::param_value;
+
+// The classes of characters of a line: of an unquoted value of a parameter, of a quoted one, of the line's value.
+pub enum Chars {
+    Safe,
+    Quoted,
+    Valued,
+}
+
+// A value of a parameter: whether one is there, whether it is against no rule, whether it stands between quotes, the cursors of its characters and of
+// their end, and the cursor behind it.
+pub struct ParamAt {
+    pub there: bool,
+    pub ok: bool,
+    pub quoted: bool,
+    pub from: usize,
+    pub to: usize,
+    pub next: usize,
+}
+
+// A parameter: whether one is there, whether it is against no rule, the cursors of its name and of the name's end, of its first value, and the cursor behind it.
+pub struct ParamRead {
+    pub there: bool,
+    pub ok: bool,
+    pub name: usize,
+    pub end: usize,
+    pub first: usize,
+    pub next: usize,
+}
+
+// All that there are: whether they are against no rule, and the cursor behind them.
+pub struct AllRead {
+    pub ok: bool,
+    pub next: usize,
+}
+
+// A content line: the cursor at its name's end, and that of its value; or a line that is against the grammar.
+pub enum LineRead {
+    Line(usize, usize),
+    Bad,
+}

@@ -9,6 +9,12 @@
 --     Closed      laws of closed sets
 --     Counts      the tallies of a component compared with its list (refusal 9)
 --     Tallies     laws of counting
+--     Numbers     names by their numbers, and the rows of numbers
+--     Cells       tables that a definition fills
+--     Columns     what the tables say, by numbers
+--     Sets        closed sets, by numbers
+--     Arrays      the tallies of a component in an array
+--     Completing  counts over that array
 --     Computing   opens all of these, for examples that compute
 --     Examples    the tables computed
 pub mod Types
@@ -19,5 +25,11 @@ pub mod Rows
 pub mod Closed
 pub mod Counts
 pub mod Tallies
+pub mod Numbers
+pub mod Cells
+pub mod Columns
+pub mod Sets
+pub mod Arrays
+pub mod Completing
 pub mod Computing
 pub mod Examples

@@ -10,6 +10,11 @@
 --     Unescaped       TEXT followed a byte at a time
 --     Kept            the answer of a reader of characters, and its loops
 --     Written         TEXT written
+--     Items           the items of a list of TEXT, found at a cursor
+--     StatusParts     the parts of a REQUEST-STATUS, found at a cursor
+--     Elements        TEXT written as elements of XML
+--     StatusXml       a REQUEST-STATUS written as elements of XML
+--     Chars           values kept by their characters, written
 --     Computing       opens all of these, for examples that compute
 --     Examples        computed examples
 pub mod Text
@@ -23,5 +28,10 @@ pub mod Quoting
 pub mod Unescaped
 pub mod Kept
 pub mod Written
+pub mod Items
+pub mod StatusParts
+pub mod Elements
+pub mod StatusXml
+pub mod Chars
 pub mod Computing
 pub mod Examples

@@ -1,6 +1,7 @@
 -- TEXT followed a byte at a time: whether each byte may stand where it stands, and the characters that are meant.
 --     inText, isSplit     whether a byte may stand, and whether all may;   split-is, text-is: then it is read
 --     meant, unescaped    the character that a byte stands for, and all;   text-value: it is what is read
+--     separator-none      a single TEXT has no separator
 --     text-..             the ways that a reader's loop goes on and ends;   `search reading-text`
 use mathlib.Core.Path.{_≡_, refl, sym, ap, _∙_}
 use mathlib.Core.Bool.{Bool, true, false, false≢true}
@@ -79,17 +80,17 @@ split-is (b ∷ s) after c = go (signOf after c b) (splitFrom (opens after b) c 
 
 -- a single TEXT has no separator
 
-abbrev isBetween : Sign → Bool
-isBetween (char b) = false
-isBetween opening = false
-isBetween separator = true
-isBetween fault = false
+abbrev pub isSeparator : Sign → Bool
+isSeparator (char b) = false
+isSeparator opening = false
+isSeparator separator = true
+isSeparator fault = false
 
-between-none : (after : Bool) (b : ℕ) → isBetween (signOf after 0 b) ≡ false
+pub separator-none : (after : Bool) (b : ℕ) → isSeparator (signOf after 0 b) ≡ false
 unfolding pick _or_
-between-none after b = zero (eqb b 0) refl
+separator-none after b = zero (eqb b 0) refl
   where
-    go : (after n e k h : Bool) → isBetween (pick after (pick n (char 10) (pick e (char b) fault)) (pick k opening (pick h fault (char b)))) ≡ false
+    go : (after n e k h : Bool) → isSeparator (pick after (pick n (char 10) (pick e (char b) fault)) (pick k opening (pick h fault (char b)))) ≡ false
     go true true e k h = refl
     go true false true k h = refl
     go true false false k h = refl
@@ -97,10 +98,10 @@ between-none after b = zero (eqb b 0) refl
     go false n e false true = refl
     go false n e false false = refl
 
-    zero : (t : Bool) → eqb b 0 ≡ t → isBetween (signOf after 0 b) ≡ false
+    zero : (t : Bool) → eqb b 0 ≡ t → isSeparator (signOf after 0 b) ≡ false
     zero true e = rw (eqb-true b 0 e) (pass after)
       where
-        pass : (a : Bool) → isBetween (signOf a 0 0) ≡ false
+        pass : (a : Bool) → isSeparator (signOf a 0 0) ≡ false
         pass true = refl
         pass false = refl
     zero false e = rw e (go after (isNewline b) (isEscaped b) (eqb b 92) (isBreak b))
@@ -110,9 +111,9 @@ unfolding isSplit isRead pick _and_ consRead
 text-is [] true = ap isRead (text-end true)
 text-is [] false = ap isRead (text-end false)
 text-is (b ∷ s) after =
-    ap isRead (text-step after b s) ∙ go (signOf after 0 b) (textFrom (opens after b) s) (between-none after b) ∙ rw (sign-good after 0 b, text-is s (opens after b))
+    ap isRead (text-step after b s) ∙ go (signOf after 0 b) (textFrom (opens after b) s) (separator-none after b) ∙ rw (sign-good after 0 b, text-is s (opens after b))
   where
-    go : (g : Sign) (o : Option (List ℕ)) → isBetween g ≡ false → isRead (textSign g o) ≡ (isGood g and isRead o)
+    go : (g : Sign) (o : Option (List ℕ)) → isSeparator g ≡ false → isRead (textSign g o) ≡ (isGood g and isRead o)
     go (char x) none h = refl
     go (char x) (some t) h = refl
     go opening o h = refl
@@ -127,9 +128,9 @@ text-alone s = text-is s false ∙ sym (split-is s false 0)
 sign-value : (after : Bool) (b : ℕ) (f : Bool → List ℕ) → inText after 0 b ≡ true →
     textSign (signOf after 0 b) (some (f (opens after b))) ≡ some (pick (opens after b) (f true) (meant after b ∷ f false))
 unfolding pick consRead
-sign-value after b f h = go after (isNewline b) (isEscaped b) (eqb b 92) (isBreak b) (eqb b 0) (between-none after b) h
+sign-value after b f h = go after (isNewline b) (isEscaped b) (eqb b 92) (isBreak b) (eqb b 0) (separator-none after b) h
   where
-    go : (after n e k h x : Bool) → isBetween (pick after (pick n (char 10) (pick e (char b) fault)) (pick k opening (pick h (pick x separator fault) (char b)))) ≡ false →
+    go : (after n e k h x : Bool) → isSeparator (pick after (pick n (char 10) (pick e (char b) fault)) (pick k opening (pick h (pick x separator fault) (char b)))) ≡ false →
         pick after (pick n true e) (pick k true (pick h x true)) ≡ true →
         textSign (pick after (pick n (char 10) (pick e (char b) fault)) (pick k opening (pick h (pick x separator fault) (char b)))) (some (f (pick after false k)))
         ≡ some (pick (pick after false k) (f true) (pick after (pick n 10 b) b ∷ f false))

@@ -4,12 +4,26 @@ ghost use mathlib.Core.Path.{_≡_};
 ghost use Rattle.texts.specs.Kept.{isKept};
 
 mod binary;
+mod chars;
+mod elements;
+mod items;
+mod request;
 mod text;
 mod unknown;
 mod uri;
 mod written;
 
 pub use binary::read_binary;
+pub use chars::put_binary;
+pub use chars::put_unknown;
+pub use chars::put_unknown_xml;
+pub use chars::put_uri;
+pub use chars::put_uri_xml;
+pub use elements::put_text_element;
+pub use elements::put_texts_xml;
+pub use items::item_end;
+pub use request::put_request_status_xml;
+pub use request::read_request_status;
 pub use text::read_one_text;
 pub use text::read_text;
 pub use unknown::read_unknown;
@@ -21,6 +35,12 @@ pub use written::put_text_xml;
 pub enum Kept {
     Chars(usize),
     Bad,
+}
+
+// A REQUEST-STATUS: the cursor of the first semicolon, the cursor behind it, and that of the second one or of the end; or none.
+pub enum Status {
+    Parts(usize, usize, usize),
+    NoStatus,
 }
 
 pub fn is_kept(k: Kept) -> bool

@@ -7,9 +7,13 @@ ghost use Rattle.source.specs.Source.{rest};
 ghost use Rattle.times.specs.Date.{isLeapYear, hasThirtyDays, daysInMonth, isDay, readDate};
 ghost use Rattle.times.specs.DateAlong.{datePattern, dayFrom, dayOf};
 ghost use Rattle.times.specs.Followed.{Walks};
+ghost use Rattle.octets.specs.Reading.{orNothing};
+ghost use Rattle.sink.specs.Sink.{Put};
+ghost use Rattle.times.specs.Date.{writeDate};
 use crate::letters::ended;
 use crate::follow::Walk;
 use crate::follow::follow;
+use crate::written::put_day;
 
 // A day by year, month and day of the month.
 pub enum DateRead {
@@ -111,4 +115,14 @@ pub fn read_date(xcal: bool, mode: usize, s: &[u8], at: usize) -> DateRead
         return DateRead::NoDate;
     }
     DateRead::NoDate
+}
+
+pub fn put_date(out: &mut [u8], o: usize, from: bool, to: bool, mode: usize, s: &[u8], at: usize) -> usize
+    ensures { λ r. ⌜ Put (now (out .entry)) (now (out .exit)) o r (orNothing (writeDate (formatOf to)) (readDate (formatOf from) (rest mode (now (s .entry)) at))) ⌝ }
+{
+    let r = read_date(from, mode, s, at);
+    match r {
+        DateRead::Day(y, m, d) => put_day(out, o, to, y, m, d),
+        DateRead::NoDate => o,
+    }
 }

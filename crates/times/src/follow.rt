@@ -23,7 +23,7 @@ fn wide(b: u8) -> usize
     b as usize
 }
 
-fn is_digit(u: usize) -> bool
+pub fn is_digit(u: usize) -> bool
     ensures { λ r. ⌜ r ≡ isDigit u ⌝ }
 {
     if u < 48 {

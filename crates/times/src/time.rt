@@ -6,10 +6,14 @@ ghost use Rattle.times.specs.Letters.{cased};
 ghost use Rattle.times.specs.Time.{readTime};
 ghost use Rattle.times.specs.TimeAlong.{timePattern, isHms, zone, clockBy, clockOf};
 ghost use Rattle.times.specs.Followed.{Walks};
+ghost use Rattle.octets.specs.Reading.{orNothing};
+ghost use Rattle.sink.specs.Sink.{Put};
+ghost use Rattle.times.specs.Time.{writeTime};
 use crate::letters::ended;
 use crate::letters::letter;
 use crate::follow::Walk;
 use crate::follow::follow;
+use crate::written::put_clock;
 
 // Hour, minute and second, and whether it is UTC.
 pub enum TimeRead {
@@ -17,7 +21,7 @@ pub enum TimeRead {
     NoTime,
 }
 
-fn is_hms(h: u8, m: u8, s: u8) -> bool
+pub fn is_hms(h: u8, m: u8, s: u8) -> bool
     ensures { λ r. ⌜ r ≡ isHms h m s ⌝ }
 {
     if h <= 23 {
@@ -84,4 +88,14 @@ pub fn read_time(xcal: bool, mode: usize, s: &[u8], at: usize) -> TimeRead
         return clock_from(w.n, k);
     }
     TimeRead::NoTime
+}
+
+pub fn put_time(out: &mut [u8], o: usize, from: bool, to: bool, mode: usize, s: &[u8], at: usize) -> usize
+    ensures { λ r. ⌜ Put (now (out .entry)) (now (out .exit)) o r (orNothing (writeTime (formatOf to)) (readTime (formatOf from) (rest mode (now (s .entry)) at))) ⌝ }
+{
+    let r = read_time(from, mode, s, at);
+    match r {
+        TimeRead::Clock(h, i, c, z) => put_clock(out, o, to, h, i, c, z),
+        TimeRead::NoTime => o,
+    }
 }

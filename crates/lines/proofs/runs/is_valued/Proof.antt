@@ -1,0 +1,12 @@
+-- `lines::is_valued` meets its contract. Assumes nothing.
+use Rattle.octets.specs.Pick.{branching-joined}
+use Rattle.lines.proofs.runs.is_valued.Statement.{statement}
+use Rattle.lines.proofs.runs.is_valued.Tie as tie
+
+pub is-valued-spec : {M : Type 1} → statement M
+is-valued-spec = tie.close (tie.spec
+    (λ c. search branching-joined)  -- returns
+    (λ c κs. search branching-joined)  -- is-break-requires
+    (λ c. search branching-joined)  -- returns-2
+    (λ c. search branching-joined)  -- returns-3
+    )

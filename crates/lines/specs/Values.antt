@@ -1,0 +1,164 @@
+-- Values of a parameter read through a cursor.
+--     ValueAt p m s c r     what p, which reads a value, reads from the cursor c on
+--     ValuesAt m s c r      all values of a parameter, from its first on
+--     value-first, value-more, value-over, value-fault    a walk over `valuesAt`: the first, one more, the end;   value-less: its measure
+--     value-chars           a value's characters, cut out of the slice
+use mathlib.Core.Path.{_≡_, refl, sym, ap, _∙_}
+use mathlib.Core.Bool.{Bool, true, false}
+use mathlib.Core.List.{List, [], _∷_}
+use Prim.Native.Nat.{ℕ, _+_, _-_, _*_, max, _≤_, _<_}
+use native.Mathlib.Omega.{arith}
+use lib.ListN.{length, take}
+use Rattle.octets.specs.Runs.{afterByte, afterRun, runOf, byte-case}
+use Rattle.octets.specs.Many.{One, got, bad, All, ok, no, many}
+use Rattle.source.specs.Source.{rest, Reads}
+use Rattle.source.specs.declared.Step.{Step}
+use Rattle.lines.specs.ContentLine.{ParamValue, RawParameter, isQSafeChar, isSafeChar, paramtext, quotedString, paramValue, nextValue, withValues, withFirst}
+use Rattle.lines.specs.Items.{items}
+use Rattle.lines.specs.Cursor.{Onward, onward-here, onward-both, onward-byte, byte-at, byte-not, RunEnds, run-cut, oneAt, ItemAt, item-behind, item-not, valuesOf, valuesAt}
+use Rattle.lines.specs.Repeating.{allAt, AllAt, item-got, item-bad, items-more, items-none-here, items-bad-here, walk-less, value-takes}
+use Rattle.lines.specs.declared.ParamAt.{ParamAt}
+use Rattle.lines.specs.declared.AllRead.{AllRead}
+
+abbrev pub charsIn : Bool → ℕ → Bool
+charsIn true = isQSafeChar
+charsIn false = isSafeChar
+
+-- the value whose characters stand from a cursor on
+abbrev pub valueIn : ℕ → List ℕ → Bool → ℕ → ParamValue
+valueIn m s quoted c = record { quoted = quoted; chars = runOf (charsIn quoted) (rest m s c) }
+
+pub record ValueAt (p : List ℕ → One ParamValue) (m : ℕ) (s : List ℕ) (c : ℕ) (r : ParamAt) : Type 0 where
+  pub item : ItemAt p m s c (r .there) (r .ok) (valueIn m s (r .quoted) (r .from)) (r .next)
+  pub start : Onward m s c (r .from)
+  pub chars : r .there ≡ true → RunEnds (charsIn (r .quoted)) m s (r .from) (r .to)
+  pub behind : Onward m s (r .to) (r .next)
+
+module _ {m : ℕ} {s : List ℕ} {c : ℕ} where
+  -- ---- quoted-string, behind its first DQUOTE: its characters end at t
+
+  module _ {t : ℕ} {n : Step} (e : RunEnds isQSafeChar m s c t) (p : Reads m s t n) where
+    pub quoted-closed : n .u ≡ 34 → ValueAt quotedString m s c (record { there = true; ok = true; quoted = true; from = c; to = t; next = n .next })
+    unfolding quotedString
+    quoted-closed h =
+        let b = onward-byte p (λ z. omega arith) in record {
+          item = record { fault = []; is = rw (← (e .left)) (byte-at p 34 _ _ h (λ z. omega arith)); to = onward-both (e .to) b };
+          start = onward-here c;
+          chars = λ z. e;
+          behind = b;
+        }
+
+    pub quoted-broken : (n .u ≡ 34 → ⊥) → ValueAt quotedString m s c (record { there = true; ok = false; quoted = true; from = c; to = t; next = t })
+    unfolding quotedString
+    quoted-broken h = record {
+      item = record { fault = rest m s c; is = rw (← (e .left)) (byte-not p 34 _ _ h); to = e .to };
+      start = onward-here c;
+      chars = λ z. e;
+      behind = onward-here t;
+    }
+
+  -- ---- param-value, and "," param-value
+
+  module _ {n : Step} (p : Reads m s c n) where
+    pub value-quoted : {r : ParamAt} → n .u ≡ 34 → ValueAt quotedString m s (n .next) r → ValueAt paramValue m s c r
+    unfolding paramValue
+    value-quoted h v =
+        let b = onward-byte p (λ z. omega arith) in record {
+          item = record { fault = v .item .fault; is = byte-at p 34 _ _ h (λ z. omega arith) ∙ v .item .is; to = onward-both b (v .item .to) };
+          start = onward-both b (v .start);
+          chars = v .chars;
+          behind = v .behind;
+        }
+
+    pub value-text : {t : ℕ} → (n .u ≡ 34 → ⊥) → RunEnds isSafeChar m s c t → ValueAt paramValue m s c (record { there = true; ok = true; quoted = false; from = c; to = t; next = t })
+    unfolding paramValue paramtext
+    value-text {t} h e = record {
+      item = record { fault = []; is = byte-not p 34 _ _ h ∙ rw (← (e .left)); to = e .to };
+      start = onward-here c;
+      chars = λ z. e;
+      behind = onward-here t;
+    }
+
+    pub next-there : {r : ParamAt} → n .u ≡ 44 → ValueAt paramValue m s (n .next) r → ValueAt nextValue m s c r
+    unfolding nextValue
+    next-there h v =
+        let b = onward-byte p (λ z. omega arith) in record {
+          item = item-behind 44 paramValue One.none (λ xs. refl) p (λ z. omega arith) h (v .item);
+          start = onward-both b (v .start);
+          chars = v .chars;
+          behind = v .behind;
+        }
+
+    pub next-missing : (n .u ≡ 44 → ⊥) → ValueAt nextValue m s c (record { there = false; ok = false; quoted = false; from = c; to = c; next = c })
+    unfolding nextValue
+    next-missing h = record {
+      item = item-not 44 paramValue One.none (λ xs. refl) p _ refl h;
+      start = onward-here c;
+      chars = λ z. let w : _≡_ {A = ℕ} 0 1 = cc in absurd (omega arith);
+      behind = onward-here c;
+    }
+
+-- ---- all values
+
+-- whatever the parameter's name
+pub record ValuesAt (m : ℕ) (s : List ℕ) (c : ℕ) (r : AllRead) : Type 0 where
+  pub fault : List ℕ
+  pub is : (n : List ℕ) → withFirst (paramValue (rest m s c)) n ≡ oneAt true (r .ok) (record { name = n; values = valuesAt m s c }) (rest m s (r .next)) fault
+  pub to : Onward m s c (r .next)
+
+-- there is always a value, or a fault
+pub value-there : {m : ℕ} {s : List ℕ} {c : ℕ} {r : ParamAt} → ValueAt paramValue m s c r → r .there ≡ true
+unfolding paramValue quotedString paramtext
+value-there {m} {s} {c} {r} v = go (r .there) refl
+  where
+    never : (xs : List ℕ) → paramValue xs ≡ One.none → ⊥
+    never xs =
+        byte-case (λ o. o ≡ One.none → ⊥) 34 xs quotedString (paramtext xs)
+        (λ ys q. byte-case (λ o. o ≡ One.none → ⊥) 34 (afterRun isQSafeChar ys) (got (record { quoted = true; chars = runOf isQSafeChar ys })) (bad ys) (λ t k e. let z : _≡_ {A = ℕ} 0 1 = cc in omega arith) (λ e. let z : _≡_ {A = ℕ} 0 1 = cc in omega arith))
+        (λ e. let z : _≡_ {A = ℕ} 0 1 = cc in omega arith)
+
+    go : (t : Bool) → r .there ≡ t → t ≡ true
+    go true e = refl
+    go false e = absurd (never (rest m s c) (v .item .is ∙ rw e))
+
+values-joined : (t : Bool) (n : List ℕ) (v : ParamValue) (l : List ParamValue) (r f : List ℕ) → withValues (allAt t l r f) n v ≡ oneAt true t (record { name = n; values = v ∷ l }) r f
+unfolding withValues
+values-joined true n v l r f = refl
+values-joined false n v l r f = refl
+
+module _ {m : ℕ} {s : List ℕ} {c : ℕ} {r : ParamAt} (v : ValueAt paramValue m s c r) where
+  pub values-all : {k : AllRead} → r .ok ≡ true → AllAt nextValue m s (r .next) k → ValuesAt m s c k
+  unfolding withFirst valuesOf
+  values-all {k} e a =
+      record {
+        fault = a .fault;
+        is = λ n. rw (item-got (v .item) (value-there v) e, a .is) (values-joined (k .ok) n (valueIn m s (r .quoted) (r .from)) (items nextValue (rest m s (r .next))) (rest m s (k .next)) (a .fault));
+        to = onward-both (v .item .to) (a .to);
+      }
+
+  pub values-bad : r .ok ≡ false → ValuesAt m s c (record { ok = false; next = c })
+  unfolding withFirst
+  values-bad e = record { fault = v .item .fault; is = λ n. rw (item-bad (v .item) (value-there v) e); to = onward-here c }
+
+  -- the first value, and those that follow it
+  pub value-first : r .ok ≡ true → valuesAt m s c ≡ valueIn m s (r .quoted) (r .from) ∷ items nextValue (rest m s (r .next))
+  unfolding valuesOf
+  value-first e = rw (item-got (v .item) (value-there v) e)
+
+-- one value more, or the end
+module _ {m : ℕ} {s : List ℕ} {c : ℕ} {r : ParamAt} (v : ValueAt nextValue m s c r) where
+  pub value-more : r .there ≡ true → r .ok ≡ true → items nextValue (rest m s c) ≡ valueIn m s (r .quoted) (r .from) ∷ items nextValue (rest m s (r .next))
+  value-more = items-more (v .item) value-takes
+
+  pub value-less : r .there ≡ true → r .ok ≡ true → 4 * length s - r .next < 4 * length s - c
+  value-less = walk-less (v .item) value-takes
+
+  pub value-over : r .there ≡ false → items nextValue (rest m s c) ≡ []
+  value-over = items-none-here (v .item)
+
+  pub value-fault : r .there ≡ true → r .ok ≡ false → items nextValue (rest m s c) ≡ []
+  value-fault = items-bad-here (v .item)
+
+-- bytes as they stand, cut at the end of a value's characters, are these
+pub value-chars : {p : List ℕ → One ParamValue} {s : List ℕ} {c : ℕ} {r : ParamAt} → ValueAt p 0 s c r → r .there ≡ true → rest 0 (take (r .to) s) (r .from) ≡ runOf (charsIn (r .quoted)) (rest 0 s (r .from))
+value-chars v h = run-cut (v .chars h)

@@ -1,0 +1,15 @@
+-- `schema::columns::permits_parameter` meets its contract.
+use borrow.Author.Needs.{needs}
+use Rattle.octets.specs.Pick.{branching}
+use Rattle.schema.proofs.columns.permits_parameter.Statement.{statement}
+use Rattle.schema.proofs.columns.permits_parameter.Tie as tie
+
+pub permits-parameter-spec : {M : Type 1} → statement M
+permits-parameter-spec = tie.close (tie.spec
+    (λ c κs. search needs)  -- carries-requires
+    (λ c. search branching)  -- returns
+    (λ c. search branching)  -- returns-2
+    (λ c. search branching)  -- returns-3
+    (λ c. search branching)  -- returns-4
+    (λ c. search branching)  -- returns-5
+    )

@@ -1,0 +1,13 @@
+-- `schema::numbers::parameter_number` meets its contract.
+use borrow.Author.Needs.{needs}
+use Rattle.names.specs.Table.{by-table}
+use Rattle.schema.specs.Numbers.{parameters-are}
+use Rattle.schema.proofs.numbers.parameter_number.Statement.{statement}
+use Rattle.schema.proofs.numbers.parameter_number.Tie as tie
+
+pub parameter-number-spec : {M : Type 1} → statement M
+parameter-number-spec = tie.close (tie.spec
+    (λ c. search needs)  -- slice-aggregate-find-name
+    (λ c κs. search needs)  -- find-name-requires
+    (λ c. by-table _ parameters-are (c .find-name .ensures))  -- returns
+    )

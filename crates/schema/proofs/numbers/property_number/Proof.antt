@@ -1,0 +1,13 @@
+-- `schema::numbers::property_number` meets its contract.
+use borrow.Author.Needs.{needs}
+use Rattle.names.specs.Table.{by-table}
+use Rattle.schema.specs.Numbers.{properties-are}
+use Rattle.schema.proofs.numbers.property_number.Statement.{statement}
+use Rattle.schema.proofs.numbers.property_number.Tie as tie
+
+pub property-number-spec : {M : Type 1} → statement M
+property-number-spec = tie.close (tie.spec
+    (λ c. search needs)  -- slice-aggregate-find-name
+    (λ c κs. search needs)  -- find-name-requires
+    (λ c. by-table _ properties-are (c .find-name .ensures))  -- returns
+    )

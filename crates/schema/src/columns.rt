@@ -1,0 +1,331 @@
+// What the tables say of a component, a property, a type, a parameter, by their numbers. The tables of bytes are those of specs/ by computation.
+ghost use mathlib.Core.Path.{_≡_};
+ghost use Prim.Native.Nat.{_<_};
+ghost use lib.Dec.{eqb};
+ghost use Rattle.octets.specs.Words.{isOneOf};
+ghost use Rattle.schema.specs.Types.{typePlace};
+ghost use Rattle.schema.specs.Components.{mayStand};
+ghost use Rattle.schema.specs.Numbers.{propertyAt, parameterAt, componentName, propertyName, parameterName};
+ghost use Rattle.schema.specs.Columns.{permitsType, permitsAt, mayBegin};
+use octets::wide;
+
+// The type of each property's values where no VALUE is given.
+const DEFAULTS: [u8; 46] = [
+    10, // CALSCALE
+    10, // METHOD
+    10, // PRODID
+    10, // VERSION
+    12, // ATTACH
+    10, // CATEGORIES
+    10, // CLASS
+    10, // COMMENT
+    10, // DESCRIPTION
+    6, // GEO
+    10, // LOCATION
+    7, // PERCENT-COMPLETE
+    7, // PRIORITY
+    10, // RESOURCES
+    10, // STATUS
+    10, // SUMMARY
+    4, // COMPLETED
+    4, // DTEND
+    4, // DUE
+    4, // DTSTART
+    5, // DURATION
+    8, // FREEBUSY
+    10, // TRANSP
+    10, // TZID
+    10, // TZNAME
+    13, // TZOFFSETFROM
+    13, // TZOFFSETTO
+    12, // TZURL
+    2, // ATTENDEE
+    10, // CONTACT
+    2, // ORGANIZER
+    4, // RECURRENCE-ID
+    10, // RELATED-TO
+    12, // URL
+    10, // UID
+    4, // EXDATE
+    4, // RDATE
+    9, // RRULE
+    10, // ACTION
+    7, // REPEAT
+    5, // TRIGGER
+    4, // CREATED
+    4, // DTSTAMP
+    4, // LAST-MODIFIED
+    7, // SEQUENCE
+    10, // REQUEST-STATUS
+];
+
+pub fn default_type(p: usize) -> usize
+    ensures { λ r. ⌜ r ≡ typePlace (propertyAt p .default) ⌝ }
+{
+    if p < 46 {
+        return wide(DEFAULTS[p]);
+    }
+    14
+}
+
+// A line for each property, a column for each of the fourteen types: 1 where its values may have the type.
+const PERMITTED: [u8; 644] = *b"\
+    00000000001000\
+    00000000001000\
+    00000000001000\
+    00000000001000\
+    10000000000010\
+    00000000001000\
+    00000000001000\
+    00000000001000\
+    00000000001000\
+    00000010000000\
+    00000000001000\
+    00000001000000\
+    00000001000000\
+    00000000001000\
+    00000000001000\
+    00000000001000\
+    00001000000000\
+    00011000000000\
+    00011000000000\
+    00011000000000\
+    00000100000000\
+    00000000100000\
+    00000000001000\
+    00000000001000\
+    00000000001000\
+    00000000000001\
+    00000000000001\
+    00000000000010\
+    00100000000000\
+    00000000001000\
+    00100000000000\
+    00011000000000\
+    00000000001000\
+    00000000000010\
+    00000000001000\
+    00011000000000\
+    00011000100000\
+    00000000010000\
+    00000000001000\
+    00000001000000\
+    00001100000000\
+    00001000000000\
+    00001000000000\
+    00001000000000\
+    00000001000000\
+    00000000001000";
+
+pub fn permits_type(p: usize, t: usize) -> bool
+    ensures { λ r. ⌜ r ≡ permitsType p t ⌝ }
+{
+    if p < 46 {
+        if t < 14 {
+            return PERMITTED[p * 14 + t] == 49;
+        }
+        return false;
+    }
+    true
+}
+
+// 1 where the property takes a list of values.
+const LISTED: [u8; 46] = *b"0000010000000100000001000000000000011000000000";
+
+pub fn is_listed(p: usize) -> bool
+    ensures { λ r. ⌜ r ≡ propertyAt p .listed ⌝ }
+{
+    if p < 46 {
+        return LISTED[p] == 49;
+    }
+    false
+}
+
+// A line for each property, a column for each parameter: 1 where it may stand there.
+const PERMITS: [u8; 874] = *b"\
+    0000000000000000000\
+    0000000000000000000\
+    0000000000000000000\
+    0000000000000000000\
+    0000001100000000000\
+    0000000001000000000\
+    0000000000000000000\
+    1000000001000000000\
+    1000000001000000000\
+    0000000000000000000\
+    1000000001000000000\
+    0000000000000000000\
+    0000000000000000000\
+    1000000001000000000\
+    0000000000000000000\
+    1000000001000000000\
+    0000000000000000000\
+    0000000000000000001\
+    0000000000000000001\
+    0000000000000000001\
+    0000000000000000000\
+    0000000010000000000\
+    0000000000000000000\
+    0000000000000000000\
+    0000000001000000000\
+    0000000000000000000\
+    0000000000000000000\
+    0000000000000000000\
+    0111110001110001110\
+    1000000001000000000\
+    0100010001000000010\
+    0000000000001000001\
+    0000000000000010000\
+    0000000000000000000\
+    0000000000000000000\
+    0000000000000000001\
+    0000000000000000001\
+    0000000000000000000\
+    0000000000000000000\
+    0000000000000000000\
+    0000000000000100000\
+    0000000000000000000\
+    0000000000000000000\
+    0000000000000000000\
+    0000000000000000000\
+    0000000001000000000";
+
+// The property permits the parameter.
+fn carries(p: usize, q: usize) -> bool
+    requires { ⌜ (p < 46) × (q < 19) ⌝ }
+    ensures { λ r. ⌜ r ≡ isOneOf (parameterName q) (propertyAt p .parameters) ⌝ }
+{
+    PERMITS[p * 19 + q] == 49
+}
+
+// Whether a property whose values have the type `t` permits a parameter; RELATED only with DURATION.
+pub fn permits_parameter(p: usize, t: usize, q: usize) -> bool
+    ensures { λ r. ⌜ r ≡ permitsAt p t q ⌝ }
+{
+    if q < 19 {
+        if p < 46 {
+            let ok = carries(p, q);
+            if ok {
+                if q == 13 {
+                    return t == 5;
+                }
+                return true;
+            }
+            return false;
+        }
+        return true;
+    }
+    true
+}
+
+// The type of each parameter's values.
+const PARAMETER_TYPES: [u8; 19] = [
+    12, // ALTREP
+    10, // CN
+    10, // CUTYPE
+    2, // DELEGATED-FROM
+    2, // DELEGATED-TO
+    12, // DIR
+    10, // ENCODING
+    10, // FMTTYPE
+    10, // FBTYPE
+    10, // LANGUAGE
+    2, // MEMBER
+    10, // PARTSTAT
+    10, // RANGE
+    10, // RELATED
+    10, // RELTYPE
+    10, // ROLE
+    1, // RSVP
+    2, // SENT-BY
+    10, // TZID
+];
+
+pub fn parameter_type(q: usize) -> usize
+    ensures { λ r. ⌜ r ≡ typePlace (parameterAt q .type) ⌝ }
+{
+    if q < 19 {
+        return wide(PARAMETER_TYPES[q]);
+    }
+    14
+}
+
+// 1 where the parameter takes a list of values.
+const LISTED_PARAMETERS: [u8; 19] = *b"0001100000100000000";
+
+pub fn is_listed_parameter(q: usize) -> bool
+    ensures { λ r. ⌜ r ≡ parameterAt q .listed ⌝ }
+{
+    if q < 19 {
+        return LISTED_PARAMETERS[q] == 49;
+    }
+    true
+}
+
+// 1 where the parameter's values must be quoted in text.
+const QUOTED: [u8; 19] = *b"1001110000100000010";
+
+pub fn is_quoted_parameter(q: usize) -> bool
+    ensures { λ r. ⌜ r ≡ parameterAt q .quoted ⌝ }
+{
+    if q < 19 {
+        return QUOTED[q] == 49;
+    }
+    false
+}
+
+// A line for each component, a column for each property: 1 where it may stand there.
+const STANDING: [u8; 414] = *b"\
+    1111000000000000000000000000000000000000000000\
+    0000111111101111010110100000111111111100011111\
+    0000111111111111110110000000111111111100011111\
+    0000111110000011000100000000111111111100011111\
+    0000000100000000010111000000111001100000001001\
+    0000000000000000000000010001000000000000000100\
+    0000000100000000000100001110000000001100000000\
+    0000000100000000000100001110000000001100000000\
+    0000100010000001000010000000100000000011100000";
+
+pub fn may_stand(k: usize, p: usize) -> bool
+    ensures { λ r. ⌜ r ≡ mayStand (componentName k) (propertyName p) ⌝ }
+{
+    if k < 9 {
+        if p < 46 {
+            return STANDING[k * 46 + p] == 49;
+        }
+        return false;
+    }
+    false
+}
+
+// A line for each component, a column for each that may stand directly in it.
+const INNER: [u8; 81] = *b"\
+    011111000\
+    000000001\
+    000000001\
+    000000000\
+    000000000\
+    000000110\
+    000000000\
+    000000000\
+    000000000";
+
+// Whether the component `k` may stand directly in `parent`.
+pub fn may_begin(parent: usize, k: usize) -> bool
+    ensures { λ r. ⌜ r ≡ mayBegin parent k ⌝ }
+{
+    if parent < 9 {
+        if k < 9 {
+            return INNER[parent * 9 + k] == 49;
+        }
+        return false;
+    }
+    false
+}
+
+// The component is VALARM.
+pub fn is_alarm(k: usize) -> bool
+    ensures { λ r. ⌜ r ≡ eqb k 8 ⌝ }
+{
+    k == 8
+}
