@@ -48,7 +48,7 @@ unfolding pick andThen isRead
 provided-read true a g = refl
 provided-read false a g = refl
 
-read-then : {A B : Type 0} (o : Option A) (g : A → B) → isRead (andThen o (λ x. some (g x))) ≡ isRead o
+pub read-then : {A B : Type 0} (o : Option A) (g : A → B) → isRead (andThen o (λ x. some (g x))) ≡ isRead o
 unfolding andThen isRead
 read-then none g = refl
 read-then (some a) g = refl
@@ -59,7 +59,7 @@ both-read none q g = refl
 both-read (some a) none g = refl
 both-read (some a) (some b) g = refl
 
-provided-is : {A : Type 0} (t : Bool) (a : A) → isRead (provided t a) ≡ t
+pub provided-is : {A : Type 0} (t : Bool) (a : A) → isRead (provided t a) ≡ t
 unfolding pick isRead
 provided-is true a = refl
 provided-is false a = refl
@@ -85,11 +85,11 @@ parts-are : map partOf partNames ≡ map (λ (r : Part). some r) partTable
 unfolding octets-compute
 parts-are = refl
 
-part-at : (p : ℕ) → partOf (getD partNames p []) ≡ getD (map (λ (r : Part). some r) partTable) p none
+pub part-at : (p : ℕ) → partOf (getD partNames p []) ≡ getD (map (λ (r : Part). some r) partTable) p none
 unfolding octets-compute
 part-at p = sym (List·getD-map partOf partNames p []) ∙ ap (λ (l : List (Option Part)). getD l p none) parts-are
 
-beyond : {A : Type 0} (l : List (Option A)) (k : ℕ) → length l ≤ k → getD l k none ≡ none
+pub beyond : {A : Type 0} (l : List (Option A)) (k : ℕ) → length l ≤ k → getD l k none ≡ none
 beyond [] k h = refl
 beyond (x ∷ l) zero h = absurd (omega arith)
 beyond (x ∷ l) (suc k) h = beyond l k (omega arith)

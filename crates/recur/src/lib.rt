@@ -2,3 +2,4 @@
 mod number;
 mod word;
 pub mod item;
+pub mod rule;
