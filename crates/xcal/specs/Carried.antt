@@ -12,7 +12,7 @@ use Rattle.octets.specs.Ascii.{ascii}
 use Rattle.octets.specs.Pick.{pick, pick-either, _and_, _or_, and-both}
 use Rattle.octets.specs.Class.{lower}
 use Rattle.octets.specs.Words.{same-true, isOneOf, isEmpty}
-use Rattle.octets.specs.Lists.{every, word-passes}
+use Rattle.octets.specs.Lists.{every, word-passes, every-both, every-weaker}
 use Rattle.octets.specs.Tables.{row-any-passes}
 use Rattle.octets.specs.Computing.{octets-compute}
 use Rattle.model.specs.Calendar.{ValueType, Value, Parameter, Property, Components, noMore, component}
@@ -21,7 +21,6 @@ use Rattle.schema.specs.Parameters.{parameterWords, parameterType}
 use Rattle.schema.specs.Properties.{propertyWords}
 use Rattle.schema.specs.Rows.{known-component-passes, subcomponents-known}
 use Rattle.schema.specs.Computing.{schema-compute}
-use Rattle.values.specs.Extra.{every-both, every-weaker}
 use Rattle.values.specs.WriteValue.{typeOfAll}
 use Rattle.values.specs.ReadBack.{isValue, isTyped}
 use Rattle.values.specs.Valid.{hasOwnValues, isOwnValue, isChosen, isPropertyValue, areValuesOf, arePropertyValues}

@@ -12,7 +12,7 @@ use Rattle.octets.specs.Pick.{pick, pick-either, _and_, _or_}
 use Rattle.octets.specs.Scan.{allOf, all-cons, all-split}
 use Rattle.octets.specs.Class.{isVisible}
 use Rattle.octets.specs.Words.{all-without}
-use Rattle.octets.specs.Lists.{every}
+use Rattle.octets.specs.Lists.{every, every-both}
 use Rattle.octets.specs.Computing.{octets-compute}
 use Rattle.model.specs.Calendar.{ical, xcal, RuleItem, moment, number, word, weekday}
 use Rattle.model.specs.Calendar.{Value, binary, boolean, calAddress, date, dateTime, duration, float, integer, periodExplicit, periodStart, recur, text, time, uri, utcOffset, unknown, geo, requestStatus}
@@ -31,7 +31,6 @@ use Rattle.texts.specs.Uri.{uri-visible}
 use Rattle.texts.specs.Binary.{binary-visible}
 use Rattle.recur.specs.Item.{writeItem, isItem}
 use Rattle.recur.specs.ItemLaws.{item-characters}
-use Rattle.values.specs.Extra.{every-both}
 use Rattle.values.specs.WriteValue.{characters as dataOf}
 use Rattle.values.specs.ReadBack.{isValue, isCharacterData}
 use Rattle.xcal.specs.SoundContent.{isClean}

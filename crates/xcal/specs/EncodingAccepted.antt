@@ -10,14 +10,13 @@ use Rattle.octets.specs.Ascii.{ascii}
 use Rattle.octets.specs.Pick.{_and_, _or_, and-both, and-yes, or-left, or-right, or-cases}
 use Rattle.octets.specs.Class.{upper}
 use Rattle.octets.specs.Words.{same, same-self, same-true, isOneOf}
-use Rattle.octets.specs.Lists.{every, anyOne}
+use Rattle.octets.specs.Lists.{every, anyOne, every-both, every-weaker}
 use Rattle.octets.specs.Reading.{readOr}
 use Rattle.octets.specs.Computing.{octets-compute}
 use Rattle.model.specs.Calendar.{ValueType, BINARY, Value, textIn, Parameter}
 use Rattle.schema.specs.Types.{sameType}
 use Rattle.schema.specs.Parameters.{isListedParameter}
 use Rattle.schema.specs.Computing.{schema-compute}
-use Rattle.values.specs.Extra.{every-both, every-weaker}
 use Rattle.values.specs.Valid.{isAmount, isWordIn, isParameter, areParameters, only-one, isBase64 as saysBase64}
 use Rattle.xml.specs.Nodes.{Nodes, noNodes, element, literal, referred}
 use Rattle.xcal.specs.ElementNames.{isKeptName}

@@ -9,7 +9,7 @@ use Rattle.octets.specs.Ascii.{ascii}
 use Rattle.octets.specs.Pick.{pick, _and_, _or_, and-both, and-yes}
 use Rattle.octets.specs.Class.{isSpace}
 use Rattle.octets.specs.Words.{same, same-true, isOneOf}
-use Rattle.octets.specs.Lists.{every, anyOne}
+use Rattle.octets.specs.Lists.{every, anyOne, every-weaker, every-both}
 use Rattle.octets.specs.Reading.{isRead, readOr}
 use Rattle.octets.specs.Computing.{octets-compute}
 use Rattle.model.specs.Calendar.{ValueType, Value}
@@ -19,7 +19,6 @@ use Rattle.schema.specs.Properties.{permittedTypes, isListedProperty, propertyW
 use Rattle.schema.specs.Computing.{schema-compute}
 use Rattle.numbers.specs.Float.{isNormal, readFloat}
 use Rattle.numbers.specs.FloatLaws.{float-accepted}
-use Rattle.values.specs.Extra.{every-weaker, every-both}
 use Rattle.values.specs.WriteValue.{typeOfAll}
 use Rattle.values.specs.Valid.{isAmount, isChosen, isPropertyValue, areValuesOf, arePropertyValues}
 use Rattle.xml.specs.Reads.{isName}

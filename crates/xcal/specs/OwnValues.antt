@@ -10,7 +10,7 @@ use borrow.Author.Tests.{le-ltb, not-true}
 use Rattle.octets.specs.Ascii.{ascii}
 use Rattle.octets.specs.Pick.{pick, _and_, _or_, and-both, or-left, or-right}
 use Rattle.octets.specs.Words.{same, same-self, same-true}
-use Rattle.octets.specs.Lists.{every}
+use Rattle.octets.specs.Lists.{every, every-both, every-weaker}
 use Rattle.octets.specs.Reading.{isRead}
 use Rattle.model.specs.Calendar.{ValueType, FLOAT, TEXT, Decimal, Value, geo, requestStatus, typeOf}
 use Rattle.model.specs.Refusal.{_otherwise_}
@@ -19,7 +19,6 @@ use Rattle.schema.specs.Properties.{permittedTypes, isListedProperty, propertyW
 use Rattle.schema.specs.Computing.{schema-compute}
 use Rattle.numbers.specs.Float.{isNormal, readFloat, writeFloat}
 use Rattle.numbers.specs.FloatLaws.{float-read-back}
-use Rattle.values.specs.Extra.{every-both, every-weaker}
 use Rattle.values.specs.WriteValue.{typeOfAll}
 use Rattle.values.specs.ReadBack.{isValue, isTyped}
 use Rattle.values.specs.Valid.{isAmount, isChosen, hasOwnValues, isOwnValue, isPropertyValue, areValuesOf, arePropertyValues, only-one, own-value}

@@ -12,7 +12,7 @@ use Rattle.octets.specs.Ascii.{ascii}
 use Rattle.octets.specs.Pick.{pick, _and_, _or_, and-both}
 use Rattle.octets.specs.Class.{upper, lower}
 use Rattle.octets.specs.Words.{same, same-self, holds}
-use Rattle.octets.specs.Lists.{every}
+use Rattle.octets.specs.Lists.{every, every-both}
 use Rattle.octets.specs.Reading.{andThen, consRead, readOr}
 use Rattle.octets.specs.Tables.{row-any-passes}
 use Rattle.octets.specs.Computing.{octets-compute}
@@ -20,7 +20,6 @@ use Rattle.model.specs.Calendar.{PERIOD, RECUR, TEXT, Value, typeOf, Parameter}
 use Rattle.schema.specs.Types.{typeName, sameType}
 use Rattle.schema.specs.Closed.{parameter-words-text}
 use Rattle.schema.specs.Parameters.{parameterTable, parameterRow, unrecognisedParameter, parameterType, isListedParameter, parameterWords}
-use Rattle.values.specs.Extra.{every-both}
 use Rattle.values.specs.WriteValue.{characters as dataOf}
 use Rattle.values.specs.ReadBack.{isValue, isTyped}
 use Rattle.values.specs.Valid.{isAmount, isChosen, isParameter}

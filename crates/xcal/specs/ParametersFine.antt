@@ -14,7 +14,7 @@ use Rattle.octets.specs.Pick.{pick, _and_, _or_, and-both, and-yes, or-no, or-n
 use Rattle.octets.specs.Append.{_⊕_, length-both}
 use Rattle.octets.specs.Class.{upper, lower}
 use Rattle.octets.specs.Words.{same, same-self, same-true, same-swap, isOneOf}
-use Rattle.octets.specs.Lists.{every, anyOne, distinct}
+use Rattle.octets.specs.Lists.{every, anyOne, distinct, every-both}
 use Rattle.octets.specs.Reading.{readOr}
 use Rattle.octets.specs.Computing.{octets-compute}
 use Rattle.model.specs.Calendar.{ValueType, BINARY, Value, textIn, Parameter}
@@ -22,7 +22,6 @@ use Rattle.model.specs.Refusal.{fine, _otherwise_}
 use Rattle.schema.specs.Types.{sameType}
 use Rattle.schema.specs.Parameters.{isListedParameter}
 use Rattle.schema.specs.Properties.{permitsParameter}
-use Rattle.values.specs.Extra.{every-both}
 use Rattle.values.specs.Valid.{isAmount, isWordIn, isParameter, areParameters, isBase64 as saysBase64}
 use Rattle.xml.specs.Nodes.{noNodes}
 use Rattle.xml.specs.Content.{Content, nothing, endTagPlace, placed}

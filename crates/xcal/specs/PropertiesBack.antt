@@ -13,7 +13,7 @@ use Rattle.octets.specs.Ascii.{ascii}
 use Rattle.octets.specs.Pick.{pick, _and_, _or_, and-both, or-no, or-cases, and-no-left, and-no-right}
 use Rattle.octets.specs.Class.{upper, lower}
 use Rattle.octets.specs.Words.{same}
-use Rattle.octets.specs.Lists.{every}
+use Rattle.octets.specs.Lists.{every, every-both}
 use Rattle.octets.specs.Reading.{readOr}
 use Rattle.octets.specs.Computing.{octets-compute}
 use Rattle.model.specs.Calendar.{ValueType, Value, Parameter, Property}
@@ -21,7 +21,6 @@ use Rattle.model.specs.Refusal.{fine, _otherwise_}
 use Rattle.schema.specs.Components.{mayStand}
 use Rattle.schema.specs.Properties.{isKnownProperty}
 use Rattle.schema.specs.Computing.{schema-compute}
-use Rattle.values.specs.Extra.{every-both}
 use Rattle.values.specs.WriteValue.{typeOfAll}
 use Rattle.values.specs.Valid.{areParameters, arePropertyValues, isProperty}
 use Rattle.xml.specs.Nodes.{Nodes, noNodes, element}

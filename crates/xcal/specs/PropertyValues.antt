@@ -12,7 +12,7 @@ use Rattle.octets.specs.Ascii.{ascii}
 use Rattle.octets.specs.Pick.{pick, _and_, _or_, and-yes, or-left, or-right, or-cases}
 use Rattle.octets.specs.Class.{lower}
 use Rattle.octets.specs.Words.{same, same-self, same-true, isOneOf}
-use Rattle.octets.specs.Lists.{every, anyOne}
+use Rattle.octets.specs.Lists.{every, anyOne, every-both}
 use Rattle.octets.specs.Reading.{readOr}
 use Rattle.model.specs.Calendar.{ValueType, TEXT, Value, typeOf}
 use Rattle.model.specs.Refusal.{fine, _otherwise_}
@@ -20,7 +20,6 @@ use Rattle.schema.specs.Types.{typeName, sameType, isTypeOf, same-type-self, sa
 use Rattle.schema.specs.Properties.{permittedTypes, defaultType, isListedProperty, propertyWords}
 use Rattle.schema.specs.Closed.{property-words-text}
 use Rattle.schema.specs.Computing.{schema-compute}
-use Rattle.values.specs.Extra.{every-both}
 use Rattle.values.specs.ReadBack.{isValue, isTyped}
 use Rattle.values.specs.Valid.{isAmount, isChosen}
 use Rattle.xml.specs.Nodes.{noNodes}

@@ -8,7 +8,7 @@ use Prim.Native.Nat.{ℕ, suc}
 use Rattle.octets.specs.Ascii.{ascii}
 use Rattle.octets.specs.Pick.{_and_, _or_, and-both, and-yes}
 use Rattle.octets.specs.Class.{lower}
-use Rattle.octets.specs.Lists.{every}
+use Rattle.octets.specs.Lists.{every, every-both}
 use Rattle.octets.specs.Tables.{row-named, row-passes}
 use Rattle.octets.specs.Computing.{octets-compute}
 use Rattle.model.specs.Calendar.{xcal, ValueType, RuleItem, RulePart}
@@ -19,7 +19,6 @@ use Rattle.times.specs.Duration.{isDuration}
 use Rattle.recur.specs.Parts.{Part, partTable, partNames, partOf, isListPart}
 use Rattle.recur.specs.Item.{writeItem, isFor, isItem}
 use Rattle.recur.specs.Rule.{isAmount, isPart, isOrdered, isComplete}
-use Rattle.values.specs.Extra.{every-both}
 use Rattle.values.specs.ReadBack.{isValue, isTyped}
 use Rattle.values.specs.Valid.{own-value}
 use Rattle.xml.specs.Reads.{isName}
