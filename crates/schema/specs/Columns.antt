@@ -12,19 +12,19 @@ use lib.Dec.{eqb, ltb}
 use lib.ListN.{length, getD, List·getD-eq-default}
 use borrow.Author.Tests.{not-true}
 use Rattle.octets.specs.Ascii.{ascii}
-use Rattle.octets.specs.Pick.{pick, _and_, _or_}
+use Rattle.octets.specs.Pick.{pick, _and_}
 use Rattle.octets.specs.Append.{_⊕_}
-use Rattle.octets.specs.Words.{same, isOneOf, same-swap, same-apart}
+use Rattle.octets.specs.Words.{isOneOf, same-swap, same-apart}
 use Rattle.octets.specs.Tables.{row-none, row-any-passes}
 use Rattle.octets.specs.Reading.{readOr}
 use Rattle.octets.specs.Lists.{every}
 use Rattle.octets.specs.Computing.{octets-compute}
 use Rattle.names.specs.Table.{placeOf, one-of-place}
-use Rattle.model.specs.Calendar.{ValueType, UNKNOWN, DURATION}
+use Rattle.model.specs.Calendar.{ValueType, UNKNOWN}
 use Rattle.schema.specs.Types.{valueTypes, typePlace, sameType, isTypeOf, place-type, type-any}
 use Rattle.schema.specs.Parameters.{parameterNames, isKnownParameter}
 use Rattle.schema.specs.Components.{ComponentRow, audioprop, dispprop, emailprop, componentTable, componentNames, componentRow, unknownComponent, subcomponentsOf, isAlarm, mayStand}
-use Rattle.schema.specs.Properties.{PropertyRow, permittedTypes, propertyTable, propertyNames, propertyRow, unrecognisedProperty, isKnownProperty, permitsParameter}
+use Rattle.schema.specs.Properties.{PropertyRow, permittedTypes, propertyTable, propertyNames, unrecognisedProperty, isKnownProperty, permitsParameter}
 use Rattle.schema.specs.Rows.{stand-known, subcomponents-known}
 use Rattle.schema.specs.Numbers.{typeAt, componentAt, propertyAt, componentName, propertyName, parameterName, property-place, component-place, name-place, placed, same-place}
 use Rattle.schema.specs.Cells.{digit, digit-is, grid, cell-at, column-at, at-passes, row-at-passes}

@@ -17,19 +17,19 @@ use lib.Dec.{eqb, leb, ltb}
 use lib.ListN.{length, getD, List·getD-map, List·getD-append, List·getD-eq-default}
 use lib.Seq.{getD-append-add}
 use borrow.Author.Needs.{needs}
-use borrow.Author.Tests.{eqb-true, eqb-false, eq-eqb, ne-eqb, le-leb, lt-leb, leb-true, leb-false, ltb-true, ltb-false, lt-ltb, le-ltb}
+use borrow.Author.Tests.{eqb-true, eqb-false, eq-eqb, ne-eqb, le-leb, leb-true, leb-false, ltb-true, ltb-false}
 use Rattle.octets.specs.Ascii.{ascii}
 use Rattle.octets.specs.Pick.{pick, _and_, _or_, and-both, pick-first}
-use Rattle.octets.specs.Words.{same, isOneOf, rowOf}
+use Rattle.octets.specs.Words.{isOneOf}
 use Rattle.octets.specs.Tables.{row-any-passes}
 use Rattle.octets.specs.Lists.{every}
-use Rattle.octets.specs.Reading.{andThen, readOr}
+use Rattle.octets.specs.Reading.{andThen}
 use Rattle.octets.specs.Computing.{octets-compute}
 use Rattle.names.specs.Table.{placeOf, namesIn, row-then}
 use Rattle.model.specs.Calendar.{Property}
-use Rattle.schema.specs.Components.{Occurrence, ComponentRow, AlarmRow, componentTable, componentNames, unknownComponent, alarmTable, occurrencesOf, alarmOccurrences, isAlarm}
+use Rattle.schema.specs.Components.{Occurrence, ComponentRow, componentTable, componentNames, unknownComponent, alarmTable, occurrencesOf, alarmOccurrences, isAlarm}
 use Rattle.schema.specs.Properties.{propertyNames}
-use Rattle.schema.specs.Counts.{tally, absent, occurrenceIn, isAtMost, isOften, eachOften, eventPair, todoPair, alarmPair, pairsOf, actionOf, listFor, oftenFor, complete}
+use Rattle.schema.specs.Counts.{tally, absent, occurrenceIn, isAtMost, isOften, eachOften, pairsOf, actionOf, listFor, oftenFor, complete}
 use Rattle.schema.specs.Tallies.{often-at}
 use Rattle.schema.specs.Numbers.{componentAt, propertyName, component-place}
 use Rattle.schema.specs.Cells.{grid, cell-at, at-passes, row-at-passes, column-past}
