@@ -110,6 +110,7 @@ starts-run (x ∷ w) (b ∷ xs) h = go (isNameChar b) refl (starts-run w xs (all
   where
     other : isNameChar b ≡ false → x ≡ upperByte b → ⊥
     other e k = false≢true (sym e ∙ lower-name-char b (rw k at (all-split isNameChar x w h .0)))
+
     go : (t : Bool) → isNameChar b ≡ t → starts w (upper (runOf isNameChar xs)) ≡ starts w (upper xs) →
         starts (x ∷ w) (upper (take (pick t (suc (spanLen isNameChar xs)) 0) (b ∷ xs))) ≡ (eqb x (upperByte b) and starts w (upper xs))
     go true e ih = rw ih

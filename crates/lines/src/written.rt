@@ -18,7 +18,14 @@ pub fn put_param_name(out: &mut [u8], o: usize, mode: usize, s: &[u8], at: usize
 }
 
 // The value whose characters stand from the cursor on, between quotes or not.
-pub fn put_param_value(out: &mut [u8], o: usize, quoted: bool, mode: usize, s: &[u8], at: usize) -> usize
+pub fn put_param_value(
+    out: &mut [u8],
+    o: usize,
+    quoted: bool,
+    mode: usize,
+    s: &[u8],
+    at: usize,
+) -> usize
     ensures { λ r. ⌜ Put (now (out .entry)) (now (out .exit)) o r (writeParamValue (record { quoted = quoted; chars = rest mode (now (s .entry)) at })) ⌝ }
 {
     if quoted {
