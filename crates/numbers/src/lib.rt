@@ -1,1 +1,12 @@
-// The values that are numbers: INTEGER, FLOAT, BOOLEAN, GEO. Definitions and their laws are in specs/.
+// The values that are numbers, read through the cursor of `source` and written into the sink of `sink`.
+//     integer   INTEGER
+//     boolean   BOOLEAN
+//     scan      digits and zeros passed over, up to a byte that ends them
+//     float     FLOAT
+//     geo       GEO in text
+// Definitions and their laws are in specs/.
+pub mod integer;
+pub mod boolean;
+pub mod scan;
+pub mod float;
+pub mod geo;

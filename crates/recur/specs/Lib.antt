@@ -3,6 +3,8 @@
 --     Parts        the parts of a rule in the schema's order, and what an item of each is
 --     Item         one item of a part, read and written
 --     Rule         a whole rule in text, read and written
+--     Numeral      numbers as the code reads them through the cursor
+--     Fits         whether there is an item, as tests
 --     NumberLaws, WordLaws, EnddateLaws    numbers, words and weekdays, dates are read back
 --     ItemLaws     an item is read back from what is written of it, and what is read is an item
 --     OrderLaws    the order of a rule's parts
@@ -14,6 +16,8 @@ pub mod Front
 pub mod Parts
 pub mod Item
 pub mod Rule
+pub mod Numeral
+pub mod Fits
 pub mod NumberLaws
 pub mod WordLaws
 pub mod EnddateLaws

@@ -17,7 +17,10 @@
 --     DurationAt DURATION read at a cursor
 --     UtcOffset  UTC-OFFSET
 --     OffsetAlong  UTC-OFFSET by its patterns
+--     OffsetWritten  UTC-OFFSET written
 --     Period     PERIOD in iCalendar text
+--     PeriodAt   PERIOD read at a cursor
+--     PeriodWritten  PERIOD written
 --     Computing  opens all of these, for examples that compute
 --     Examples   readings and writings, computed
 pub mod Spelling
@@ -37,6 +40,9 @@ pub mod Duration
 pub mod DurationAt
 pub mod UtcOffset
 pub mod OffsetAlong
+pub mod OffsetWritten
 pub mod Period
+pub mod PeriodAt
+pub mod PeriodWritten
 pub mod Computing
 pub mod Examples

@@ -6,3 +6,5 @@ pub mod date;
 pub mod time;
 pub mod date_time;
 pub mod duration;
+pub mod offset;
+pub mod period;

@@ -21,7 +21,7 @@ pub enum TimeRead {
     NoTime,
 }
 
-fn is_hms(h: u8, m: u8, s: u8) -> bool
+pub fn is_hms(h: u8, m: u8, s: u8) -> bool
     ensures { λ r. ⌜ r ≡ isHms h m s ⌝ }
 {
     if h <= 23 {
