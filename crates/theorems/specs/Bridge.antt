@@ -1,5 +1,6 @@
 -- What iCalendar text states can be carried to XML (RFC 6321, section 3): what text asks of a calendar gives what XML asks of it.
 --     stated-valid    a calendar that text states is one that can be carried to XML and back
+--     every-two, both-every    laws of two tests on a list
 use mathlib.Core.Path.{_≡_, refl, sym, ap, _∙_}
 use mathlib.Core.Bool.{Bool, true, false, not, false≢true}
 use mathlib.Core.List.{List, [], _∷_}
@@ -73,7 +74,7 @@ value-clean (geo la lo) n g = refl
 value-clean (requestStatus c d x) n g = status-clean c d x n g
 
 -- what passes two tests passes a third
-every-two : {A : Type 0} (p q r : A → Bool) → ((a : A) → p a ≡ true → q a ≡ true → r a ≡ true) → (l : List A) → every p l ≡ true → every q l ≡ true → every r l ≡ true
+pub every-two : {A : Type 0} (p q r : A → Bool) → ((a : A) → p a ≡ true → q a ≡ true → r a ≡ true) → (l : List A) → every p l ≡ true → every q l ≡ true → every r l ≡ true
 unfolding every
 every-two p q r f [] h k = refl
 every-two p q r f (a ∷ l) h k =
@@ -154,7 +155,7 @@ parameter-clean : (p : Parameter) → isLineParameter p ≡ true → isGoodParam
 parameter-clean p l g =
     every-two isParameterText isGoodValue isCleanValue (λ v a b. value-clean v (and-both _ _ a .0) b) (p .values) (and-both (isName (p .name)) _ l .1) (and-both _ _ g .1)
 
-both-every : {A : Type 0} (p q : A → Bool) (l : List A) → every p l ≡ true → every q l ≡ true → every (λ a. p a and q a) l ≡ true
+pub both-every : {A : Type 0} (p q : A → Bool) (l : List A) → every p l ≡ true → every q l ≡ true → every (λ a. p a and q a) l ≡ true
 both-every p q l h k = every-two p q (λ a. p a and q a) (λ a x y. and-yes _ _ x y) l h k
 
 property-carried : (k : List ℕ) (p : Property) → isStated k p ≡ true → isCarriedProperty k p ≡ true
@@ -188,7 +189,7 @@ properties-carried k ps h =
 
 -- ---- components
 
-has-some : (c : Components) → hasComponents c ≡ not (isNoMore c)
+pub has-some : (c : Components) → hasComponents c ≡ not (isNoMore c)
 has-some noMore = refl
 has-some (component k ps inner next) = refl
 

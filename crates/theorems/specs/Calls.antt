@@ -85,12 +85,12 @@ unfolding outcome contents pick
 result-given a s out e l = rw (e, le-leb (length s) (length out) l) (refl, take-front s (drop (length s) out))
 
 -- what was read, where an answer was written
-record Read (write : Calendar → List ℕ) (a : Answer) (out : List ℕ) : Type 0 where
-  calendar : Calendar
-  states : a ≡ accepted calendar
-  bytes : take (bytesOf (outcome (converted write a) (length out))) (contents (converted write a) out) ≡ write calendar
+pub record Read (write : Calendar → List ℕ) (a : Answer) (out : List ℕ) : Type 0 where
+  pub calendar : Calendar
+  pub states : a ≡ accepted calendar
+  pub bytes : take (bytesOf (outcome (converted write a) (length out))) (contents (converted write a) out) ≡ write calendar
 
-written-read : (write : Calendar → List ℕ) (a : Answer) (out : List ℕ) → isWritten (outcome (converted write a) (length out)) ≡ true → Read write a out
+pub written-read : (write : Calendar → List ℕ) (a : Answer) (out : List ℕ) → isWritten (outcome (converted write a) (length out)) ≡ true → Read write a out
 unfolding outcome contents pick
 written-read write (refused r p) out h = absurd (false≢true h)
 written-read write (accepted c) out h = record { calendar = c; states = refl; bytes = go (leb (length (write c)) (length out)) h }
@@ -119,7 +119,7 @@ pub states-accepted : (k : Call) (c : Calendar) → States k c → length (write
 unfolding toXml
 states-accepted k c s l = result-given (toXml (k .input) (length (k .work))) (writeDocument c) (k .output) (ap (converted writeDocument) s) l
 
-accepted-same : (c d : Calendar) → accepted c ≡ accepted d → c ≡ d
+pub accepted-same : (c d : Calendar) → accepted c ≡ accepted d → c ≡ d
 accepted-same c d e = cc
 
 -- a text states one calendar at most

@@ -21,7 +21,8 @@ use Rattle.mallettriton.specs.ToText.{toText}
 use Rattle.theorems.specs.Bridge.{stated-valid}
 use Rattle.theorems.specs.Calls.{Call, isAccepted, xmlOf, States, TextCall, isTextAccepted, textOf, result-given, given, states-one}
 
-within-too : (a b : List ℕ) (n : ℕ) → a ≡ b → length a ≤ n → length b ≤ n
+-- lists that are the same are as long
+pub within-too : (a b : List ℕ) (n : ℕ) → a ≡ b → length a ≤ n → length b ≤ n
 within-too a b n e h = let q : length a ≡ length b = ap length e in omega arith
 
 -- the XML of a call is the document of the calendar that it states
