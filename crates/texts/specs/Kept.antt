@@ -1,6 +1,7 @@
 -- The answer of a reader of characters, as a test; and loops that test characters from a cursor on.
 --     isKept     whether the characters are of the type
 --     unknown-.., uri-.., binary-..   the ways that each loop goes on and ends
+--     passed, kept, none-left         BINARY a byte at a time: white space of XML is passed over
 use mathlib.Core.Path.{_≡_, refl, sym, ap, _∙_}
 use mathlib.Core.Bool.{Bool, true, false, false≢true}
 use mathlib.Core.List.{List, [], _∷_}
