@@ -112,8 +112,19 @@ eight-day v l k = eight (λ (v : List ℕ). allOf isDigit v ≡ true → keep is
         let ea = digit-is a (all-head isDigit a _ k) in let eb = digit-is b (all-head isDigit b _ tb) in let ec = digit-is c (all-head isDigit c _ tc) in
         let ed = digit-is d (all-head isDigit d _ td) in let ee = digit-is e (all-head isDigit e _ te) in let ef = digit-is f (all-head isDigit f _ tf) in
         let eg = digit-is g (all-head isDigit g _ tg) in let eh = digit-is h (all-head isDigit h _ th) in
-        rw (k, day-worth (digitOf a) (digitOf b) (digitOf c) (digitOf d) (digitOf e) (digitOf f) (digitOf g) (digitOf h)
-        (digit-small a) (digit-small b) (digit-small c) (digit-small d) (digit-small e) (digit-small f) (digit-small g) (digit-small h), ← ea, ← eb, ← ec, ← ed, ← ee, ← ef, ← eg, ← eh)
+        rw (
+          k,
+          day-worth (digitOf a) (digitOf b) (digitOf c) (digitOf d) (digitOf e) (digitOf f) (digitOf g) (digitOf h)
+              (digit-small a) (digit-small b) (digit-small c) (digit-small d) (digit-small e) (digit-small f) (digit-small g) (digit-small h),
+          ← ea,
+          ← eb,
+          ← ec,
+          ← ed,
+          ← ee,
+          ← ef,
+          ← eg,
+          ← eh,
+        )
 
 pub no-digits : (v : List ℕ) → allOf isDigit v ≡ false → keep isDate v ≡ none
 unfolding keep isDate pick _and_

@@ -1,29 +1,29 @@
 -- Dates and times: the value types DATE, TIME, DATE-TIME, DURATION, UTC-OFFSET and PERIOD. What a kept value is, reading and writing it as iCalendar text
 -- (`ical`) and as XML character data (`xcal`). A kept value is the list of its characters as iCalendar text spells it in capitals.
---     Extra      laws of tests and readings that are not about times
---     Spelling   the characters of these values, and the marks that XML puts between them
---     Pattern    a spelling followed along a pattern
---     Digits     digits, and what they are worth
---     Letters    characters from a cursor on
---     Followed   what following a pattern answers
---     Date       DATE, and the Gregorian month
---     MonthRule  the days that DATE accepts in a month are those from 1 to its length
---     DateAlong  DATE by its pattern
---     Time       TIME
---     TimeAlong  TIME by its pattern
---     DateTime   DATE-TIME
+--     Extra          laws of tests and readings that are not about times
+--     Spelling       the characters of these values, and the marks that XML puts between them
+--     Pattern        a spelling followed along a pattern
+--     Digits         digits, and what they are worth
+--     Letters        characters from a cursor on
+--     Followed       what following a pattern answers
+--     Date           DATE, and the Gregorian month
+--     MonthRule      the days that DATE accepts in a month are those from 1 to its length
+--     DateAlong      DATE by its pattern
+--     Time           TIME
+--     TimeAlong      TIME by its pattern
+--     DateTime       DATE-TIME
 --     DateTimeAlong  DATE-TIME by its pattern
---     Written    dates and times written
---     Duration   DURATION
---     DurationAt DURATION read at a cursor
---     UtcOffset  UTC-OFFSET
---     OffsetAlong  UTC-OFFSET by its patterns
+--     Written        dates and times written
+--     Duration       DURATION
+--     DurationAt     DURATION read at a cursor
+--     UtcOffset      UTC-OFFSET
+--     OffsetAlong    UTC-OFFSET by its patterns
 --     OffsetWritten  UTC-OFFSET written
---     Period     PERIOD in iCalendar text
---     PeriodAt   PERIOD read at a cursor
+--     Period         PERIOD in iCalendar text
+--     PeriodAt       PERIOD read at a cursor
 --     PeriodWritten  PERIOD written
---     Computing  opens all of these, for examples that compute
---     Examples   readings and writings, computed
+--     Computing      opens all of these, for examples that compute
+--     Examples       readings and writings, computed
 pub mod Extra
 pub mod Spelling
 pub mod Pattern

@@ -128,8 +128,18 @@ six-clock v l k = six (λ (v : List ℕ). 6 ≤ length v → allOf isDigit (take
         let tf = all-tail isDigit e _ te in
         let ea = digit-is a (all-head isDigit a _ k) in let eb = digit-is b (all-head isDigit b _ tb) in let ec = digit-is c (all-head isDigit c _ tc) in
         let ed = digit-is d (all-head isDigit d _ td) in let ee = digit-is e (all-head isDigit e _ te) in let ef = digit-is f (all-head isDigit f _ tf) in
-        rw (le-leb 6 _ l, k, clock-worth (digitOf a) (digitOf b) (digitOf c) (digitOf d) (digitOf e) (digitOf f)
-        (digit-small a) (digit-small b) (digit-small c) (digit-small d) (digit-small e) (digit-small f) r, ← ea, ← eb, ← ec, ← ed, ← ee, ← ef)
+        rw (
+          le-leb 6 _ l,
+          k,
+          clock-worth (digitOf a) (digitOf b) (digitOf c) (digitOf d) (digitOf e) (digitOf f)
+              (digit-small a) (digit-small b) (digit-small c) (digit-small d) (digit-small e) (digit-small f) r,
+          ← ea,
+          ← eb,
+          ← ec,
+          ← ed,
+          ← ee,
+          ← ef,
+        )
 
 -- without six digits there is no time
 no-clock : (v : List ℕ) → digitsAt 6 v ≡ false → isTime v ≡ false
