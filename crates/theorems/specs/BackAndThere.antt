@@ -9,8 +9,8 @@ use mathlib.Core.List.{List}
 use Prim.Native.Nat.{ℕ, _≤_}
 use lib.ListN.{length}
 use Rattle.model.specs.Calendar.{Calendar}
-use Rattle.model.specs.Refusal.{accepted}
-use Rattle.ical.specs.ReadText.{limit, readCalendar}
+use Rattle.model.specs.Refusal.{accepted, limit}
+use Rattle.ical.specs.ReadText.{readCalendar}
 use Rattle.ical.specs.WriteText.{writeCalendar}
 use Rattle.ical.specs.TextBack.{text-back}
 use Rattle.xcal.specs.WriteXml.{writeDocument}

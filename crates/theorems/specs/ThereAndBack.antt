@@ -8,8 +8,9 @@ use mathlib.Core.List.{List}
 use Prim.Native.Nat.{ℕ, _≤_}
 use native.Mathlib.Omega.{arith}
 use lib.ListN.{length}
+use Rattle.model.specs.Refusal.{limit}
 use Rattle.model.specs.Calendar.{Calendar}
-use Rattle.ical.specs.ReadText.{limit, readCalendar}
+use Rattle.ical.specs.ReadText.{readCalendar}
 use Rattle.ical.specs.WriteText.{writeCalendar}
 use Rattle.ical.specs.AcceptedText.{accepted-valid, accepted-back}
 use Rattle.xcal.specs.WriteXml.{writeDocument}

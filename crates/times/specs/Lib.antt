@@ -12,14 +12,14 @@
 --     TimeAlong  TIME by its pattern
 --     DateTime   DATE-TIME
 --     DateTimeAlong  DATE-TIME by its pattern
---     Written    dates and times written
---     Duration   DURATION
---     DurationAt DURATION read at a cursor
---     UtcOffset  UTC-OFFSET
---     OffsetAlong  UTC-OFFSET by its patterns
+--     Written        dates and times written
+--     Duration       DURATION
+--     DurationAt     DURATION read at a cursor
+--     UtcOffset      UTC-OFFSET
+--     OffsetAlong    UTC-OFFSET by its patterns
 --     OffsetWritten  UTC-OFFSET written
---     Period     PERIOD in iCalendar text
---     PeriodAt   PERIOD read at a cursor
+--     Period         PERIOD in iCalendar text
+--     PeriodAt       PERIOD read at a cursor
 --     PeriodWritten  PERIOD written
 --     Computing  opens all of these, for examples that compute
 --     Examples   readings and writings, computed

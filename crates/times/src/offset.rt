@@ -12,14 +12,14 @@ ghost use Rattle.sink.specs.Sink.{Put};
 ghost use Rattle.times.specs.UtcOffset.{readUtcOffset, writeUtcOffset};
 ghost use Rattle.times.specs.OffsetAlong.{minutePattern, secondPattern, isMinus, offsetBy, shiftOf, Whole};
 ghost use Rattle.times.specs.OffsetWritten.{signOf, lastBytes, offsetBytes};
-use crate::letters::ended;
 use crate::follow::Walk;
 use crate::follow::follow;
+use crate::letters::ended;
 use crate::time::is_hms;
-use crate::written::put_two;
 use crate::written::put_marked;
-use source::unit;
+use crate::written::put_two;
 use sink::put;
+use source::unit;
 
 // Whether it is negative, hour, minute and second, and whether the second was given.
 pub enum OffsetRead {
@@ -138,7 +138,16 @@ fn put_last(out: &mut [u8], o: usize, to: bool, s: u8, given: bool) -> usize
     o
 }
 
-fn put_shift(out: &mut [u8], o: usize, to: bool, neg: bool, h: u8, m: u8, s: u8, given: bool) -> usize
+fn put_shift(
+    out: &mut [u8],
+    o: usize,
+    to: bool,
+    neg: bool,
+    h: u8,
+    m: u8,
+    s: u8,
+    given: bool,
+) -> usize
     ensures { λ r. ⌜ Put (now (out .entry)) (now (out .exit)) o r (offsetBytes to neg h m s given) ⌝ }
 {
     let g = sign(neg);
@@ -148,7 +157,15 @@ fn put_shift(out: &mut [u8], o: usize, to: bool, neg: bool, h: u8, m: u8, s: u8,
     put_last(out, e, to, s, given)
 }
 
-pub fn put_utc_offset(out: &mut [u8], o: usize, from: bool, to: bool, mode: usize, s: &[u8], at: usize) -> usize
+pub fn put_utc_offset(
+    out: &mut [u8],
+    o: usize,
+    from: bool,
+    to: bool,
+    mode: usize,
+    s: &[u8],
+    at: usize,
+) -> usize
     ensures { λ r. ⌜ Put (now (out .entry)) (now (out .exit)) o r (orNothing (writeUtcOffset (formatOf to)) (readUtcOffset (formatOf from) (rest mode (now (s .entry)) at))) ⌝ }
 {
     let r = read_utc_offset(from, mode, s, at);

@@ -4,24 +4,24 @@ ghost use mathlib.Core.Bool.{true, false};
 ghost use mathlib.Core.Option.{none};
 ghost use Rattle.octets.specs.Reading.{isRead, orNothing};
 ghost use Rattle.model.specs.Calendar.{ical, xcal};
-ghost use Rattle.times.specs.DateTime.{readDateTime, writeDateTime};
 ghost use Rattle.source.specs.Source.{rest};
+ghost use Rattle.sink.specs.Sink.{Put};
+ghost use Rattle.times.specs.DateTime.{readDateTime, writeDateTime};
 ghost use Rattle.times.specs.Letters.{cased};
 ghost use Rattle.times.specs.DateTimeAlong.{momentBy};
 ghost use Rattle.times.specs.Period.{readPeriod};
 ghost use Rattle.times.specs.PeriodAt.{Cuts, periodBy, Periods};
 ghost use Rattle.times.specs.PeriodWritten.{startXml, endXml, endBytes};
-ghost use Rattle.sink.specs.Sink.{Put};
-use crate::letters::letter;
 use crate::date_time::DateTimeRead;
 use crate::date_time::follow_date_time;
 use crate::date_time::moment_from;
-use crate::date_time::read_date_time;
-use crate::date_time::put_moment;
 use crate::date_time::put_date_time;
+use crate::date_time::put_moment;
+use crate::date_time::read_date_time;
 use crate::duration::DurationRead;
-use crate::duration::read_duration;
 use crate::duration::put_duration;
+use crate::duration::read_duration;
+use crate::letters::letter;
 
 // Whether a slash stands after the start's digits, the kind of the zone before it, and the cursor after it.
 pub struct Cut {

@@ -13,7 +13,7 @@ use Rattle.octets.specs.Ascii.{ascii}
 use Rattle.octets.specs.Pick.{pick-either, _and_, _or_, and-both, and-yes}
 use Rattle.octets.specs.Words.{same, starts}
 use Rattle.model.specs.Calendar.{Calendar}
-use Rattle.model.specs.Refusal.{XML, LENGTH, CHARACTER, Verdict, fine, refuse, accepted, answer}
+use Rattle.model.specs.Refusal.{XML, LENGTH, CHARACTER, Verdict, fine, refuse, accepted, answer, characters}
 use Rattle.utf8.specs.Utf8.{tails, firstBad, good-well-formed}
 use Rattle.xml.specs.Pieces.{from, S?, nameOf, _then_}
 use Rattle.xml.specs.Prolog.{prolog}
@@ -24,7 +24,7 @@ use Rattle.xml.specs.WellFormed.{move, followed, check, xmlVerdict}
 use Rattle.xml.specs.Nodes.{nodes, rootBy, rootNode, documentNodes}
 use Rattle.xcal.specs.WriteXml.{writeDocument}
 use Rattle.xcal.specs.ComponentNodes.{rootVerdict, readRoot}
-use Rattle.xcal.specs.ReadDocument.{characters, documentVerdict, readDocument}
+use Rattle.xcal.specs.ReadDocument.{documentVerdict, readDocument}
 use Rattle.xcal.specs.SoundContent.{isClean}
 use Rattle.xcal.specs.Carried.{isValid}
 use Rattle.xcal.specs.DocumentBack.{document-back}
