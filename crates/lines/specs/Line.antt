@@ -2,20 +2,20 @@
 --     lineOf m s c r     what the answer r says of the line that stands from the cursor c on
 --     LineAt             the contract of `line_at`: that this is the line, and where its parts stand
 --     TailAt             ":" value, behind a name and its parameters
-use mathlib.Core.Path.{_≡_, refl, sym, ap, _∙_}
+use mathlib.Core.Path.{_≡_, refl, sym, _∙_}
 use mathlib.Core.Bool.{Bool, true, false}
 use mathlib.Core.List.{List, [], _∷_}
 use mathlib.Core.Option.{Option, none, some}
-use Prim.Native.Nat.{ℕ, zero, suc, _+_, _≤_, _<_}
+use Prim.Native.Nat.{ℕ, suc}
 use native.Mathlib.Omega.{arith}
 use lib.ListN.{drop}
 use Rattle.octets.specs.Pick.{pick, pick-yes, pick-no}
 use Rattle.octets.specs.Class.{isNameChar}
 use Rattle.octets.specs.Words.{isEmpty}
 use Rattle.octets.specs.Scan.{spanLen, allOf}
-use Rattle.octets.specs.Runs.{afterByte, afterRun, runOf}
+use Rattle.octets.specs.Runs.{afterRun, runOf}
 use Rattle.octets.specs.Reading.{provided}
-use Rattle.octets.specs.Many.{All, ok, no, many}
+use Rattle.octets.specs.Many.{ok}
 use Rattle.source.specs.Source.{rest, Reads}
 use Rattle.source.specs.Facts.{rest-byte, rest-end}
 use Rattle.source.specs.declared.Step.{Step}

@@ -2,10 +2,10 @@
 --     ParamOf p m s c r     what p, which reads a parameter, reads from the cursor c on
 --     name-run, name-chars  a name that ends at a cursor: as a run, and cut out of the slice
 --     param-more, param-over, param-fault    a walk over `paramsAt`: one more, the end;   param-less: its measure
-use mathlib.Core.Path.{_≡_, refl, sym, ap, _∙_}
+use mathlib.Core.Path.{_≡_, refl, sym, _∙_}
 use mathlib.Core.Bool.{Bool, true, false}
 use mathlib.Core.List.{List, [], _∷_}
-use Prim.Native.Nat.{ℕ, zero, suc, _+_, _-_, _*_, max, _≤_, _<_}
+use Prim.Native.Nat.{ℕ, _-_, _*_, _<_}
 use native.Mathlib.Omega.{arith}
 use lib.Dec.{eqb}
 use lib.ListN.{length, take}
@@ -14,11 +14,11 @@ use Rattle.octets.specs.Class.{isNameChar}
 use Rattle.octets.specs.Words.{isEmpty}
 use Rattle.octets.specs.Scan.{spanLen}
 use Rattle.octets.specs.Runs.{afterByte, afterRun, runOf}
-use Rattle.octets.specs.Many.{One, got, bad}
+use Rattle.octets.specs.Many.{One, bad}
 use Rattle.source.specs.Source.{rest, spell, Reads}
 use Rattle.source.specs.Facts.{rest-byte}
 use Rattle.source.specs.declared.Step.{Step}
-use Rattle.names.specs.Runs.{RunEnds as NameRun, run-cut as name-cut}
+use Rattle.names.specs.Runs.{RunEnds as NameRun, run-cut as name-cut, NameEnds, name-cut}
 use Rattle.lines.specs.ContentLine.{ParamValue, RawParameter, paramValue, withFirst, param, nextParam}
 use Rattle.lines.specs.Items.{items}
 use Rattle.lines.specs.Cursor.{Onward, onward-here, onward-both, onward-byte, byte-at, byte-not, RunEnds, oneAt, ItemAt, item-behind, item-not, valuesOf, valuesAt, paramsAt}
