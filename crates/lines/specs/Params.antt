@@ -18,7 +18,7 @@ use Rattle.octets.specs.Many.{One, bad}
 use Rattle.source.specs.Source.{rest, spell, Reads}
 use Rattle.source.specs.Facts.{rest-byte}
 use Rattle.source.specs.declared.Step.{Step}
-use Rattle.names.specs.Runs.{RunEnds as NameRun, run-cut as name-cut, NameEnds, name-cut}
+use Rattle.names.specs.Runs.{RunEnds as NameRun, run-cut as name-cut}
 use Rattle.lines.specs.ContentLine.{ParamValue, RawParameter, paramValue, withFirst, param, nextParam}
 use Rattle.lines.specs.Items.{items}
 use Rattle.lines.specs.Cursor.{Onward, onward-here, onward-both, onward-byte, byte-at, byte-not, RunEnds, oneAt, ItemAt, item-behind, item-not, valuesOf, valuesAt, paramsAt}
