@@ -5,9 +5,9 @@ use mathlib.Core.Path.{_≡_, refl, sym, ap, _∙_}
 use mathlib.Core.Bool.{Bool, true, false, false≢true}
 use mathlib.Core.List.{List, [], _∷_, map}
 use mathlib.Core.Option.{Option, none, some}
-use Prim.Native.Nat.{ℕ, zero, suc, _≤_, _<_}
+use Prim.Native.Nat.{ℕ, zero, suc, _≤_}
 use native.Mathlib.Omega.{arith}
-use lib.Dec.{eqb, leb, ltb}
+use lib.Dec.{ltb}
 use lib.ListN.{length, getD, List·getD-map}
 use Rattle.octets.specs.Ascii.{ascii}
 use Rattle.octets.specs.Pick.{pick, _and_, _or_}
@@ -15,9 +15,9 @@ use Rattle.octets.specs.Class.{isAlpha}
 use Rattle.octets.specs.Words.{isOneOf, isEmpty}
 use Rattle.octets.specs.Reading.{provided, andThen, isRead}
 use Rattle.octets.specs.Computing.{octets-compute}
-use Rattle.model.specs.Calendar.{Format, ical, xcal, formatOf, RuleItem}
-use Rattle.source.specs.Source.{rest, spell, Reads}
-use Rattle.source.specs.Facts.{rest-byte, rest-end, byte-small}
+use Rattle.model.specs.Calendar.{Format, formatOf}
+use Rattle.source.specs.Source.{rest, Reads}
+use Rattle.source.specs.Facts.{rest-byte, rest-end}
 use Rattle.source.specs.declared.Step.{Step}
 use Rattle.names.specs.Case.{cased, caseOf}
 use Rattle.times.specs.Date.{readDate}
@@ -25,7 +25,7 @@ use Rattle.times.specs.DateTime.{readDateTime}
 use Rattle.names.specs.Table.{placeOf, namesIn, one-of-place}
 use Rattle.recur.specs.Front.{upTo, fromOn}
 use Rattle.recur.specs.Parts.{ItemForm, wordOf, enddate, counting, unsigned, signed, weekdaynum, Part, partOf, partTable, partNames, frequencies, weekdays}
-use Rattle.recur.specs.Item.{inCapitals, isNumeral, isShort, afterSign, readSigned, readOrdinal, orElse, readEnddate, readWord, readForm, readItem}
+use Rattle.recur.specs.Item.{inCapitals, isNumeral, isShort, afterSign, readOrdinal, orElse, readEnddate, readWord, readForm, readItem}
 
 abbrev pub isNumeralOf : ℕ → ℕ → ℕ → List ℕ → Bool
 isNumeralOf d lo hi s = isShort d s and isNumeral lo hi s

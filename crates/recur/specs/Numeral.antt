@@ -6,21 +6,21 @@
 use mathlib.Core.Path.{_≡_, refl, sym, _∙_}
 use mathlib.Core.Bool.{Bool, true, false}
 use mathlib.Core.List.{List, [], _∷_}
-use Prim.Native.Nat.{ℕ, zero, suc, _+_, _-_, _*_, _/_, _^_, _≤_, _<_}
+use Prim.Native.Nat.{ℕ, suc, _+_, _-_, _*_, _/_, _^_, _≤_, _<_}
 use native.Mathlib.Omega.{arith}
 use lib.Dec.{eqb, leb, ltb}
 use lib.ListN.{length}
 use borrow.Author.Needs.{needs}
-use borrow.Author.Tests.{eq-eqb, ne-eqb, lt-ltb, le-ltb, le-leb, lt-leb, leb-true, leb-false}
+use borrow.Author.Tests.{ne-eqb, lt-ltb, le-ltb, le-leb, lt-leb, leb-true, leb-false}
 use Rattle.octets.specs.Pick.{pick, _and_, _or_, within-yes, and-no-left, and-no-right}
 use Rattle.octets.specs.Scan.{allOf}
 use Rattle.octets.specs.Class.{isDigit, isAlpha}
-use Rattle.octets.specs.Decimal.{value, digitOf, isNumber}
+use Rattle.octets.specs.Decimal.{value, digitOf}
 use Rattle.source.specs.Source.{rest, spell, Reads}
 use Rattle.source.specs.Facts.{spell-byte, spell-end}
 use Rattle.source.specs.declared.Step.{Step}
-use Rattle.recur.specs.Front.{upTo, fromOn}
-use Rattle.recur.specs.Item.{isNumeral, isShort, isMinus, afterSign}
+use Rattle.recur.specs.Front.{upTo}
+use Rattle.recur.specs.Item.{isNumeral, isShort, afterSign}
 
 abbrev pub front : Bool → List ℕ → List ℕ
 front true s = upTo isAlpha s

@@ -8,9 +8,9 @@ use mathlib.Core.Path.{_≡_, refl, sym, ap, _∙_}
 use mathlib.Core.Bool.{Bool, true, false, not, false≢true}
 use mathlib.Core.List.{List, [], _∷_, map}
 use mathlib.Core.Option.{Option, none, some}
-use Prim.Native.Nat.{ℕ, zero, suc, _+_, _-_, _*_, _≤_, _<_}
+use Prim.Native.Nat.{ℕ, zero, suc, _-_, _≤_, _<_}
 use native.Mathlib.Omega.{arith}
-use lib.Dec.{eqb, ltb}
+use lib.Dec.{eqb}
 use lib.ListN.{length, take, getD, drop-of-length-le, List·getD-map}
 use lib.Seq.{length-take-le}
 use borrow.Author.Tests.{eq-eqb, ne-eqb, eqb-true}
@@ -20,9 +20,9 @@ use Rattle.octets.specs.Append.{_⊕_}
 use Rattle.octets.specs.Class.{upper}
 use Rattle.octets.specs.Lists.{distinct}
 use Rattle.octets.specs.Words.{same, same-self, same-true, isOneOf, onto, cutAt, rowOf}
-use Rattle.octets.specs.Reading.{provided, andThen, isRead, consRead, readEach, andThen-some, consRead-some}
+use Rattle.octets.specs.Reading.{andThen, isRead, consRead, readEach, andThen-some, consRead-some}
 use Rattle.octets.specs.Computing.{octets-compute}
-use Rattle.model.specs.Calendar.{ical, RuleItem, RulePart}
+use Rattle.model.specs.Calendar.{ical, RulePart}
 use Rattle.source.specs.Source.{rest, Reads}
 use Rattle.source.specs.Facts.{rest-byte, rest-end, byte-small, cut-is}
 use Rattle.source.specs.declared.Step.{Step}
@@ -31,7 +31,7 @@ use Rattle.names.specs.Known.{word-at}
 use Rattle.recur.specs.Front.{upTo, fromOn, past}
 use Rattle.recur.specs.Parts.{Part, partOf, partNames, partTable, isListed, isListPart}
 use Rattle.recur.specs.Item.{readItem}
-use Rattle.recur.specs.Rule.{rulePart, isEquals, itemsOf, readItems, readPart, nameOf, hasPart, isComplete, inOrder, ruled, readRule}
+use Rattle.recur.specs.Rule.{rulePart, isEquals, itemsOf, readPart, nameOf, hasPart, isComplete, inOrder, ruled, readRule}
 use Rattle.recur.specs.Fits.{part-at, beyond, read-then, provided-is}
 use Rattle.recur.specs.Computing.{recur-compute}
 use Rattle.recur.specs.Pieces.{Ends, pieceName, placeAt, areItems, hasPlace, eachPart, isWhole}

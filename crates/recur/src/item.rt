@@ -9,12 +9,12 @@ ghost use Rattle.source.specs.Source.{rest};
 ghost use Rattle.recur.specs.Parts.{partNames};
 ghost use Rattle.recur.specs.Item.{readItem};
 use crate::number::is_numeral;
-use crate::number::is_unsigned;
 use crate::number::is_signed;
+use crate::number::is_unsigned;
+use crate::word::is_enddate;
 use crate::word::is_frequency;
 use crate::word::is_weekday;
 use crate::word::is_weekdaynum;
-use crate::word::is_enddate;
 
 // FREQ, UNTIL, COUNT, INTERVAL.
 fn is_limit(p: usize, xcal: bool, mode: usize, s: &[u8], at: usize) -> bool

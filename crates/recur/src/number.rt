@@ -99,7 +99,15 @@ pub fn is_numeral(letters: bool, lo: u32, hi: usize, mode: usize, s: &[u8], at: 
 }
 
 // No more than `d` digits that are worth `lo` to `hi`.
-pub fn is_unsigned(letters: bool, d: usize, lo: u32, hi: usize, mode: usize, s: &[u8], at: usize) -> bool
+pub fn is_unsigned(
+    letters: bool,
+    d: usize,
+    lo: u32,
+    hi: usize,
+    mode: usize,
+    s: &[u8],
+    at: usize,
+) -> bool
     requires { ⌜ hi ≤ 2147483647 ⌝ }
     ensures { λ r. ⌜ r ≡ isNumeralOf d lo hi (front letters (rest mode (now (s .entry)) at)) ⌝ }
 {

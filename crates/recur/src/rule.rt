@@ -10,9 +10,9 @@ ghost use Rattle.recur.specs.Front.{past};
 ghost use Rattle.recur.specs.Parts.{partNames, partOf, isListed};
 ghost use Rattle.recur.specs.Rule.{isEquals, readPart, readRule};
 ghost use Rattle.recur.specs.Pieces.{Ends, placeAt, areItems, hasPlace, eachPart, isWhole, good};
-use source::unit;
-use names::find_name;
 use crate::item::is_item;
+use names::find_name;
+use source::unit;
 
 // Whether there is a rule.
 pub enum RuleRead {
@@ -47,7 +47,12 @@ fn part_place(s: &[u8], at: usize) -> usize
     ensures { λ r. ⌜ r ≡ placeAt (rest 0 (now (s .entry)) at) ⌝ }
 {
     let e = byte_end(61, s, at);
-    find_name(0, &s[..e], at, b"FREQ\nUNTIL\nCOUNT\nINTERVAL\nBYSECOND\nBYMINUTE\nBYHOUR\nBYDAY\nBYMONTHDAY\nBYYEARDAY\nBYWEEKNO\nBYMONTH\nBYSETPOS\nWKST\n")
+    find_name(
+        0,
+        &s[..e],
+        at,
+        b"FREQ\nUNTIL\nCOUNT\nINTERVAL\nBYSECOND\nBYMINUTE\nBYHOUR\nBYDAY\nBYMONTHDAY\nBYYEARDAY\nBYWEEKNO\nBYMONTH\nBYSETPOS\nWKST\n",
+    )
 }
 
 // The cursor after a piece's name and =.

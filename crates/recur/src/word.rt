@@ -10,21 +10,27 @@ ghost use Rattle.recur.specs.Front.{upTo, fromOn};
 ghost use Rattle.recur.specs.Parts.{frequencies, weekdays, weekdaynum};
 ghost use Rattle.recur.specs.Item.{inCapitals, readEnddate};
 ghost use Rattle.recur.specs.Fits.{fitsOrdinal, fitsForm};
+use crate::number::front_unit;
+use crate::number::is_signed;
+use names::find_word;
 use octets::is_alpha;
 use source::unit;
-use names::find_word;
 use times::date::DateRead;
 use times::date::read_date;
 use times::date_time::DateTimeRead;
 use times::date_time::read_date_time;
-use crate::number::front_unit;
-use crate::number::is_signed;
 
 // A frequency.
 pub fn is_frequency(xcal: bool, mode: usize, s: &[u8], at: usize) -> bool
     ensures { λ r. ⌜ r ≡ isOneOf (inCapitals (formatOf xcal) (rest mode (now (s .entry)) at)) frequencies ⌝ }
 {
-    let n = find_word(xcal, mode, s, at, b"SECONDLY\nMINUTELY\nHOURLY\nDAILY\nWEEKLY\nMONTHLY\nYEARLY\n");
+    let n = find_word(
+        xcal,
+        mode,
+        s,
+        at,
+        b"SECONDLY\nMINUTELY\nHOURLY\nDAILY\nWEEKLY\nMONTHLY\nYEARLY\n",
+    );
     n < 7
 }
 

@@ -1,7 +1,6 @@
--- `recur::is_item` meets its contract. Assumes nothing.
+-- `recur::is_item` meets its contract.
 use Rattle.source.specs.Source.{rest}
 use Rattle.model.specs.Calendar.{formatOf}
-use native.Mathlib.Omega.{arith}
 use Rattle.recur.specs.Fits.{item-beyond}
 use borrow.Author.Needs.{needs}
 use Rattle.recur.proofs.item.is_item.Statement.{statement}

@@ -1,4 +1,4 @@
--- `recur::is_limit` meets its contract. Assumes nothing.
+-- `recur::is_limit` meets its contract.
 use Rattle.source.specs.Source.{rest}
 use Rattle.model.specs.Calendar.{formatOf}
 use Rattle.recur.specs.Fits.{item-at}

@@ -1,4 +1,4 @@
--- `recur::after_sign` meets its contract. Assumes nothing.
+-- `recur::after_sign` meets its contract.
 use Rattle.recur.specs.Numeral.{sign-plus, sign-minus, sign-none}
 use borrow.Author.Needs.{needs}
 use Rattle.recur.proofs.number.after_sign.Statement.{statement}

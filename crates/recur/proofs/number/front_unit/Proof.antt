@@ -1,5 +1,4 @@
--- `recur::front_unit` meets its contract. Assumes nothing.
-use native.Mathlib.Omega.{arith}
+-- `recur::front_unit` meets its contract.
 use Rattle.recur.specs.Numeral.{front-all, front-byte, front-letter}
 use Rattle.octets.specs.Pick.{flag-yes, flag-no}
 use borrow.Author.Needs.{needs}

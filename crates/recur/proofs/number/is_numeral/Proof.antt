@@ -1,4 +1,4 @@
--- `recur::is_numeral` meets its contract. Assumes nothing.
+-- `recur::is_numeral` meets its contract.
 use Rattle.recur.specs.Numeral.{numeral-told}
 use native.Mathlib.Omega.{arith}
 use borrow.Author.Needs.{needs}

@@ -1,4 +1,4 @@
--- `recur::is_short` meets its contract. Assumes nothing.
+-- `recur::is_short` meets its contract.
 use Rattle.recur.specs.Numeral.{Passed, passed-start, passed-end, passed-long, passed-more, passed-less}
 use native.Mathlib.Omega.{arith}
 use Prim.Native.Nat.{_-_, _*_}

@@ -1,4 +1,4 @@
--- `recur::is_signed` meets its contract. Assumes nothing.
+-- `recur::is_signed` meets its contract.
 use borrow.Author.Needs.{needs}
 use Rattle.recur.proofs.number.is_signed.Statement.{statement}
 use Rattle.recur.proofs.number.is_signed.Tie as tie

@@ -1,4 +1,4 @@
--- `recur::is_unsigned` meets its contract. Assumes nothing.
+-- `recur::is_unsigned` meets its contract.
 use Rattle.octets.specs.Pick.{flag-yes, flag-no, and-go, and-stop}
 use borrow.Author.Needs.{needs}
 use Rattle.recur.proofs.number.is_unsigned.Statement.{statement}

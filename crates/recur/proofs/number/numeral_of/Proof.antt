@@ -1,7 +1,5 @@
--- `recur::numeral_of` meets its contract. Assumes nothing.
+-- `recur::numeral_of` meets its contract.
 use Rattle.recur.specs.Numeral.{fronts-byte, fronts-end, numeral-none, numeral-low, numeral-some}
-use native.Mathlib.Omega.{arith}
-use mathlib.Core.Path.{_∙_}
 use borrow.Author.Needs.{needs}
 use Rattle.recur.proofs.number.numeral_of.Statement.{statement}
 use Rattle.recur.proofs.number.numeral_of.Tie as tie

@@ -1,4 +1,4 @@
--- `recur::worth` meets its contract. Assumes nothing.
+-- `recur::worth` meets its contract.
 use Rattle.recur.specs.Numeral.{front, worthTo, worth-end, worth-low, worth-high, worth-more, worth-much, fronts-byte, fronts-end}
 use Rattle.source.specs.Source.{rest}
 use mathlib.Core.Path.{_≡_, refl, _∙_}

@@ -1,4 +1,4 @@
--- `recur::are_items` meets its contract. Assumes nothing.
+-- `recur::are_items` meets its contract.
 use Rattle.recur.specs.PieceLaws.{Left, left-start, items-bad, items-last, items-more, pieces-less, cut-count}
 use Rattle.recur.specs.Pieces.{areItems}
 use Rattle.octets.specs.Pick.{flag-yes, flag-no}

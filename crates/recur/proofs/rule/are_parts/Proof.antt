@@ -1,4 +1,4 @@
--- `recur::are_parts` meets its contract. Assumes nothing.
+-- `recur::are_parts` meets its contract.
 use Rattle.recur.specs.PieceLaws.{Left, left-start, parts-bad, parts-last, parts-again, parts-more, pieces-less, step-less, cut-count, cut-inside}
 use Rattle.recur.specs.Pieces.{eachPart}
 use Rattle.octets.specs.Pick.{flag-yes, flag-no}

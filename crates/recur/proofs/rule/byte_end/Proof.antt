@@ -1,4 +1,4 @@
--- `recur::byte_end` meets its contract. Assumes nothing.
+-- `recur::byte_end` meets its contract.
 use Rattle.recur.specs.PieceLaws.{Ending, ending-start, ending-stop, ending-here, ending-more, step-less}
 use native.Mathlib.Omega.{arith}
 use lib.ListN.{length}

@@ -1,4 +1,4 @@
--- `recur::has_part` meets its contract. Assumes nothing.
+-- `recur::has_part` meets its contract.
 use Rattle.recur.specs.PieceLaws.{Left, left-start, place-here, place-last, place-more, pieces-less, cut-count, cut-inside}
 use Rattle.recur.specs.Pieces.{hasPlace}
 use lib.ListN.{length}

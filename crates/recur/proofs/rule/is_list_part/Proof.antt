@@ -1,4 +1,4 @@
--- `recur::is_list_part` meets its contract. Assumes nothing.
+-- `recur::is_list_part` meets its contract.
 use Rattle.recur.specs.PieceLaws.{listed-at, listed-beyond}
 use borrow.Author.Needs.{needs}
 use Rattle.recur.proofs.rule.is_list_part.Statement.{statement}

@@ -1,4 +1,4 @@
--- `recur::is_part` meets its contract. Assumes nothing.
+-- `recur::is_part` meets its contract.
 use Rattle.recur.specs.PieceLaws.{part-listed, part-single}
 use Rattle.source.specs.Source.{rest}
 use Rattle.octets.specs.Pick.{flag-yes, flag-no}

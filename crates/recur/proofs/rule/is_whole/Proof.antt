@@ -1,10 +1,9 @@
--- `recur::is_whole` meets its contract. Assumes nothing.
+-- `recur::is_whole` meets its contract.
 use Rattle.recur.specs.PieceLaws.{not-first, not-second, not-both}
 use Rattle.recur.specs.Pieces.{hasPlace}
 use Rattle.source.specs.Source.{rest}
 use Rattle.octets.specs.Words.{cutAt}
 use Rattle.octets.specs.Pick.{and-go, and-stop, flag-yes, flag-no}
-use borrow.Author.Needs.{needs}
 use Rattle.recur.proofs.rule.is_whole.Statement.{statement}
 use Rattle.recur.proofs.rule.is_whole.Tie as tie
 

@@ -1,4 +1,4 @@
--- `recur::part_place` meets its contract. Assumes nothing.
+-- `recur::part_place` meets its contract.
 use Rattle.recur.specs.PieceLaws.{cut-count, name-found, names-are}
 use borrow.Author.Needs.{needs}
 use Rattle.recur.proofs.rule.part_place.Statement.{statement}

@@ -1,7 +1,6 @@
--- `recur::read_rule` meets its contract. Assumes nothing.
+-- `recur::read_rule` meets its contract.
 use Rattle.recur.specs.PieceLaws.{rule-beyond, rule-none, rule-part, rule-yes}
 use Rattle.source.specs.Source.{rest}
-use borrow.Author.Needs.{needs}
 use Rattle.recur.proofs.rule.read_rule.Statement.{statement}
 use Rattle.recur.proofs.rule.read_rule.Tie as tie
 

@@ -1,4 +1,4 @@
--- `recur::value_at` meets its contract. Assumes nothing.
+-- `recur::value_at` meets its contract.
 use Rattle.recur.specs.PieceLaws.{value-none, value-after, step-less}
 use borrow.Author.Needs.{needs}
 use Rattle.recur.proofs.rule.value_at.Statement.{statement}

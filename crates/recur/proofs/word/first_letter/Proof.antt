@@ -1,4 +1,4 @@
--- `recur::first_letter` meets its contract. Assumes nothing.
+-- `recur::first_letter` meets its contract.
 use Rattle.recur.specs.Fits.{Lettered, letter-end, letter-here, letter-later}
 use Rattle.source.specs.Facts.{byte-small}
 use Rattle.octets.specs.Pick.{flag-yes, flag-no}

@@ -1,4 +1,4 @@
--- `recur::is_enddate` meets its contract. Assumes nothing.
+-- `recur::is_enddate` meets its contract.
 use Rattle.octets.specs.Reading.{isRead}
 use Rattle.recur.specs.Fits.{end-there, end-other}
 use mathlib.Core.Path.{_∙_}

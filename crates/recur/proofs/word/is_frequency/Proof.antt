@@ -1,4 +1,4 @@
--- `recur::is_frequency` meets its contract. Assumes nothing.
+-- `recur::is_frequency` meets its contract.
 use Rattle.source.specs.Source.{rest}
 use Rattle.recur.specs.Fits.{word-found, frequencies-are}
 use Rattle.recur.specs.Parts.{frequencies}

@@ -1,4 +1,4 @@
--- `recur::is_moment` meets its contract. Assumes nothing.
+-- `recur::is_moment` meets its contract.
 use Rattle.octets.specs.Reading.{isRead}
 use borrow.Author.Needs.{needs}
 use Rattle.recur.proofs.word.is_moment.Statement.{statement}

@@ -1,4 +1,4 @@
--- `recur::is_ordinal` meets its contract. Assumes nothing.
+-- `recur::is_ordinal` meets its contract.
 use Rattle.recur.specs.Numeral.{fronts-byte, fronts-end}
 use Rattle.octets.specs.Pick.{or-take, or-skip}
 use borrow.Author.Needs.{needs}

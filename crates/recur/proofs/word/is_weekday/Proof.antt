@@ -1,4 +1,4 @@
--- `recur::is_weekday` meets its contract. Assumes nothing.
+-- `recur::is_weekday` meets its contract.
 use Rattle.source.specs.Source.{rest}
 use Rattle.recur.specs.Fits.{word-found, weekdays-are}
 use Rattle.recur.specs.Parts.{weekdays}
