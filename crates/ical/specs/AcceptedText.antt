@@ -15,13 +15,13 @@ use Rattle.octets.specs.Append.{_⊕_}
 use Rattle.octets.specs.Words.{starts}
 use Rattle.octets.specs.Lists.{every}
 use Rattle.model.specs.Calendar.{Components}
-use Rattle.model.specs.Refusal.{LENGTH, WORK, Verdict, fine, refuse, _otherwise_, accepted, answer}
+use Rattle.model.specs.Refusal.{LENGTH, WORK, Verdict, fine, refuse, _otherwise_, accepted, answer, limit, characters}
 use Rattle.utf8.specs.Utf8.{tailAt, firstBad, good-well-formed, good-split}
 use Rattle.folding.specs.Unfold.{crlf, unfolded}
 use Rattle.folding.specs.Lines.{Line, whole, loose, longer, lineStep, linesAfter, lines, noneLoose}
 use Rattle.ical.specs.Nesting.{Open, Move, move, onward, nesting}
 use Rattle.ical.specs.Tree.{calendarOf}
-use Rattle.ical.specs.ReadText.{limit, characters, linesVerdict, keptVerdict, placed, textVerdict, readCalendar}
+use Rattle.ical.specs.ReadText.{linesVerdict, keptVerdict, placed, textVerdict, readCalendar}
 use Rattle.ical.specs.WriteText.{writeCalendar}
 use Rattle.ical.specs.AcceptedCharacters.{after-byte}
 use Rattle.ical.specs.AcceptedTree.{isGoodOne, refuse-fine, tree-accepted, tree-some}

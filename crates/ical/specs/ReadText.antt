@@ -7,21 +7,12 @@ use Prim.Native.Nat.{ℕ}
 use lib.Dec.{leb}
 use lib.ListN.{length}
 use Rattle.octets.specs.Pick.{pick}
-use Rattle.model.specs.Refusal.{LENGTH, WORK, CHARACTER, FRAME, Verdict, fine, refuse, _otherwise_, Answer, answer}
+use Rattle.model.specs.Refusal.{LENGTH, WORK, FRAME, Verdict, fine, refuse, _otherwise_, Answer, answer, limit, characters}
 use Rattle.folding.specs.Unfold.{unfolded, origin}
 use Rattle.folding.specs.Lines.{Line, lines}
 use Rattle.utf8.specs.Utf8.{firstBad}
 use Rattle.ical.specs.Nesting.{nesting}
 use Rattle.ical.specs.Tree.{calendarOf}
-
--- the input limit
-abbrev pub limit : ℕ
-limit = 65535
-
--- refusal 3: the first character that is none
-abbrev pub characters : Option ℕ → Verdict
-characters none = fine
-characters (some p) = refuse CHARACTER p
 
 -- refusals 4 to 9: a text of no lines states no calendar
 unfoldable pub linesVerdict : ℕ → List Line → Verdict

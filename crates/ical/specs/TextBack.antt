@@ -13,14 +13,14 @@ use Rattle.octets.specs.Append.{_⊕_, joined, append-empty, append-none, appen
 use Rattle.octets.specs.Words.{holds, noneHolds}
 use Rattle.octets.specs.Lists.{every, every-both}
 use Rattle.model.specs.Calendar.{Property, Components, noMore, component}
-use Rattle.model.specs.Refusal.{fine, _otherwise_, accepted}
+use Rattle.model.specs.Refusal.{fine, _otherwise_, accepted, limit}
 use Rattle.schema.specs.Components.{subcomponentsOf}
 use Rattle.utf8.specs.Utf8.{badFrom, firstBad, well-formed-good, good-append, ascii-first}
 use Rattle.folding.specs.Unfold.{crlf, blankAt, unfolded}
 use Rattle.folding.specs.Lines.{Line, lines}
 use Rattle.folding.specs.Text.{foldedText, ended, plainText, noneBlank, wholeLines, text-unfolded, text-lines}
 use Rattle.ical.specs.Nesting.{nesting}
-use Rattle.ical.specs.ReadText.{limit, linesVerdict, keptVerdict, placed, textVerdict, readCalendar}
+use Rattle.ical.specs.ReadText.{linesVerdict, keptVerdict, placed, textVerdict, readCalendar}
 use Rattle.ical.specs.WriteText.{propertyLine, propertyLines, beginLine, endLine, writeCalendar}
 use Rattle.ical.specs.ValidCalendar.{isStated, hasComponents, ValidIn, Valid, atTop, isPlain, inside-plain, top-plain, plain-name}
 use Rattle.ical.specs.TreeBack.{endOf, propertiesBefore, linesBefore, linesOf, tree-back}

@@ -1,11 +1,10 @@
 -- Names that can be carried, tested at a cursor.
 --     carriesName     of a parameter
 --     carried-run     whatever follows a name does not matter
-use mathlib.Core.Path.{_≡_, refl, sym, ap, _∙_}
+use mathlib.Core.Path.{_≡_, refl, sym, _∙_}
 use mathlib.Core.Bool.{Bool, true, false, false≢true}
 use mathlib.Core.List.{List, [], _∷_}
-use Prim.Native.Nat.{ℕ, suc, _-_, _≤_, _<_}
-use native.Mathlib.Omega.{arith}
+use Prim.Native.Nat.{ℕ, suc}
 use lib.Dec.{eqb}
 use lib.ListN.{take}
 use borrow.Author.Tests.{eq-eqb, ne-eqb, eqb-true, le-leb}
@@ -18,12 +17,11 @@ use Rattle.octets.specs.Scan.{spanLen, allOf, all-split}
 use Rattle.octets.specs.Runs.{runOf}
 use Rattle.octets.specs.Words.{starts}
 use Rattle.source.specs.Source.{rest, spell, Reads}
-use Rattle.source.specs.Facts.{rest-byte}
 use Rattle.source.specs.declared.Step.{Step}
 use Rattle.lines.specs.ContentLine.{RawParameter, nextParam}
 use Rattle.lines.specs.Names.{startsOffName, isCarriedName}
 use Rattle.lines.specs.Cursor.{paramsAt}
-use Rattle.lines.specs.Params.{ParamOf, paramIn, param-more, param-over, param-fault}
+use Rattle.lines.specs.Params.{ParamOf, param-more, param-over, param-fault}
 use Rattle.lines.specs.declared.ParamRead.{ParamRead}
 
 abbrev pub carriesName : RawParameter → Bool
@@ -110,6 +108,7 @@ starts-run (x ∷ w) (b ∷ xs) h = go (isNameChar b) refl (starts-run w xs (all
   where
     other : isNameChar b ≡ false → x ≡ upperByte b → ⊥
     other e k = false≢true (sym e ∙ lower-name-char b (rw k at (all-split isNameChar x w h .0)))
+
     go : (t : Bool) → isNameChar b ≡ t → starts w (upper (runOf isNameChar xs)) ≡ starts w (upper xs) →
         starts (x ∷ w) (upper (take (pick t (suc (spanLen isNameChar xs)) 0) (b ∷ xs))) ≡ (eqb x (upperByte b) and starts w (upper xs))
     go true e ih = rw ih

@@ -12,6 +12,7 @@
 --     Params       parameters, through a cursor
 --     Line         a content line, through a cursor
 --     Carried      names that can be carried, through a cursor
+--     Written      parts of a parameter written one after another
 --     Computing    opens all of these, for examples that compute
 --     Examples     lines that are read, lines that are refused, lines that are written
 pub mod ContentLine
@@ -27,5 +28,6 @@ pub mod Values
 pub mod Params
 pub mod Line
 pub mod Carried
+pub mod Written
 pub mod Computing
 pub mod Examples

@@ -2,29 +2,28 @@
 --     lineOf m s c r     what the answer r says of the line that stands from the cursor c on
 --     LineAt             the contract of `line_at`: that this is the line, and where its parts stand
 --     TailAt             ":" value, behind a name and its parameters
-use mathlib.Core.Path.{_≡_, refl, sym, ap, _∙_}
+use mathlib.Core.Path.{_≡_, refl, sym, _∙_}
 use mathlib.Core.Bool.{Bool, true, false}
 use mathlib.Core.List.{List, [], _∷_}
 use mathlib.Core.Option.{Option, none, some}
-use Prim.Native.Nat.{ℕ, zero, suc, _+_, _≤_, _<_}
+use Prim.Native.Nat.{ℕ, suc}
 use native.Mathlib.Omega.{arith}
 use lib.ListN.{drop}
 use Rattle.octets.specs.Pick.{pick, pick-yes, pick-no}
 use Rattle.octets.specs.Class.{isNameChar}
 use Rattle.octets.specs.Words.{isEmpty}
 use Rattle.octets.specs.Scan.{spanLen, allOf}
-use Rattle.octets.specs.Runs.{afterByte, afterRun, runOf}
+use Rattle.octets.specs.Runs.{afterRun, runOf}
 use Rattle.octets.specs.Reading.{provided}
-use Rattle.octets.specs.Many.{All, ok, no, many}
+use Rattle.octets.specs.Many.{ok}
 use Rattle.source.specs.Source.{rest, Reads}
 use Rattle.source.specs.Facts.{rest-byte, rest-end}
 use Rattle.source.specs.declared.Step.{Step}
-use Rattle.names.specs.Runs.{NameEnds}
 use Rattle.lines.specs.ContentLine.{RawParameter, ContentLine, isValueChar, nextParam, withValue, contentLine}
 use Rattle.lines.specs.Items.{items}
 use Rattle.lines.specs.Cursor.{Onward, onward-here, onward-both, onward-byte, byte-at, byte-not, RunEnds, paramsAt}
 use Rattle.lines.specs.Repeating.{allAt, AllAt}
-use Rattle.lines.specs.Params.{name-run}
+use Rattle.lines.specs.Params.{NameEnds, name-run}
 use Rattle.lines.specs.declared.AllRead.{AllRead}
 use Rattle.lines.specs.declared.LineRead.{LineRead}
 use Rattle.lines.specs.declared.LineRead.the-variants.{Line, Bad}

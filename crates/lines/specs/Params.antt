@@ -2,10 +2,10 @@
 --     ParamOf p m s c r     what p, which reads a parameter, reads from the cursor c on
 --     name-run, name-chars  a name that ends at a cursor: as a run, and cut out of the slice
 --     param-more, param-over, param-fault    a walk over `paramsAt`: one more, the end;   param-less: its measure
-use mathlib.Core.Path.{_≡_, refl, sym, ap, _∙_}
+use mathlib.Core.Path.{_≡_, refl, sym, _∙_}
 use mathlib.Core.Bool.{Bool, true, false}
 use mathlib.Core.List.{List, [], _∷_}
-use Prim.Native.Nat.{ℕ, zero, suc, _+_, _-_, _*_, max, _≤_, _<_}
+use Prim.Native.Nat.{ℕ, _-_, _*_, _<_}
 use native.Mathlib.Omega.{arith}
 use lib.Dec.{eqb}
 use lib.ListN.{length, take}
@@ -14,11 +14,11 @@ use Rattle.octets.specs.Class.{isNameChar}
 use Rattle.octets.specs.Words.{isEmpty}
 use Rattle.octets.specs.Scan.{spanLen}
 use Rattle.octets.specs.Runs.{afterByte, afterRun, runOf}
-use Rattle.octets.specs.Many.{One, got, bad}
+use Rattle.octets.specs.Many.{One, bad}
 use Rattle.source.specs.Source.{rest, spell, Reads}
 use Rattle.source.specs.Facts.{rest-byte}
 use Rattle.source.specs.declared.Step.{Step}
-use Rattle.names.specs.Runs.{NameEnds, name-cut}
+use Rattle.names.specs.Runs.{RunEnds as NameRun, run-cut as name-cut, NameEnds, name-cut}
 use Rattle.lines.specs.ContentLine.{ParamValue, RawParameter, paramValue, withFirst, param, nextParam}
 use Rattle.lines.specs.Items.{items}
 use Rattle.lines.specs.Cursor.{Onward, onward-here, onward-both, onward-byte, byte-at, byte-not, RunEnds, oneAt, ItemAt, item-behind, item-not, valuesOf, valuesAt, paramsAt}
@@ -33,6 +33,10 @@ use Rattle.lines.specs.declared.AllRead.{AllRead}
 end-no-name : (u : ℕ) → isNameChar u ≡ true → u ≡ 256 → ⊥
 unfolding _or_ _and_
 end-no-name u h e = let z : isNameChar 256 ≡ true = rw e at h in let q : _≡_ {A = ℕ} 0 1 = cc in omega arith
+
+-- the run of name characters from c on ends at e
+abbrev pub NameEnds : ℕ → List ℕ → ℕ → ℕ → Type 0
+NameEnds m s c e = NameRun isNameChar m s c e
 
 module _ {m : ℕ} {s : List ℕ} {c : ℕ} where
   pub name-onward : {e : ℕ} → NameEnds m s c e → Onward m s c e
@@ -58,7 +62,7 @@ module _ {m : ℕ} {s : List ℕ} {c : ℕ} where
 -- bytes as they stand, cut at the name's end, are the name
 pub name-chars : {s : List ℕ} {c e : ℕ} → NameEnds 0 s c e → rest 0 (take e s) c ≡ runOf isNameChar (rest 0 s c)
 unfolding runOf
-name-chars {s} {c} {e} n = name-cut s c e n
+name-chars {s} {c} {e} n = name-cut isNameChar s c e n
 
 -- ---- a parameter
 

@@ -3,20 +3,20 @@
 --     Takes p             an item takes at least a byte
 --     Walk                the loop's invariant;   walk-start, walk-more, walk-less, walk-end, walk-bad: its laws
 --     items-more, items-over      a walk over `items` again: one item more, or the end
-use mathlib.Core.Path.{_≡_, refl, ap, _∙_}
-use mathlib.Core.Bool.{Bool, true, false, false≢true}
+use mathlib.Core.Path.{_≡_, _∙_}
+use mathlib.Core.Bool.{Bool, true, false}
 use mathlib.Core.List.{List, [], _∷_}
-use Prim.Native.Nat.{ℕ, _+_, _-_, _*_, max, _≤_, _<_}
+use Prim.Native.Nat.{ℕ, _-_, _*_, _<_}
 use native.Mathlib.Omega.{arith}
 use lib.ListN.{length}
 use Rattle.octets.specs.Append.{length-both}
 use Rattle.octets.specs.Many.{One, got, bad, All, ok, no, cons, many, many-got, many-none, many-bad}
 use Rattle.source.specs.Source.{rest}
-use Rattle.lines.specs.ContentLine.{ParamValue, RawParameter, nextValue, nextParam}
+use Rattle.lines.specs.ContentLine.{nextValue, nextParam}
 use Rattle.lines.specs.Write.{writeParamValue, writeParameter}
 use Rattle.lines.specs.Accepted.{next-value-read, next-param-read}
 use Rattle.lines.specs.Items.{items, items-got, items-none, items-bad}
-use Rattle.lines.specs.Cursor.{Onward, onward-here, onward-both, oneAt, ItemAt}
+use Rattle.lines.specs.Cursor.{Onward, onward-here, onward-both, ItemAt}
 use Rattle.lines.specs.declared.AllRead.{AllRead}
 
 abbrev pub allAt : {A : Type 0} → Bool → List A → List ℕ → List ℕ → All A

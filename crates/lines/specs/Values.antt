@@ -3,17 +3,17 @@
 --     ValuesAt m s c r      all values of a parameter, from its first on
 --     value-first, value-more, value-over, value-fault    a walk over `valuesAt`: the first, one more, the end;   value-less: its measure
 --     value-chars           a value's characters, cut out of the slice
-use mathlib.Core.Path.{_≡_, refl, sym, ap, _∙_}
+use mathlib.Core.Path.{_≡_, refl, _∙_}
 use mathlib.Core.Bool.{Bool, true, false}
 use mathlib.Core.List.{List, [], _∷_}
-use Prim.Native.Nat.{ℕ, _+_, _-_, _*_, max, _≤_, _<_}
+use Prim.Native.Nat.{ℕ, _-_, _*_, _<_}
 use native.Mathlib.Omega.{arith}
 use lib.ListN.{length, take}
-use Rattle.octets.specs.Runs.{afterByte, afterRun, runOf, byte-case}
-use Rattle.octets.specs.Many.{One, got, bad, All, ok, no, many}
+use Rattle.octets.specs.Runs.{afterRun, runOf, byte-case}
+use Rattle.octets.specs.Many.{One, got, bad, ok}
 use Rattle.source.specs.Source.{rest, Reads}
 use Rattle.source.specs.declared.Step.{Step}
-use Rattle.lines.specs.ContentLine.{ParamValue, RawParameter, isQSafeChar, isSafeChar, paramtext, quotedString, paramValue, nextValue, withValues, withFirst}
+use Rattle.lines.specs.ContentLine.{ParamValue, isQSafeChar, isSafeChar, paramtext, quotedString, paramValue, nextValue, withValues, withFirst}
 use Rattle.lines.specs.Items.{items}
 use Rattle.lines.specs.Cursor.{Onward, onward-here, onward-both, onward-byte, byte-at, byte-not, RunEnds, run-cut, oneAt, ItemAt, item-behind, item-not, valuesOf, valuesAt}
 use Rattle.lines.specs.Repeating.{allAt, AllAt, item-got, item-bad, items-more, items-none-here, items-bad-here, walk-less, value-takes}

@@ -5,6 +5,7 @@ mod line;
 mod param;
 mod runs;
 mod value;
+mod written;
 
 pub use carried::is_carried_name;
 pub use carried::names_carried;
@@ -12,6 +13,8 @@ pub use line::line_at;
 pub use param::next_param;
 pub use value::next_value;
 pub use value::param_value;
+pub use written::put_param_name;
+pub use written::put_param_value;
 
 // The classes of characters of a line: of an unquoted value of a parameter, of a quoted one, of the line's value.
 pub enum Chars {

@@ -20,7 +20,8 @@ fn is_break(u: usize) -> bool
 fn is_mark(u: usize) -> bool
     ensures { λ r. ⌜ r ≡ (eqb u 34 or eqb u 59 or eqb u 58 or eqb u 44) ⌝ }
 {
-    if u == 34 {
+    let quote = u == 34;
+    if quote {
         return true;
     }
     if u == 59 {

@@ -7,10 +7,11 @@ use mathlib.Core.List.{List}
 use Prim.Native.Nat.{ℕ}
 use lib.Dec.{leb}
 use lib.ListN.{length, drop}
+use Rattle.model.specs.Refusal.{limit}
 use Rattle.octets.specs.Pick.{pick}
 use Rattle.octets.specs.Append.{_⊕_}
 use Rattle.folding.specs.Unfold.{unfolded}
-use Rattle.ical.specs.ReadText.{limit, readCalendar}
+use Rattle.ical.specs.ReadText.{readCalendar}
 use Rattle.xcal.specs.WriteXml.{writeDocument}
 use Rattle.mallettriton.specs.Conversion.{Converted, converted, Outcome, outcome, contents}
 

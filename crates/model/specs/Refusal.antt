@@ -1,9 +1,10 @@
 -- The refusals and their numbers, and the answer of a reading.
 --     Refusal, numberOf   the eleven refusals
 --     Verdict             what a check finds;   _otherwise_ is one check after another
+--     characters, limit   refusals 3 and 1
 --     Answer              what reading an input gives
 use Prim.Native.Nat.{ℕ}
-use mathlib.Core.List.{List, [], _∷_}
+use mathlib.Core.Option.{Option, none, some}
 use Rattle.model.specs.Calendar.{Calendar}
 
 -- 1 LENGTH, 2 WORK, 3 CHARACTER, 4 LINE, 5 NAME, 6 FRAME, 7 PARAMETER, 8 VALUE, 9 COUNT, 11 XML have a place; 10 ROOM has the exact length
@@ -33,6 +34,15 @@ infixr 30 _otherwise_
 unfoldable pub _otherwise_ : Verdict → Verdict → Verdict
 fine otherwise w = w
 refuse n p otherwise w = refuse n p
+
+-- refusal 3, at the place of the first character that is none
+abbrev pub characters : Option ℕ → Verdict
+characters none = fine
+characters (some p) = refuse CHARACTER p
+
+-- the longest input that is not refused for its length, of both conversions
+abbrev pub limit : ℕ
+limit = 65535
 
 -- what reading an input gives
 pub data Answer : Type 0 where

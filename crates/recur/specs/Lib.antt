@@ -3,17 +3,24 @@
 --     Parts        the parts of a rule in the schema's order, and what an item of each is
 --     Item         one item of a part, read and written
 --     Rule         a whole rule in text, read and written
+--     Numeral      numbers as the code reads them through the cursor
+--     Fits         whether there is an item, as tests
+--     Pieces       a rule as the code reads it, piece by piece
 --     NumberLaws, WordLaws, EnddateLaws    numbers, words and weekdays, dates are read back
 --     ItemLaws     an item is read back from what is written of it, and what is read is an item
 --     OrderLaws    the order of a rule's parts
 --     PartLaws     one part, NAME=ITEMS, is read back, and what is read is one
 --     RuleLaws     a rule is read back from its text, and what is read is a rule
 --     Computing    opens all definitions, for examples that compute
+--     PieceLaws    laws of a rule's pieces, for each way that the code goes
 --     Examples     computed examples
 pub mod Front
 pub mod Parts
 pub mod Item
 pub mod Rule
+pub mod Numeral
+pub mod Fits
+pub mod Pieces
 pub mod NumberLaws
 pub mod WordLaws
 pub mod EnddateLaws
@@ -22,4 +29,5 @@ pub mod OrderLaws
 pub mod PartLaws
 pub mod RuleLaws
 pub mod Computing
+pub mod PieceLaws
 pub mod Examples

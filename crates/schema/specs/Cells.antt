@@ -1,6 +1,6 @@
 -- Tables of numbers that a definition fills: the constants of the code are these lists by computation.
 --     digit         a test as the character 1 or 0
---     tabled        f of each of a run of numbers
+--     tabled        f of each of a run of numbers;   tabled-at: its entries
 --     column-at     the entry of a row in the list of a field of each row;   column-past: of a number that is no row
 --     cell-at       the entry of two numbers in a table of w to a line
 --     at-passes, row-passes    what every row passes
@@ -8,7 +8,7 @@ use mathlib.Core.Path.{_≡_, refl, sym, ap, _∙_}
 use mathlib.Core.Bool.{Bool, true, false}
 use mathlib.Core.List.{List, [], _∷_, map}
 use Prim.Native.Nat.{ℕ, zero, suc, _+_, _*_, _/_, _%_, _≤_, _<_}
-use native.Mathlib.Nat.{not-suc-le-zero, le-of-suc-le-suc, suc-add, add-suc, add-zero}
+use native.Mathlib.Nat.{not-suc-le-zero, le-of-suc-le-suc}
 use native.Mathlib.Omega.{arith}
 use lib.Dec.{eqb}
 use lib.ListN.{length, getD, List·getD-eq-default}
@@ -27,7 +27,7 @@ unfoldable pub tabled : (ℕ → ℕ) → ℕ → ℕ → List ℕ
 tabled f i zero = []
 tabled f i (suc k) = f i ∷ tabled f (suc i) k
 
-tabled-at : (f : ℕ → ℕ) (k i n : ℕ) → n < k → getD (tabled f i k) n 0 ≡ f (i + n)
+pub tabled-at : (f : ℕ → ℕ) (k i n : ℕ) → n < k → getD (tabled f i k) n 0 ≡ f (i + n)
 unfolding tabled
 tabled-at f zero i n h = absurd (not-suc-le-zero h)
 tabled-at f (suc k) i zero h = ap f (omega arith)

@@ -1,6 +1,6 @@
 -- What the tables of properties, parameters and components say, by numbers, and that it is what they say of the names.
 --     permitsType, permitsAt, mayBegin     by numbers: of a property and a type; of a property, its type and a parameter; of a component and one in it
---     permits-place, stand-place, begin-place, alarm-place     the same of names
+--     permits-type-place, permits-place, stand-place, begin-place, alarm-place     the same of names
 --     permitted-at, carries-at, standing-at, inner-at, flag-at   the entries of the code's tables
 --     type-unknown, stand-none, stand-nowhere, begin-none ..   unrecognised ones
 use mathlib.Core.Path.{_≡_, refl, sym, ap, _∙_}
@@ -12,23 +12,22 @@ use lib.Dec.{eqb, ltb}
 use lib.ListN.{length, getD, List·getD-eq-default}
 use borrow.Author.Tests.{not-true}
 use Rattle.octets.specs.Ascii.{ascii}
-use Rattle.octets.specs.Pick.{pick, _and_, _or_}
+use Rattle.octets.specs.Pick.{pick, _and_}
 use Rattle.octets.specs.Append.{_⊕_}
-use Rattle.octets.specs.Words.{same, isOneOf, same-swap, same-apart}
+use Rattle.octets.specs.Words.{isOneOf, same-swap, same-apart}
 use Rattle.octets.specs.Tables.{row-none, row-any-passes}
 use Rattle.octets.specs.Reading.{readOr}
 use Rattle.octets.specs.Lists.{every}
 use Rattle.octets.specs.Computing.{octets-compute}
 use Rattle.names.specs.Table.{placeOf, one-of-place}
-use Rattle.model.specs.Calendar.{ValueType, UNKNOWN, DURATION}
-use Rattle.schema.specs.Types.{valueTypes, typePlace, sameType, isTypeOf, type-any}
+use Rattle.model.specs.Calendar.{ValueType, UNKNOWN}
+use Rattle.schema.specs.Types.{valueTypes, typePlace, sameType, isTypeOf, place-type, type-any}
 use Rattle.schema.specs.Parameters.{parameterNames, isKnownParameter}
 use Rattle.schema.specs.Components.{ComponentRow, audioprop, dispprop, emailprop, componentTable, componentNames, componentRow, unknownComponent, subcomponentsOf, isAlarm, mayStand}
-use Rattle.schema.specs.Properties.{propertyTable, propertyNames, propertyRow, unrecognisedProperty, isKnownProperty, permitsParameter}
+use Rattle.schema.specs.Properties.{PropertyRow, permittedTypes, propertyTable, propertyNames, unrecognisedProperty, isKnownProperty, permitsParameter}
 use Rattle.schema.specs.Rows.{stand-known, subcomponents-known}
 use Rattle.schema.specs.Numbers.{typeAt, componentAt, propertyAt, componentName, propertyName, parameterName, property-place, component-place, name-place, placed, same-place}
 use Rattle.schema.specs.Cells.{digit, digit-is, grid, cell-at, column-at, at-passes, row-at-passes}
-use Rattle.schema.specs.Computing.{schema-compute}
 
 abbrev pub permitsType : ℕ → ℕ → Bool
 permitsType p t = isTypeOf (typeAt t) (propertyAt p .default ∷ propertyAt p .others)
@@ -55,7 +54,7 @@ alarm-at = refl
 -- ---- types
 
 rows-known : every (λ r. not (isTypeOf UNKNOWN (r .default ∷ r .others))) propertyTable ≡ true
-unfolding schema-compute
+unfolding octets-compute isTypeOf sameType
 rows-known = refl
 
 pub type-unknown : (p t : ℕ) → p < 46 → 14 ≤ t → false ≡ permitsType p t
@@ -65,6 +64,9 @@ type-unknown p t h k =
 
 pub type-free : (p t : ℕ) → 46 ≤ p → true ≡ permitsType p t
 type-free p t h = rw (List·getD-eq-default propertyTable unrecognisedProperty h) (sym (type-any (typeAt t)))
+
+pub permits-type-place : (w : List ℕ) (t : ValueType) → isTypeOf t (permittedTypes w) ≡ permitsType (placeOf w propertyNames) (typePlace t)
+permits-type-place w t = rw (place-type t) (ap (λ (r : PropertyRow). isTypeOf t (r .default ∷ r .others)) (property-place w))
 
 -- ---- parameters
 
@@ -99,11 +101,11 @@ stand-unknown c w u = go (mayStand c w) refl
     go false e = refl
 
 none-unknown : isKnownProperty [] ≡ false
-unfolding schema-compute
+unfolding octets-compute isKnownProperty
 none-unknown = refl
 
 stand-nowhere : (w : List ℕ) → mayStand [] w ≡ false
-unfolding schema-compute
+unfolding octets-compute mayStand componentRow
 stand-nowhere w = refl
 
 outside-row : (c : List ℕ) → isOneOf c componentNames ≡ false → componentRow c ≡ unknownComponent

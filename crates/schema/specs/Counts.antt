@@ -1,6 +1,5 @@
 -- How often the properties of a component stand: the rules, refusal 9 (COUNT); schema 3.6, lines 392 to 638.
 --     tally       how often a property stands in a component
---     textOf      the text of a TEXT value
 --     actionOf    the word of a component's first ACTION
 --     complete    whether the tallies of a component are the schema's: its name, its properties, whether it has a subcomponent
 -- The tally of every known property is compared with the component's list; one that is not in the list may not stand. Unrecognised properties count for nothing.
@@ -14,7 +13,7 @@ use Rattle.octets.specs.Ascii.{ascii}
 use Rattle.octets.specs.Pick.{pick, _and_, _or_}
 use Rattle.octets.specs.Words.{same, rowOf}
 use Rattle.octets.specs.Reading.{andThen, readOr}
-use Rattle.model.specs.Calendar.{Value, binary, boolean, calAddress, date, dateTime, duration, float, integer, periodExplicit, periodStart, recur, text, time, uri, utcOffset, unknown, geo, requestStatus, Property}
+use Rattle.model.specs.Calendar.{Value, textIn, Property}
 use Rattle.schema.specs.Components.{Occurrence, occurrencesOf, alarmOccurrences, isAlarm}
 use Rattle.schema.specs.Properties.{propertyNames}
 
@@ -69,29 +68,9 @@ pairsOf c ps sub =
 
 -- ---- the list that decides
 
-abbrev pub textOf : Value → Option (List ℕ)
-textOf (binary s) = none
-textOf (boolean b) = none
-textOf (calAddress s) = none
-textOf (date s) = none
-textOf (dateTime s) = none
-textOf (duration s) = none
-textOf (float d) = none
-textOf (integer w) = none
-textOf (periodExplicit s e) = none
-textOf (periodStart s d) = none
-textOf (recur ps) = none
-textOf (text s) = some s
-textOf (time s) = none
-textOf (uri s) = none
-textOf (utcOffset s) = none
-textOf (unknown s) = none
-textOf (geo la lo) = none
-textOf (requestStatus c d x) = none
-
 abbrev pub firstText : List Value → Option (List ℕ)
 firstText [] = none
-firstText (v ∷ vs) = textOf v
+firstText (v ∷ vs) = textIn v
 
 unfoldable pub actionOf : List Property → Option (List ℕ)
 actionOf [] = none

@@ -16,6 +16,8 @@ use Rattle.schema.specs.Parameters.{parameterNames, parameterType, isLis
 use Rattle.schema.specs.Components.{alarmTable, componentNames, subcomponentsOf, standingIn, mayStand}
 use Rattle.schema.specs.Properties.{propertyTable, propertyNames, isKnownProperty, defaultType, permittedTypes, isListedProperty, permitsParameter, propertyWords}
 use Rattle.schema.specs.Counts.{complete}
+use Rattle.names.specs.Table.{placeOf}
+use Rattle.schema.specs.Completing.{signAt}
 use Rattle.schema.specs.Computing.{schema-compute}
 
 -- ---- the tables agree
@@ -222,3 +224,14 @@ alarms :
     true ∷ false ∷ true ∷ false ∷ true ∷ false ∷ true ∷ false ∷ false ∷ false ∷ []
 unfolding schema-compute named acting
 alarms = refl
+
+-- ---- by numbers
+
+numbers : map (λ w. placeOf w propertyNames) (ascii "CALSCALE" ∷ ascii "UID" ∷ ascii "REQUEST-STATUS" ∷ ascii "X-A" ∷ ascii "uid" ∷ []) ≡ 0 ∷ 34 ∷ 45 ∷ 46 ∷ 46 ∷ []
+unfolding schema-compute
+numbers = refl
+
+-- UID in VCALENDAR, VEVENT, VTODO, VJOURNAL, VFREEBUSY, VTIMEZONE, a VALARM of AUDIO
+signs : map (λ l. signAt l 34) (0 ∷ 1 ∷ 2 ∷ 3 ∷ 4 ∷ 5 ∷ 9 ∷ []) ≡ ascii ".1111.."
+unfolding schema-compute
+signs = refl

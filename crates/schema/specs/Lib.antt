@@ -13,6 +13,8 @@
 --     Cells       tables that a definition fills
 --     Columns     what the tables say, by numbers
 --     Sets        closed sets, by numbers
+--     Arrays      the tallies of a component in an array
+--     Completing  counts over that array
 --     Computing   opens all of these, for examples that compute
 --     Examples    the tables computed
 pub mod Types
@@ -27,5 +29,7 @@ pub mod Numbers
 pub mod Cells
 pub mod Columns
 pub mod Sets
+pub mod Arrays
+pub mod Completing
 pub mod Computing
 pub mod Examples

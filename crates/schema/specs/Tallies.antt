@@ -61,7 +61,7 @@ complete-unrecognised c sub p ps u = complete-same c sub (p ∷ ps) ps
 -- ---- only what may stand
 
 -- the tally of one of the names
-often-at : (ws : List (List ℕ)) (os : List Occurrence) (ps : List Property) (w : List ℕ) → eachOften ws os ps ≡ true → isOneOf w ws ≡ true →
+pub often-at : (ws : List (List ℕ)) (os : List Occurrence) (ps : List Property) (w : List ℕ) → eachOften ws os ps ≡ true → isOneOf w ws ≡ true →
     isOften (occurrenceIn os w) (tally w ps) ≡ true
 unfolding eachOften isOneOf _or_
 often-at [] os ps w a h = absurd (false≢true h)

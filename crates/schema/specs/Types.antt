@@ -78,7 +78,7 @@ pub same-type-self : (t : ValueType) → sameType t t ≡ true
 unfolding sameType
 same-type-self t = eq-eqb (typePlace t) (typePlace t) refl
 
-place-type : (t : ValueType) → getD valueTypes (typePlace t) UNKNOWN ≡ t
+pub place-type : (t : ValueType) → getD valueTypes (typePlace t) UNKNOWN ≡ t
 place-type BINARY = refl
 place-type BOOLEAN = refl
 place-type CAL-ADDRESS = refl

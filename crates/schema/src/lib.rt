@@ -2,6 +2,7 @@
 // A name is its number, its place in the list of names of specs/; a number equal to the list's length is an unrecognised one.
 // Definitions are in specs/, the tables of the code are theirs by computation.
 mod columns;
+mod counts;
 mod numbers;
 mod words;
 
@@ -15,10 +16,13 @@ pub use columns::may_stand;
 pub use columns::parameter_type;
 pub use columns::permits_parameter;
 pub use columns::permits_type;
+pub use counts::bump;
+pub use counts::complete_counts;
 pub use numbers::component_number;
 pub use numbers::parameter_number;
 pub use numbers::property_number;
 pub use numbers::type_number;
+pub use words::action_number;
 pub use words::has_words;
 pub use words::is_word_of;
 pub use words::is_word_of_parameter;

@@ -5,6 +5,7 @@ ghost use Rattle.octets.specs.Reading.{isRead};
 ghost use Rattle.source.specs.Source.{rest};
 ghost use Rattle.names.specs.Case.{cased, caseOf};
 ghost use Rattle.names.specs.Table.{placeOf, namesIn, nth};
+ghost use Rattle.schema.specs.Completing.{actionNames};
 ghost use Rattle.schema.specs.Sets.{wordSets, statusSet, propertySet, setAt, wordsAt, parameterSets, parameterSet, parameterWordsAt, isWordOf};
 use names::find_word;
 use octets::wide;
@@ -69,27 +70,42 @@ fn set_at(k: usize, p: usize) -> usize
 fn is_in_set(n: usize, xcal: bool, mode: usize, s: &[u8], at: usize) -> bool
     ensures { λ r. ⌜ r ≡ isWordOf (nth wordSets n) (cased (caseOf xcal) (rest mode (now (s .entry)) at)) ⌝ }
 {
+    // CALSCALE
     if n < 1 {
         return is_word_in(1, xcal, mode, s, at, b"GREGORIAN\n");
     }
+    // VERSION
     if n < 2 {
         return is_word_in(1, xcal, mode, s, at, b"2.0\n");
     }
+    // CLASS
     if n < 3 {
         return is_word_in(3, xcal, mode, s, at, b"PUBLIC\nPRIVATE\nCONFIDENTIAL\n");
     }
+    // TRANSP
     if n < 4 {
         return is_word_in(2, xcal, mode, s, at, b"OPAQUE\nTRANSPARENT\n");
     }
+    // ACTION
     if n < 5 {
         return is_word_in(3, xcal, mode, s, at, b"AUDIO\nDISPLAY\nEMAIL\n");
     }
+    // STATUS of VEVENT
     if n < 6 {
         return is_word_in(3, xcal, mode, s, at, b"TENTATIVE\nCONFIRMED\nCANCELLED\n");
     }
+    // STATUS of VTODO
     if n < 7 {
-        return is_word_in(4, xcal, mode, s, at, b"NEEDS-ACTION\nCOMPLETED\nIN-PROCESS\nCANCELLED\n");
+        return is_word_in(
+            4,
+            xcal,
+            mode,
+            s,
+            at,
+            b"NEEDS-ACTION\nCOMPLETED\nIN-PROCESS\nCANCELLED\n",
+        );
     }
+    // STATUS of VJOURNAL
     if n < 8 {
         return is_word_in(3, xcal, mode, s, at, b"DRAFT\nFINAL\nCANCELLED\n");
     }
@@ -113,9 +129,7 @@ pub fn is_word_of(k: usize, p: usize, xcal: bool, mode: usize, s: &[u8], at: usi
 }
 
 // The number of the set of each parameter, 8 where it has none.
-const PARAMETER_SETS: [u8; 19] = [
-    8, 8, 0, 8, 8, 8, 1, 8, 2, 8, 8, 3, 4, 5, 6, 7, 8, 8, 8,
-];
+const PARAMETER_SETS: [u8; 19] = [8, 8, 0, 8, 8, 8, 1, 8, 2, 8, 8, 3, 4, 5, 6, 7, 8, 8, 8];
 
 fn parameter_set(q: usize) -> usize
     ensures { λ r. ⌜ r ≡ parameterSet q ⌝ }
@@ -130,29 +144,65 @@ fn parameter_set(q: usize) -> usize
 fn is_in_parameter_set(n: usize, xcal: bool, mode: usize, s: &[u8], at: usize) -> bool
     ensures { λ r. ⌜ r ≡ isWordOf (nth parameterSets n) (cased (caseOf xcal) (rest mode (now (s .entry)) at)) ⌝ }
 {
+    // CUTYPE
     if n < 1 {
-        return is_word_in(5, xcal, mode, s, at, b"INDIVIDUAL\nGROUP\nRESOURCE\nROOM\nUNKNOWN\n");
+        return is_word_in(
+            5,
+            xcal,
+            mode,
+            s,
+            at,
+            b"INDIVIDUAL\nGROUP\nRESOURCE\nROOM\nUNKNOWN\n",
+        );
     }
+    // ENCODING
     if n < 2 {
         return is_word_in(2, xcal, mode, s, at, b"8BIT\nBASE64\n");
     }
+    // FBTYPE
     if n < 3 {
-        return is_word_in(4, xcal, mode, s, at, b"FREE\nBUSY\nBUSY-UNAVAILABLE\nBUSY-TENTATIVE\n");
+        return is_word_in(
+            4,
+            xcal,
+            mode,
+            s,
+            at,
+            b"FREE\nBUSY\nBUSY-UNAVAILABLE\nBUSY-TENTATIVE\n",
+        );
     }
+    // PARTSTAT
     if n < 4 {
-        return is_word_in(7, xcal, mode, s, at, b"NEEDS-ACTION\nACCEPTED\nDECLINED\nTENTATIVE\nDELEGATED\nCOMPLETED\nIN-PROCESS\n");
+        return is_word_in(
+            7,
+            xcal,
+            mode,
+            s,
+            at,
+            b"NEEDS-ACTION\nACCEPTED\nDECLINED\nTENTATIVE\nDELEGATED\nCOMPLETED\nIN-PROCESS\n",
+        );
     }
+    // RANGE
     if n < 5 {
         return is_word_in(1, xcal, mode, s, at, b"THISANDFUTURE\n");
     }
+    // RELATED
     if n < 6 {
         return is_word_in(2, xcal, mode, s, at, b"START\nEND\n");
     }
+    // RELTYPE
     if n < 7 {
         return is_word_in(3, xcal, mode, s, at, b"PARENT\nCHILD\nSIBLING\n");
     }
+    // ROLE
     if n < 8 {
-        return is_word_in(4, xcal, mode, s, at, b"CHAIR\nREQ-PARTICIPANT\nOPT-PARTICIPANT\nNON-PARTICIPANT\n");
+        return is_word_in(
+            4,
+            xcal,
+            mode,
+            s,
+            at,
+            b"CHAIR\nREQ-PARTICIPANT\nOPT-PARTICIPANT\nNON-PARTICIPANT\n",
+        );
     }
     false
 }
@@ -171,4 +221,11 @@ pub fn is_word_of_parameter(q: usize, xcal: bool, mode: usize, s: &[u8], at: usi
 {
     let n = parameter_set(q);
     is_in_parameter_set(n, xcal, mode, s, at)
+}
+
+// The number of ACTION's word among AUDIO, DISPLAY, EMAIL, 3 where it is none of them.
+pub fn action_number(xcal: bool, mode: usize, s: &[u8], at: usize) -> usize
+    ensures { λ r. ⌜ r ≡ placeOf (cased (caseOf xcal) (rest mode (now (s .entry)) at)) actionNames ⌝ }
+{
+    find_word(xcal, mode, s, at, b"AUDIO\nDISPLAY\nEMAIL\n")
 }

@@ -4,6 +4,7 @@ use mathlib.Core.Bool.{true, false}
 use mathlib.Core.List.{[], _∷_, map}
 use mathlib.Core.Option.{none, some}
 use Rattle.octets.specs.Ascii.{ascii}
+use Rattle.octets.specs.Reading.{orNothing}
 use Rattle.model.specs.Calendar.{requestStatus, ical, xcal}
 use Rattle.texts.specs.Text.{readText, writeText}
 use Rattle.texts.specs.TextList.{readTexts, writeTexts}
@@ -12,6 +13,9 @@ use Rattle.texts.specs.Uri.{isUri, readUri}
 use Rattle.texts.specs.Binary.{base64Value, isBinary, readBinary}
 use Rattle.texts.specs.Unknown.{readUnknown}
 use Rattle.texts.specs.Quoting.{writeParamValue}
+use Rattle.texts.specs.Items.{itemFrom}
+use Rattle.texts.specs.Elements.{textsXml}
+use Rattle.texts.specs.StatusXml.{statusXml}
 use Rattle.texts.specs.Computing.{texts-compute}
 
 texts-read :
@@ -45,6 +49,18 @@ statuses-read = refl
 status-written : writeRequestStatus (ascii "3.1") (ascii "a;b") (some (ascii "c,\n")) ≡ ascii "3.1;a\\;b;c\\,\\n"
 unfolding texts-compute
 status-written = refl
+
+items : map (itemFrom false 44) (ascii "a\\,b,c" ∷ ascii ",c" ∷ ascii "a;b" ∷ []) ≡ (ascii "a\\,b" ∷ [] ∷ ascii "a;b" ∷ [])
+unfolding texts-compute
+items = refl
+
+lists-xml : map (orNothing textsXml) (readTexts (ascii "a\\,<,") ∷ readTexts (ascii "a;b") ∷ []) ≡ (ascii "<text>a,&lt;</text><text></text>" ∷ [] ∷ [])
+unfolding texts-compute
+lists-xml = refl
+
+status-xml : orNothing statusXml (readRequestStatus (ascii "2.0;ok;")) ≡ ascii "<code>2.0</code><description>ok</description><data></data>"
+unfolding texts-compute
+status-xml = refl
 
 uris :
     map isUri (ascii "mailto:a@example.com" ∷ ascii "a+-.9:" ∷ ascii "x:%zz:/?#[]@!$&'()*+,;=~" ∷ [] ∷ ascii ":a" ∷ ascii "9a:b" ∷ ascii "abc" ∷ ascii "a_b:c"

@@ -2,7 +2,7 @@
 --     itemFrom, behindFrom     the bytes of the item, and those from its separator on
 --     split-item               a list is its first item, read alone, in front of what is read behind the separator
 --     ItemEnds                 the contract of `item_end`: the item at the cursor c ends at the cursor r
---     item-cut, item-last, item-more   the item cut out of the slice, the last one and one before others
+--     item-cut, item-first, item-last, item-more   the item cut out of the slice, the last one and one before others
 use mathlib.Core.Path.{_≡_, refl, sym, ap, _∙_}
 use mathlib.Core.Bool.{Bool, true, false, false≢true}
 use mathlib.Core.List.{List, [], _∷_}
@@ -126,7 +126,7 @@ pub item-cut : (sep : ℕ) (s : List ℕ) (c r : ℕ) → ItemEnds sep 0 s c r �
 item-cut sep s c r p = cut-is s (itemFrom false sep (rest 0 s c)) c r (p .onward) (rw (p .left) (sym (item-behind (rest 0 s c) false sep)))
 
 -- the list from c on: the item at c, which is the last where nothing stands behind it
-item-first : (sep : ℕ) (s : List ℕ) (c r : ℕ) → ItemEnds sep 0 s c r →
+pub item-first : (sep : ℕ) (s : List ℕ) (c r : ℕ) → ItemEnds sep 0 s c r →
     splitText sep (rest 0 s c) ≡ andThen (readText (rest 0 (take r s) c)) (λ p. consRead p (piecesBehind sep (rest 0 s r)))
 item-first sep s c r p = rw (item-cut sep s c r p, p .left) (split-item (rest 0 s c) false sep)
 

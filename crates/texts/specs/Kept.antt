@@ -1,6 +1,7 @@
 -- The answer of a reader of characters, as a test; and loops that test characters from a cursor on.
 --     isKept     whether the characters are of the type
 --     unknown-.., uri-.., binary-..   the ways that each loop goes on and ends
+--     passed, kept, none-left         BINARY a byte at a time: white space of XML is passed over
 use mathlib.Core.Path.{_≡_, refl, sym, ap, _∙_}
 use mathlib.Core.Bool.{Bool, true, false, false≢true}
 use mathlib.Core.List.{List, [], _∷_}
@@ -77,17 +78,17 @@ module _ {m : ℕ} {s : List ℕ} {c : ℕ} {r : Step} (p : Reads m s c r) where
 
 -- ---- BINARY
 
-passed : (x : Bool) (u : ℕ) (l : List ℕ) → (x and isSpace u) ≡ true → binaryChars (formatOf x) (u ∷ l) ≡ binaryChars (formatOf x) l
+pub passed : (x : Bool) (u : ℕ) (l : List ℕ) → (x and isSpace u) ≡ true → binaryChars (formatOf x) (u ∷ l) ≡ binaryChars (formatOf x) l
 unfolding withoutSpace _and_ pick
 passed true u l h = rw h
 passed false u l h = absurd (false≢true h)
 
-kept : (x : Bool) (u : ℕ) (l : List ℕ) → (x and isSpace u) ≡ false → binaryChars (formatOf x) (u ∷ l) ≡ u ∷ binaryChars (formatOf x) l
+pub kept : (x : Bool) (u : ℕ) (l : List ℕ) → (x and isSpace u) ≡ false → binaryChars (formatOf x) (u ∷ l) ≡ u ∷ binaryChars (formatOf x) l
 unfolding withoutSpace _and_ pick
 kept true u l h = rw h
 kept false u l h = refl
 
-none-left : (x : Bool) → binaryChars (formatOf x) [] ≡ []
+pub none-left : (x : Bool) → binaryChars (formatOf x) [] ≡ []
 unfolding withoutSpace
 none-left true = refl
 none-left false = refl

@@ -13,6 +13,8 @@
 --     Items           the items of a list of TEXT, found at a cursor
 --     StatusParts     the parts of a REQUEST-STATUS, found at a cursor
 --     Elements        TEXT written as elements of XML
+--     StatusXml       a REQUEST-STATUS written as elements of XML
+--     Chars           values kept by their characters, written
 --     Computing       opens all of these, for examples that compute
 --     Examples        computed examples
 pub mod Text
@@ -29,5 +31,7 @@ pub mod Written
 pub mod Items
 pub mod StatusParts
 pub mod Elements
+pub mod StatusXml
+pub mod Chars
 pub mod Computing
 pub mod Examples

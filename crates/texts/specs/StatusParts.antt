@@ -53,19 +53,21 @@ status-count (c ∷ d ∷ []) = refl
 status-count (c ∷ d ∷ x ∷ []) = refl
 status-count (c ∷ d ∷ x ∷ p ∷ ps) = refl
 
-record Pieces (s : List ℕ) (ps : List (List ℕ)) : Type 0 where
-  first : List ℕ
-  others : List (List ℕ)
-  is : ps ≡ first ∷ others
-  behind : piecesBehind 59 (behindFrom false 59 s) ≡ some others
+-- the first piece, which is the first item, and the pieces behind it
+pub record Pieces (s : List ℕ) (ps : List (List ℕ)) : Type 0 where
+  pub first : List ℕ
+  pub others : List (List ℕ)
+  pub read : textFrom false (itemFrom false 59 s) ≡ some first
+  pub is : ps ≡ first ∷ others
+  pub behind : piecesBehind 59 (behindFrom false 59 s) ≡ some others
 
-pieces : (s : List ℕ) (ps : List (List ℕ)) → splitText 59 s ≡ some ps → Pieces s ps
+pub pieces : (s : List ℕ) (ps : List (List ℕ)) → splitText 59 s ≡ some ps → Pieces s ps
 pieces s ps h =
     let a = andThen-some (textFrom false (itemFrom false 59 s)) (λ p. consRead p (piecesBehind 59 (behindFrom false 59 s))) ps (sym (split-item s false 59) ∙ h) in
     let b = consRead-some (a .0) (piecesBehind 59 (behindFrom false 59 s)) ps (a .2) in
-    record { first = a .0; others = b .0; is = sym (b .2); behind = b .1 }
+    record { first = a .0; others = b .0; read = a .1; is = sym (b .2); behind = b .1 }
 
-behind-empty : (s : List ℕ) (ps : List (List ℕ)) → piecesBehind 59 s ≡ some ps → isEmpty ps ≡ isEmpty s
+pub behind-empty : (s : List ℕ) (ps : List (List ℕ)) → piecesBehind 59 s ≡ some ps → isEmpty ps ≡ isEmpty s
 behind-empty [] ps h = let z : [] ≡ ps = cc in rw (← z)
 behind-empty (x ∷ s) ps h = split-some 59 s ps h
 

@@ -99,7 +99,7 @@ fn next_place(n: usize, u: usize) -> usize
 }
 
 // Whether a character is passed over: white space, in XML.
-fn is_passed(xcal: bool, u: usize) -> bool
+pub fn is_passed(xcal: bool, u: usize) -> bool
     ensures { λ r. ⌜ r ≡ (xcal and isSpace u) ⌝ }
 {
     if xcal {

@@ -4,6 +4,7 @@ ghost use mathlib.Core.Path.{_≡_};
 ghost use Rattle.texts.specs.Kept.{isKept};
 
 mod binary;
+mod chars;
 mod elements;
 mod items;
 mod request;
@@ -13,9 +14,15 @@ mod uri;
 mod written;
 
 pub use binary::read_binary;
+pub use chars::put_binary;
+pub use chars::put_unknown;
+pub use chars::put_unknown_xml;
+pub use chars::put_uri;
+pub use chars::put_uri_xml;
 pub use elements::put_text_element;
 pub use elements::put_texts_xml;
 pub use items::item_end;
+pub use request::put_request_status_xml;
 pub use request::read_request_status;
 pub use text::read_one_text;
 pub use text::read_text;

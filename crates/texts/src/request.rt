@@ -1,12 +1,17 @@
 // REQUEST-STATUS. See specs/RequestStatus.antt and specs/StatusParts.antt.
 use crate::Status;
+use crate::elements::put_text_element;
 use crate::is_kept;
 use crate::items::item_end;
 use crate::text::read_text;
 use source::unit;
 ghost use mathlib.Core.Path.{_≡_};
+ghost use Rattle.octets.specs.Reading.{orNothing};
+ghost use Rattle.sink.specs.Sink.{Put};
 ghost use Rattle.source.specs.Source.{rest};
+ghost use Rattle.texts.specs.RequestStatus.{readRequestStatus};
 ghost use Rattle.texts.specs.StatusParts.{soonOver, PartsFound, StatusEnds};
+ghost use Rattle.texts.specs.StatusXml.{statusXml, dataBehind, partsXml};
 
 // Nothing stands at the cursor, or a semicolon and the last part.
 fn is_soon_over(mode: usize, s: &[u8], at: usize) -> bool
@@ -51,4 +56,42 @@ pub fn read_request_status(mode: usize, s: &[u8], at: usize) -> Status
         return find_parts(mode, s, at);
     }
     Status::NoStatus
+}
+
+// The element `data`, where a semicolon stands at the cursor.
+fn put_data_xml(out: &mut [u8], at: usize, s: &[u8], from: usize) -> usize
+    ensures { λ r. ⌜ Put (now (out .entry)) (now (out .exit)) at r (dataBehind (rest 0 (now (s .entry)) from)) ⌝ }
+{
+    let n = unit(0, s, from);
+    let u = n.u;
+    if u == 256 {
+        return at;
+    }
+    put_text_element(out, at, b"data", s, n.next, s.len())
+}
+
+fn put_parts_xml(
+    out: &mut [u8],
+    at: usize,
+    s: &[u8],
+    from: usize,
+    a: usize,
+    d: usize,
+    b: usize,
+) -> usize
+    ensures { λ r. ⌜ Put (now (out .entry)) (now (out .exit)) at r (partsXml (now (s .entry)) from a d b) ⌝ }
+{
+    let o = put_text_element(out, at, b"code", s, from, a);
+    let e = put_text_element(out, o, b"description", s, d, b);
+    put_data_xml(out, e, s, b)
+}
+
+// A REQUEST-STATUS as its elements, out of bytes as they stand; nothing where it is none.
+pub fn put_request_status_xml(out: &mut [u8], at: usize, s: &[u8], from: usize) -> usize
+    ensures { λ r. ⌜ Put (now (out .entry)) (now (out .exit)) at r (orNothing statusXml (readRequestStatus (rest 0 (now (s .entry)) from))) ⌝ }
+{
+    let Status::Parts(a, d, b) = read_request_status(0, s, from) else {
+        return at;
+    };
+    put_parts_xml(out, at, s, from, a, d, b)
 }

@@ -98,7 +98,7 @@ some-date v h = eight-day (take 8 v) (length-take-le 8 v (leb-true _ _ (and-both
 
 -- ---- the time after a date that is worth n
 
-then-none : {A B : Type 0} (o : Option A) → andThen {B = B} o (λ d. none) ≡ none
+pub then-none : {A B : Type 0} (o : Option A) → andThen {B = B} o (λ d. none) ≡ none
 unfolding andThen
 then-none none = refl
 then-none (some a) = refl
@@ -141,7 +141,7 @@ date-time-along true s = marked (withoutMarks dateTimeMarks s) ∙ ap moment (sy
 
 -- ---- the ways of a reader
 
-moment-zone : (n : ℕ) (r : List ℕ) → momentFrom n r ≡ momentBy n (zone r)
+pub moment-zone : (n : ℕ) (r : List ℕ) → momentFrom n r ≡ momentBy n (zone r)
 unfolding momentFrom momentBy
 moment-zone n r = rw (clock-zone (n % 1000000) r)
 

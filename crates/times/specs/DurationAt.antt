@@ -12,7 +12,7 @@ use lib.Dec.{eqb, ltb}
 use lib.ListN.{length, drop}
 use borrow.Author.Tests.{eqb-true, eqb-false, eq-eqb, ne-eqb, lt-ltb, ltb-true, leb-true}
 use borrow.Author.Needs.{needs}
-use Rattle.octets.specs.Pick.{pick, _and_, _or_, flag-yes, flag-no, or-take, or-skip}
+use Rattle.octets.specs.Pick.{pick, _and_, _or_, flag-yes, flag-no, or-take, or-skip, and-both}
 use Rattle.octets.specs.Append.{_⊕_}
 use Rattle.octets.specs.Scan.{spanLen}
 use Rattle.octets.specs.Class.{isDigit}
@@ -23,7 +23,6 @@ use Rattle.source.specs.Source.{rest, spell}
 use Rattle.source.specs.Facts.{spell-byte, spell-end}
 use Rattle.source.specs.declared.Step.{Step}
 use Rattle.sink.specs.Sink.{Put, Todo, todo-step, todo-done, writing}
-use Rattle.times.specs.Extra.{and-right}
 use Rattle.times.specs.Spelling.{keep, begins}
 use Rattle.times.specs.Letters.{cased, Spells, cased-empty}
 use Rattle.times.specs.Written.{markBytes}
@@ -102,7 +101,7 @@ module _ {e : Bool} {m : ℕ} {s : List ℕ} {at : ℕ} where
 
 -- a turn moves on
 pub run-less : {e : Bool} {m : ℕ} {s : List ℕ} {c : ℕ} {a : Step} → Spells e m s c a → isDigit (a .u) ≡ true → 4 * length s - a .next < 4 * length s - c
-run-less {e} {m} {s} {c} {a} p h = omega (arith, leb-true (a .u) 57 (and-right _ _ h), p .moved, p .inside)
+run-less {e} {m} {s} {c} {a} p h = omega (arith, leb-true (a .u) 57 (and-both _ _ h .1), p .moved, p .inside)
 
 pub ruleset running = (run-start, run-more, run-done, flag-yes, flag-no, needs)
 

@@ -10,6 +10,11 @@ use Rattle.times.specs.DateTime.{readDateTime, writeDateTime}
 use Rattle.times.specs.Duration.{readDuration}
 use Rattle.times.specs.UtcOffset.{readUtcOffset, writeUtcOffset}
 use Rattle.times.specs.Period.{readPeriod}
+use Rattle.octets.specs.Reading.{orNothing}
+use Rattle.times.specs.Pattern.{reached, lost, along}
+use Rattle.times.specs.DateAlong.{datePattern}
+use Rattle.times.specs.OffsetAlong.{minutePattern}
+use Rattle.times.specs.PeriodWritten.{startXml, endXml}
 use Rattle.times.specs.Computing.{times-compute}
 
 -- leap days: every fourth year has one, 1900 and 2100 have none, 2000 and 0000 do
@@ -111,3 +116,23 @@ written-to-xml :
     ≡ ascii "2024-05-04" ∷ ascii "08:00:00Z" ∷ ascii "2024-05-04T08:00:00" ∷ ascii "+01:00" ∷ ascii "-01:30:15" ∷ []
 unfolding times-compute
 written-to-xml = refl
+
+-- a spelling followed along a pattern
+patterns :
+    along (datePattern ical) 0 (ascii "20240504") ∷ along (datePattern xcal) 0 (ascii "2024-05-04Z") ∷ along (datePattern xcal) 0 (ascii "20240504") ∷ along (minutePattern xcal) 0 (ascii "-01:30") ∷ []
+    ≡ reached 20240504 [] ∷ reached 20240504 (ascii "Z") ∷ lost ∷ reached 130 [] ∷ []
+unfolding times-compute
+patterns = refl
+
+-- the parts of periods as XML has them
+period-parts :
+    map (orNothing startXml) (readPeriod (ascii "19970101T180000Z/19970102T070000Z") ∷ readPeriod (ascii "19970101T180000/+PT5H") ∷ readPeriod (ascii "19970101T180000/") ∷ [])
+    ≡ ascii "1997-01-01T18:00:00Z" ∷ ascii "1997-01-01T18:00:00" ∷ [] ∷ []
+unfolding times-compute
+period-parts = refl
+
+period-ends :
+    map (orNothing endXml) (readPeriod (ascii "19970101T180000Z/19970102T070000Z") ∷ readPeriod (ascii "19970101T180000/+PT5H") ∷ readPeriod (ascii "19970101T180000/") ∷ [])
+    ≡ ascii "1997-01-02T07:00:00Z" ∷ ascii "PT5H" ∷ [] ∷ []
+unfolding times-compute
+period-ends = refl

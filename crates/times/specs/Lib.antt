@@ -12,12 +12,15 @@
 --     TimeAlong  TIME by its pattern
 --     DateTime   DATE-TIME
 --     DateTimeAlong  DATE-TIME by its pattern
---     Written    dates and times written
---     Duration   DURATION
---     DurationAt DURATION read at a cursor
---     UtcOffset  UTC-OFFSET
---     OffsetAlong  UTC-OFFSET by its patterns
---     Period     PERIOD in iCalendar text
+--     Written        dates and times written
+--     Duration       DURATION
+--     DurationAt     DURATION read at a cursor
+--     UtcOffset      UTC-OFFSET
+--     OffsetAlong    UTC-OFFSET by its patterns
+--     OffsetWritten  UTC-OFFSET written
+--     Period         PERIOD in iCalendar text
+--     PeriodAt       PERIOD read at a cursor
+--     PeriodWritten  PERIOD written
 --     Computing  opens all of these, for examples that compute
 --     Examples   readings and writings, computed
 pub mod Spelling
@@ -37,6 +40,9 @@ pub mod Duration
 pub mod DurationAt
 pub mod UtcOffset
 pub mod OffsetAlong
+pub mod OffsetWritten
 pub mod Period
+pub mod PeriodAt
+pub mod PeriodWritten
 pub mod Computing
 pub mod Examples

@@ -14,24 +14,30 @@ use lib.Dec.{eqb, leb, ltb}
 use lib.ListN.{length, take, drop, length-drop, drop-of-length-le}
 use lib.Seq.{take-all}
 use borrow.Author.Tests.{eqb-true, eqb-false, eq-eqb, ne-eqb, leb-true, le-leb, lt-ltb, le-ltb, ltb-true, ltb-false}
-use Rattle.octets.specs.Pick.{pick, _and_, _or_, and-no-right}
+use Rattle.octets.specs.Pick.{pick, _and_, _or_, and-no-right, and-both, and-no-left, pick-yes, pick-no, flag-yes, flag-no}
+use borrow.Author.Needs.{needs}
 use Rattle.octets.specs.Append.{_⊕_}
-use Rattle.octets.specs.Scan.{allOf}
+use Rattle.octets.specs.Scan.{allOf, all-split}
 use Rattle.octets.specs.Ascii.{ascii}
 use Rattle.octets.specs.Class.{isDigit}
 use Rattle.octets.specs.Words.{isEmpty}
 use Rattle.octets.specs.Decimal.{value, digitOf}
 use Rattle.octets.specs.Reading.{provided, andThen}
 use Rattle.model.specs.Calendar.{Format, ical, xcal, formatOf}
-use Rattle.source.specs.Source.{rest}
-use Rattle.times.specs.Extra.{and-left, and-right, all-head, all-tail}
+use Rattle.source.specs.Source.{rest, spell, Reads}
+use Rattle.source.specs.declared.Step.{Step}
 use Rattle.times.specs.Spelling.{Mark, keep, begins, withMarks, withoutMarks, putMark, fits, marks-exact, marks-length}
 use Rattle.times.specs.Pattern.{Followed, reached, lost, passes, tally, along, zeros, digitsAt, followedBy, isMark, areMarks, along-marks, along-digits}
 use Rattle.times.specs.Time.{isClock}
 use Rattle.times.specs.TimeAlong.{isHms}
 use Rattle.times.specs.MonthRule.{twoDigits}
+use Rattle.times.specs.Letters.{cased}
+use Rattle.times.specs.Followed.{walked, Walks}
 use Rattle.times.specs.Digits.{digit-is, digit-small, two-of, drop-longer}
 use Rattle.times.specs.UtcOffset.{isShift, isSomeShift, isUtcOffset, readUtcOffset, minuteMarks, secondMarks, utc-offset-length}
+use Rattle.times.specs.declared.follow.Walk.{Walk}
+use Rattle.times.specs.declared.offset.OffsetRead.{OffsetRead}
+use Rattle.times.specs.declared.offset.OffsetRead.the-variants.{Shift, NoOffset}
 
 abbrev pub minutePattern : Format → List ℕ
 minutePattern ical = ascii "+0000"
@@ -133,7 +139,7 @@ unfolding along whole digitsAt pick _and_
 whole-digits k l = rw (along-digits k [] 0 l) (go (eqb (length l) k) refl)
   where
     long : (t : Bool) → digitsAt k l ≡ t → (length l ≡ k → ⊥) → whole (pick t (reached (value 0 (take k l)) (drop k l)) lost) ≡ none
-    long true e n = rw (drop-longer k l (omega (arith, leb-true k (length l) (and-left _ _ e))))
+    long true e n = rw (drop-longer k l (omega (arith, leb-true k (length l) (and-both _ _ e .0))))
     long false e n = refl
 
     all : (t : Bool) → whole (pick t (reached (value 0 l) []) lost) ≡ pick t (some (value 0 l)) none
@@ -157,9 +163,9 @@ shift-four neg l m k = four (λ (l : List ℕ). allOf isDigit l ≡ true → off
   where
     go : (a b c d : ℕ) → allOf isDigit (a ∷ b ∷ c ∷ d ∷ []) ≡ true → offsetBy neg false (value 0 (a ∷ b ∷ c ∷ d ∷ []) % 10000 * 100) ≡ shift-kept neg (a ∷ b ∷ c ∷ d ∷ [])
     go a b c d k =
-        let tb = all-tail isDigit a _ k in let tc = all-tail isDigit b _ tb in let td = all-tail isDigit c _ tc in
-        let ea = digit-is a (all-head isDigit a _ k) in let eb = digit-is b (all-head isDigit b _ tb) in let ec = digit-is c (all-head isDigit c _ tc) in
-        let ed = digit-is d (all-head isDigit d _ td) in
+        let tb = all-split isDigit a _ k .1 in let tc = all-split isDigit b _ tb .1 in let td = all-split isDigit c _ tc .1 in
+        let ea = digit-is a (all-split isDigit a _ k .0) in let eb = digit-is b (all-split isDigit b _ tb .0) in let ec = digit-is c (all-split isDigit c _ tc .0) in
+        let ed = digit-is d (all-split isDigit d _ td .0) in
         rw (k, by-four neg (digitOf a) (digitOf b) (digitOf c) (digitOf d) (digit-small a) (digit-small b) (digit-small c) (digit-small d), ← ea, ← eb, ← ec, ← ed)
 
 shift-six : (neg : Bool) (l : List ℕ) → length l ≡ 6 → allOf isDigit l ≡ true → offsetBy neg true (value 0 l) ≡ shift-kept neg l
@@ -168,10 +174,10 @@ shift-six neg l m k = six (λ (l : List ℕ). allOf isDigit l ≡ true → offse
   where
     go : (a b c d e f : ℕ) → allOf isDigit (a ∷ b ∷ c ∷ d ∷ e ∷ f ∷ []) ≡ true → offsetBy neg true (value 0 (a ∷ b ∷ c ∷ d ∷ e ∷ f ∷ [])) ≡ shift-kept neg (a ∷ b ∷ c ∷ d ∷ e ∷ f ∷ [])
     go a b c d e f k =
-        let tb = all-tail isDigit a _ k in let tc = all-tail isDigit b _ tb in let td = all-tail isDigit c _ tc in let te = all-tail isDigit d _ td in
-        let tf = all-tail isDigit e _ te in
-        let ea = digit-is a (all-head isDigit a _ k) in let eb = digit-is b (all-head isDigit b _ tb) in let ec = digit-is c (all-head isDigit c _ tc) in
-        let ed = digit-is d (all-head isDigit d _ td) in let ee = digit-is e (all-head isDigit e _ te) in let ef = digit-is f (all-head isDigit f _ tf) in
+        let tb = all-split isDigit a _ k .1 in let tc = all-split isDigit b _ tb .1 in let td = all-split isDigit c _ tc .1 in let te = all-split isDigit d _ td .1 in
+        let tf = all-split isDigit e _ te .1 in
+        let ea = digit-is a (all-split isDigit a _ k .0) in let eb = digit-is b (all-split isDigit b _ tb .0) in let ec = digit-is c (all-split isDigit c _ tc .0) in
+        let ed = digit-is d (all-split isDigit d _ td .0) in let ee = digit-is e (all-split isDigit e _ te .0) in let ef = digit-is f (all-split isDigit f _ tf .0) in
         rw (k, by-six neg (digitOf a) (digitOf b) (digitOf c) (digitOf d) (digit-small a) (digit-small b) (digit-small c) (digit-small d)
         (digitOf e) (digitOf f) (digit-small e) (digit-small f), ← ea, ← eb, ← ec, ← ed, ← ee, ← ef)
 
@@ -334,3 +340,77 @@ unfolding readUtcOffset minutes seconds zeros withMarks putMark areMarks isMark 
 offset-along false s = offset-kept s
 offset-along true s =
     with-marks s ∙ rw (← (along-marks minuteMarks (43 ∷ zeros 4 []) 0 s refl refl), ← (along-marks secondMarks (43 ∷ zeros 6 []) 0 s refl refl))
+
+-- ---- the ways of a reader
+
+-- what a reader answers
+abbrev pub shiftOf : OffsetRead → Option (List ℕ)
+shiftOf (Shift neg h m s w) = some (shiftBytes neg h m s w)
+shiftOf NoOffset = none
+
+unfoldable pub wholeOf : Walk → Option ℕ
+wholeOf r = pick (r .ok) (some (r .n)) none
+
+-- a pattern followed to the end
+pub record Whole (p : List ℕ) (m : ℕ) (s : List ℕ) (c : ℕ) (r : Walk) : Type 0 where
+  pub is : whole (along p 0 (rest m s c)) ≡ wholeOf r
+
+module _ {p : List ℕ} {m : ℕ} {s : List ℕ} {c : ℕ} {w : Walk} (f : Walks p true m s c w) where
+  followed : whole (along p 0 (rest m s c)) ≡ whole (walked true m s w)
+  unfolding cased
+  followed = ap whole (f .is)
+
+  pub whole-end : w .ok ≡ true → isEmpty (rest m s (w .next)) ≡ true → Whole p m s c w
+  unfolding walked whole wholeOf cased pick
+  whole-end h k = record { is = followed ∙ rw (h, k) }
+
+  pub whole-more : {x y : ℕ} → w .ok ≡ true → isEmpty (rest m s (w .next)) ≡ false → Whole p m s c (record { ok = false; n = x; next = y })
+  unfolding walked whole wholeOf cased pick
+  whole-more h k = record { is = followed ∙ rw (h, k) }
+
+  pub whole-lost : {x y : ℕ} → w .ok ≡ false → Whole p m s c (record { ok = false; n = x; next = y })
+  unfolding walked whole wholeOf pick
+  whole-lost h = record { is = followed ∙ rw h }
+
+pub ruleset wholly = (whole-end, whole-more, whole-lost, flag-yes, flag-no, needs)
+
+minus-none : eqb 256 45 ≡ isMinus []
+unfolding isMinus begins
+minus-none = refl
+
+pub minus-here : {m : ℕ} {s : List ℕ} {c : ℕ} {a : Step} → Reads m s c a → eqb (a .u) 45 ≡ isMinus (rest m s c)
+unfolding spell pick
+minus-here {m} {s} {c} {a} p = rw (p .is) (go (eqb (a .u) 256) refl)
+  where
+    go : (t : Bool) → eqb (a .u) 256 ≡ t → eqb (a .u) 45 ≡ isMinus (pick t [] (a .u ∷ rest m s (a .next)))
+    go true e = rw (eqb-true (a .u) 256 e) minus-none
+    go false e = sym (minus-front (a .u) (rest m s (a .next)))
+
+-- the number n of six digits
+module _ (neg w : Bool) (n : ℕ) where
+  pub offset-found : isHms (n / 10000 % 100) (n / 100 % 100) (n % 100) ≡ true → pick neg (ltb 0 n) true ≡ true →
+      offsetBy neg w n ≡ some (shiftBytes neg (n / 10000 % 100) (n / 100 % 100) (n % 100) w)
+  unfolding offsetBy _and_
+  offset-found h k = pick-yes _ _ _ (rw h k)
+
+  pub offset-zero : pick neg (ltb 0 n) true ≡ false → offsetBy neg w n ≡ none
+  unfolding offsetBy
+  offset-zero k = pick-no _ _ _ (and-no-right _ _ k)
+
+  pub offset-wide : isHms (n / 10000 % 100) (n / 100 % 100) (n % 100) ≡ false → offsetBy neg w n ≡ none
+  unfolding offsetBy
+  offset-wide h = pick-no _ _ _ (and-no-left _ _ h)
+
+module _ (x : Bool) {m : ℕ} {s : List ℕ} {c : ℕ} {w : Walk} {neg : Bool} (f : Whole (minutePattern (formatOf x)) m s c w) (g : neg ≡ isMinus (rest m s c)) where
+  pub offset-minutes : w .ok ≡ true → readUtcOffset (formatOf x) (rest m s c) ≡ offsetBy neg false (w .n % 10000 * 100)
+  unfolding wholeOf offsetOf pick
+  offset-minutes h = offset-along x (rest m s c) ∙ rw (f .is, h, ← g)
+
+  module _ {v : Walk} (k : Whole (secondPattern (formatOf x)) m s c v) where
+    pub offset-seconds : w .ok ≡ false → v .ok ≡ true → readUtcOffset (formatOf x) (rest m s c) ≡ offsetBy neg true (v .n)
+    unfolding wholeOf offsetOf pick
+    offset-seconds h l = offset-along x (rest m s c) ∙ rw (f .is, k .is, h, l, ← g)
+
+    pub offset-lost : w .ok ≡ false → v .ok ≡ false → readUtcOffset (formatOf x) (rest m s c) ≡ none
+    unfolding wholeOf offsetOf pick
+    offset-lost h l = offset-along x (rest m s c) ∙ rw (f .is, k .is, h, l)

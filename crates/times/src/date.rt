@@ -2,17 +2,16 @@
 ghost use mathlib.Core.Path.{_≡_};
 ghost use mathlib.Core.Bool.{true};
 ghost use Rattle.octets.specs.Pick.{within};
+ghost use Rattle.octets.specs.Reading.{orNothing};
 ghost use Rattle.model.specs.Calendar.{formatOf};
 ghost use Rattle.source.specs.Source.{rest};
-ghost use Rattle.times.specs.Date.{isLeapYear, hasThirtyDays, daysInMonth, isDay, readDate};
+ghost use Rattle.sink.specs.Sink.{Put};
+ghost use Rattle.times.specs.Date.{isLeapYear, hasThirtyDays, daysInMonth, isDay, readDate, writeDate};
 ghost use Rattle.times.specs.DateAlong.{datePattern, dayFrom, dayOf};
 ghost use Rattle.times.specs.Followed.{Walks};
-ghost use Rattle.octets.specs.Reading.{orNothing};
-ghost use Rattle.sink.specs.Sink.{Put};
-ghost use Rattle.times.specs.Date.{writeDate};
-use crate::letters::ended;
 use crate::follow::Walk;
 use crate::follow::follow;
+use crate::letters::ended;
 use crate::written::put_day;
 
 // A day by year, month and day of the month.
@@ -117,7 +116,15 @@ pub fn read_date(xcal: bool, mode: usize, s: &[u8], at: usize) -> DateRead
     DateRead::NoDate
 }
 
-pub fn put_date(out: &mut [u8], o: usize, from: bool, to: bool, mode: usize, s: &[u8], at: usize) -> usize
+pub fn put_date(
+    out: &mut [u8],
+    o: usize,
+    from: bool,
+    to: bool,
+    mode: usize,
+    s: &[u8],
+    at: usize,
+) -> usize
     ensures { λ r. ⌜ Put (now (out .entry)) (now (out .exit)) o r (orNothing (writeDate (formatOf to)) (readDate (formatOf from) (rest mode (now (s .entry)) at))) ⌝ }
 {
     let r = read_date(from, mode, s, at);

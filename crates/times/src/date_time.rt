@@ -1,25 +1,24 @@
 // DATE-TIME. See specs/DateTime.antt and specs/DateTimeAlong.antt.
 ghost use mathlib.Core.Path.{_≡_};
+ghost use Rattle.octets.specs.Reading.{orNothing};
 ghost use Rattle.model.specs.Calendar.{formatOf};
 ghost use Rattle.source.specs.Source.{rest};
+ghost use Rattle.sink.specs.Sink.{Put};
 ghost use Rattle.times.specs.MonthRule.{dateOf};
 ghost use Rattle.times.specs.TimeAlong.{clockOf};
-ghost use Rattle.times.specs.DateTime.{readDateTime};
+ghost use Rattle.times.specs.DateTime.{readDateTime, writeDateTime};
 ghost use Rattle.times.specs.DateTimeAlong.{dateTimePattern, joinTime, momentBy, momentOf};
 ghost use Rattle.times.specs.Followed.{Walks};
-ghost use Rattle.octets.specs.Reading.{orNothing};
-ghost use Rattle.sink.specs.Sink.{Put};
-ghost use Rattle.times.specs.DateTime.{writeDateTime};
 ghost use Rattle.times.specs.Written.{momentBytes};
-use crate::follow::Walk;
-use crate::follow::follow;
 use crate::date::DateRead;
 use crate::date::day_from;
+use crate::follow::Walk;
+use crate::follow::follow;
 use crate::time::TimeRead;
 use crate::time::clock_from;
 use crate::time::zone_at;
-use crate::written::put_day;
 use crate::written::put_clock;
+use crate::written::put_day;
 use sink::put;
 
 // Year, month and day, hour, minute and second, and whether it is UTC.
@@ -71,7 +70,18 @@ pub fn read_date_time(xcal: bool, mode: usize, s: &[u8], at: usize) -> DateTimeR
     DateTimeRead::NoDateTime
 }
 
-pub fn put_moment(out: &mut [u8], o: usize, to: bool, y: u16, m: u8, d: u8, h: u8, i: u8, c: u8, z: bool) -> usize
+pub fn put_moment(
+    out: &mut [u8],
+    o: usize,
+    to: bool,
+    y: u16,
+    m: u8,
+    d: u8,
+    h: u8,
+    i: u8,
+    c: u8,
+    z: bool,
+) -> usize
     ensures { λ r. ⌜ Put (now (out .entry)) (now (out .exit)) o r (momentBytes to y m d h i c z) ⌝ }
 {
     let p = put_day(out, o, to, y, m, d);
@@ -79,7 +89,15 @@ pub fn put_moment(out: &mut [u8], o: usize, to: bool, y: u16, m: u8, d: u8, h: u
     put_clock(out, q, to, h, i, c, z)
 }
 
-pub fn put_date_time(out: &mut [u8], o: usize, from: bool, to: bool, mode: usize, s: &[u8], at: usize) -> usize
+pub fn put_date_time(
+    out: &mut [u8],
+    o: usize,
+    from: bool,
+    to: bool,
+    mode: usize,
+    s: &[u8],
+    at: usize,
+) -> usize
     ensures { λ r. ⌜ Put (now (out .entry)) (now (out .exit)) o r (orNothing (writeDateTime (formatOf to)) (readDateTime (formatOf from) (rest mode (now (s .entry)) at))) ⌝ }
 {
     let r = read_date_time(from, mode, s, at);

@@ -1,18 +1,18 @@
 // DURATION. See specs/Duration.antt and specs/DurationAt.antt.
 ghost use mathlib.Core.Path.{_≡_};
 ghost use Rattle.octets.specs.Reading.{orNothing};
+ghost use Rattle.octets.specs.Pick.{_or_};
+ghost use Rattle.octets.specs.Append.{_⊕_};
 ghost use Rattle.model.specs.Calendar.{formatOf};
 ghost use Rattle.source.specs.Source.{rest};
 ghost use Rattle.sink.specs.Sink.{Put};
-ghost use Rattle.octets.specs.Pick.{_or_};
-ghost use Rattle.octets.specs.Append.{_⊕_};
 ghost use Rattle.times.specs.Letters.{cased};
 ghost use Rattle.times.specs.Written.{markBytes};
 ghost use Rattle.times.specs.Duration.{optional, dur-second, dur-minute, dur-hour, dur-time, dur-date, dur-week, unsigned, readDuration, writeDuration};
 ghost use Rattle.times.specs.DurationAt.{Runs, spanIf, spanOf};
+use crate::follow::is_digit;
 use crate::letters::ended;
 use crate::letters::letter;
-use crate::follow::is_digit;
 use crate::written::put_mark;
 use sink::put;
 
@@ -249,14 +249,30 @@ fn put_letters(out: &mut [u8], o: usize, exact: bool, mode: usize, s: &[u8], at:
     }
 }
 
-fn put_span(out: &mut [u8], o: usize, neg: bool, exact: bool, mode: usize, s: &[u8], at: usize) -> usize
+fn put_span(
+    out: &mut [u8],
+    o: usize,
+    neg: bool,
+    exact: bool,
+    mode: usize,
+    s: &[u8],
+    at: usize,
+) -> usize
     ensures { λ r. ⌜ Put (now (out .entry)) (now (out .exit)) o r (markBytes neg 45 ⊕ cased exact (rest mode (now (s .entry)) at)) ⌝ }
 {
     let p = put_mark(out, o, neg, 45);
     put_letters(out, p, exact, mode, s, at)
 }
 
-pub fn put_duration(out: &mut [u8], o: usize, from: bool, to: bool, mode: usize, s: &[u8], at: usize) -> usize
+pub fn put_duration(
+    out: &mut [u8],
+    o: usize,
+    from: bool,
+    to: bool,
+    mode: usize,
+    s: &[u8],
+    at: usize,
+) -> usize
     ensures { λ r. ⌜ Put (now (out .entry)) (now (out .exit)) o r (orNothing (writeDuration (formatOf to)) (readDuration (formatOf from) (rest mode (now (s .entry)) at))) ⌝ }
 {
     let r = read_duration(from, mode, s, at);

@@ -2,10 +2,10 @@
 ghost use mathlib.Core.Path.{_≡_};
 ghost use Prim.Native.Nat.{_≤_, _<_, _^_};
 ghost use lib.ListN.{length};
+ghost use lib.Dec.{eqb};
 ghost use Rattle.octets.specs.Pick.{_or_};
 ghost use Rattle.octets.specs.Class.{isDigit};
 ghost use Rattle.octets.specs.Decimal.{digitOf};
-ghost use lib.Dec.{eqb};
 ghost use Rattle.times.specs.Pattern.{passes, tally};
 ghost use Rattle.times.specs.Followed.{Walks};
 use crate::letters::letter;

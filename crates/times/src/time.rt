@@ -1,18 +1,17 @@
 // TIME. See specs/Time.antt and specs/TimeAlong.antt.
 ghost use mathlib.Core.Path.{_≡_};
+ghost use Rattle.octets.specs.Reading.{orNothing};
 ghost use Rattle.model.specs.Calendar.{formatOf};
 ghost use Rattle.source.specs.Source.{rest};
+ghost use Rattle.sink.specs.Sink.{Put};
 ghost use Rattle.times.specs.Letters.{cased};
-ghost use Rattle.times.specs.Time.{readTime};
+ghost use Rattle.times.specs.Time.{readTime, writeTime};
 ghost use Rattle.times.specs.TimeAlong.{timePattern, isHms, zone, clockBy, clockOf};
 ghost use Rattle.times.specs.Followed.{Walks};
-ghost use Rattle.octets.specs.Reading.{orNothing};
-ghost use Rattle.sink.specs.Sink.{Put};
-ghost use Rattle.times.specs.Time.{writeTime};
-use crate::letters::ended;
-use crate::letters::letter;
 use crate::follow::Walk;
 use crate::follow::follow;
+use crate::letters::ended;
+use crate::letters::letter;
 use crate::written::put_clock;
 
 // Hour, minute and second, and whether it is UTC.
@@ -21,7 +20,7 @@ pub enum TimeRead {
     NoTime,
 }
 
-fn is_hms(h: u8, m: u8, s: u8) -> bool
+pub fn is_hms(h: u8, m: u8, s: u8) -> bool
     ensures { λ r. ⌜ r ≡ isHms h m s ⌝ }
 {
     if h <= 23 {
@@ -90,7 +89,15 @@ pub fn read_time(xcal: bool, mode: usize, s: &[u8], at: usize) -> TimeRead
     TimeRead::NoTime
 }
 
-pub fn put_time(out: &mut [u8], o: usize, from: bool, to: bool, mode: usize, s: &[u8], at: usize) -> usize
+pub fn put_time(
+    out: &mut [u8],
+    o: usize,
+    from: bool,
+    to: bool,
+    mode: usize,
+    s: &[u8],
+    at: usize,
+) -> usize
     ensures { λ r. ⌜ Put (now (out .entry)) (now (out .exit)) o r (orNothing (writeTime (formatOf to)) (readTime (formatOf from) (rest mode (now (s .entry)) at))) ⌝ }
 {
     let r = read_time(from, mode, s, at);

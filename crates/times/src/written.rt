@@ -6,7 +6,7 @@ ghost use Rattle.times.specs.MonthRule.{twoDigits};
 ghost use Rattle.times.specs.Written.{markBytes, marked, yearDigits, dayBytes, clockBytes};
 use sink::put;
 
-fn put_two(out: &mut [u8], o: usize, n: u16) -> usize
+pub fn put_two(out: &mut [u8], o: usize, n: u16) -> usize
     requires { ⌜ n < 1000 ⌝ }
     ensures { λ r. ⌜ Put (now (out .entry)) (now (out .exit)) o r (twoDigits n) ⌝ }
 {
@@ -25,7 +25,7 @@ pub fn put_mark(out: &mut [u8], o: usize, on: bool, c: u8) -> usize
     o
 }
 
-fn put_marked(out: &mut [u8], o: usize, on: bool, c: u8, n: u8) -> usize
+pub fn put_marked(out: &mut [u8], o: usize, on: bool, c: u8, n: u8) -> usize
     ensures { λ r. ⌜ Put (now (out .entry)) (now (out .exit)) o r (marked on c n) ⌝ }
 {
     let p = put_mark(out, o, on, c);

@@ -7,21 +7,15 @@ use Prim.Native.Nat.{ℕ}
 use lib.Dec.{leb}
 use lib.ListN.{length}
 use Rattle.octets.specs.Pick.{pick}
-use Rattle.model.specs.Refusal.{LENGTH, CHARACTER, Verdict, fine, refuse, _otherwise_, Answer, answer}
+use Rattle.model.specs.Refusal.{LENGTH, Verdict, fine, refuse, _otherwise_, Answer, answer, limit, characters}
 use Rattle.utf8.specs.Utf8.{firstBad}
 use Rattle.xml.specs.WellFormed.{xmlVerdict}
 use Rattle.xml.specs.Nodes.{documentNodes}
 use Rattle.xcal.specs.ComponentNodes.{rootVerdict, readRoot}
 
--- refusal 3
-abbrev pub characters : Option ℕ → Verdict
-characters none = fine
-characters (some p) = refuse CHARACTER p
-
--- 65535 is the input limit
 unfoldable pub documentVerdict : List ℕ → Verdict
 documentVerdict s =
-    pick (leb (length s) 65535)
+    pick (leb (length s) limit)
     (characters (firstBad s) otherwise xmlVerdict s otherwise rootVerdict (documentNodes s))
     (refuse LENGTH 0)
 

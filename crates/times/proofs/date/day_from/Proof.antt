@@ -1,4 +1,4 @@
--- `times::day_from` meets its contract. Assumes nothing.
+-- `times::date::day_from` meets its contract.
 use Rattle.octets.specs.Pick.{flag-yes, flag-no, branching}
 use Rattle.times.specs.DateAlong.{day-found, day-missing}
 use Rattle.times.proofs.date.day_from.Statement.{statement}

@@ -1,4 +1,4 @@
--- `times::days_in_month` meets its contract. Assumes nothing.
+-- `times::date::days_in_month` meets its contract.
 use Rattle.octets.specs.Pick.{branching}
 use Rattle.times.specs.Date.{daysInMonth}
 use Rattle.times.proofs.date.days_in_month.Statement.{statement}

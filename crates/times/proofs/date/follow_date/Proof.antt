@@ -1,4 +1,4 @@
--- `times::follow_date` meets its contract. Assumes nothing.
+-- `times::date::follow_date` meets its contract.
 use Rattle.octets.specs.Pick.{branching}
 use Rattle.times.proofs.date.follow_date.Statement.{statement}
 use Rattle.times.proofs.date.follow_date.Tie as tie

@@ -1,4 +1,4 @@
--- `times::has_thirty_days` meets its contract. Assumes nothing.
+-- `times::date::has_thirty_days` meets its contract.
 use Rattle.octets.specs.Pick.{branching}
 use Rattle.times.specs.Date.{hasThirtyDays}
 use Rattle.times.proofs.date.has_thirty_days.Statement.{statement}

@@ -1,4 +1,4 @@
--- `times::is_day` meets its contract. Assumes nothing.
+-- `times::date::is_day` meets its contract.
 use Rattle.octets.specs.Pick.{branching}
 use Rattle.times.specs.Date.{isDay}
 use Rattle.times.proofs.date.is_day.Statement.{statement}

@@ -1,4 +1,4 @@
--- `times::is_leap_year` meets its contract. Assumes nothing.
+-- `times::date::is_leap_year` meets its contract.
 use Rattle.octets.specs.Pick.{branching}
 use Rattle.times.specs.Date.{isLeapYear}
 use Rattle.times.proofs.date.is_leap_year.Statement.{statement}

@@ -1,4 +1,4 @@
--- `times::is_within` meets its contract. Assumes nothing.
+-- `times::date::is_within` meets its contract.
 use Rattle.octets.specs.Pick.{branching}
 use Rattle.times.proofs.date.is_within.Statement.{statement}
 use Rattle.times.proofs.date.is_within.Tie as tie

@@ -1,4 +1,4 @@
--- `times::read_date` meets its contract. Assumes nothing.
+-- `times::date::read_date` meets its contract.
 use Rattle.octets.specs.Pick.{flag-yes, flag-no, branching}
 use Rattle.times.specs.DateAlong.{date-ended, date-longer, date-lost}
 use mathlib.Core.Path.{_∙_}

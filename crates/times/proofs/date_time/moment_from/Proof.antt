@@ -1,4 +1,4 @@
--- `times::moment_from` meets its contract. Assumes nothing.
+-- `times::date_time::moment_from` meets its contract.
 use borrow.Author.Needs.{needs}
 use Rattle.times.specs.DateTimeAlong.{moment-day, moment-none}
 use mathlib.Core.Path.{_∙_, ap}

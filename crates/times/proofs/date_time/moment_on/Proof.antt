@@ -1,4 +1,4 @@
--- `times::moment_on` meets its contract. Assumes nothing.
+-- `times::date_time::moment_on` meets its contract.
 use borrow.Author.Needs.{needs}
 use Rattle.times.specs.DateTimeAlong.{joinTime}
 use Rattle.times.proofs.date_time.moment_on.Statement.{statement}

@@ -1,4 +1,4 @@
--- `times::read_date_time` meets its contract. Assumes nothing.
+-- `times::date_time::read_date_time` meets its contract.
 use borrow.Author.Needs.{needs}
 use Rattle.times.specs.DateTimeAlong.{date-time-ended, date-time-lost}
 use mathlib.Core.Path.{_∙_}

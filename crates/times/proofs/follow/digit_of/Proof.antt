@@ -1,4 +1,4 @@
--- `times::digit_of` meets its contract. Assumes nothing.
+-- `times::follow::digit_of` meets its contract.
 use native.Mathlib.Omega.{arith}
 use Rattle.octets.specs.Pick.{branching-joined}
 use Rattle.times.proofs.follow.digit_of.Statement.{statement}

@@ -1,4 +1,4 @@
--- `times::follow` meets its contract. Assumes nothing.
+-- `times::follow::follow` meets its contract.
 use Prim.Native.Nat.{_-_}
 use lib.ListN.{length}
 use Rattle.times.specs.Followed.{Following, following}

@@ -1,4 +1,4 @@
--- `times::is_digit` meets its contract. Assumes nothing.
+-- `times::follow::is_digit` meets its contract.
 use Rattle.octets.specs.Pick.{branching}
 use Rattle.times.proofs.follow.is_digit.Statement.{statement}
 use Rattle.times.proofs.follow.is_digit.Tie as tie

@@ -1,4 +1,4 @@
--- `times::is_sign` meets its contract. Assumes nothing.
+-- `times::follow::is_sign` meets its contract.
 use Rattle.octets.specs.Pick.{branching}
 use Rattle.times.proofs.follow.is_sign.Statement.{statement}
 use Rattle.times.proofs.follow.is_sign.Tie as tie

@@ -1,4 +1,4 @@
--- `times::passing` meets its contract. Assumes nothing.
+-- `times::follow::passing` meets its contract.
 use Rattle.octets.specs.Pick.{branching}
 use Rattle.times.specs.Pattern.{passes}
 use Rattle.times.proofs.follow.passing.Statement.{statement}

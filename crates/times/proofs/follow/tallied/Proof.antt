@@ -1,4 +1,4 @@
--- `times::tallied` meets its contract. Assumes nothing.
+-- `times::follow::tallied` meets its contract.
 use Rattle.octets.specs.Pick.{branching}
 use Rattle.times.specs.Pattern.{tally}
 use Rattle.times.proofs.follow.tallied.Statement.{statement}

@@ -1,4 +1,4 @@
--- `times::capital` meets its contract. Assumes nothing.
+-- `times::letters::capital` meets its contract.
 use Rattle.octets.specs.Pick.{branching-joined}
 use Rattle.times.proofs.letters.capital.Statement.{statement}
 use Rattle.times.proofs.letters.capital.Tie as tie

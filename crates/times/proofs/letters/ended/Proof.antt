@@ -1,4 +1,4 @@
--- `times::ended` meets its contract. Assumes nothing.
+-- `times::letters::ended` meets its contract.
 use Rattle.times.specs.Letters.{lettering}
 use Rattle.times.proofs.letters.ended.Statement.{statement}
 use Rattle.times.proofs.letters.ended.Tie as tie

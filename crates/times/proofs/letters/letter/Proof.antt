@@ -1,4 +1,4 @@
--- `times::letter` meets its contract. Assumes nothing.
+-- `times::letters::letter` meets its contract.
 use Rattle.times.specs.Letters.{lettering}
 use Rattle.times.proofs.letters.letter.Statement.{statement}
 use Rattle.times.proofs.letters.letter.Tie as tie

@@ -1,4 +1,4 @@
--- `times::clock_from` meets its contract. Assumes nothing.
+-- `times::time::clock_from` meets its contract.
 use Rattle.octets.specs.Pick.{flag-yes, flag-no, branching}
 use Rattle.times.specs.TimeAlong.{clock-found, clock-missing, clock-longer}
 use Rattle.times.proofs.time.clock_from.Statement.{statement}

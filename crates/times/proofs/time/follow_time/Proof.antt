@@ -1,4 +1,4 @@
--- `times::follow_time` meets its contract. Assumes nothing.
+-- `times::time::follow_time` meets its contract.
 use Rattle.octets.specs.Pick.{branching}
 use Rattle.times.proofs.time.follow_time.Statement.{statement}
 use Rattle.times.proofs.time.follow_time.Tie as tie

@@ -1,4 +1,4 @@
--- `times::is_hms` meets its contract. Assumes nothing.
+-- `times::time::is_hms` meets its contract.
 use Rattle.octets.specs.Pick.{branching}
 use Rattle.times.specs.TimeAlong.{isHms}
 use Rattle.times.proofs.time.is_hms.Statement.{statement}

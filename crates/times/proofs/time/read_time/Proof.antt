@@ -1,4 +1,4 @@
--- `times::read_time` meets its contract. Assumes nothing.
+-- `times::time::read_time` meets its contract.
 use Rattle.octets.specs.Pick.{branching}
 use Rattle.times.specs.TimeAlong.{time-ended, time-lost}
 use mathlib.Core.Path.{_∙_}

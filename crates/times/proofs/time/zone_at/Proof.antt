@@ -1,4 +1,4 @@
--- `times::zone_at` meets its contract. Assumes nothing.
+-- `times::time::zone_at` meets its contract.
 use Rattle.times.specs.TimeAlong.{zoning}
 use Rattle.times.proofs.time.zone_at.Statement.{statement}
 use Rattle.times.proofs.time.zone_at.Tie as tie

@@ -1,0 +1,30 @@
+-- `recur::are_items` meets its contract. Assumes nothing.
+use Rattle.recur.specs.PieceLaws.{Left, left-start, items-bad, items-last, items-more, pieces-less, cut-count}
+use Rattle.recur.specs.Pieces.{areItems}
+use Rattle.octets.specs.Pick.{flag-yes, flag-no}
+use lib.ListN.{length}
+use Prim.Native.Nat.{_-_}
+use borrow.Author.Needs.{needs}
+use Rattle.recur.proofs.rule.are_items.Statement.{statement}
+use Rattle.recur.proofs.rule.are_items.Tie as tie
+
+abbrev Inv-loop : tie.InvT-loop
+Inv-loop p s at c₀ c = Left (areItems p) 44 s at c
+
+abbrev μ-loop : tie.MeasureT-loop
+μ-loop p s at c₀ c = length s - c
+
+pub are-items-spec : {M : Type 1} → statement M
+are-items-spec = tie.close (tie.spec
+    Inv-loop
+    μ-loop
+    (λ c. left-start _ _ _ _ (c .before .pre))  -- loop-holds
+    (λ c κs. c .loop .inv .inside)  -- byte-end-requires
+    (λ c. cut-count (c .before .byte-end .ensures))  -- slice-aggregate-is-item
+    (λ c κs. search needs)  -- is-item-requires
+    (λ c κs. search needs)  -- unit-requires
+    (λ c. items-last (c .before .before .before .before .before .before .before .before .args .p) (c .before .before .before .before .before .before .loop .inv) (c .before .before .before .before .before .byte-end .ensures) (c .before .unit .ensures) (flag-yes _ _ (c .before .before .before .is-item .ensures) (c .before .before .if1 .taken)) (c .if2 .taken))  -- returns
+    (λ c. pieces-less (c .before .before .before .before .before .byte-end .ensures) (c .before .unit .ensures) (c .if2 .left))  -- loop-less
+    (λ c. items-more (c .before .before .before .before .before .before .before .before .args .p) (c .before .before .before .before .before .before .loop .inv) (c .before .before .before .before .before .byte-end .ensures) (c .before .unit .ensures) (flag-yes _ _ (c .before .before .before .is-item .ensures) (c .before .before .if1 .taken)) (c .if2 .left))  -- loop-again
+    (λ c. items-bad (c .before .before .before .before .before .before .args .p) (c .before .before .before .before .loop .inv) (c .before .before .before .byte-end .ensures) (flag-no _ _ (c .before .is-item .ensures) (c .if1 .left)))  -- returns-2
+    )

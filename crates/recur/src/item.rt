@@ -1,0 +1,90 @@
+// One item of a rule part, by the part's place in the schema's order: 0 is FREQ, 13 is WKST. See specs/Fits.antt.
+ghost use mathlib.Core.Path.{_≡_};
+ghost use mathlib.Core.List.{[]};
+ghost use Prim.Native.Nat.{_≤_, _<_};
+ghost use lib.ListN.{getD};
+ghost use Rattle.octets.specs.Reading.{isRead};
+ghost use Rattle.model.specs.Calendar.{formatOf};
+ghost use Rattle.source.specs.Source.{rest};
+ghost use Rattle.recur.specs.Parts.{partNames};
+ghost use Rattle.recur.specs.Item.{readItem};
+use crate::number::is_numeral;
+use crate::number::is_unsigned;
+use crate::number::is_signed;
+use crate::word::is_frequency;
+use crate::word::is_weekday;
+use crate::word::is_weekdaynum;
+use crate::word::is_enddate;
+
+// FREQ, UNTIL, COUNT, INTERVAL.
+fn is_limit(p: usize, xcal: bool, mode: usize, s: &[u8], at: usize) -> bool
+    requires { ⌜ p < 4 ⌝ }
+    ensures { λ r. ⌜ r ≡ isRead (readItem (formatOf xcal) (getD partNames p []) (rest mode (now (s .entry)) at)) ⌝ }
+{
+    if p == 0 {
+        return is_frequency(xcal, mode, s, at);
+    }
+    if p == 1 {
+        return is_enddate(xcal, mode, s, at);
+    }
+    if p == 2 {
+        return is_numeral(false, 1, 2147483647, mode, s, at);
+    }
+    is_numeral(false, 1, 2147483647, mode, s, at)
+}
+
+// BYSECOND, BYMINUTE, BYHOUR, BYDAY.
+fn is_time_part(p: usize, xcal: bool, mode: usize, s: &[u8], at: usize) -> bool
+    requires { ⌜ (4 ≤ p) × (p < 8) ⌝ }
+    ensures { λ r. ⌜ r ≡ isRead (readItem (formatOf xcal) (getD partNames p []) (rest mode (now (s .entry)) at)) ⌝ }
+{
+    if p == 4 {
+        return is_unsigned(false, 2, 0, 60, mode, s, at);
+    }
+    if p == 5 {
+        return is_unsigned(false, 2, 0, 59, mode, s, at);
+    }
+    if p == 6 {
+        return is_unsigned(false, 2, 0, 23, mode, s, at);
+    }
+    is_weekdaynum(xcal, mode, s, at)
+}
+
+// BYMONTHDAY, BYYEARDAY, BYWEEKNO, BYMONTH, BYSETPOS, WKST.
+fn is_day_part(p: usize, xcal: bool, mode: usize, s: &[u8], at: usize) -> bool
+    requires { ⌜ (8 ≤ p) × (p < 14) ⌝ }
+    ensures { λ r. ⌜ r ≡ isRead (readItem (formatOf xcal) (getD partNames p []) (rest mode (now (s .entry)) at)) ⌝ }
+{
+    if p == 8 {
+        return is_signed(false, 2, 31, mode, s, at);
+    }
+    if p == 9 {
+        return is_signed(false, 3, 366, mode, s, at);
+    }
+    if p == 10 {
+        return is_signed(false, 2, 53, mode, s, at);
+    }
+    if p == 11 {
+        return is_unsigned(false, 2, 1, 12, mode, s, at);
+    }
+    if p == 12 {
+        return is_signed(false, 3, 366, mode, s, at);
+    }
+    is_weekday(xcal, mode, s, at)
+}
+
+// An item of the part at the place `p`.
+pub fn is_item(p: usize, xcal: bool, mode: usize, s: &[u8], at: usize) -> bool
+    ensures { λ r. ⌜ r ≡ isRead (readItem (formatOf xcal) (getD partNames p []) (rest mode (now (s .entry)) at)) ⌝ }
+{
+    if p < 4 {
+        return is_limit(p, xcal, mode, s, at);
+    }
+    if p < 8 {
+        return is_time_part(p, xcal, mode, s, at);
+    }
+    if p < 14 {
+        return is_day_part(p, xcal, mode, s, at);
+    }
+    false
+}

@@ -1,0 +1,164 @@
+// How often the properties of a component stand: their tallies in an array, one for each known property, counted to 255.
+ghost use mathlib.Core.Path.{_≡_};
+ghost use Prim.Native.Nat.{_<_};
+ghost use lib.Dec.{eqb};
+ghost use lib.ListN.{getD};
+ghost use Rattle.octets.specs.Pick.{_and_, _or_};
+ghost use Rattle.schema.specs.Arrays.{bumped};
+ghost use Rattle.schema.specs.Completing.{signAt, isSigned, allOften, oftenAt, pairsAt, completeAt};
+
+// One more of the property `p`; of an unrecognised one, nothing.
+pub fn bump(t: [u8; 46], p: usize) -> [u8; 46]
+    ensures { λ r. ⌜ r ≡ bumped p t ⌝ }
+{
+    let mut u = t;
+    if p < 46 {
+        let c = u[p];
+        if c < 255 {
+            u[p] = c + 1;
+            return u;
+        }
+        return u;
+    }
+    u
+}
+
+// A line for each component, and at the end three for VALARM, by its ACTION: AUDIO, DISPLAY, EMAIL. A column for each property, with the schema's sign of how often it stands:
+// 1 once, ? at most once, * any number of times, + at least once, a point where it may not stand.
+const SIGNS: [u8; 552] = *b"\
+    ??11..........................................\
+    ....**?*???.?*??.?.1?.?.....**??*?1**?...?1??*\
+    ....**?*?????*????.??.......**??*?1**?...?1??*\
+    ....**?*?.....??...?........**??*?1**?...?1??*\
+    .......*.........?.??*......*??..?1.......1..*\
+    .......................1...?...............?..\
+    .......*...........1....*11.........*?........\
+    .......*...........1....*11.........*?........\
+    ..............................................\
+    ....?...............?.................1?1.....\
+    ........1...........?.................1?1.....\
+    ....*...1......1....?.......+.........1?1.....";
+
+// How often the property `p` stands by the list `l`.
+fn sign_at(l: usize, p: usize) -> u8
+    requires { ⌜ p < 46 ⌝ }
+    ensures { λ r. ⌜ r ≡ signAt l p ⌝ }
+{
+    if l < 12 {
+        return SIGNS[l * 46 + p];
+    }
+    46
+}
+
+// A tally is as often as a sign says.
+fn is_signed(sign: u8, n: u8) -> bool
+    ensures { λ r. ⌜ r ≡ isSigned sign n ⌝ }
+{
+    if sign == 49 {
+        return n == 1;
+    }
+    if sign == 63 {
+        return n <= 1;
+    }
+    if sign == 42 {
+        return true;
+    }
+    if sign == 43 {
+        return 1 <= n;
+    }
+    n == 0
+}
+
+// Every property stands as often as the list `l` says.
+fn all_often(l: usize, t: [u8; 46]) -> bool
+    ensures { λ r. ⌜ r ≡ allOften l t ⌝ }
+{
+    let mut n = 0;
+    while n < 46 {
+        let sign = sign_at(l, n);
+        let ok = is_signed(sign, t[n]);
+        if ok {
+            n += 1;
+        } else {
+            return false;
+        }
+    }
+    true
+}
+
+// The same by the list of a component, which for a VALARM its ACTION names.
+fn often_at(k: usize, t: [u8; 46], action: usize) -> bool
+    ensures { λ r. ⌜ r ≡ oftenAt k t action ⌝ }
+{
+    if k == 8 {
+        if action < 3 {
+            return all_often(action + 9, t);
+        }
+        return false;
+    }
+    if k < 9 {
+        return all_often(k, t);
+    }
+    all_often(12, t)
+}
+
+// VEVENT: not both DTEND and DURATION.
+fn event_pair(t: [u8; 46]) -> bool
+    ensures { λ r. ⌜ r ≡ (eqb (getD t 17 0) 0 or eqb (getD t 20 0) 0) ⌝ }
+{
+    if t[17] == 0 {
+        return true;
+    }
+    t[20] == 0
+}
+
+// VTODO: DURATION only with DTSTART and without DTEND.
+fn todo_pair(t: [u8; 46]) -> bool
+    ensures { λ r. ⌜ r ≡ (eqb (getD t 20 0) 0 or (eqb (getD t 19 0) 1 and eqb (getD t 17 0) 0)) ⌝ }
+{
+    if t[20] == 0 {
+        return true;
+    }
+    if t[19] == 1 {
+        return t[17] == 0;
+    }
+    false
+}
+
+// VALARM: DURATION and REPEAT, or neither.
+fn alarm_pair(t: [u8; 46]) -> bool
+    ensures { λ r. ⌜ r ≡ eqb (getD t 20 0) (getD t 39 0) ⌝ }
+{
+    t[20] == t[39]
+}
+
+// The pairs of a component; of a VTIMEZONE, that it has a subcomponent.
+fn pairs_at(k: usize, t: [u8; 46], inner: bool) -> bool
+    ensures { λ r. ⌜ r ≡ pairsAt k t inner ⌝ }
+{
+    if k == 1 {
+        return event_pair(t);
+    }
+    if k == 2 {
+        return todo_pair(t);
+    }
+    if k == 5 {
+        return inner;
+    }
+    if k == 8 {
+        return alarm_pair(t);
+    }
+    true
+}
+
+// Whether the tallies of the component `k` are the schema's: `action` is the number of its ACTION's word among AUDIO, DISPLAY, EMAIL,
+// 3 where it is none of them; `inner`, whether it has a subcomponent.
+pub fn complete_counts(k: usize, t: [u8; 46], action: usize, inner: bool) -> bool
+    ensures { λ r. ⌜ r ≡ completeAt k t action inner ⌝ }
+{
+    let often = often_at(k, t, action);
+    if often {
+        return pairs_at(k, t, inner);
+    }
+    false
+}
