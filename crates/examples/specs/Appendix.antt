@@ -186,14 +186,14 @@ meetingsText description = meetings ("BEGIN:VCALENDAR" ∷ "PRODID:-//Example In
 
 -- B.2.2 as it is printed: the description's text has four line ends, three of them from the page
 meetings-page-to-text : toText (meetingsPage "          <tzid><text>US/Eastern</text></tzid>" (
-        "            <text>We are having a meeting all this week at 12" ∷
-        "pm for one hour, with an additional meeting on the first day" ∷
-        "2 hours long.&#x0a;Please bring your own lunch for the 12 pm" ∷
-        "meetings.</text>" ∷ []))
+    "            <text>We are having a meeting all this week at 12" ∷
+    "pm for one hour, with an additional meeting on the first day" ∷
+    "2 hours long.&#x0a;Please bring your own lunch for the 12 pm" ∷
+    "meetings.</text>" ∷ []))
     ≡ result (meetingsText (
-        "DESCRIPTION:We are having a meeting all this week at 12\\npm for one hour\\, " ∷
-        " with an additional meeting on the first day\\n2 hours long.\\nPlease bring y" ∷
-        " our own lunch for the 12 pm\\nmeetings." ∷ []))
+    "DESCRIPTION:We are having a meeting all this week at 12\\npm for one hour\\, " ∷
+    " with an additional meeting on the first day\\n2 hours long.\\nPlease bring y" ∷
+    " our own lunch for the 12 pm\\nmeetings." ∷ []))
 unfolding conversions-compute
 meetings-page-to-text = refl
 
@@ -206,7 +206,7 @@ foldedDescription =
 
 -- B.2.2 with the description in one line: it is then B.2.1's
 meetings-joined-to-text : toText (meetingsPage "          <tzid><text>US/Eastern</text></tzid>" (
-        "            <text>We are having a meeting all this week at 12 pm for one hour, with an additional meeting on the first day 2 hours long.&#x0a;Please bring your own lunch for the 12 pm meetings.</text>" ∷ []))
+    "            <text>We are having a meeting all this week at 12 pm for one hour, with an additional meeting on the first day 2 hours long.&#x0a;Please bring your own lunch for the 12 pm meetings.</text>" ∷ []))
     ≡ result (meetingsText foldedDescription)
 unfolding conversions-compute
 meetings-joined-to-text = refl

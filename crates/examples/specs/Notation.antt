@@ -35,13 +35,13 @@ given s = toXml s (length s)
 abbrev pub inEvent : List ℕ → List ℕ
 inEvent s =
     textLines (
-        "BEGIN:VCALENDAR" ∷
-        "PRODID:p" ∷
-        "VERSION:2.0" ∷
-        "BEGIN:VEVENT" ∷
-        "UID:u" ∷
-        "DTSTAMP:20240501T060000Z" ∷
-        "DTSTART:20240504T080000" ∷ [])
+    "BEGIN:VCALENDAR" ∷
+    "PRODID:p" ∷
+    "VERSION:2.0" ∷
+    "BEGIN:VEVENT" ∷
+    "UID:u" ∷
+    "DTSTAMP:20240501T060000Z" ∷
+    "DTSTART:20240504T080000" ∷ [])
     ++ s
     ++ textLines ("END:VEVENT" ∷ "END:VCALENDAR" ∷ [])
 

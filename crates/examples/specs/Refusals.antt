@@ -18,37 +18,37 @@ use Rattle.examples.specs.Readings.{wholeText, line, Told, refused_at_, 
 abbrev pub textTable : List Row
 textTable =
     -- 1 LENGTH
-    wholeText (replicate 65536 65)                                     gives refused 1 at 0 ∷
+    wholeText (replicate 65536 65) gives refused 1 at 0 ∷
     -- 3 CHARACTER: ill-formed UTF-8, a control; over the whole input, before the line that is faulty first
-    line (ascii "SUMMARY:a" ++ (0xC3 ∷ 40 ∷ []))                       gives refused 3 at 121 ∷
-    line (ascii "SUMMARY\r\nDESCRIPTION:" ++ (7 ∷ []))                 gives refused 3 at 133 ∷
+    line (ascii "SUMMARY:a" ++ (0xC3 ∷ 40 ∷ [])) gives refused 3 at 121 ∷
+    line (ascii "SUMMARY\r\nDESCRIPTION:" ++ (7 ∷ [])) gives refused 3 at 133 ∷
     -- 4 LINE: no colon; empty; a bare LF; folds deleted once, so that a line begins with a space, at the byte that was kept; not ended by CRLF
-    line (ascii "SUMMARY")                                             gives refused 4 at 112 ∷
-    line []                                                            gives refused 4 at 112 ∷
-    line (ascii "SUMMARY:a\nb")                                        gives refused 4 at 112 ∷
-    line (ascii "SUMMARY:a\r\n\r\n  b")                                gives refused 4 at 126 ∷
-    wholeText (textLines ("BEGIN:VCALENDAR" ∷ []) ++ ascii "END:V")    gives refused 4 at 17 ∷
+    line (ascii "SUMMARY") gives refused 4 at 112 ∷
+    line [] gives refused 4 at 112 ∷
+    line (ascii "SUMMARY:a\nb") gives refused 4 at 112 ∷
+    line (ascii "SUMMARY:a\r\n\r\n  b") gives refused 4 at 126 ∷
+    wholeText (textLines ("BEGIN:VCALENDAR" ∷ []) ++ ascii "END:V") gives refused 4 at 17 ∷
     -- 5 NAME
-    line (ascii "xmlns:a")                                             gives refused 5 at 112 ∷
-    line (ascii "SUMMARY;1A=b:c")                                      gives refused 5 at 112 ∷
+    line (ascii "xmlns:a") gives refused 5 at 112 ∷
+    line (ascii "SUMMARY;1A=b:c") gives refused 5 at 112 ∷
     -- 6 FRAME: a known property outside its components' lists; a component where it may not stand; another END; something open at the end of the input
-    line (ascii "DUE:20240504T090000")                                 gives refused 6 at 112 ∷
-    line (ascii "BEGIN:VEVENT")                                        gives refused 6 at 112 ∷
-    line (ascii "END:VCALENDAR")                                       gives refused 6 at 112 ∷
-    wholeText (textLines ("BEGIN:VCALENDAR" ∷ []))                     gives refused 6 at 17 ∷
+    line (ascii "DUE:20240504T090000") gives refused 6 at 112 ∷
+    line (ascii "BEGIN:VEVENT") gives refused 6 at 112 ∷
+    line (ascii "END:VCALENDAR") gives refused 6 at 112 ∷
+    wholeText (textLines ("BEGIN:VCALENDAR" ∷ [])) gives refused 6 at 17 ∷
     -- 7 PARAMETER: not permitted; repeated; not quoted; BINARY without ENCODING; a type that is none; on BEGIN
-    line (ascii "SUMMARY;TZID=Lake:a")                                 gives refused 7 at 112 ∷
-    line (ascii "SUMMARY;X-A=1;x-a=2:a")                               gives refused 7 at 112 ∷
-    line (ascii "SUMMARY;ALTREP=cid:a")                                gives refused 7 at 112 ∷
-    line (ascii "ATTACH;VALUE=BINARY:TWFs")                            gives refused 7 at 112 ∷
-    line (ascii "X-A;VALUE=X-B:1")                                     gives refused 7 at 112 ∷
-    line (ascii "BEGIN;X-A=1:VALARM")                                  gives refused 7 at 112 ∷
+    line (ascii "SUMMARY;TZID=Lake:a") gives refused 7 at 112 ∷
+    line (ascii "SUMMARY;X-A=1;x-a=2:a") gives refused 7 at 112 ∷
+    line (ascii "SUMMARY;ALTREP=cid:a") gives refused 7 at 112 ∷
+    line (ascii "ATTACH;VALUE=BINARY:TWFs") gives refused 7 at 112 ∷
+    line (ascii "X-A;VALUE=X-B:1") gives refused 7 at 112 ∷
+    line (ascii "BEGIN;X-A=1:VALARM") gives refused 7 at 112 ∷
     -- 8 VALUE: a type that is not permitted; not of the type
-    line (ascii "SUMMARY;VALUE=URI:cid:a")                             gives refused 8 at 112 ∷
-    line (ascii "GEO:37")                                              gives refused 8 at 112 ∷
+    line (ascii "SUMMARY;VALUE=URI:cid:a") gives refused 8 at 112 ∷
+    line (ascii "GEO:37") gives refused 8 at 112 ∷
     -- 9 COUNT, at the END line: too often; a pair excluded
-    line (ascii "SUMMARY:a\r\nSUMMARY:b")                              gives refused 9 at 134 ∷
-    line (ascii "DTEND:20240504T090000\r\nDURATION:PT1H")              gives refused 9 at 150 ∷
+    line (ascii "SUMMARY:a\r\nSUMMARY:b") gives refused 9 at 134 ∷
+    line (ascii "DTEND:20240504T090000\r\nDURATION:PT1H") gives refused 9 at 150 ∷
     []
 
 texts-refused : map (λ (r : Row). answerOf (asked r)) textTable ≡ map answered textTable
@@ -82,39 +82,39 @@ nested n = deep (replicate n 97)
 abbrev pub documentTable : List DocumentRow
 documentTable =
     -- 1 LENGTH
-    replicate 65536 60                                                                                isTold refused 1 at 0 ∷
+    replicate 65536 60 isTold refused 1 at 0 ∷
     -- 3 CHARACTER
-    eventXml (ascii "<summary><text>a" ++ (0xFF ∷ []) ++ ascii "</text></summary>")                   isTold refused 3 at 393 ∷
+    eventXml (ascii "<summary><text>a" ++ (0xFF ∷ []) ++ ascii "</text></summary>") isTold refused 3 at 393 ∷
     -- 5 NAME: capitals; an element that would begin a component in the text; a parameter VALUE
-    eventXml (ascii "<Summary><text>a</text></Summary>")                                              isTold refused 5 at 377 ∷
-    eventXml (ascii "<begin><unknown>VALARM</unknown></begin>")                                       isTold refused 5 at 377 ∷
+    eventXml (ascii "<Summary><text>a</text></Summary>") isTold refused 5 at 377 ∷
+    eventXml (ascii "<begin><unknown>VALARM</unknown></begin>") isTold refused 5 at 377 ∷
     eventXml (ascii "<x-a><parameters><value><unknown>URI</unknown></value></parameters><unknown>1</unknown></x-a>")
-                                                                                                      isTold refused 5 at 394 ∷
+    isTold refused 5 at 394 ∷
     -- 6 FRAME: a missing child, at the end tag; a surplus one; `count` after `until`; text where children belong
-    eventXml (ascii "<summary></summary>")                                                            isTold refused 6 at 386 ∷
-    eventXml (ascii "<x-a><text>1</text><text>2</text></x-a>")                                        isTold refused 6 at 396 ∷
+    eventXml (ascii "<summary></summary>") isTold refused 6 at 386 ∷
+    eventXml (ascii "<x-a><text>1</text><text>2</text></x-a>") isTold refused 6 at 396 ∷
     eventXml (ascii "<rrule><recur><freq>DAILY</freq><until>2024-12-31</until><count>2</count></recur></rrule>")
-                                                                                                      isTold refused 6 at 434 ∷
-    eventXml (ascii "<summary> a<text>b</text></summary>")                                            isTold refused 6 at 387 ∷
+    isTold refused 6 at 434 ∷
+    eventXml (ascii "<summary> a<text>b</text></summary>") isTold refused 6 at 387 ∷
     -- 7 PARAMETER: not permitted; a double quote in its value; BINARY without ENCODING, at the property
     eventXml (ascii "<summary><parameters><tzid><text>Lake</text></tzid></parameters><text>a</text></summary>")
-                                                                                                      isTold refused 7 at 398 ∷
+    isTold refused 7 at 398 ∷
     eventXml (ascii "<summary><parameters><language><text>&quot;</text></language></parameters><text>a</text></summary>")
-                                                                                                      isTold refused 7 at 398 ∷
-    eventXml (ascii "<attach><binary>TWFs</binary></attach>")                                         isTold refused 7 at 377 ∷
+    isTold refused 7 at 398 ∷
+    eventXml (ascii "<attach><binary>TWFs</binary></attach>") isTold refused 7 at 377 ∷
     -- 8 VALUE, at the innermost bad element
-    eventXml (ascii "<priority><integer> 1</integer></priority>")                                     isTold refused 8 at 387 ∷
+    eventXml (ascii "<priority><integer> 1</integer></priority>") isTold refused 8 at 387 ∷
     eventXml (ascii "<rdate><period><start>2024-05-05T08:00:00</start><duration>1H</duration></period></rdate>")
-                                                                                                      isTold refused 8 at 426 ∷
+    isTold refused 8 at 426 ∷
     -- 9 COUNT, at the component's end tag
-    eventXml (ascii "<summary><text>a</text></summary><summary><text>b</text></summary>")             isTold refused 9 at 456 ∷
+    eventXml (ascii "<summary><text>a</text></summary><summary><text>b</text></summary>") isTold refused 9 at 456 ∷
     -- 11 XML: an entity that is none; CR by reference; an attribute; the 17th open element; still open at the end; no root
-    eventXml (ascii "<summary><text>&nbsp;</text></summary>")                                         isTold refused 11 at 392 ∷
-    eventXml (ascii "<summary><text>a&#13;</text></summary>")                                         isTold refused 11 at 393 ∷
-    eventXml (ascii "<summary><text a=\"b\">a</text></summary>")                                      isTold refused 11 at 386 ∷
-    eventXml (nested 12)                                                                              isTold refused 11 at 410 ∷
-    ascii "<icalendar xmlns=\"urn:ietf:params:xml:ns:icalendar-2.0\"><vcalendar>"                     isTold refused 11 at 67 ∷
-    []                                                                                                isTold refused 11 at 0 ∷
+    eventXml (ascii "<summary><text>&nbsp;</text></summary>") isTold refused 11 at 392 ∷
+    eventXml (ascii "<summary><text>a&#13;</text></summary>") isTold refused 11 at 393 ∷
+    eventXml (ascii "<summary><text a=\"b\">a</text></summary>") isTold refused 11 at 386 ∷
+    eventXml (nested 12) isTold refused 11 at 410 ∷
+    ascii "<icalendar xmlns=\"urn:ietf:params:xml:ns:icalendar-2.0\"><vcalendar>" isTold refused 11 at 67 ∷
+    [] isTold refused 11 at 0 ∷
     []
 
 documents-refused : map ofDocument documentTable ≡ map documentAnswer documentTable

@@ -250,6 +250,7 @@ pub property-good : (k : List ℕ) (l : ContentLine) → isContentLine l ≡ tru
 unfolding propertyOf readOr
 property-good k l q g c h =
     let a = line-parts l q g in
-    let f = no-fault k l h in
-    (rw (f .parametersRead) (parameters-good (l .parameters) (f .parameters) (both-raw (l .parameters) c (a .0)) (f .parametersRead)),
-    rw (f .stated, f .valuesRead) (values-good k (upper (l .name)) (f .type) (l .value) (f .values) (a .1) (f .valuesRead)))
+    let f = no-fault k l h in (
+      rw (f .parametersRead) (parameters-good (l .parameters) (f .parameters) (both-raw (l .parameters) c (a .0)) (f .parametersRead)),
+      rw (f .stated, f .valuesRead) (values-good k (upper (l .name)) (f .type) (l .value) (f .values) (a .1) (f .valuesRead)),
+    )

@@ -138,10 +138,14 @@ unfolding states ownOf innerOf turned every
 property-step l [] u es q g c b e m h = stop-on m
 property-step l (f ∷ st) u es q g c b e m h =
     let a = held (mayHold (upper (l .name)) f) (propertyFault (f .name) l) _ (record { name = f .name; seen = propertyOf (f .name) l ∷ f .seen; inner = f .inner } ∷ st) u m in
-    let d : Frames (record { name = f .name; seen = propertyOf (f .name) l ∷ f .seen; inner = f .inner } ∷ st) es 0 = rw (← (a .2)) at h in
-    (record {
-      own = and-yes _ _ (property-stated (f .name) l q g c b e (and-both _ _ (a .0) .0) (a .1)) (d .0 .own); inside = d .0 .inside; counts = d .0 .counts;
-    }, frames-property st l es 0 (d .1))
+    let d : Frames (record { name = f .name; seen = propertyOf (f .name) l ∷ f .seen; inner = f .inner } ∷ st) es 0 = rw (← (a .2)) at h in (
+      record {
+        own = and-yes _ _ (property-stated (f .name) l q g c b e (and-both _ _ (a .0) .0) (a .1)) (d .0 .own);
+        inside = d .0 .inside;
+        counts = d .0 .counts;
+      },
+      frames-property st l es 0 (d .1),
+    )
 
 -- ---- one line
 

@@ -89,8 +89,15 @@ stated k p h =
     let f = and-both (not (isKnownProperty (p .name)) or mayStand k (p .name)) _ (e .1) in
     let g = and-both (every isGoodParameter (p .parameters)) _ (f .1) in
     record {
-      valid = a .0; line = b .0; capitals = same-true _ _ (and-both _ _ (a .0) .0); carried = c .0; begins = not-true _ (d .0); ends = not-true _ (e .0);
-      stands = f .0; parameters = g .0; values = g .1;
+      valid = a .0;
+      line = b .0;
+      capitals = same-true _ _ (and-both _ _ (a .0) .0);
+      carried = c .0;
+      begins = not-true _ (d .0);
+      ends = not-true _ (e .0);
+      stands = f .0;
+      parameters = g .0;
+      values = g .1;
     }
 
 -- a name of a component

@@ -2,8 +2,7 @@
 --     spanLen p s       how many elements at the front pass p;   Span is the invariant
 --     spanEnd p s i     the same from an index i, as an index;   SpanFrom is the invariant, `search scanning-from`
 --     allOf p s         whether each element passes p;           All is the invariant;   all-cons, all-split, all-append, all-parts, all-weaker: its laws
---     foldl f st s      a state carried over the elements;       Folding is the invariant
---     foldi f st i s    the same, by a step that is told the index;   FoldingI is the invariant
+--     foldi f st i s    a state carried over the elements by a step that is told the index;   FoldingI is the invariant
 -- Each has its start, its turn and its end among the rules `scanning`: `search scanning` answers nearly every need of such a loop.
 use mathlib.Core.Path.{_≡_, refl, sym, ap, _∙_}
 use mathlib.Core.Bool.{Bool, true, false}
@@ -12,7 +11,7 @@ use Prim.Native.Nat.{ℕ, zero, suc, _+_, _-_, _≤_, _<_}
 use native.Mathlib.Numerals.{add-one}
 use native.Mathlib.Omega.{arith}
 use lib.ListN.{length, getD, take, drop, length-drop, drop-of-length-le}
-use lib.Seq.{drop-cons, take-all, length-take-le}
+use lib.Seq.{drop-cons, take-all}
 use borrow.Author.Needs.{needs}
 use Rattle.octets.specs.Pick.{pick, pick-first, flag-yes, flag-no}
 use Rattle.octets.specs.Append.{_⊕_}
@@ -24,10 +23,6 @@ drop-next s i h = rw (add-one, drop-cons s i 0)
 -- what `&s[a..]` is, as a callee sees it
 pub part-rest : (s : List ℕ) (a : ℕ) → take (length s - a) (drop a s) ≡ drop a s
 part-rest s a = take-all (length s - a) (drop a s) (simp length-drop (omega arith))
-
--- what `&s[..n]` counts, under a test n < s.len()
-pub take-length-lt : (n : ℕ) (s : List ℕ) → n < length s → length (take n s) ≡ n
-take-length-lt n s h = length-take-le n s (omega arith)
 
 -- ---- the longest front that passes a test
 
@@ -134,37 +129,6 @@ module _ (p : ℕ → Bool) where
   all-parts (suc n) [] h k = h
   all-parts (suc n) (x ∷ s) h k = let q = all-split x (take n s) h in all-cons x s (q .0) (all-parts n s (q .1) k)
 
--- ---- a state carried over the elements
-
-unfoldable pub foldl : {S : Type 0} → (S → ℕ → S) → S → List ℕ → S
-foldl f st [] = st
-foldl f st (x ∷ s) = foldl f (f st x) s
-
-pub record Folding {S : Type 0} (f : S → ℕ → S) (st₀ : S) (s : List ℕ) (st : S) (i : ℕ) : Type 0 where
-  pub inside : i ≤ length s
-  pub left : foldl f st₀ s ≡ foldl f st (drop i s)
-
-module _ {S : Type 0} (f : S → ℕ → S) (s : List ℕ) where
-  pub fold-start : (st : S) → Folding f st s st 0
-  fold-start st = record { inside = omega arith; left = refl }
-
-  pub fold-more : (st₀ st st′ : S) (i : ℕ) → Folding f st₀ s st i → i < length s → st′ ≡ f st (getD s i 0) → Folding f st₀ s st′ (i + 1)
-  unfolding foldl
-  fold-more st₀ st st′ i t h e = record { inside = omega arith; left = t .left ∙ rw (drop-next s i h, e) }
-
-  pub fold-end : (st₀ st : S) (i : ℕ) → Folding f st₀ s st i → length s ≤ i → st ≡ foldl f st₀ s
-  unfolding foldl
-  fold-end st₀ st i t h = sym (t .left ∙ rw (drop-of-length-le s h))
-
-  -- a loop may stop early, in a state that no element changes
-  pub fold-stop : (st₀ st : S) (i : ℕ) → Folding f st₀ s st i → ((x : ℕ) → f st x ≡ st) → st ≡ foldl f st₀ s
-  unfolding foldl
-  fold-stop st₀ st i t fixed = sym (t .left ∙ stays (drop i s))
-    where
-      stays : (l : List ℕ) → foldl f st l ≡ st
-      stays [] = refl
-      stays (x ∷ l) = ap (λ (u : S). foldl f u l) (fixed x) ∙ stays l
-
 -- ---- a state carried over the elements by a step that is told the index
 
 unfoldable pub foldi : {S : Type 0} → (S → ℕ → ℕ → S) → S → ℕ → List ℕ → S
@@ -187,4 +151,4 @@ module _ {S : Type 0} (f : S → ℕ → ℕ → S) (s : List ℕ) where
   unfolding foldi
   foldi-end st₀ st i t h = sym (t .left ∙ rw (drop-of-length-le s h))
 
-pub ruleset scanning = (span-start, span-more, span-stop, span-end, all-start, all-more, all-stop, all-end, fold-start, fold-more, fold-end, foldi-start, foldi-more, foldi-end, flag-yes, flag-no, needs)
+pub ruleset scanning = (span-start, span-more, span-stop, span-end, all-start, all-more, all-stop, all-end, foldi-start, foldi-more, foldi-end, flag-yes, flag-no, needs)

@@ -2,7 +2,6 @@
 --     same          the same bytes
 --     starts        one begins with the other
 --     isOneOf       one of a list of words
---     count         how often a word stands in a list
 --     holds         a byte stands there;   holds-neither, holds-split, all-without: where it does not
 --     cutAt         the pieces between separators: cutAt 44 "a,b" is "a", "b"; a list of no bytes is one empty piece
 --     joinedBy      pieces with a separator between them;   cut-joined: cutting takes it back
@@ -38,10 +37,6 @@ isEmpty (x ∷ s) = false
 unfoldable pub isOneOf : List ℕ → List (List ℕ) → Bool
 isOneOf w [] = false
 isOneOf w (x ∷ ws) = same w x or isOneOf w ws
-
-unfoldable pub count : List ℕ → List (List ℕ) → ℕ
-count w [] = 0
-count w (x ∷ ws) = pick (same w x) (suc (count w ws)) (count w ws)
 
 -- a byte that stands in s
 unfoldable pub holds : ℕ → List ℕ → Bool

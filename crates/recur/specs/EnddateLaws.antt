@@ -12,7 +12,7 @@ use Rattle.model.specs.Calendar.{Format, ical}
 use Rattle.times.specs.Spelling.{isTimeChar}
 use Rattle.times.specs.Date.{isDate, readDate, writeDate, date-read-back, date-accepted, date-chars}
 use Rattle.times.specs.DateTime.{isDateTime, readDateTime, writeDateTime, date-time-no-date, date-time-read-back, date-time-accepted, date-time-chars}
-use Rattle.recur.specs.Item.{orElse, readEnddate, writeEnddate}
+use Rattle.recur.specs.Item.{orOther, readEnddate, writeEnddate}
 
 -- ---- read back, accepted
 
@@ -27,7 +27,7 @@ enddate-read-back f v h = go (isDate v) refl h
 pub enddate-accepted : (f : Format) (s v : List ℕ) → readEnddate f s ≡ some v → (isDate v or isDateTime v) ≡ true
 enddate-accepted f s v h = go (readDate f s) refl h
   where
-    go : (o : Option (List ℕ)) → readDate f s ≡ o → orElse o (readDateTime f s) ≡ some v → (isDate v or isDateTime v) ≡ true
+    go : (o : Option (List ℕ)) → readDate f s ≡ o → orOther o (readDateTime f s) ≡ some v → (isDate v or isDateTime v) ≡ true
     go none e k = or-right (isDate v) (isDateTime v) (date-time-accepted f s v k)
     go (some u) e k = or-left (isDate v) (isDateTime v) (date-accepted f s v (e ∙ k))
 

@@ -25,7 +25,7 @@ use Rattle.times.specs.DateTime.{readDateTime}
 use Rattle.names.specs.Table.{placeOf, namesIn, one-of-place}
 use Rattle.recur.specs.Front.{upTo, fromOn}
 use Rattle.recur.specs.Parts.{ItemForm, wordOf, enddate, counting, unsigned, signed, weekdaynum, Part, partOf, partTable, partNames, frequencies, weekdays}
-use Rattle.recur.specs.Item.{inCapitals, isNumeral, isShort, afterSign, readOrdinal, orElse, readEnddate, readWord, readForm, readItem}
+use Rattle.recur.specs.Item.{inCapitals, isNumeral, isShort, afterSign, readOrdinal, orOther, readEnddate, readWord, readForm, readItem}
 
 abbrev pub isNumeralOf : ℕ → ℕ → ℕ → List ℕ → Bool
 isNumeralOf d lo hi s = isShort d s and isNumeral lo hi s
@@ -146,7 +146,7 @@ pub end-there : (f : Format) (s : List ℕ) → true ≡ isRead (readDate f s) �
 unfolding isRead
 end-there f s e = go (readDate f s) e
   where
-    go : (o : Option (List ℕ)) → true ≡ isRead o → true ≡ isRead (orElse o (readDateTime f s))
+    go : (o : Option (List ℕ)) → true ≡ isRead o → true ≡ isRead (orOther o (readDateTime f s))
     go none k = absurd (false≢true (sym k))
     go (some d) k = refl
 

@@ -81,12 +81,12 @@ readWeekday f s = andThen (readOrdinal (upTo isAlpha s)) (λ o. andThen (readWor
 
 -- ---- the end of a rule: enddate = date / date-time
 
-abbrev pub orElse : {A : Type 0} → Option A → Option A → Option A
-orElse none o = o
-orElse (some a) o = some a
+abbrev pub orOther : {A : Type 0} → Option A → Option A → Option A
+orOther none o = o
+orOther (some a) o = some a
 
 abbrev pub readEnddate : Format → List ℕ → Option (List ℕ)
-readEnddate f s = orElse (readDate f s) (readDateTime f s)
+readEnddate f s = orOther (readDate f s) (readDateTime f s)
 
 abbrev pub writeEnddate : Format → List ℕ → List ℕ
 writeEnddate f m = pick (isDate m) (writeDate f m) (writeDateTime f m)

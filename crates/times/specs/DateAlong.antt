@@ -111,8 +111,19 @@ eight-day v l k = eight (λ (v : List ℕ). allOf isDigit v ≡ true → keep is
         let ea = digit-is a (all-split isDigit a _ k .0) in let eb = digit-is b (all-split isDigit b _ tb .0) in let ec = digit-is c (all-split isDigit c _ tc .0) in
         let ed = digit-is d (all-split isDigit d _ td .0) in let ee = digit-is e (all-split isDigit e _ te .0) in let ef = digit-is f (all-split isDigit f _ tf .0) in
         let eg = digit-is g (all-split isDigit g _ tg .0) in let eh = digit-is h (all-split isDigit h _ th .0) in
-        rw (k, day-worth (digitOf a) (digitOf b) (digitOf c) (digitOf d) (digitOf e) (digitOf f) (digitOf g) (digitOf h)
-        (digit-small a) (digit-small b) (digit-small c) (digit-small d) (digit-small e) (digit-small f) (digit-small g) (digit-small h), ← ea, ← eb, ← ec, ← ed, ← ee, ← ef, ← eg, ← eh)
+        rw (
+          k,
+          day-worth (digitOf a) (digitOf b) (digitOf c) (digitOf d) (digitOf e) (digitOf f) (digitOf g) (digitOf h)
+              (digit-small a) (digit-small b) (digit-small c) (digit-small d) (digit-small e) (digit-small f) (digit-small g) (digit-small h),
+          ← ea,
+          ← eb,
+          ← ec,
+          ← ed,
+          ← ee,
+          ← ef,
+          ← eg,
+          ← eh,
+        )
 
 pub no-digits : (v : List ℕ) → allOf isDigit v ≡ false → keep isDate v ≡ none
 unfolding keep isDate pick _and_

@@ -178,8 +178,17 @@ shift-six neg l m k = six (λ (l : List ℕ). allOf isDigit l ≡ true → offse
         let tf = all-split isDigit e _ te .1 in
         let ea = digit-is a (all-split isDigit a _ k .0) in let eb = digit-is b (all-split isDigit b _ tb .0) in let ec = digit-is c (all-split isDigit c _ tc .0) in
         let ed = digit-is d (all-split isDigit d _ td .0) in let ee = digit-is e (all-split isDigit e _ te .0) in let ef = digit-is f (all-split isDigit f _ tf .0) in
-        rw (k, by-six neg (digitOf a) (digitOf b) (digitOf c) (digitOf d) (digit-small a) (digit-small b) (digit-small c) (digit-small d)
-        (digitOf e) (digitOf f) (digit-small e) (digit-small f), ← ea, ← eb, ← ec, ← ed, ← ee, ← ef)
+        rw (
+          k,
+          by-six neg (digitOf a) (digitOf b) (digitOf c) (digitOf d) (digit-small a) (digit-small b) (digit-small c) (digit-small d)
+              (digitOf e) (digitOf f) (digit-small e) (digit-small f),
+          ← ea,
+          ← eb,
+          ← ec,
+          ← ed,
+          ← ee,
+          ← ef,
+        )
 
 no-shift-digits : (neg : Bool) (l : List ℕ) → allOf isDigit l ≡ false → shift-kept neg l ≡ none
 unfolding shift-kept isShift isClock pick _and_
@@ -205,7 +214,6 @@ by-digits neg l = rw (whole-digits 4 l, whole-digits 6 l) (go (eqb (length l) 4)
     go false true true e f g = sym (shift-six neg l (eqb-true _ _ f) g)
     go false true false e f g = no-shift-digits neg l g
     go false false d e f g = no-shift-length neg l e f
-
 
 -- by its sign and its digits
 signed : (b : ℕ) (l : List ℕ) → keep isUtcOffset (b ∷ l) ≡ pick (eqb b 43 or eqb b 45) (shift-kept (eqb b 45) l) none

@@ -127,8 +127,18 @@ six-clock v l k = six (λ (v : List ℕ). 6 ≤ length v → allOf isDigit (take
         let tf = all-split isDigit e _ te .1 in
         let ea = digit-is a (all-split isDigit a _ k .0) in let eb = digit-is b (all-split isDigit b _ tb .0) in let ec = digit-is c (all-split isDigit c _ tc .0) in
         let ed = digit-is d (all-split isDigit d _ td .0) in let ee = digit-is e (all-split isDigit e _ te .0) in let ef = digit-is f (all-split isDigit f _ tf .0) in
-        rw (le-leb 6 _ l, k, clock-worth (digitOf a) (digitOf b) (digitOf c) (digitOf d) (digitOf e) (digitOf f)
-        (digit-small a) (digit-small b) (digit-small c) (digit-small d) (digit-small e) (digit-small f) r, ← ea, ← eb, ← ec, ← ed, ← ee, ← ef)
+        rw (
+          le-leb 6 _ l,
+          k,
+          clock-worth (digitOf a) (digitOf b) (digitOf c) (digitOf d) (digitOf e) (digitOf f)
+              (digit-small a) (digit-small b) (digit-small c) (digit-small d) (digit-small e) (digit-small f) r,
+          ← ea,
+          ← eb,
+          ← ec,
+          ← ed,
+          ← ee,
+          ← ef,
+        )
 
 -- without six digits there is no time
 no-clock : (v : List ℕ) → digitsAt 6 v ≡ false → isTime v ≡ false

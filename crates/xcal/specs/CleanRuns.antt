@@ -109,10 +109,10 @@ module _ (b : ℕ) (s : List ℕ) (p i lo hi : ℕ) (l : Bool) (g : 0x80 ≤ lo)
       let z : b ≡ 13 = eqb-true b 13 c in
       pick-case Reads (starts (10 ∷ []) s) _ _
       (λ e. ascii-run 10 lo hi l (runOf (scan s (p + 1) 1)) refl refl
-        (past-run s 1 (p + 1) lo hi l g ih (step-state b s here) (record { before = 0; byte = 10; rest = drop 1 s; counted = refl; there = starts-one 10 s e; small = omega arith; allowed = refl })))
+      (past-run s 1 (p + 1) lo hi l g ih (step-state b s here) (record { before = 0; byte = 10; rest = drop 1 s; counted = refl; there = starts-one 10 s e; small = omega arith; allowed = refl })))
       (λ e.
-        let a = after-ascii 13 s (omega arith) refl (subst (λ (x : ℕ). State (x ∷ s)) z here) in
-        ascii-run 10 lo hi l (runOf (scan s (p + 1) 0)) refl refl (ih 0 (p + 1) 0 (a .0) lo hi l g refl (a .1)))
+      let a = after-ascii 13 s (omega arith) refl (subst (λ (x : ℕ). State (x ∷ s)) z here) in
+      ascii-run 10 lo hi l (runOf (scan s (p + 1) 0)) refl refl (ih 0 (p + 1) 0 (a .0) lo hi l g refl (a .1)))
 
   token-run : Reads (token b s)
   unfolding token literalByte runOf runBy marksBy

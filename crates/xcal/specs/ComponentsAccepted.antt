@@ -76,9 +76,9 @@ component-within : (k n : List ℕ) (kids more : Nodes) → isOneOf n (subcompon
     Within k (component n (readProperties (insideOf (ascii "properties") kids)) (readInner kids) (readComponents more))
 unfolding areCarried areClean
 component-within k n kids more o h r = record {
-    carried = and-yes _ _ o (and-yes _ _ (and-yes _ _ (h .properties) (rw (inner-components kids, ← (has-components (insideOf (ascii "components") kids))) (h .counted))) (and-yes _ _ (h .inner .carried) (r .carried)));
-    clean = and-yes _ _ (h .clean) (and-yes _ _ (h .inner .clean) (r .clean))
-  }
+  carried = and-yes _ _ o (and-yes _ _ (and-yes _ _ (h .properties) (rw (inner-components kids, ← (has-components (insideOf (ascii "components") kids))) (h .counted))) (and-yes _ _ (h .inner .carried) (r .carried)));
+  clean = and-yes _ _ (h .clean) (and-yes _ _ (h .inner .clean) (r .clean));
+}
 
 abbrev Components-fine : Nodes → Type 0
 Components-fine kids = (k : List ℕ) (any : Bool) (e : ℕ) → isGood kids ≡ true → componentsVerdict kids k any e ≡ fine → Within k (readComponents kids)
@@ -119,27 +119,29 @@ module _ (p : ℕ) (m : List ℕ) (x : ℕ) (kids more : Nodes) (g : isGood (ele
   child f r n counts c e h =
       either-fine (same m (ascii "properties") and not (c .properties) and not (c .components)) (same m (ascii "components") and not (c .components) and not (isEmpty (subcomponentsOf n))) _ _ p m h
       (λ t v.
-        let z = and-both (same m (ascii "properties")) _ t .0 in
-        let b = both-fine (propertiesVerdict n kids) _ v in
-        let q = properties-accepted n kids (parts .1) (b .0) in
-        let i = r n counts (record { properties = true; components = false }) e (parts .2) (b .1) in
-        record { inner = rw (same-true m (ascii "properties") z, other-name) (i .inner); properties = rw z (q .0); clean = rw z (q .1); counted = i .counted })
+      let z = and-both (same m (ascii "properties")) _ t .0 in
+      let b = both-fine (propertiesVerdict n kids) _ v in
+      let q = properties-accepted n kids (parts .1) (b .0) in
+      let i = r n counts (record { properties = true; components = false }) e (parts .2) (b .1) in
+      record { inner = rw (same-true m (ascii "properties") z, other-name) (i .inner); properties = rw z (q .0); clean = rw z (q .1); counted = i .counted })
       (λ t v.
-        let z = and-both (same m (ascii "components")) _ t .0 in
-        let b = both-fine (componentsVerdict kids n false x) _ v in
-        let i = r n counts (record { properties = c .properties; components = true }) e (parts .2) (b .1) in
-        let w : same m (ascii "properties") ≡ false = ap (λ (u : List ℕ). same u (ascii "properties")) (same-true m (ascii "components") z) ∙ same-swap (ascii "properties") (ascii "components") other-name in
-        record { inner = rw z (f n false x (parts .1) (b .0)); properties = rw w (i .properties); clean = rw w (i .clean); counted = i .counted })
+      let z = and-both (same m (ascii "components")) _ t .0 in
+      let b = both-fine (componentsVerdict kids n false x) _ v in
+      let i = r n counts (record { properties = c .properties; components = true }) e (parts .2) (b .1) in
+      let w : same m (ascii "properties") ≡ false = ap (λ (u : List ℕ). same u (ascii "properties")) (same-true m (ascii "components") z) ∙ same-swap (ascii "properties") (ascii "components") other-name in
+      record { inner = rw z (f n false x (parts .1) (b .0)); properties = rw w (i .properties); clean = rw w (i .clean); counted = i .counted })
 
 both-accepted : (kids : Nodes) → Components-fine kids × Component-fine kids
 unfolding componentsVerdict componentVerdict readComponents readInner insideOf readProperties areCarried areClean every isGood
-both-accepted noNodes =
-    (λ k any e g h. record { carried = refl; clean = refl },
-     λ n counts c e g h. record { inner = record { carried = refl; clean = refl }; properties = refl; clean = refl; counted = end-counted n counts c e h })
+both-accepted noNodes = (
+  λ k any e g h. record { carried = refl; clean = refl },
+  λ n counts c e g h. record { inner = record { carried = refl; clean = refl }; properties = refl; clean = refl; counted = end-counted n counts c e h },
+)
 both-accepted (literal p b more) =
-    let r = both-accepted more in
-    (λ k any e g h. r .0 k any e g (test-fine (isSpace b) _ FRAME p h .1),
-     λ n counts c e g h. let i = r .1 n counts c e g (test-fine (isSpace b) _ FRAME p h .1) in record { inner = i .inner; properties = i .properties; clean = i .clean; counted = i .counted })
+    let r = both-accepted more in (
+      λ k any e g h. r .0 k any e g (test-fine (isSpace b) _ FRAME p h .1),
+      λ n counts c e g h. let i = r .1 n counts c e g (test-fine (isSpace b) _ FRAME p h .1) in record { inner = i .inner; properties = i .properties; clean = i .clean; counted = i .counted },
+    )
 both-accepted (referred p bs more) = (λ k any e g h. refused-not FRAME p h, λ n counts c e g h. refused-not FRAME p h)
 both-accepted (element p m x kids more) =
     let f = both-accepted kids in
@@ -174,5 +176,5 @@ stream-accepted (element p m x kids more) any e g h =
           and-yes _ _ (same-self (ascii "VCALENDAR"))
           (and-yes _ _ (and-yes _ _ (i .properties) (rw (inner-components kids, ← (has-components (insideOf (ascii "components") kids))) (i .counted))) (and-yes _ _ (i .inner .carried) (r .carried)));
       clean = and-yes _ _ (i .clean) (and-yes _ _ (i .inner .clean) (r .clean));
-      there = or-right _ _ refl
+      there = or-right _ _ refl;
     })

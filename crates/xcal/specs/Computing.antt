@@ -14,7 +14,6 @@ use Rattle.xcal.specs.PropertyNodes.{parametersIn, propertyVerdict, prop
 use Rattle.xcal.specs.ComponentNodes.{insideOf, endOfComponent, endOfComponents, componentVerdict, componentsVerdict, streamVerdict, rootVerdict, readComponents, readInner, readRoot}
 use Rattle.xcal.specs.ReadDocument.{documentVerdict, readDocument}
 use Rattle.xcal.specs.WriteXml.{itemsXml, partsXml, valueXml, valuesXml, parameterXml, parametersXml, propertyXml, propertiesXml, componentsElement, componentsXml, writeDocument}
-
 use Rattle.xcal.specs.Contents.{itemsBefore, partsBefore, inside, valueBefore, valuesBefore, parametersBefore, propertiesBefore, componentsPart, calendarContent}
 use Rattle.xcal.specs.ParametersBack.{isCarriedParameter}
 use Rattle.xcal.specs.PropertiesBack.{isCarriedProperty}

@@ -98,17 +98,27 @@ starts-drop (x ∷ w) c (b ∷ s) h = starts-drop w c s (and-both (eqb x b) _ h 
 ends-word : (w : List ℕ) (s : List ℕ) → starts (w ⊕ ascii ";") s ≡ true → Ends s (suc (length w))
 unfolding utf8-compute
 ends-word w s h = record {
-    before = length w; byte = 59; rest = drop 1 (drop (length w) s); counted = refl;
-    there = starts-one 59 (drop (length w) s) (starts-drop w 59 s h); small = omega arith; allowed = refl
-  }
+  before = length w;
+  byte = 59;
+  rest = drop 1 (drop (length w) s);
+  counted = refl;
+  there = starts-one 59 (drop (length w) s) (starts-drop w 59 s h);
+  small = omega arith;
+  allowed = refl;
+}
 
 -- after k bytes, d digits and a semicolon
 ends-digits : (k d : ℕ) (s : List ℕ) → starts (ascii ";") (from d (from k s)) ≡ true → Ends s (k + d + 1)
 unfolding utf8-compute from
 ends-digits k d s h = record {
-    before = k + d; byte = 59; rest = drop 1 (drop (k + d) s); counted = omega arith;
-    there = starts-one 59 (drop (k + d) s) (ap (starts (ascii ";")) (sym (drop-drop d k s)) ∙ h); small = omega arith; allowed = refl
-  }
+  before = k + d;
+  byte = 59;
+  rest = drop 1 (drop (k + d) s);
+  counted = omega arith;
+  there = starts-one 59 (drop (k + d) s) (ap (starts (ascii ";")) (sym (drop-drop d k s)) ∙ h);
+  small = omega arith;
+  allowed = refl;
+}
 
 -- ---- tags
 
@@ -147,7 +157,14 @@ start-by Q s a b d none f = d
 start-by Q s a b d (some n) f =
     pick-case Q (starts (ascii ">") (from n s)) _ _
     (λ e. a (n + 1) (f n refl) (record {
-      before = n; byte = 62; rest = drop 1 (drop n s); counted = omega arith; there = starts-one 62 (drop n s) e; small = omega arith; allowed = refl }))
+      before = n;
+      byte = 62;
+      rest = drop 1 (drop n s);
+      counted = omega arith;
+      there = starts-one 62 (drop n s) e;
+      small = omega arith;
+      allowed = refl;
+    }))
     (λ e. pick-either Q (starts (ascii "/>") (from n s)) _ _ (b (n + 2) (f n refl)) d)
 
 pub tag-by : (Q : Token → Type 0) (s : List ℕ) → ((k : ℕ) → isName (nameOf s) ≡ true → Ends s k → Q (STag (nameOf s) k)) → ((k : ℕ) → isName (nameOf s) ≡ true → Q (EmptyElemTag (nameOf s) k)) →
@@ -168,9 +185,9 @@ unfolding charRef
 char-by Q k d v s a f =
     pick-case Q (ltb 0 d and starts (ascii ";") (from d (from k s)) and isCharacter v) _ _
     (λ e.
-      let b = and-both (ltb 0 d) _ e in
-      let c = and-both (starts (ascii ";") (from d (from k s))) _ (b .1) in
-      a v (k + d + 1) (c .1) (ends-digits k d s (c .0)))
+    let b = and-both (ltb 0 d) _ e in
+    let c = and-both (starts (ascii ";") (from d (from k s))) _ (b .1) in
+    a v (k + d + 1) (c .1) (ends-digits k d s (c .0)))
     (λ e. f)
 
 amp : isCharacter 38 ≡ true

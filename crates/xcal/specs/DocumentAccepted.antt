@@ -88,9 +88,10 @@ unfolding rootMarks rootTag marksBy areGoodMarks isGoodMark _and_
 root-good p [] st = (refl, refl)
 root-good p (b ∷ s) st =
     let w = step-state b s st in
-    let ih = marks-good s w in
-    (pick-either (Good s p) (eqb b 60) _ _ (start-by (Good s p) s (start-good s p w ih) (empty-good s p w ih) refl _ (name-read (namespaceAttribute then S?) s)) refl,
-     pick-either (λ t. isRooted (marksBy t p (scan s (p + 1))) ≡ true) (eqb b 60) _ _ (start-by (λ t. isRooted (marksBy t p (scan s (p + 1))) ≡ true) s (λ k n e. refl) (λ k n. refl) refl _ (name-read (namespaceAttribute then S?) s)) refl)
+    let ih = marks-good s w in (
+      pick-either (Good s p) (eqb b 60) _ _ (start-by (Good s p) s (start-good s p w ih) (empty-good s p w ih) refl _ (name-read (namespaceAttribute then S?) s)) refl,
+      pick-either (λ t. isRooted (marksBy t p (scan s (p + 1))) ≡ true) (eqb b 60) _ _ (start-by (λ t. isRooted (marksBy t p (scan s (p + 1))) ≡ true) s (λ k n e. refl) (λ k n. refl) refl _ (name-read (namespaceAttribute then S?) s)) refl,
+    )
 
 -- past the mark where the root opens
 later : (p : ℕ) (nm : List ℕ) (ms : List Mark) → areGoodMarks (opens p nm ∷ ms) ≡ true → areGoodMarks ms ≡ true

@@ -40,17 +40,17 @@ rota = calendar (
     ∷ prop (ascii "GEO") (geo (record { minus = false; before = ascii "37"; after = ascii "386" }) (record { minus = true; before = ascii "122"; after = [] }) ∷ [])
     ∷ prop (ascii "REQUEST-STATUS") (requestStatus (ascii "2.0") (ascii "Done; all") (some []) ∷ [])
     ∷ prop (ascii "RRULE") (recur (
-        record { part = ascii "FREQ"; items = word (ascii "MONTHLY") ∷ [] }
-        ∷ record { part = ascii "UNTIL"; items = moment (ascii "20301231") ∷ [] }
-        ∷ record { part = ascii "BYDAY"; items = weekday (some (record { negative = true; magnitude = 1 })) (ascii "SU") ∷ weekday none (ascii "FR") ∷ [] }
-        ∷ []) ∷ [])
+    record { part = ascii "FREQ"; items = word (ascii "MONTHLY") ∷ [] }
+    ∷ record { part = ascii "UNTIL"; items = moment (ascii "20301231") ∷ [] }
+    ∷ record { part = ascii "BYDAY"; items = weekday (some (record { negative = true; magnitude = 1 })) (ascii "SU") ∷ weekday none (ascii "FR") ∷ [] }
+    ∷ []) ∷ [])
     ∷ prop (ascii "RDATE") (periodStart (ascii "20240504T080000") (ascii "PT1H") ∷ periodStart (ascii "20240505T080000Z") (ascii "-P1W") ∷ [])
     ∷ record { name = ascii "ATTACH"; parameters = param (ascii "ENCODING") (text (ascii "BASE64") ∷ []) ∷ []; values = binary (ascii "AAAA") ∷ [] }
     ∷ record {
-        name = ascii "ATTENDEE";
-        parameters = param (ascii "MEMBER") (calAddress (ascii "mailto:a@b.c") ∷ calAddress (ascii "mailto:d@e.f") ∷ []) ∷ param (ascii "RSVP") (boolean true ∷ []) ∷ param (ascii "X-P") (unknown (ascii "a;b") ∷ []) ∷ [];
-        values = calAddress (ascii "mailto:jo@b.c") ∷ []
-      }
+      name = ascii "ATTENDEE";
+      parameters = param (ascii "MEMBER") (calAddress (ascii "mailto:a@b.c") ∷ calAddress (ascii "mailto:d@e.f") ∷ []) ∷ param (ascii "RSVP") (boolean true ∷ []) ∷ param (ascii "X-P") (unknown (ascii "a;b") ∷ []) ∷ [];
+      values = calAddress (ascii "mailto:jo@b.c") ∷ [];
+    }
     ∷ prop (ascii "X-GLASS") (integer (record { negative = true; magnitude = 5 }) ∷ [])
     ∷ [])
 

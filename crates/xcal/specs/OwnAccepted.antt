@@ -83,7 +83,7 @@ module _ (k : List ℕ) (t : ValueType) (kids : Nodes) (x : ℕ) (h : sequence (
       record {
         values = rw (float-good (ascii "latitude") refl (f .0), float-good (ascii "longitude") refl (f .1));
         type = refl;
-        clean = refl
+        clean = refl;
       }
 
 -- ---- REQUEST-STATUS
@@ -137,7 +137,7 @@ status-given k t kids x g h =
     record {
       values = refl;
       type = refl;
-      clean = rw (text-clean (ascii "code") kids refl c, text-clean (ascii "description") kids refl c, data-clean (ascii "data") kids refl c)
+      clean = rw (text-clean (ascii "code") kids refl c, text-clean (ascii "description") kids refl c, data-clean (ascii "data") kids refl c);
     }
 
 -- ---- values that are spelled as their type says
@@ -164,7 +164,7 @@ module _ (k n : List ℕ) (g : same n (ascii "GEO") ≡ false) (s : same n (asci
       record {
         values = rw (stated kids, z) (and-yes _ _ (r .2) (and-yes _ _ (r .0) (all-property t (typedValues kids) (r .1))));
         type = rw (stated kids) z;
-        clean = rw (stated kids) (r .3)
+        clean = rw (stated kids) (r .3);
       }
 
 pub values-accepted : (k n : List ℕ) (kids : Nodes) (x : ℕ) → isGood kids ≡ true → sequence (propertySlots n) (childVerdict k n (typeOfNodes n kids)) kids 0 [] x ≡ fine → Given k n kids

@@ -33,30 +33,30 @@ use Rattle.xcal.specs.PropertyValues.{Stands, typed-stands}
 pub geo-stands : (k : List ℕ) (la lo : Decimal) → isNormal la ≡ true → isNormal lo ≡ true → Stands k (ascii "GEO") FLOAT (geo la lo ∷ [])
 unfolding schema-compute valueBefore valuesBefore placed readValueNodes childNamed parametersIn sequence valueVerdict lacks _otherwise_
 geo-stands k la lo a b = record {
-    stated = λ q. rw (leaf-characters (writeFloat la), leaf-characters (writeFloat lo), float-read-back la a, float-read-back lo b);
-    typed = λ q. refl;
-    apart = λ q. refl;
-    good = λ next seen x q u. rw (
-        le-ltb 1 next u,
-        leaf-fine (λ s. isRead (readFloat s)) q (writeFloat la) _ (rw (float-read-back la a)),
-        leaf-fine (λ s. isRead (readFloat s)) _ (writeFloat lo) _ (rw (float-read-back lo b)),
-      )
-  }
+  stated = λ q. rw (leaf-characters (writeFloat la), leaf-characters (writeFloat lo), float-read-back la a, float-read-back lo b);
+  typed = λ q. refl;
+  apart = λ q. refl;
+  good = λ next seen x q u. rw (
+    le-ltb 1 next u,
+    leaf-fine (λ s. isRead (readFloat s)) q (writeFloat la) _ (rw (float-read-back la a)),
+    leaf-fine (λ s. isRead (readFloat s)) _ (writeFloat lo) _ (rw (float-read-back lo b)),
+  );
+}
 
 pub status-stands : (k c d : List ℕ) (x : Option (List ℕ)) → Stands k (ascii "REQUEST-STATUS") TEXT (requestStatus c d x ∷ [])
 unfolding schema-compute valueBefore valuesBefore placed readValueNodes childNamed parametersIn sequence valueVerdict lacks _otherwise_
 status-stands k c d none = record {
-    stated = λ q. rw (leaf-characters c, leaf-characters d);
-    typed = λ q. refl;
-    apart = λ q. refl;
-    good = λ next seen x q u. rw (le-ltb 1 next u, leaf-fine (λ s. true) q c _ refl, leaf-fine (λ s. true) _ d _ refl)
-  }
+  stated = λ q. rw (leaf-characters c, leaf-characters d);
+  typed = λ q. refl;
+  apart = λ q. refl;
+  good = λ next seen x q u. rw (le-ltb 1 next u, leaf-fine (λ s. true) q c _ refl, leaf-fine (λ s. true) _ d _ refl);
+}
 status-stands k c d (some s) = record {
-    stated = λ q. rw (leaf-characters c, leaf-characters d, leaf-characters s);
-    typed = λ q. refl;
-    apart = λ q. refl;
-    good = λ next seen x q u. rw (le-ltb 1 next u, leaf-fine (λ s. true) q c _ refl, leaf-fine (λ s. true) _ d _ refl, leaf-fine (λ s. true) _ s _ refl)
-  }
+  stated = λ q. rw (leaf-characters c, leaf-characters d, leaf-characters s);
+  typed = λ q. refl;
+  apart = λ q. refl;
+  good = λ next seen x q u. rw (le-ltb 1 next u, leaf-fine (λ s. true) q c _ refl, leaf-fine (λ s. true) _ d _ refl, leaf-fine (λ s. true) _ s _ refl);
+}
 
 -- ---- any property
 

@@ -180,7 +180,7 @@ parameter-says n t seen p m x kids w g h =
       carried = and-yes _ _ q (and-yes _ _ (and-yes _ _ (and-both _ _ q .0) (and-yes _ _ (rw (upper-apart m (ascii "VALUE") (j .0) (rw small-value (k .1)))) (and-yes _ _ (good-amount (isListedParameter (upper m)) vs (rw z at l) (r .some-value (d .0))) (r .chosen)))) (r .plain));
       clean = r .clean;
       permitted = not-false _ (f .0);
-      encoded = not-false _ (i .1)
+      encoded = not-false _ (i .1);
     }
 
 -- ---- parameters
@@ -237,5 +237,5 @@ parameters-accepted n t (element p m x kids more) seen g h =
       clean = and-yes _ _ (s .clean) (r .clean);
       permitted = and-yes _ _ (s .permitted) (r .permitted);
       encoded = and-yes _ _ (s .encoded) (r .encoded);
-      once = rw (unseen n t m more (m ∷ seen) (small-name n t seen p m x kids (a .0)) (or-left _ _ (same-self m)) (a .1)) (r .once)
+      once = rw (unseen n t m more (m ∷ seen) (small-name n t seen p m x kids (a .0)) (or-left _ _ (same-self m)) (a .1)) (r .once);
     }

@@ -101,9 +101,9 @@ each-encoded t (p ∷ ps) d h =
     let o = pick-second (isOneOf (p .name) (map nameIn ps)) (distinct (map nameIn ps)) d in
     or-cases (saysBase64 p) (anyOne saysBase64 ps) h
     (λ e.
-      let w = and-both (same (p .name) (ascii "ENCODING")) _ e in
-      let z : p .name ≡ ascii "ENCODING" = same-true _ _ (w .0) in
-      and-yes _ _ (or-right _ _ (base64-values (p .values) (w .1))) (no-encoding t ps (rw z at (o .0))))
+    let w = and-both (same (p .name) (ascii "ENCODING")) _ e in
+    let z : p .name ≡ ascii "ENCODING" = same-true _ _ (w .0) in
+    and-yes _ _ (or-right _ _ (base64-values (p .values) (w .1))) (no-encoding t ps (rw z at (o .0))))
     (λ e. and-yes _ _ (not-encoding t p (same-swap _ _ (apart-of (p .name) (map nameIn ps) (any-encoding ps e) (o .0)))) (each-encoded t ps (o .1) e))
 
 others-encoded : (t : ValueType) (ps : List Parameter) → sameType t BINARY ≡ false → every (isEncoded t) ps ≡ true

@@ -55,10 +55,11 @@ module _ (kids : Nodes) (e : ℕ) (h : sequence periodSlots periodInside kids 0 
   has : (isRead (childNamed (ascii "start") kids) ≡ true) × ((isRead (childNamed (ascii "end") kids) or isRead (childNamed (ascii "duration") kids)) ≡ true)
   unfolding isOneOf _or_
   has =
-      let f = period-filled (comes kids []) (sequence-comes periodSlots periodInside kids 0 [] e h) in
-      (sym (comes-named (ascii "start") kids []) ∙ f .0,
-       ap (λ (b : Bool). b or isRead (childNamed (ascii "duration") kids)) (sym (comes-named (ascii "end") kids []))
-       ∙ ap (λ (b : Bool). isOneOf (ascii "end") (comes kids []) or b) (sym (comes-named (ascii "duration") kids [])) ∙ f .1)
+      let f = period-filled (comes kids []) (sequence-comes periodSlots periodInside kids 0 [] e h) in (
+        sym (comes-named (ascii "start") kids []) ∙ f .0,
+        ap (λ (b : Bool). b or isRead (childNamed (ascii "duration") kids)) (sym (comes-named (ascii "end") kids []))
+            ∙ ap (λ (b : Bool). isOneOf (ascii "end") (comes kids []) or b) (sym (comes-named (ascii "duration") kids [])) ∙ f .1,
+      )
 
   moment-good : (n : List ℕ) → same n (ascii "duration") ≡ false → isRead (childNamed n kids) ≡ true → isDateTime (momentOf n kids) ≡ true
   unfolding pick readOr

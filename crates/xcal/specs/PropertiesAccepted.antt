@@ -102,13 +102,14 @@ property-accepted k p m x kids w g h =
     let f = or-neither (same m (ascii "begin")) _ (e .1) in
     let v = values-accepted k n kids x g (c .1) in
     let s = parameters-accepted n t (parametersIn n kids) [] (parameters-good n kids g) (parameters-fine k n t kids 0 [] x (c .1)) in
-    let q : isKeptName n ≡ true = kept-name m w (not-false _ (e .0)) in
-    (and-yes _ _ q
-      (and-yes _ _ (rw (upper-apart m (ascii "BEGIN") (d .0) (rw small-begin (f .0))))
-      (and-yes _ _ (rw (upper-apart m (ascii "END") (d .0) (rw small-end (f .1))))
-      (and-yes _ _ (allowed (isKnownProperty n) (mayStand k n) (b .0))
-      (and-yes _ _ (and-yes _ _ (and-both _ _ q .0) (and-yes _ _ (rw (v .type) (are-parameters n t (parametersIn n kids) s (c .0))) (v .values))) (s .carried))))),
-     and-yes _ _ (s .clean) (v .clean))
+    let q : isKeptName n ≡ true = kept-name m w (not-false _ (e .0)) in (
+      and-yes _ _ q
+          (and-yes _ _ (rw (upper-apart m (ascii "BEGIN") (d .0) (rw small-begin (f .0))))
+          (and-yes _ _ (rw (upper-apart m (ascii "END") (d .0) (rw small-end (f .1))))
+          (and-yes _ _ (allowed (isKnownProperty n) (mayStand k n) (b .0))
+          (and-yes _ _ (and-yes _ _ (and-both _ _ q .0) (and-yes _ _ (rw (v .type) (are-parameters n t (parametersIn n kids) s (c .0))) (v .values))) (s .carried))))),
+      and-yes _ _ (s .clean) (v .clean),
+    )
 
 -- ---- properties
 

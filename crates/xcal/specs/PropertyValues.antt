@@ -152,8 +152,8 @@ module _ (k n : List ℕ) (g : same n (ascii "GEO") ≡ false) (s : same n (asci
   pub typed-stands : (vs : List Value) → isAmount (isListedProperty n) vs ≡ true → every (isChosen (propertyWords k n) t) vs ≡ true → Stands k n t vs
   unfolding Good readValueNodes pick _or_
   typed-stands vs a h = record {
-      stated = λ q. rw (g, s) (values-back vs (all-typed vs h) q);
-      typed = λ q. rw (g, s) (typed-first (isListedProperty n) vs a h q .0);
-      apart = λ q. typed-first (isListedProperty n) vs a h q .1;
-      good = λ next seen x q u. rw (g, s) (all-good (isListedProperty n) vs next seen x a h u q)
-    }
+    stated = λ q. rw (g, s) (values-back vs (all-typed vs h) q);
+    typed = λ q. rw (g, s) (typed-first (isListedProperty n) vs a h q .0);
+    apart = λ q. typed-first (isListedProperty n) vs a h q .1;
+    good = λ next seen x q u. rw (g, s) (all-good (isListedProperty n) vs next seen x a h u q);
+  }

@@ -132,7 +132,7 @@ module _ (k n : List ℕ) (g : same n (ascii "GEO") ≡ false) (s : same n (asci
           rw (a .0) (record {
             chosen = and-yes _ _ (typed-accepted k n t p y kids (of-text k n t (a .1)) (a .2)) (r .chosen);
             clean = and-yes _ _ (value-clean k n t p y kids (a .2) i) (r .clean);
-            permitted = λ e. a .1
+            permitted = λ e. a .1;
           })
 
   -- after the values nothing is left
