@@ -4,10 +4,12 @@
 --     ReadBack     what a kept value is; what is written is read back
 --     Valid        what a parameter and a property of a calendar are
 --     Characters   the characters that values are written in
+--     ValueAt      the laws of the code that reads a value of a type by its number
 --     Computing    opens all of these, for examples that compute
 pub mod ReadValue
 pub mod WriteValue
 pub mod ReadBack
 pub mod Valid
 pub mod Characters
+pub mod ValueAt
 pub mod Computing

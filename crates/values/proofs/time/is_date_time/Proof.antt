@@ -1,0 +1,13 @@
+-- `values::time::is_date_time` meets its contract.
+use Rattle.values.specs.ValueAt.{timing}
+use Rattle.values.proofs.time.is_date_time.Statement.{statement}
+use Rattle.values.proofs.time.is_date_time.Tie as tie
+
+pub is-date-time-spec : {M : Type 1} → statement M
+is-date-time-spec = tie.close (tie.spec
+    (λ c κs. search timing)  -- read-date-time-requires
+    (λ c. search timing)  -- enum-known-r
+    (λ c. search timing)  -- enum-told
+    (λ c. search timing)  -- returns
+    (λ c. search timing)  -- returns-2
+    )

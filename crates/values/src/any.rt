@@ -1,0 +1,105 @@
+// A value of a type by the type's number. See specs/ValueAt.antt.
+ghost use mathlib.Core.Path.{_≡_};
+ghost use Rattle.octets.specs.Reading.{isRead};
+ghost use Rattle.model.specs.Calendar.{formatOf};
+ghost use Rattle.source.specs.Source.{rest};
+ghost use Rattle.schema.specs.Numbers.{typeAt};
+ghost use Rattle.values.specs.ReadValue.{readValue};
+ghost use Rattle.values.specs.ValueAt.{fromTime, fromInteger, fromDate, fromBinary, isGood};
+use crate::ValueRead;
+use crate::number::is_boolean;
+use crate::number::is_float;
+use crate::number::is_integer;
+use crate::text::is_binary;
+use crate::text::is_cal_address;
+use crate::text::is_recur;
+use crate::text::is_text;
+use crate::text::is_unknown;
+use crate::text::is_uri;
+use crate::time::is_date;
+use crate::time::is_date_time;
+use crate::time::is_duration;
+use crate::time::is_period;
+use crate::time::is_time;
+use crate::time::is_utc_offset;
+
+// A value of TIME, or of a type after it.
+fn is_from_time(xcal: bool, t: usize, mode: usize, s: &[u8], at: usize) -> bool
+    ensures { λ r. ⌜ r ≡ isRead (readValue (formatOf xcal) (fromTime t) (rest mode (now (s .entry)) at)) ⌝ }
+{
+    if t == 11 {
+        return is_time(xcal, mode, s, at);
+    }
+    if t == 12 {
+        return is_uri(xcal, mode, s, at);
+    }
+    if t == 13 {
+        return is_utc_offset(xcal, mode, s, at);
+    }
+    is_unknown(xcal, mode, s, at)
+}
+
+// A value of INTEGER, or of a type after it.
+fn is_from_integer(xcal: bool, t: usize, mode: usize, s: &[u8], at: usize) -> bool
+    ensures { λ r. ⌜ r ≡ isRead (readValue (formatOf xcal) (fromInteger t) (rest mode (now (s .entry)) at)) ⌝ }
+{
+    if t == 7 {
+        return is_integer(xcal, mode, s, at);
+    }
+    if t == 8 {
+        return is_period(xcal, mode, s, at);
+    }
+    if t == 9 {
+        return is_recur(xcal, mode, s, at);
+    }
+    if t == 10 {
+        return is_text(xcal, mode, s, at);
+    }
+    is_from_time(xcal, t, mode, s, at)
+}
+
+// A value of DATE, or of a type after it.
+fn is_from_date(xcal: bool, t: usize, mode: usize, s: &[u8], at: usize) -> bool
+    ensures { λ r. ⌜ r ≡ isRead (readValue (formatOf xcal) (fromDate t) (rest mode (now (s .entry)) at)) ⌝ }
+{
+    if t == 3 {
+        return is_date(xcal, mode, s, at);
+    }
+    if t == 4 {
+        return is_date_time(xcal, mode, s, at);
+    }
+    if t == 5 {
+        return is_duration(xcal, mode, s, at);
+    }
+    if t == 6 {
+        return is_float(xcal, mode, s, at);
+    }
+    is_from_integer(xcal, t, mode, s, at)
+}
+
+// A value of BINARY, or of a type after it.
+fn is_from_binary(xcal: bool, t: usize, mode: usize, s: &[u8], at: usize) -> bool
+    ensures { λ r. ⌜ r ≡ isRead (readValue (formatOf xcal) (fromBinary t) (rest mode (now (s .entry)) at)) ⌝ }
+{
+    if t == 0 {
+        return is_binary(xcal, mode, s, at);
+    }
+    if t == 1 {
+        return is_boolean(xcal, mode, s, at);
+    }
+    if t == 2 {
+        return is_cal_address(xcal, mode, s, at);
+    }
+    is_from_date(xcal, t, mode, s, at)
+}
+
+// The value of the type at the place `t`, from the cursor to the end.
+pub fn read_value(xcal: bool, t: usize, mode: usize, s: &[u8], at: usize) -> ValueRead
+    ensures { λ r. ⌜ isRead (readValue (formatOf xcal) (typeAt t) (rest mode (now (s .entry)) at)) ≡ isGood r ⌝ }
+{
+    let ok = is_from_binary(xcal, t, mode, s, at);
+    if ok {
+        return ValueRead::Good(t);
+    }
+    ValueRead::Bad
+}

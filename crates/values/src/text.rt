@@ -1,0 +1,76 @@
+// BINARY, CAL-ADDRESS, RECUR, TEXT, URI and values of no known type: whether there is a value from the cursor to the end.
+ghost use mathlib.Core.Path.{_≡_};
+ghost use Rattle.octets.specs.Reading.{isRead};
+ghost use Rattle.model.specs.Calendar.{formatOf, BINARY, CAL-ADDRESS, RECUR, TEXT, URI, UNKNOWN};
+ghost use Rattle.source.specs.Source.{rest};
+ghost use Rattle.recur.specs.Rule.{readRule};
+ghost use Rattle.values.specs.ReadValue.{readValue};
+use recur::rule::RuleRead;
+use recur::rule::read_rule;
+use texts::is_kept;
+use texts::read_binary;
+use texts::read_one_text;
+use texts::read_unknown;
+use texts::read_uri;
+
+pub fn is_binary(xcal: bool, mode: usize, s: &[u8], at: usize) -> bool
+    ensures { λ r. ⌜ r ≡ isRead (readValue (formatOf xcal) BINARY (rest mode (now (s .entry)) at)) ⌝ }
+{
+    let k = read_binary(xcal, mode, s, at);
+    is_kept(k)
+}
+
+pub fn is_cal_address(xcal: bool, mode: usize, s: &[u8], at: usize) -> bool
+    ensures { λ r. ⌜ r ≡ isRead (readValue (formatOf xcal) CAL-ADDRESS (rest mode (now (s .entry)) at)) ⌝ }
+{
+    let k = read_uri(mode, s, at);
+    is_kept(k)
+}
+
+fn is_rule(s: &[u8], at: usize) -> bool
+    ensures { λ r. ⌜ r ≡ isRead (readRule (rest 0 (now (s .entry)) at)) ⌝ }
+{
+    let r = read_rule(s, at);
+    match r {
+        RuleRead::Rule => true,
+        RuleRead::Bad => false,
+    }
+}
+
+// RECUR is made of elements in XML, and in text it stands in bytes as they are.
+pub fn is_recur(xcal: bool, mode: usize, s: &[u8], at: usize) -> bool
+    ensures { λ r. ⌜ r ≡ isRead (readValue (formatOf xcal) RECUR (rest mode (now (s .entry)) at)) ⌝ }
+{
+    if xcal {
+        return false;
+    }
+    if mode == 0 {
+        return is_rule(s, at);
+    }
+    false
+}
+
+// In XML any characters are a TEXT.
+pub fn is_text(xcal: bool, mode: usize, s: &[u8], at: usize) -> bool
+    ensures { λ r. ⌜ r ≡ isRead (readValue (formatOf xcal) TEXT (rest mode (now (s .entry)) at)) ⌝ }
+{
+    if xcal {
+        return true;
+    }
+    let k = read_one_text(mode, s, at);
+    is_kept(k)
+}
+
+pub fn is_uri(xcal: bool, mode: usize, s: &[u8], at: usize) -> bool
+    ensures { λ r. ⌜ r ≡ isRead (readValue (formatOf xcal) URI (rest mode (now (s .entry)) at)) ⌝ }
+{
+    let k = read_uri(mode, s, at);
+    is_kept(k)
+}
+
+pub fn is_unknown(xcal: bool, mode: usize, s: &[u8], at: usize) -> bool
+    ensures { λ r. ⌜ r ≡ isRead (readValue (formatOf xcal) UNKNOWN (rest mode (now (s .entry)) at)) ⌝ }
+{
+    let k = read_unknown(mode, s, at);
+    is_kept(k)
+}
