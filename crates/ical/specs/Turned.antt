@@ -20,7 +20,7 @@ use Rattle.model.specs.Calendar.{Property}
 use Rattle.schema.specs.Components.{Occurrence, alarmTable, componentTable, componentRow, unknownComponent, occurrencesOf, alarmOccurrences, isAlarm}
 use Rattle.schema.specs.Properties.{propertyNames}
 use Rattle.schema.specs.Counts.{tally, occurrenceIn, isAtMost, isOften, eachOften, firstText, actionOf, listFor, oftenFor, complete}
-use Rattle.schema.specs.Tallies.{complete-same}
+use Rattle.schema.specs.Tallies.{complete-same, often-at}
 
 unfoldable pub turned : List Property → List Property → List Property
 turned [] seen = seen
@@ -52,16 +52,6 @@ isOnceIn os = isOnce (occurrenceIn os action .most)
 at-most-once : (o : Option ℕ) (n : ℕ) → isOnce o ≡ true → isAtMost o n ≡ true → n ≤ 1
 at-most-once none n h k = absurd (false≢true h)
 at-most-once (some m) n h k = let a = leb-true m 1 h in let b = leb-true n m k in omega arith
-
-often-at : (ws : List (List ℕ)) (os : List Occurrence) (ps : List Property) (w : List ℕ) → eachOften ws os ps ≡ true → isOneOf w ws ≡ true → isOften (occurrenceIn os w) (tally w ps) ≡ true
-unfolding eachOften isOneOf _or_
-often-at [] os ps w a h = absurd (false≢true h)
-often-at (v ∷ ws) os ps w a h = go (same w v) refl h (often-at ws os ps w (and-both _ _ a .1))
-  where
-    go : (b : Bool) → same w v ≡ b → (b or isOneOf w ws) ≡ true → (isOneOf w ws ≡ true → isOften (occurrenceIn os w) (tally w ps) ≡ true) →
-        isOften (occurrenceIn os w) (tally w ps) ≡ true
-    go true e k ih = rw (same-true w v e) (and-both _ _ a .0)
-    go false e k ih = ih k
 
 component-once : (c : List ℕ) → isOnceIn (occurrencesOf c) ≡ true
 unfolding octets-compute componentRow
