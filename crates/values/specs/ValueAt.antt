@@ -3,6 +3,7 @@
 --     isGood       whether it is a value;   good-value: whether one was read
 --     fromBinary   the type of a number; fromDate, fromInteger, fromTime: the same without the types before DATE, INTEGER, TIME
 --     from-binary  it is the type at that place
+--     mapped       what was read, made into another thing
 --     timing, counting, keeping, choosing    the rules for types of dates and times, of numbers, of characters; for the choice of a type
 use mathlib.Core.Path.{_≡_, refl, sym, ap, _∙_}
 use mathlib.Core.Bool.{Bool, true, false}
@@ -248,7 +249,7 @@ unfolding isRead pick
 tested g true a = refl
 tested g false a = refl
 
-mapped : {A B : Type 0} (g : A → B) (o : Option A) → isRead (Option·map g o) ≡ isRead o
+pub mapped : {A B : Type 0} (g : A → B) (o : Option A) → isRead (Option·map g o) ≡ isRead o
 unfolding isRead
 mapped g none = refl
 mapped g (some a) = refl
