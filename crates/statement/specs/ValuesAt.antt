@@ -1,5 +1,6 @@
 -- The values of a property by numbers, of the component, of the property and of the type: what the code asks is what `readValues` says of the names.
 --     valuesRead      the answer of `read_values`: the type's number where the values are good
+--     areGood         whether they are;   good-values: whether they were read
 --     ownAt, goodAt   whether the values are good, by numbers;   goodAt: and their type is permitted
 --     values-place    it is what `readValues` says of the names
 --     geo-yes, status-yes, chosen-word, chosen-value, values-good ..   the ways of the code
@@ -43,6 +44,14 @@ use Rattle.statement.specs.declared.ValuesRead.the-variants.{Good, Bad}
 abbrev pub valuesRead : ℕ → Bool → ValuesRead
 valuesRead t true = Good t
 valuesRead t false = Bad
+
+abbrev pub areGood : ValuesRead → Bool
+areGood (Good t) = true
+areGood Bad = false
+
+pub good-values : (t : ℕ) (b : Bool) {r : ValuesRead} → r ≡ valuesRead t b → b ≡ areGood r
+good-values t true e = rw e
+good-values t false e = rw e
 
 -- 9 is GEO, 45 is REQUEST-STATUS
 abbrev pub ownAt : ℕ → ℕ → ℕ → List ℕ → Bool
