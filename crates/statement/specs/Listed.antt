@@ -7,6 +7,7 @@
 use mathlib.Core.Path.{_≡_, refl, sym, ap, _∙_}
 use mathlib.Core.Bool.{Bool, true, false}
 use mathlib.Core.List.{List, [], _∷_, map}
+use mathlib.Core.Option.{Option, none, some}
 use Prim.Native.Nat.{ℕ, _+_, _≤_, _<_}
 use native.Mathlib.Omega.{arith}
 use native.Mathlib.Decide.{decLe}
@@ -15,8 +16,8 @@ use borrow.Author.Needs.{needs}
 use borrow.Author.Tests.{ne-eqb}
 use Rattle.octets.specs.Pick.{pick, _and_}
 use Rattle.octets.specs.Words.{cutAt}
-use Rattle.octets.specs.Reading.{isRead, readEach}
-use Rattle.model.specs.Calendar.{ical, ValueType, TEXT, UNKNOWN, text}
+use Rattle.octets.specs.Reading.{andThen, isRead, consRead, readEach}
+use Rattle.model.specs.Calendar.{ical, ValueType, TEXT, UNKNOWN, Value, text}
 use Rattle.source.specs.Source.{rest, Reads}
 use Rattle.source.specs.declared.Step.{Step}
 use Rattle.schema.specs.Types.{valueTypes, typePlace, sameType}
@@ -47,11 +48,6 @@ pub ruleset one-value = (value-yes, value-no, needs)
 
 -- ---- the pieces of a list
 
-and-one : (t : Bool) → (t and true) ≡ t
-unfolding _and_
-and-one true = refl
-and-one false = refl
-
 each-first : (t : ValueType) (w : List ℕ) (ws : List (List ℕ)) → eachValue t (w ∷ ws) ≡ (isRead (readValue ical t w) and eachValue t ws)
 unfolding readEach
 each-first t w ws = cons-read (readValue ical t w) (readEach (readValue ical t) ws)
@@ -74,9 +70,14 @@ module _ (t : ValueType) {s : List ℕ} {c₀ c e : ℕ} (l : Left (eachValue t)
     unfolding _and_
     each-more z = record { left = l .left ∙ ap (eachValue t) (pieces-more d q z) ∙ each-first t _ _ ∙ rw h; inside = step-less q z .1 }
 
+alone : (o : Option Value) → isRead (andThen o (λ v. consRead v (some []))) ≡ isRead o
+unfolding andThen consRead isRead
+alone none = refl
+alone (some v) = refl
+
 gone-is : {r : Bool} (t : ValueType) → r ≡ isRead (readValue ical t []) → r ≡ eachValue t (cutAt 44 [])
-unfolding cutAt
-gone-is t e = e ∙ sym (each-first t [] [] ∙ rw (each-none t) (and-one (isRead (readValue ical t []))))
+unfolding cutAt readEach
+gone-is t e = e ∙ sym (alone (readValue ical t []))
 
 pub each-gone : {r : Bool} (t : ValueType) (s : List ℕ) (c : ℕ) → length s < c → r ≡ isRead (readValue ical t (rest 0 s c)) → r ≡ eachValue t (cutAt 44 (rest 0 s c))
 each-gone t s c h e = rw (rest-gone s c h) (gone-is t (rw (rest-gone s c h) at e))
