@@ -1,7 +1,7 @@
 -- The faults of a property's line, by their numbers: the type that it states, its parameters, its values.
 --     faultNumber     the number of a refusal, 0 where there is none
 --     fault-type, fault-parameters, fault-value, fault-none    each way of `property_fault`
-use mathlib.Core.Path.{_≡_, refl, sym, ap, _∙_}
+use mathlib.Core.Path.{_≡_, sym, ap, _∙_}
 use mathlib.Core.Bool.{Bool, true, false}
 use mathlib.Core.List.{List}
 use mathlib.Core.Option.{Option, none, some}
