@@ -21,7 +21,8 @@ use Rattle.ical.specs.Tree.{Entry, begin, end, property, nothing, ownOf, innerO
 use Rattle.xml.specs.Escape.{elementOf}
 use Rattle.xcal.specs.WriteXml.{propertyXml, propertiesXml, isNoMore, componentsElement, componentsXml}
 use Rattle.lengths.specs.Elements.{lower-length, element-length}
-use Rattle.lengths.specs.Properties.{rate, property-length}
+use Rattle.lengths.specs.Values.{rate}
+use Rattle.lengths.specs.Properties.{property-length}
 
 -- ---- a component
 
