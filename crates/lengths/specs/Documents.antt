@@ -23,7 +23,7 @@ use Rattle.ical.specs.Tree.{Entry, begin, end, property, entryBy, entryOf, cale
 use Rattle.xcal.specs.WriteXml.{componentsXml, declaration, rootStart, rootEnd, writeDocument}
 use Rattle.lengths.specs.Elements.{upper-length}
 use Rattle.lengths.specs.Values.{rate}
-use Rattle.lengths.specs.Properties.{line-length}
+use Rattle.lengths.specs.Properties.{value-within}
 use Rattle.lengths.specs.Depths.{cost, costs, nested-length}
 
 -- ---- the lines of a text
@@ -64,7 +64,7 @@ entry-cost s (some l) e = pick-either Fits (same (upper (l .name)) (ascii "BEGIN
     as-read = rw (content-line-write-back s l e)
 
     begins : Fits (begin (upper (l .value)))
-    begins = unfold cost in omega (arith, upper-length (l .value), line-length l, as-read)
+    begins = unfold cost in omega (arith, upper-length (l .value), value-within l, as-read)
 
     ends : Fits end
     ends = unfold cost in omega arith

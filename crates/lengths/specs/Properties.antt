@@ -2,6 +2,7 @@
 --     values-length       the values of a property
 --     parameters-length   its parameters
 --     property-length     the property
+--     value-within        the value of a line is a part of it
 use mathlib.Core.Path.{_≡_, refl, ap, _∙_}
 use mathlib.Core.Bool.{Bool, true, false, not}
 use mathlib.Core.List.{List, [], _∷_, map}
@@ -163,7 +164,7 @@ parameter-length r p h = go (isListedParameter (upper (r .name)) or isSingle (r 
     go false h = none-some h
 
 -- how many bytes the parameters of a line have
-abbrev bytes : List RawParameter → ℕ
+abbrev pub bytes : List RawParameter → ℕ
 bytes rs = length (joined (map writeParameter rs))
 
 each-parameter : (rs : List RawParameter) (ps : List Parameter) → readEach readParameter rs ≡ some ps → length (parametersXml ps) ≤ rate * bytes rs
@@ -211,6 +212,9 @@ values-or k n t s = go (readValues k n t s) refl
 line-length : (l : ContentLine) → length (writeContentLine l) ≡ length (l .name) + bytes (l .parameters) + suc (length (l .value))
 unfolding writeContentLine
 line-length l = omega (arith, length-both (l .name) (joined (map writeParameter (l .parameters)) ⊕ 58 ∷ l .value), length-both (joined (map writeParameter (l .parameters))) (58 ∷ l .value))
+
+pub value-within : (l : ContentLine) → length (l .value) ≤ length (writeContentLine l)
+value-within l = omega (arith, line-length l)
 
 pub property-length : (k : List ℕ) (l : ContentLine) → length (propertyXml (propertyOf k l)) ≤ rate * suc (length (writeContentLine l))
 unfolding propertyXml propertyOf
