@@ -9,13 +9,13 @@ use Prim.Native.Nat.{ℕ, zero, suc, _+_, _*_, _^_, _≤_, _<_}
 use native.Mathlib.Omega.{arith}
 use lib.ListN.{length}
 use Rattle.octets.specs.Ascii.{ascii}
-use Rattle.octets.specs.Pick.{pick, pick-either}
+use Rattle.octets.specs.Pick.{pick-either}
 use Rattle.octets.specs.Append.{_⊕_, length-both}
 use Rattle.octets.specs.Class.{upper}
 use Rattle.octets.specs.Words.{same, starts}
 use Rattle.model.specs.Calendar.{Components}
 use Rattle.folding.specs.Unfold.{unfolded, crlf, length-unfolded}
-use Rattle.folding.specs.Lines.{Line, whole, loose, longer, lineStep, linesAfter, linesFrom, lines}
+use Rattle.folding.specs.Lines.{Line, whole, loose, longer, lineStep, linesAfter, lines}
 use Rattle.lines.specs.ContentLine.{ContentLine, contentLine}
 use Rattle.lines.specs.Write.{writeContentLine}
 use Rattle.lines.specs.Accepted.{content-line-write-back}

@@ -3,7 +3,7 @@
 --     Pieces       the pieces of a text that is cut, and of escaped text
 --     Times, Numbers, Texts, Rules    the values of each kind
 --     Values       a value of any type
---     Properties   a property with its parameters
+--     PropertyValues, Parameters, Properties    a property, with its values and its parameters
 --     Depths       components, however nested
 --     Documents    the document of a text
 pub mod Elements
@@ -13,6 +13,8 @@ pub mod Numbers
 pub mod Texts
 pub mod Rules
 pub mod Values
+pub mod PropertyValues
+pub mod Parameters
 pub mod Properties
 pub mod Depths
 pub mod Documents

@@ -2,10 +2,10 @@
 --     digits-length, integer-length, truth-length
 --     float-length    and a sign, a zero and a point
 --     Geo, geo-length    a latitude and a longitude
-use mathlib.Core.Path.{_≡_, refl}
+use mathlib.Core.Path.{_≡_}
 use mathlib.Core.Bool.{Bool, true, false}
 use mathlib.Core.List.{List, [], _∷_}
-use mathlib.Core.Option.{Option, none, some}
+use mathlib.Core.Option.{none, some}
 use Prim.Native.Nat.{ℕ, zero, suc, _+_, _/_, _%_, _≤_}
 use native.Mathlib.Omega.{arith}
 use lib.Dec.{eqb, ltb}
@@ -15,7 +15,7 @@ use Rattle.octets.specs.Pick.{pick, pick-either, _and_, _or_}
 use Rattle.octets.specs.Append.{_⊕_, length-both}
 use Rattle.octets.specs.Words.{isEmpty, cutAt}
 use Rattle.octets.specs.Decimal.{digits}
-use Rattle.octets.specs.Reading.{provided, provided-some, andThen, andThen-some, none-some}
+use Rattle.octets.specs.Reading.{provided-some, andThen, andThen-some, none-some}
 use Rattle.model.specs.Calendar.{xcal, Whole, Decimal, Value, geo}
 use Rattle.numbers.specs.Sign.{unsigned, signed, hasMinus, isDigits}
 use Rattle.numbers.specs.Integer.{writeInteger}

@@ -12,7 +12,7 @@ use native.Mathlib.Omega.{arith}
 use lib.Dec.{eqb}
 use lib.ListN.{length}
 use Rattle.octets.specs.Pick.{pick, pick-either}
-use Rattle.octets.specs.Append.{_⊕_, length-both}
+use Rattle.octets.specs.Append.{length-both}
 use Rattle.octets.specs.Words.{onto, cutAt, eachAfter, joinedBy}
 use Rattle.octets.specs.Reading.{consRead}
 use Rattle.texts.specs.Text.{Sign, char, opening, separator, fault, signOf, opens, ontoRead, withSign, splitFrom, splitText}

@@ -12,14 +12,14 @@ use native.Mathlib.Omega.{arith}
 use lib.Dec.{leb}
 use lib.ListN.{length}
 use borrow.Author.Tests.{leb-true}
-use Rattle.octets.specs.Pick.{pick, pick-either, _and_}
+use Rattle.octets.specs.Pick.{pick, pick-either}
 use Rattle.octets.specs.Append.{_⊕_, length-both}
 use Rattle.octets.specs.Class.{isAlpha, upper, lower}
 use Rattle.octets.specs.Words.{same, isOneOf, cutAt, rowOf}
 use Rattle.octets.specs.Tables.{row-named, row-passes}
-use Rattle.octets.specs.Lists.{every, distinct}
+use Rattle.octets.specs.Lists.{every}
 use Rattle.octets.specs.Decimal.{digits}
-use Rattle.octets.specs.Reading.{provided, provided-some, andThen, andThen-some, readEach, consRead, consRead-some, none-some}
+use Rattle.octets.specs.Reading.{provided-some, andThen, andThen-some, readEach, consRead, consRead-some, none-some}
 use Rattle.octets.specs.Computing.{octets-compute}
 use Rattle.model.specs.Calendar.{ical, xcal, Whole, RuleItem, moment, number, word, weekday, RulePart}
 use Rattle.times.specs.Date.{isDate, readDate, writeDate}
@@ -27,7 +27,7 @@ use Rattle.times.specs.DateTime.{readDateTime, writeDateTime}
 use Rattle.recur.specs.Front.{upTo, fromOn, past}
 use Rattle.recur.specs.Parts.{ItemForm, wordOf, enddate, counting, unsigned, signed, weekdaynum, Part, partTable, partNames, partOf, isListPart, weekdays}
 use Rattle.recur.specs.Item.{readWord, readCounting, readUnsigned, readSigned, writeWhole, readOrdinal, writeOrdinal, orOther, readEnddate, readForm, writeItem, readItem}
-use Rattle.recur.specs.Rule.{rulePart, isEquals, itemsOf, readItems, readPart, nameOf, partNamed, withPart, inOrder, ruled, readRule}
+use Rattle.recur.specs.Rule.{rulePart, isEquals, itemsOf, readPart, partNamed, withPart, inOrder, ruled, readRule}
 use Rattle.xcal.specs.WriteXml.{textElement, itemsXml, partsXml}
 use Rattle.lengths.specs.Elements.{upper-length, lower-length, text-element-length}
 use Rattle.lengths.specs.Pieces.{weight, cut-weight}

@@ -1,9 +1,9 @@
 -- TEXT and REQUEST-STATUS: a text has no more bytes than its escaped spelling.
 --     text-length
 --     status-length    all parts of a REQUEST-STATUS, as elements
-use mathlib.Core.Path.{_≡_, refl}
+use mathlib.Core.Path.{_≡_}
 use mathlib.Core.List.{List, [], _∷_}
-use mathlib.Core.Option.{Option, none, some}
+use mathlib.Core.Option.{none, some}
 use Prim.Native.Nat.{ℕ, suc, _+_, _*_, _≤_}
 use native.Mathlib.Omega.{arith}
 use lib.ListN.{length}
@@ -13,7 +13,7 @@ use Rattle.octets.specs.Reading.{andThen-some, none-some}
 use Rattle.model.specs.Calendar.{Value, requestStatus}
 use Rattle.texts.specs.Text.{splitText, alone, readText}
 use Rattle.texts.specs.RequestStatus.{statusOf, readRequestStatus}
-use Rattle.xcal.specs.WriteXml.{textElement, dataXml, valueXml}
+use Rattle.xcal.specs.WriteXml.{textElement, valueXml}
 use Rattle.lengths.specs.Elements.{text-element-length}
 use Rattle.lengths.specs.Pieces.{weight, split-weight}
 

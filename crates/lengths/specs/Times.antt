@@ -2,16 +2,16 @@
 --     date-length, time-length, date-time-length, duration-length, offset-length
 use mathlib.Core.Path.{_≡_, sym, ap}
 use mathlib.Core.Bool.{Bool, true, false}
-use mathlib.Core.List.{List, [], _∷_}
+use mathlib.Core.List.{List}
 use mathlib.Core.Option.{some}
 use Prim.Native.Nat.{ℕ, _+_, _≤_}
 use native.Mathlib.Omega.{arith}
 use lib.Dec.{eqb}
 use lib.ListN.{length, drop, length-drop}
-use Rattle.octets.specs.Pick.{pick, pick-either}
+use Rattle.octets.specs.Pick.{pick}
 use Rattle.octets.specs.Class.{upper}
 use Rattle.model.specs.Calendar.{ical, xcal}
-use Rattle.times.specs.Spelling.{Mark, keep, begins, withMarks, keep-is, marks-length}
+use Rattle.times.specs.Spelling.{keep, begins, withMarks, keep-is, marks-length}
 use Rattle.times.specs.Date.{isDate, dateMarks, readDate, writeDate}
 use Rattle.times.specs.Time.{isTime, timeMarks, readTime, writeTime}
 use Rattle.times.specs.DateTime.{isDateTime, dateTimeMarks, readDateTime, writeDateTime}

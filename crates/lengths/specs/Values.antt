@@ -13,7 +13,7 @@ use Rattle.octets.specs.Ascii.{ascii}
 use Rattle.octets.specs.Pick.{pick}
 use Rattle.octets.specs.Append.{_⊕_, length-both}
 use Rattle.octets.specs.Class.{upper, lower}
-use Rattle.octets.specs.Reading.{provided-some, andThen, andThen-some, readEach, consRead, consRead-some, none-some}
+use Rattle.octets.specs.Reading.{andThen, andThen-some, readEach, consRead, consRead-some, none-some}
 use Rattle.model.specs.Calendar.{ical, xcal, ValueType, BINARY, BOOLEAN, CAL-ADDRESS, DATE, DATE-TIME, DURATION, FLOAT, INTEGER, PERIOD, RECUR, TEXT, TIME, URI, UTC-OFFSET, UNKNOWN}
 use Rattle.model.specs.Calendar.{RulePart, Value, binary, boolean, calAddress, date, dateTime, duration, float, integer, periodExplicit, periodStart, recur, text, time, uri, utcOffset, unknown, typeOf}
 use Rattle.schema.specs.Types.{typeName}
@@ -33,7 +33,6 @@ use Rattle.texts.specs.Unknown.{readUnknown, unknown-kept}
 use Rattle.recur.specs.Rule.{readRule}
 use Rattle.values.specs.ReadValue.{readValue}
 use Rattle.values.specs.WriteValue.{characters}
-use Rattle.xml.specs.Escape.{elementOf}
 use Rattle.xcal.specs.WriteXml.{textElement, partsXml, plainXml, valueXml, valuesXml}
 use Rattle.lengths.specs.Elements.{upper-length, lower-length, element-length, text-element-length}
 use Rattle.lengths.specs.Pieces.{weight}
