@@ -45,7 +45,10 @@ unfolding componentsXml
 component-length n ps inner next =
     let p : List ℕ = elementOf (ascii "properties") (propertiesXml ps) in
     let i : List ℕ = componentsElement n (isNoMore inner) (componentsXml inner) in
-    omega (arith, length-both (elementOf (lower n) (p ⊕ i)) (componentsXml next), element-length (lower n) (p ⊕ i), lower-length n, length-both p i, element-length (ascii "properties") (propertiesXml ps), inside-length n (isNoMore inner) (componentsXml inner))
+    let outer = length-both (elementOf (lower n) (p ⊕ i)) (componentsXml next) in
+    let properties = element-length (ascii "properties") (propertiesXml ps) in
+    let subcomponents = inside-length n (isNoMore inner) (componentsXml inner) in
+    omega (arith, outer, element-length (lower n) (p ⊕ i), lower-length n, length-both p i, properties, subcomponents)
 
 -- ---- components that are open, one inside the other
 

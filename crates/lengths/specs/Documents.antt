@@ -85,7 +85,8 @@ unfolding writeDocument
 document-length c =
     let x : List ℕ = componentsXml c in
     let z : List ℕ = 10 ∷ [] in
-    omega (arith, length-both declaration (z ⊕ rootStart ⊕ x ⊕ rootEnd ⊕ z), length-both z (rootStart ⊕ x ⊕ rootEnd ⊕ z), length-both rootStart (x ⊕ rootEnd ⊕ z), length-both x (rootEnd ⊕ z), length-both rootEnd z)
+    let front = length-both declaration (z ⊕ rootStart ⊕ x ⊕ rootEnd ⊕ z) in
+    omega (arith, front, length-both z (rootStart ⊕ x ⊕ rootEnd ⊕ z), length-both rootStart (x ⊕ rootEnd ⊕ z), length-both x (rootEnd ⊕ z), length-both rootEnd z)
 
 pub xml-bound : (s : List ℕ) → length (writeDocument (calendarOf (lines (unfolded s)))) ≤ rate * length s + 200
 unfolding calendarOf

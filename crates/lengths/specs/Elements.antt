@@ -27,7 +27,11 @@ lower-length [] = refl
 lower-length (b ∷ s) = ap suc (lower-length s)
 
 pub element-length : (n c : List ℕ) → length (elementOf n c) ≡ 2 * length n + 5 + length c
-element-length n c = omega (arith, length-both (startTag n) (c ⊕ endTag n), length-both c (endTag n), length-both (ascii "<") (n ⊕ ascii ">"), length-both n (ascii ">"), length-both (ascii "</") (n ⊕ ascii ">"))
+element-length n c =
+    let outer = length-both (startTag n) (c ⊕ endTag n) in
+    let start = length-both (ascii "<") (n ⊕ ascii ">") in
+    let ending = length-both (ascii "</") (n ⊕ ascii ">") in
+    omega (arith, outer, length-both c (endTag n), start, ending, length-both n (ascii ">"))
 
 escaped-byte : (b : ℕ) → length (escapedByte b) ≤ 5
 escaped-byte b =

@@ -70,13 +70,18 @@ parameter-length r p h = go (isListedParameter (upper (r .name)) or isSingle (r 
     named : List Value → Parameter
     named xs = record { name = n; values = xs }
 
-    read : (o : Option (List Value)) → readEach (readParamValue n) (r .values) ≡ o → Option·map named o ≡ some p → length (elementOf (lower (p .name)) (valuesXml (p .values))) ≤ rate * length (59 ∷ (r .name ⊕ 61 ∷ joinedBy 44 vs))
+    Brief : Type 0
+    Brief = length (elementOf (lower (p .name)) (valuesXml (p .values))) ≤ rate * length (59 ∷ (r .name ⊕ 61 ∷ joinedBy 44 vs))
+
+    read : (o : Option (List Value)) → readEach (readParamValue n) (r .values) ≡ o → Option·map named o ≡ some p → Brief
     read none e k = none-some k
     read (some xs) e k =
         let q : named xs ≡ p = cc in
-        rw (← q) (omega (arith, element-length (lower n) (valuesXml xs), lower-length n, upper-length (r .name), each-length (readParamValue n) writeParamValue (param-short n) (r .values) xs e, joined-weight 44 vs, length-both (r .name) (61 ∷ joinedBy 44 vs)))
+        let outer = element-length (lower n) (valuesXml xs) in
+        let each = each-length (readParamValue n) writeParamValue (param-short n) (r .values) xs e in
+        rw (← q) (omega (arith, outer, lower-length n, upper-length (r .name), each, joined-weight 44 vs, length-both (r .name) (61 ∷ joinedBy 44 vs)))
 
-    go : (b : Bool) → pick b (Option·map named (readEach (readParamValue n) (r .values))) none ≡ some p → length (elementOf (lower (p .name)) (valuesXml (p .values))) ≤ rate * length (59 ∷ (r .name ⊕ 61 ∷ joinedBy 44 vs))
+    go : (b : Bool) → pick b (Option·map named (readEach (readParamValue n) (r .values))) none ≡ some p → Brief
     go true h = read (readEach (readParamValue n) (r .values)) refl h
     go false h = none-some h
 
@@ -90,7 +95,8 @@ each-parameter [] ps h = let q : [] ≡ ps = cc in rw (← q) (omega arith)
 each-parameter (r ∷ rs) ps h =
     let e = andThen-some (readParameter r) (λ b. consRead b (readEach readParameter rs)) ps h in
     let g = consRead-some (e .0) (readEach readParameter rs) ps (e .2) in
-    rw (← (g .2)) (omega (arith, length-both (parameterXml (e .0)) (parametersXml (g .0)), length-both (writeParameter r) (joined (map writeParameter rs)), parameter-length r (e .0) (e .1), each-parameter rs (g .0) (g .1)))
+    let written = length-both (writeParameter r) (joined (map writeParameter rs)) in
+    rw (← (g .2)) (omega (arith, length-both (parameterXml (e .0)) (parametersXml (g .0)), written, parameter-length r (e .0) (e .1), each-parameter rs (g .0) (g .1)))
 
 own-bytes : (rs : List RawParameter) → bytes (ownParameters rs) ≤ bytes rs
 unfolding ownParameters joined pick

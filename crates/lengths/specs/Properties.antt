@@ -52,4 +52,6 @@ property-length k l =
     let t : ValueType = readOr TEXT (statedType n (l .parameters)) in
     let ps : List Parameter = readOr [] (readParameters (l .parameters)) in
     let vs : List Value = readOr [] (readValues k n t (l .value)) in
-    omega (arith, element-length (lower n) (parametersElement ps ⊕ valuesXml vs), lower-length n, upper-length (l .name), length-both (parametersElement ps) (valuesXml vs), wrapped-length ps, parameters-or (l .parameters), values-or k n t (l .value), line-length l)
+    let outer = element-length (lower n) (parametersElement ps ⊕ valuesXml vs) in
+    let both = length-both (parametersElement ps) (valuesXml vs) in
+    omega (arith, outer, lower-length n, upper-length (l .name), both, wrapped-length ps, parameters-or (l .parameters), values-or k n t (l .value), line-length l)

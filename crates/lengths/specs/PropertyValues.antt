@@ -45,7 +45,8 @@ geo-short s v h =
     let g = geo-length s v h in
     let a : List ℕ = writeFloat (g .latitude) in
     let o : List ℕ = writeFloat (g .longitude) in
-    rw (g .is) (omega (arith, g .short, length-both (textElement (ascii "latitude") a) (textElement (ascii "longitude") o), text-element-length (ascii "latitude") a, text-element-length (ascii "longitude") o))
+    let both = length-both (textElement (ascii "latitude") a) (textElement (ascii "longitude") o) in
+    rw (g .is) (omega (arith, g .short, both, text-element-length (ascii "latitude") a, text-element-length (ascii "longitude") o))
 
 status-short : (s : List ℕ) (v : Value) → readRequestStatus s ≡ some v → Short s v
 status-short s v h = omega (arith, status-length s v h)

@@ -83,14 +83,18 @@ unfolding valueXml
 explicit-length s a z h k =
     let x : List ℕ = textElement (ascii "start") (writeDateTime xcal a) in
     let y : List ℕ = textElement (ascii "end") (writeDateTime xcal z) in
-    omega (arith, element-length (ascii "period") (x ⊕ y), length-both x y, text-element-length (ascii "start") (writeDateTime xcal a), text-element-length (ascii "end") (writeDateTime xcal z), date-time-written a, date-time-written z)
+    let first = text-element-length (ascii "start") (writeDateTime xcal a) in
+    let second = text-element-length (ascii "end") (writeDateTime xcal z) in
+    omega (arith, element-length (ascii "period") (x ⊕ y), length-both x y, first, second, date-time-written a, date-time-written z)
 
 start-length : (s a d : List ℕ) → length a ≤ length s → length (writeDuration xcal d) ≤ length s → Short s (periodStart a d)
 unfolding valueXml
 start-length s a d h k =
     let x : List ℕ = textElement (ascii "start") (writeDateTime xcal a) in
     let y : List ℕ = textElement (ascii "duration") (writeDuration xcal d) in
-    omega (arith, element-length (ascii "period") (x ⊕ y), length-both x y, text-element-length (ascii "start") (writeDateTime xcal a), text-element-length (ascii "duration") (writeDuration xcal d), date-time-written a)
+    let first = text-element-length (ascii "start") (writeDateTime xcal a) in
+    let second = text-element-length (ascii "duration") (writeDuration xcal d) in
+    omega (arith, element-length (ascii "period") (x ⊕ y), length-both x y, first, second, date-time-written a)
 
 from-length : (s a r : List ℕ) (v : Value) → length a ≤ length s → length r ≤ length s → periodFrom a r ≡ some v → Short s v
 unfolding periodFrom pick
@@ -108,7 +112,9 @@ unfolding readPeriod
 period-length s v h =
     let r : List ℕ = drop 1 (drop (slashAt s) s) in
     let q = andThen-some (readDateTime ical (take (slashAt s) s)) (λ start. periodFrom start r) v h in
-    from-length s (q .0) r v (omega (arith, date-time-kept (take (slashAt s) s) (q .0) (q .1), length-take (slashAt s) s)) (omega (arith, length-drop 1 (drop (slashAt s) s), length-drop (slashAt s) s)) (q .2)
+    let start : length (q .0) ≤ length s = omega (arith, date-time-kept (take (slashAt s) s) (q .0) (q .1), length-take (slashAt s) s) in
+    let after : length r ≤ length s = omega (arith, length-drop 1 (drop (slashAt s) s), length-drop (slashAt s) s) in
+    from-length s (q .0) r v start after (q .2)
 
 -- ---- a rule
 
