@@ -1,5 +1,6 @@
--- The document of a text is not much longer than the text: it has a length that a sink can count.
---     xml-bound    a fixed number of bytes for each byte of the text, and those of a document without components
+-- The length of a text's document grows no faster than the text's, whether the text is accepted or not. The bounds are crude: they serve to show that a sink
+-- can count it.
+--     xml-bound    a fixed number of bytes for each byte of the text, and 200 for the document around it
 --     xml-short    of a text within the limit
 use mathlib.Core.Path.{_≡_, refl}
 use mathlib.Core.Bool.{Bool, true, false}
