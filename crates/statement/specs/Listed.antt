@@ -1,7 +1,6 @@
--- One value of a type by the type's number, and lists of values: what the code finds is what `readValue` and `readListed` say.
+-- Lists of values: what the code finds piece by piece is what `readListed` says.
 --     eachValue t ws     each of the pieces ws is a value of the type t
 --     number-below       the number of the type of a number
---     value-yes, value-no                     one value, by the answer of `read_value`
 --     each-bad, each-last, each-more          the loop over pieces;   each-gone: past the end
 --     listed-text, listed-other               a list of TEXT, and of another type
 use mathlib.Core.Path.{_≡_, refl, sym, ap, _∙_}
@@ -12,7 +11,6 @@ use Prim.Native.Nat.{ℕ, _+_, _≤_, _<_}
 use native.Mathlib.Omega.{arith}
 use native.Mathlib.Decide.{decLe}
 use lib.ListN.{length, take, List·getD-eq-default}
-use borrow.Author.Needs.{needs}
 use borrow.Author.Tests.{ne-eqb}
 use Rattle.octets.specs.Pick.{pick, _and_}
 use Rattle.octets.specs.Words.{cutAt}
@@ -27,24 +25,11 @@ use Rattle.recur.specs.Pieces.{Ends}
 use Rattle.recur.specs.PieceLaws.{Left, step-less, pieces-any, pieces-last, pieces-more, cons-read, rest-gone}
 use Rattle.texts.specs.TextList.{readTexts}
 use Rattle.values.specs.ReadValue.{readValue}
-use Rattle.values.specs.ValueAt.{valueRead, good-value, mapped}
-use Rattle.values.specs.declared.ValueRead.{ValueRead}
-use Rattle.values.specs.declared.ValueRead.the-variants.{Good, Bad}
+use Rattle.values.specs.ValueAt.{mapped}
 use Rattle.ical.specs.Values.{readListed}
 
 abbrev pub eachValue : ValueType → List (List ℕ) → Bool
 eachValue t ws = isRead (readEach (readValue ical t) ws)
-
--- ---- one value
-
-module _ {b : Bool} {r : ValueRead} (t : ℕ) (e : r ≡ valueRead t b) where
-  pub value-yes : {n : ℕ} → r ≡ Good n → true ≡ b
-  value-yes h = sym (good-value t b e ∙ rw h)
-
-  pub value-no : r ≡ Bad → false ≡ b
-  value-no h = sym (good-value t b e ∙ rw h)
-
-pub ruleset one-value = (value-yes, value-no, needs)
 
 -- ---- the pieces of a list
 

@@ -1,6 +1,6 @@
 -- Whether there is a value of a type, from a cursor on: what the readers of each type answer is what `readValue` says.
 --     valueRead    the answer of `read_value`: the type's number where there is a value
---     isGood       whether it is a value;   good-value: whether one was read
+--     isGood       whether it is a value;   good-value, good-yes, good-no: whether one was read
 --     fromBinary   the type of a number; fromDate, fromInteger, fromTime: the same without the types before DATE, INTEGER, TIME
 --     from-binary  it is the type at that place
 --     mapped       what was read, made into another thing
@@ -79,6 +79,13 @@ valueRead t false = Bad
 pub good-value : (t : ℕ) (b : Bool) {r : ValueRead} → r ≡ valueRead t b → b ≡ isGood r
 good-value t true e = rw e
 good-value t false e = rw e
+
+module _ {b : Bool} {r : ValueRead} (t : ℕ) (e : r ≡ valueRead t b) where
+  pub good-yes : {n : ℕ} → r ≡ Good n → true ≡ b
+  good-yes h = sym (good-value t b e ∙ rw h)
+
+  pub good-no : r ≡ Bad → false ≡ b
+  good-no h = sym (good-value t b e ∙ rw h)
 
 -- ---- the type of a number
 
