@@ -1,7 +1,6 @@
-// The XML profile: definitions and laws are in specs/. Here: writing character data and tags.
-mod markup;
-
-pub use markup::put_end_tag;
-pub use markup::put_escaped;
-pub use markup::put_escaped_byte;
-pub use markup::put_start_tag;
+// The XML profile: definitions and laws are in specs/. Here: the character at a place.
+// The character at a place: a byte, 256 where none stands there, 257 and its code point where a reference does; and the place after it.
+pub struct CharRead {
+    pub u: usize,
+    pub next: usize,
+}

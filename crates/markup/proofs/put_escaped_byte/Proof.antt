@@ -1,7 +1,7 @@
--- `xml::put_escaped_byte` meets its contract.
+-- `markup::put_escaped_byte` meets its contract.
 use Rattle.sink.specs.Sink.{writing}
-use Rattle.xml.proofs.markup.put_escaped_byte.Statement.{statement}
-use Rattle.xml.proofs.markup.put_escaped_byte.Tie as tie
+use Rattle.markup.proofs.put_escaped_byte.Statement.{statement}
+use Rattle.markup.proofs.put_escaped_byte.Tie as tie
 
 pub put-escaped-byte-spec : {M : Type 1} → statement M
 put-escaped-byte-spec = tie.close (tie.spec

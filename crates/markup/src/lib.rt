@@ -1,11 +1,11 @@
-// Writing XML: character data with its entities, and tags. See specs/Escape.antt.
+// Writing XML: character data with its entities, and tags. The definitions are in crate xml, specs/Escape.antt.
 use sink::put;
 use sink::put_all;
 use source::unit;
 ghost use mathlib.Core.Path.{_≡_};
 ghost use Rattle.sink.specs.Sink.{Put};
 ghost use Rattle.source.specs.Source.{rest};
 ghost use Rattle.xml.specs.Escape.{escapedByte, escaped, startTag, endTag};
 
 // A character's byte, or its entity.
 pub fn put_escaped_byte(out: &mut [u8], at: usize, b: u8) -> usize

@@ -1,7 +1,7 @@
--- `xml::put_end_tag` meets its contract.
+-- `markup::put_end_tag` meets its contract.
 use Rattle.sink.specs.Sink.{writing}
-use Rattle.xml.proofs.markup.put_end_tag.Statement.{statement}
-use Rattle.xml.proofs.markup.put_end_tag.Tie as tie
+use Rattle.markup.proofs.put_end_tag.Statement.{statement}
+use Rattle.markup.proofs.put_end_tag.Tie as tie
 
 pub put-end-tag-spec : {M : Type 1} → statement M
 put-end-tag-spec = tie.close (tie.spec

@@ -1,7 +1,7 @@
--- `xml::put_start_tag` meets its contract.
+-- `markup::put_start_tag` meets its contract.
 use Rattle.sink.specs.Sink.{writing}
-use Rattle.xml.proofs.markup.put_start_tag.Statement.{statement}
-use Rattle.xml.proofs.markup.put_start_tag.Tie as tie
+use Rattle.markup.proofs.put_start_tag.Statement.{statement}
+use Rattle.markup.proofs.put_start_tag.Tie as tie
 
 pub put-start-tag-spec : {M : Type 1} → statement M
 put-start-tag-spec = tie.close (tie.spec

@@ -1,13 +1,13 @@
--- `xml::put_escaped` meets its contract.
+-- `markup::put_escaped` meets its contract.
 use mathlib.Core.Path.{_≡_}
 use Prim.Native.Nat.{_-_, _*_}
 use lib.ListN.{length}
 use Rattle.sink.specs.Sink.{Todo, each}
 use Rattle.source.specs.Source.{rest}
 use Rattle.source.specs.Copying.{copying}
 use Rattle.xml.specs.Escape.{escapedByte, escaped-each}
-use Rattle.xml.proofs.markup.put_escaped.Statement.{statement}
-use Rattle.xml.proofs.markup.put_escaped.Tie as tie
+use Rattle.markup.proofs.put_escaped.Statement.{statement}
+use Rattle.markup.proofs.put_escaped.Tie as tie
 
 abbrev Inv-loop : tie.InvT-loop
 Inv-loop out₀ at mode s from o₀ c₀ out o c =

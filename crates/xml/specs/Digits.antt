@@ -1,0 +1,114 @@
+-- The digits of a character reference, read from the left, with a value that stops growing where no character is.
+--     isDigitIn h        a digit, hexadecimal if h says so
+--     worthOn h n s      what the digits at the front of s are worth after digits that are worth n
+--     capped n           n, or 0x110000 where it is more: no character has such a number (capped-character)
+--     Counting           the invariant of the loop;   counting: its start, its turn, its ends
+use mathlib.Core.Path.{_≡_, refl, sym, ap, _∙_}
+use mathlib.Core.Bool.{Bool, true, false, false≢true}
+use mathlib.Core.List.{List, [], _∷_}
+use Prim.Native.Nat.{ℕ, suc, _+_, _-_, _*_, _≤_, _<_}
+use native.Mathlib.Omega.{arith}
+use lib.Dec.{eqb, ltb}
+use lib.ListN.{length, getD, take, drop, drop-of-length-le}
+use borrow.Author.Needs.{needs}
+use borrow.Author.Tests.{lt-ltb, le-ltb, lt-leb, ne-eqb, ltb-true, ltb-false}
+use Rattle.octets.specs.Pick.{pick, pick-case, _and_, _or_, within, or-no, and-no-right, flag-yes, flag-no}
+use Rattle.octets.specs.Scan.{spanLen, spanEnd, SpanFrom, from-start, from-more, from-stop, from-end, drop-next}
+use Rattle.octets.specs.Class.{isDigit}
+use Rattle.octets.specs.Decimal.{digitOf, value}
+use Rattle.utf8.specs.Spell.{isCharacter}
+use Rattle.xml.specs.Token.{isHexDigit, hexDigitOf, hexValue}
+
+abbrev pub isDigitIn : Bool → ℕ → Bool
+isDigitIn h b = pick h (isHexDigit b) (isDigit b)
+
+abbrev pub base : Bool → ℕ
+base h = pick h 16 10
+
+unfoldable pub worthOn : Bool → ℕ → List ℕ → ℕ
+worthOn h n [] = n
+worthOn h n (b ∷ s) = pick (isDigitIn h b) (worthOn h (n * base h + hexDigitOf b) s) n
+
+unfoldable pub capped : ℕ → ℕ
+capped n = pick (ltb n 0x110000) n 0x110000
+
+-- ---- it is the value of the digits
+
+pub hex-worth : (s : List ℕ) (n : ℕ) → hexValue n (take (spanLen isHexDigit s) s) ≡ worthOn true n s
+unfolding hexValue worthOn spanLen pick
+hex-worth [] n = refl
+hex-worth (b ∷ s) n = go (isHexDigit b) (hex-worth s)
+  where
+    go : (t : Bool) → ((m : ℕ) → hexValue m (take (spanLen isHexDigit s) s) ≡ worthOn true m s) →
+        hexValue n (take (pick t (suc (spanLen isHexDigit s)) 0) (b ∷ s)) ≡ pick t (worthOn true (n * 16 + hexDigitOf b) s) n
+    go true ih = ih (n * 16 + hexDigitOf b)
+    go false ih = refl
+
+pub decimal-worth : (s : List ℕ) (n : ℕ) → value n (take (spanLen isDigit s) s) ≡ worthOn false n s
+unfolding value worthOn spanLen pick
+decimal-worth [] n = refl
+decimal-worth (b ∷ s) n = go (isDigit b) refl (decimal-worth s)
+  where
+    go : (t : Bool) → isDigit b ≡ t → ((m : ℕ) → value m (take (spanLen isDigit s) s) ≡ worthOn false m s) →
+        value n (take (pick t (suc (spanLen isDigit s)) 0) (b ∷ s)) ≡ pick t (worthOn false (n * 10 + hexDigitOf b) s) n
+    go true e ih = rw e (ih (n * 10 + (b - 48)))
+    go false e ih = refl
+
+-- ---- capped
+
+pub cap-low : (n : ℕ) → n < 0x110000 → capped n ≡ n
+unfolding capped pick
+cap-low n h = rw (lt-ltb n 0x110000 h)
+
+pub cap-high : (n : ℕ) → 0x110000 ≤ n → capped n ≡ 0x110000
+unfolding capped pick
+cap-high n h = rw (le-ltb n 0x110000 h)
+
+-- digits after digits that were worth too much are worth too much
+cap-step : (h : Bool) (n d : ℕ) → capped (capped n * base h + d) ≡ capped (n * base h + d)
+unfolding pick
+cap-step h n d = go h (ltb n 0x110000) refl
+  where
+    go : (h t : Bool) → ltb n 0x110000 ≡ t → capped (capped n * base h + d) ≡ capped (n * base h + d)
+    go h true e = rw (cap-low n (ltb-true n 0x110000 e))
+    go true false e =
+        let l = ltb-false n 0x110000 e in
+        rw (cap-high n l, cap-high (0x110000 * 16 + d) (omega arith), cap-high (n * 16 + d) (omega arith))
+    go false false e =
+        let l = ltb-false n 0x110000 e in
+        rw (cap-high n l, cap-high (0x110000 * 10 + d) (omega arith), cap-high (n * 10 + d) (omega arith))
+
+pub cap-on : (h : Bool) (s : List ℕ) (n m : ℕ) → capped m ≡ capped n → capped (worthOn h m s) ≡ capped (worthOn h n s)
+unfolding worthOn pick
+cap-on h [] n m e = e
+cap-on h (b ∷ s) n m e = go (isDigitIn h b) (cap-on h s (n * base h + hexDigitOf b) (m * base h + hexDigitOf b) (sym (cap-step h m (hexDigitOf b)) ∙ ap (λ (k : ℕ). capped (k * base h + hexDigitOf b)) e ∙ cap-step h n (hexDigitOf b)))
+  where
+    go : (t : Bool) → capped (worthOn h (m * base h + hexDigitOf b) s) ≡ capped (worthOn h (n * base h + hexDigitOf b) s) →
+        capped (pick t (worthOn h (m * base h + hexDigitOf b) s) m) ≡ capped (pick t (worthOn h (n * base h + hexDigitOf b) s) n)
+    go true ih = ih
+    go false ih = e
+
+no-character : (n : ℕ) → 0x110000 ≤ n → isCharacter n ≡ false
+unfolding isCharacter
+no-character n h =
+    or-no _ _ (and-no-right _ _ (lt-leb n 0x7E (omega arith)))
+    (or-no _ _ (ne-eqb n 9 (λ e. omega arith))
+    (or-no _ _ (ne-eqb n 10 (λ e. omega arith))
+    (or-no _ _ (and-no-right _ _ (lt-leb n 0xD7FF (omega arith)))
+    (or-no _ _ (and-no-right _ _ (lt-leb n 0xFFFD (omega arith)))
+    (and-no-right _ _ (lt-leb n 0x10FFFF (omega arith)))))))
+
+pub capped-character : (n : ℕ) → isCharacter (capped n) ≡ isCharacter n
+capped-character n = go (ltb n 0x110000) refl
+  where
+    go : (t : Bool) → ltb n 0x110000 ≡ t → isCharacter (capped n) ≡ isCharacter n
+    go true e = rw (cap-low n (ltb-true n 0x110000 e))
+    go false e = let l = ltb-false n 0x110000 e in rw (cap-high n l, no-character n l, no-character 0x110000 (omega arith))
+
+-- a character's number is what it was worth
+pub character-worth : (n : ℕ) → isCharacter (capped n) ≡ true → (capped n ≡ n) × (n < 0x110000)
+character-worth n h = go (ltb n 0x110000) refl
+  where
+    go : (t : Bool) → ltb n 0x110000 ≡ t → (capped n ≡ n) × (n < 0x110000)
+    go true e = let l = ltb-true n 0x110000 e in (cap-low n l, l)
+    go false e = let l = ltb-false n 0x110000 e in absurd (false≢true (sym (no-character n l) ∙ sym (capped-character n) ∙ h))
