@@ -70,6 +70,25 @@ pub cap-high : (n : ℕ) → 0x110000 ≤ n → capped n ≡ 0x110000
 unfolding capped pick
 cap-high n h = rw (le-ltb n 0x110000 h)
 
+module _ {r : ℕ} (n : ℕ) where
+  pub cap-below : r ≡ n → n < 0x110000 → r ≡ capped n
+  cap-below e h = e ∙ sym (cap-low n h)
+
+  pub cap-above : r ≡ 0x110000 → 0x110000 ≤ n → r ≡ capped n
+  cap-above e h = e ∙ sym (cap-high n h)
+
+-- one digit more, by the base
+module _ {r : ℕ} (v d : ℕ) (h : Bool) where
+  pub grow-hex : h ≡ true → r ≡ capped (v * 16 + d) → r ≡ capped (v * base h + d)
+  unfolding pick
+  grow-hex e g = rw e g
+
+  pub grow-decimal : h ≡ false → r ≡ capped (v * 10 + d) → r ≡ capped (v * base h + d)
+  unfolding pick
+  grow-decimal e g = rw e g
+
+pub ruleset capping = (cap-below, cap-above, grow-hex, grow-decimal, needs)
+
 -- digits after digits that were worth too much are worth too much
 cap-step : (h : Bool) (n d : ℕ) → capped (capped n * base h + d) ≡ capped (n * base h + d)
 unfolding pick
