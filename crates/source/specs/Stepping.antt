@@ -3,6 +3,7 @@
 --     Referring              a reference stands at a place
 --     Left                   the step within its character, j bytes of which are read;   left-more, left-last, left-none: by the bytes that it has
 --     byte-step, none-step   the step at a place, over a literal byte, and where no character stands;   begin-step: over a reference
+--     ampersand-here, ampersand-one, ampersand-two    where the `&` is found
 --     within-step            the step at a cursor within a reference's character;   astray-step: where there is none
 use mathlib.Core.Path.{_≡_, refl, sym, ap, _∙_}
 use mathlib.Core.Bool.{Bool, true, false}
@@ -10,7 +11,7 @@ use mathlib.Core.List.{List, [], _∷_}
 use Prim.Native.Nat.{ℕ, _+_, _-_, _*_, _/_, _%_, _^_, _≤_, _<_}
 use native.Mathlib.Omega.{arith}
 use lib.Dec.{eqb, ltb}
-use lib.ListN.{length, getD, drop, drop-of-length-le}
+use lib.ListN.{length, getD, drop, drop-of-length-le, List·getD-eq-default}
 use borrow.Author.Tests.{ne-eqb, lt-ltb, le-ltb, ltb-true, ltb-false, eqb-true, eqb-false}
 use Rattle.octets.specs.Pick.{pick, pick-yes, pick-no}
 use Rattle.octets.specs.Scan.{drop-next}
@@ -189,6 +190,27 @@ module _ (s : List ℕ) (p : ℕ) {r : CharRead} (q : Character (charIn (drop p 
       }
 
 -- ---- the step within
+
+pub byte-none : (s : List ℕ) (p : ℕ) → length s ≤ p → 0 ≡ getD s p 0
+byte-none s p h = sym (List·getD-eq-default s 0 h)
+
+-- where the `&` is found
+abbrev Ampersand : List ℕ → ℕ → ℕ → Type 0
+Ampersand s i r = (r ≡ ampersand s i) × (r ≤ i) × (i ≤ r + 2)
+
+module _ (s : List ℕ) (i b : ℕ) (e : b ≡ getD s i 0) where
+  pub ampersand-here : b ≡ 38 → Ampersand s i i
+  unfolding ampersand pick
+  ampersand-here h = (rw (← e, h), omega arith, omega arith)
+
+  module _ (n : b ≡ 38 → ⊥) (p d : ℕ) (f : p ≡ i - 1) (g : d ≡ getD s p 0) where
+    pub ampersand-one : d ≡ 38 → Ampersand s i p
+    unfolding ampersand pick
+    ampersand-one h = (rw (← e, ne-eqb b 38 n, ← f, ← g, h), omega arith, omega arith)
+
+    pub ampersand-two : (d ≡ 38 → ⊥) → (r : ℕ) → r ≡ i - 2 → Ampersand s i r
+    unfolding ampersand pick
+    ampersand-two m r h = (rw (← e, ne-eqb b 38 n, ← f, ← g, ne-eqb d 38 m) h, omega arith, omega arith)
 
 module _ (s : List ℕ) (i p : ℕ) (a : p ≡ ampersand s i) {r : CharRead} (q : Character (charIn (drop p s)) s (p + 1) r) where
   -- there is no reference

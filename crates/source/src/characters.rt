@@ -1,4 +1,5 @@
 // The characters of an XML element, byte by byte. See specs/Characters.antt, Stepping.antt.
+use octets::wide;
 use utf8::spelled_byte;
 use utf8::spelled_length;
 use xml::char_at;
@@ -56,12 +57,12 @@ fn byte_at(s: &[u8], p: usize) -> usize
     ensures { λ r. ⌜ r ≡ getD (now (s .entry)) p 0 ⌝ }
 {
     if p < s.len() {
-        return s[p] as usize;
+        return wide(s[p]);
     }
     0
 }
 
-fn before(q: usize, k: usize) -> usize
+fn back(q: usize, k: usize) -> usize
     ensures { λ r. ⌜ r ≡ q - k ⌝ }
 {
     if q < k {
@@ -77,11 +78,11 @@ fn ampersand_at(s: &[u8], q: usize) -> usize
     if byte_at(s, q) == 38 {
         return q;
     }
-    let p = before(q, 1);
+    let p = back(q, 1);
     if byte_at(s, p) == 38 {
         return p;
     }
-    before(q, 2)
+    back(q, 2)
 }
 
 // Within a reference's character.

@@ -2,20 +2,14 @@
 mod characters;
 
 use characters::xml_unit;
+use octets::wide;
 ghost use mathlib.Core.Path.{_≡_};
-ghost use Prim.Native.Nat.{_<_};
 ghost use Rattle.source.specs.Source.{Reads};
 
 // A character's next byte, or 256 at the value's end; and the cursor after it.
 pub struct Step {
     pub u: usize,
     pub next: usize,
-}
-
-fn wide(b: u8) -> usize
-    ensures { λ r. ⌜ (r ≡ b) × (r < 256) ⌝ }
-{
-    b as usize
 }
 
 // Bytes as they stand, to the end of what is lent.
