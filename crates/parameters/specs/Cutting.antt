@@ -1,9 +1,10 @@
 -- Parameters and values cut out of a line, in bytes as they stand.
 --     cut-least                 a slice cut at its length where the cut is to be past it
---     paramCut, valueCut        a parameter, a value, by cursors
+--     paramCut, valueCut        a parameter, a value, by cursors;   nameCut: a name in capitals
 --     params-step, params-over, params-fault      a walk over parameters: what F says of those from a cursor on, by the one that is there
 --     values-first, values-none, values-step ..   the same of the values of a parameter
-use mathlib.Core.Path.{_≡_, sym, ap, _∙_}
+--     last-more, last-over, last-fault            whether a value follows
+use mathlib.Core.Path.{_≡_, refl, sym, ap, _∙_}
 use mathlib.Core.Bool.{Bool, true, false}
 use mathlib.Core.List.{List, [], _∷_}
 use Prim.Native.Nat.{ℕ, min, _≤_}
@@ -11,6 +12,8 @@ use native.Mathlib.Omega.{arith}
 use native.Mathlib.Decide.{decLe}
 use lib.ListN.{length, take}
 use lib.Seq.{take-all, take-length}
+use Rattle.octets.specs.Class.{upper}
+use Rattle.octets.specs.Words.{isEmpty}
 use Rattle.source.specs.Source.{rest}
 use Rattle.lines.specs.ContentLine.{ParamValue, RawParameter, paramValue, nextValue, nextParam}
 use Rattle.lines.specs.Items.{items}
@@ -32,6 +35,9 @@ pub cut-at : {A : Type 0} (f : List ℕ → A) {r : A} {e : ℕ} (s : List ℕ) 
 cut-at f s c to h p = p ∙ ap (λ (l : List ℕ). f (rest 0 l c)) (rw h (cut-least s to))
 
 -- ---- parameters
+
+abbrev pub nameCut : List ℕ → ℕ → ℕ → List ℕ
+nameCut s name end = upper (rest 0 (take end s) name)
 
 abbrev pub paramCut : List ℕ → ℕ → ℕ → ℕ → RawParameter
 paramCut s name end first = record { name = rest 0 (take end s) name; values = valuesAt 0 s first }
@@ -68,3 +74,14 @@ module _ {A : Type 0} (F : List ParamValue → A) {x : A} {s : List ℕ} {c : �
 
   pub values-fault : r .there ≡ true → r .ok ≡ false → x ≡ F []
   values-fault h k = e ∙ ap F (value-fault v h k)
+
+-- whether a value follows
+module _ {s : List ℕ} {c : ℕ} {r : ParamAt} (v : ValueAt nextValue 0 s c r) where
+  pub last-more : r .there ≡ true → r .ok ≡ true → false ≡ isEmpty (items nextValue (rest 0 s c))
+  last-more h k = sym (values-step isEmpty refl v h k)
+
+  pub last-fault : r .there ≡ true → r .ok ≡ false → true ≡ isEmpty (items nextValue (rest 0 s c))
+  last-fault h k = sym (values-fault isEmpty refl v h k)
+
+  pub last-over : r .there ≡ false → true ≡ isEmpty (items nextValue (rest 0 s c))
+  last-over h = sym (values-over isEmpty refl v h)

@@ -31,7 +31,7 @@ use Rattle.lines.specs.Params.{ParamOf}
 use Rattle.lines.specs.declared.ParamAt.{ParamAt}
 use Rattle.lines.specs.declared.ParamRead.{ParamRead}
 use Rattle.ical.specs.Parameters.{typeIn, statedType}
-use Rattle.parameters.specs.Cutting.{paramCut, valueCut, params-step, params-over, params-fault, values-first, values-none, values-step, values-over, values-fault}
+use Rattle.parameters.specs.Cutting.{paramCut, valueCut, params-step, params-over, params-fault, values-first, values-none}
 use Rattle.parameters.specs.declared.TypeRead.{TypeRead}
 use Rattle.parameters.specs.declared.TypeRead.the-variants.{«Type» as Known, Bad}
 
@@ -86,17 +86,6 @@ type-at u {t} e = record {
 }
 
 -- ---- VALUE's one value
-
--- whether a value follows
-module _ {s : List ℕ} {c : ℕ} {r : ParamAt} (v : ValueAt nextValue 0 s c r) where
-  pub last-more : r .there ≡ true → r .ok ≡ true → false ≡ isEmpty (items nextValue (rest 0 s c))
-  last-more h k = sym (values-step isEmpty refl v h k)
-
-  pub last-fault : r .there ≡ true → r .ok ≡ false → true ≡ isEmpty (items nextValue (rest 0 s c))
-  last-fault h k = sym (values-fault isEmpty refl v h k)
-
-  pub last-over : r .there ≡ false → true ≡ isEmpty (items nextValue (rest 0 s c))
-  last-over h = sym (values-over isEmpty refl v h)
 
 module _ {s : List ℕ} {c : ℕ} {r : ParamAt} (v : ValueAt paramValue 0 s c r) where
   module _ {b : Bool} (h : r .ok ≡ true) (e : b ≡ isEmpty (items nextValue (rest 0 s (r .next)))) where

@@ -1,13 +1,12 @@
 -- A value of a parameter, by the parameter's number.
---     readBy         one value of the parameter that has a given row
+--     readBy         one value of the parameter that has a given row;   isValueBy: whether it is one
 --     value-place    it is `readParamValue` of a name, by the name's number
---     typing         the rules of the code that reads one
+--     good-.., typed-.., chosen-.., by-..   for the code that reads one
 use mathlib.Core.Path.{_≡_, refl, sym, ap, _∙_}
 use mathlib.Core.Bool.{Bool, true, false, not, false≢true}
 use mathlib.Core.List.{List}
 use mathlib.Core.Option.{Option, none, some}
 use Prim.Native.Nat.{ℕ}
-use borrow.Author.Needs.{needs}
 use borrow.Author.Tests.{eq-eqb, ne-eqb}
 use Rattle.octets.specs.Pick.{pick, _and_}
 use Rattle.octets.specs.Class.{upper}
@@ -29,6 +28,9 @@ use Rattle.ical.specs.Parameters.{readTyped, readWord, readParamValue}
 abbrev pub readBy : ParameterRow → ParamValue → Option Value
 readBy p v = pick (not (v .quoted) and p .quoted) none (readWord (p .words) (p .type) (v .chars))
 
+abbrev pub isValueBy : ParameterRow → ParamValue → Bool
+isValueBy p v = isRead (readBy p v)
+
 pub value-place : (w : List ℕ) (v : ParamValue) → readParamValue w v ≡ readBy (parameterAt (placeOf w parameterNames)) v
 unfolding readParamValue
 value-place w v = ap (λ (p : ParameterRow). readBy p v) (parameter-place w)
@@ -36,7 +38,7 @@ value-place w v = ap (λ (p : ParameterRow). readBy p v) (parameter-place w)
 pub value-named : {r : Bool} (q : ℕ) (v : ParamValue) → r ≡ isRead (readBy (parameterAt q) v) → (w : List ℕ) → q ≡ placeOf w parameterNames → r ≡ isRead (readParamValue w v)
 value-named q v e w h = e ∙ rw (value-place w v, h)
 
--- ---- rules for code
+-- ---- for code
 
 module _ {b : Bool} {v : ValueRead} (e : b ≡ isGood v) where
   pub good-yes : {n : ℕ} → v ≡ Good n → true ≡ b
@@ -89,5 +91,3 @@ module _ (p : ParameterRow) (l : List ℕ) {quoted : Bool} where
     pub by-free : {r : Bool} → must ≡ false → r ≡ isRead (readWord (p .words) (p .type) l) → r ≡ isRead (readBy p (record { quoted = quoted; chars = l }))
     unfolding pick _and_
     by-free k e = rw (h, ← q, k) e
-
-pub ruleset typing = (good-yes, good-no, typed-text, typed-other, chosen-word, chosen-other, by-quoted, by-missing, by-free, value-named, needs)

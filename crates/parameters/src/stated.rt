@@ -2,38 +2,20 @@
 use crate::TypeRead;
 use crate::cut::is_value_name;
 use crate::cut::smaller;
+use crate::several::is_last;
 use lines::next_param;
-use lines::next_value;
 use lines::param_value;
 use schema::default_type;
 use schema::type_number;
-ghost use mathlib.Core.Path.{_≡_};
 ghost use mathlib.Core.Option.{some};
 ghost use lib.ListN.{take};
 ghost use Rattle.octets.specs.Class.{upper};
-ghost use Rattle.octets.specs.Words.{isEmpty};
 ghost use Rattle.source.specs.Source.{rest};
 ghost use Rattle.schema.specs.Types.{typeNamed};
 ghost use Rattle.schema.specs.Numbers.{propertyAt};
-ghost use Rattle.lines.specs.ContentLine.{nextValue};
-ghost use Rattle.lines.specs.Items.{items};
 ghost use Rattle.lines.specs.Cursor.{valuesAt};
 ghost use Rattle.ical.specs.Parameters.{typeIn};
 ghost use Rattle.parameters.specs.Stating.{TypeOf, StatedAt};
-
-// No value follows.
-pub fn is_last(s: &[u8], at: usize) -> bool
-    ensures { λ r. ⌜ r ≡ isEmpty (items nextValue (rest 0 (now (s .entry)) at)) ⌝ }
-{
-    let v = next_value(0, s, at);
-    if v.there {
-        if v.ok {
-            return false;
-        }
-        return true;
-    }
-    true
-}
 
 // The type of a name.
 fn named_type(s: &[u8], from: usize, to: usize) -> TypeRead

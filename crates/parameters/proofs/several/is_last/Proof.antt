@@ -1,8 +1,8 @@
 -- `parameters::is_last` meets its contract.
-use Rattle.parameters.specs.Stating.{last-more, last-fault, last-over}
+use Rattle.parameters.specs.Cutting.{last-more, last-fault, last-over}
 use borrow.Author.Needs.{needs}
-use Rattle.parameters.proofs.stated.is_last.Statement.{statement}
-use Rattle.parameters.proofs.stated.is_last.Tie as tie
+use Rattle.parameters.proofs.several.is_last.Statement.{statement}
+use Rattle.parameters.proofs.several.is_last.Tie as tie
 
 pub is-last-spec : {M : Type 1} → statement M
 is-last-spec = tie.close (tie.spec
