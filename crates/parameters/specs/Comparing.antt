@@ -47,10 +47,10 @@ module _ {s t : List ℕ} {c d : ℕ} {x y : Step} (p : Reads 0 s c x) (q : Read
         go false g = let l : upperByte (y .u) < 256 = cased-small Capital (y .u) (byte-small q (eqb-false (y .u) 256 g)) in let m : upperByte (x .u) ≡ 256 = end-upper (x .u) k in absurd (omega arith)
 
     pub same-apart : (a ≡ b → ⊥) → false ≡ same (upper (rest 0 s c)) (upper (rest 0 t d))
+    unfolding _and_
     same-apart h = go (eqb (y .u) 256) refl
       where
         go : (z : Bool) → eqb (y .u) 256 ≡ z → false ≡ same (upper (rest 0 s c)) (upper (rest 0 t d))
-        unfolding _and_
         go true g = sym (end-there (eqb-true (y .u) 256 g) ∙ ne-eqb (x .u) 256 (λ k. h (e ∙ end-upper (x .u) k ∙ sym (end-upper (y .u) (eqb-true (y .u) 256 g)) ∙ sym f)))
         go false g = sym (byte-there (eqb-false (y .u) 256 g) ∙ rw (ne-eqb (upperByte (x .u)) (upperByte (y .u)) (λ k. h (e ∙ k ∙ sym f))))
 

@@ -4,12 +4,12 @@ use lines::next_param;
 use octets::upper_unit;
 use source::unit;
 ghost use mathlib.Core.Path.{_≡_};
-ghost use lib.ListN.{take};
 ghost use Rattle.octets.specs.Class.{upper};
 ghost use Rattle.octets.specs.Words.{same, isOneOf};
 ghost use Rattle.octets.specs.Lists.{distinct};
 ghost use Rattle.source.specs.Source.{rest};
 ghost use Rattle.lines.specs.Cursor.{paramsAt};
+ghost use Rattle.parameters.specs.Cutting.{nameCut};
 ghost use Rattle.parameters.specs.Comparing.{namesOf};
 
 // The words from two cursors on are the same, in any case.
@@ -35,18 +35,18 @@ fn are_same(s: &[u8], a: usize, t: &[u8], b: usize) -> bool
     }
 }
 
-// The same of two names of a line.
-fn same_names(s: &[u8], a: usize, a_end: usize, b: usize, b_end: usize) -> bool
-    ensures { λ r. ⌜ r ≡ same (upper (rest 0 (take a_end (now (s .entry))) a)) (upper (rest 0 (take b_end (now (s .entry))) b)) ⌝ }
+// The names from `a` to `e` and from `b` to `f` are the same, in any case.
+fn same_names(s: &[u8], a: usize, e: usize, b: usize, f: usize) -> bool
+    ensures { λ r. ⌜ r ≡ same (nameCut (now (s .entry)) a e) (nameCut (now (s .entry)) b f) ⌝ }
 {
-    let x = smaller(a_end, s.len());
-    let y = smaller(b_end, s.len());
+    let x = smaller(e, s.len());
+    let y = smaller(f, s.len());
     are_same(&s[..x], a, &s[..y], b)
 }
 
 // A parameter from the cursor `at` on has the name.
 fn is_again(s: &[u8], name: usize, end: usize, at: usize) -> bool
-    ensures { λ r. ⌜ r ≡ isOneOf (upper (rest 0 (take end (now (s .entry))) name)) (namesOf (paramsAt 0 (now (s .entry)) at)) ⌝ }
+    ensures { λ r. ⌜ r ≡ isOneOf (nameCut (now (s .entry)) name end) (namesOf (paramsAt 0 (now (s .entry)) at)) ⌝ }
 {
     let mut c = at;
     loop {
