@@ -3,7 +3,7 @@
 --     same-apart, same-end, same-more  two words, by the units at their cursors;   same-less: the measure of a walk over them
 use mathlib.Core.Path.{_≡_, refl, sym, _∙_}
 use mathlib.Core.Bool.{Bool, true, false}
-use mathlib.Core.List.{List, [], _∷_, map}
+use mathlib.Core.List.{List, map}
 use Prim.Native.Nat.{ℕ, _-_, _*_, _<_}
 use native.Mathlib.Omega.{arith}
 use lib.Dec.{eqb}
@@ -11,7 +11,7 @@ use lib.ListN.{length}
 use borrow.Author.Tests.{eq-eqb, ne-eqb, eqb-true, eqb-false}
 use Rattle.octets.specs.Pick.{pick, _and_}
 use Rattle.octets.specs.Class.{upperByte, upper}
-use Rattle.octets.specs.Words.{same, isEmpty}
+use Rattle.octets.specs.Words.{same}
 use Rattle.source.specs.Source.{rest, spell, Reads}
 use Rattle.source.specs.Facts.{rest-byte, rest-end, byte-small}
 use Rattle.source.specs.declared.Step.{Step}

@@ -4,7 +4,7 @@
 --     word-.., encoded-..       for code
 use mathlib.Core.Path.{_≡_, refl, sym, ap, _∙_}
 use mathlib.Core.Bool.{Bool, true, false, not}
-use mathlib.Core.List.{List, [], _∷_}
+use mathlib.Core.List.{List}
 use Prim.Native.Nat.{ℕ, zero, suc, _≤_}
 use native.Mathlib.Omega.{arith}
 use lib.Dec.{eqb}
@@ -15,7 +15,6 @@ use Rattle.octets.specs.Class.{upper}
 use Rattle.octets.specs.Words.{same, isEmpty}
 use Rattle.octets.specs.Lists.{every, anyOne, distinct}
 use Rattle.octets.specs.Reading.{isRead}
-use Rattle.model.specs.Calendar.{BINARY}
 use Rattle.source.specs.Source.{rest}
 use Rattle.names.specs.Table.{placeOf}
 use Rattle.schema.specs.Types.{typePlace, sameType}
@@ -28,7 +27,7 @@ use Rattle.lines.specs.Items.{items}
 use Rattle.lines.specs.Cursor.{valuesAt}
 use Rattle.lines.specs.Values.{ValueAt}
 use Rattle.lines.specs.declared.ParamAt.{ParamAt}
-use Rattle.ical.specs.Parameters.{isWord, isBase64, ownParameters, readParameters, parametersGood}
+use Rattle.ical.specs.Parameters.{isWord, isBase64, readParameters, parametersGood}
 use Rattle.parameters.specs.Cutting.{nameCut, values-first, values-none}
 use Rattle.parameters.specs.Readable.{own-every}
 use Rattle.parameters.specs.Comparing.{namesOf}

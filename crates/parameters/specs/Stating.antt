@@ -2,7 +2,7 @@
 --     typeRead       what an answer says;   TypeOf: the contract of a function that reads a type
 --     StatedAt       the type that the parameters from a cursor on state, of a property by its number
 --     Stating        the invariant of the walk over them;   stated-..: its laws
-use mathlib.Core.Path.{_≡_, refl, sym, ap, _∙_}
+use mathlib.Core.Path.{_≡_, refl, ap, _∙_}
 use mathlib.Core.Bool.{Bool, true, false}
 use mathlib.Core.List.{List, [], _∷_}
 use mathlib.Core.Option.{Option, none, some}
@@ -31,7 +31,7 @@ use Rattle.lines.specs.Params.{ParamOf}
 use Rattle.lines.specs.declared.ParamAt.{ParamAt}
 use Rattle.lines.specs.declared.ParamRead.{ParamRead}
 use Rattle.ical.specs.Parameters.{typeIn, statedType}
-use Rattle.parameters.specs.Cutting.{paramCut, valueCut, params-step, params-over, params-fault, values-first, values-none}
+use Rattle.parameters.specs.Cutting.{params-step, params-over, params-fault, values-first, values-none}
 use Rattle.parameters.specs.declared.TypeRead.{TypeRead}
 use Rattle.parameters.specs.declared.TypeRead.the-variants.{«Type» as Known, Bad}
 

@@ -33,12 +33,6 @@ module _ {A : Type 0} (p : A → Bool) where
     unfolding anyOne _or_
     any-halt h = rw (← e, h)
 
-  -- the same test
-  pub every-same : (q : A → Bool) → ((a : A) → p a ≡ q a) → (l : List A) → every p l ≡ every q l
-  unfolding every
-  every-same q f [] = refl
-  every-same q f (a ∷ l) = rw (f a, every-same q f l)
-
 module _ (w : List ℕ) where
   pub one-nil : isOneOf w [] ≡ false
   unfolding isOneOf
