@@ -5,6 +5,7 @@
 --     Rule         a whole rule in text, read and written
 --     Numeral      numbers as the code reads them through the cursor
 --     Fits         whether there is an item, as tests
+--     Shown        what is written of an item, from its characters
 --     Pieces       a rule as the code reads it, piece by piece
 --     NumberLaws, WordLaws, EnddateLaws    numbers, words and weekdays, dates are read back
 --     ItemLaws     an item is read back from what is written of it, and what is read is an item
@@ -20,6 +21,7 @@ pub mod Item
 pub mod Rule
 pub mod Numeral
 pub mod Fits
+pub mod Shown
 pub mod Pieces
 pub mod NumberLaws
 pub mod WordLaws
