@@ -7,6 +7,7 @@
 --     Fits         whether there is an item, as tests
 --     Shown        what is written of an item, from its characters
 --     Pieces       a rule as the code reads it, piece by piece
+--     Found        the piece that has the name of a part
 --     NumberLaws, WordLaws, EnddateLaws    numbers, words and weekdays, dates are read back
 --     ItemLaws     an item is read back from what is written of it, and what is read is an item
 --     OrderLaws    the order of a rule's parts
@@ -32,4 +33,5 @@ pub mod PartLaws
 pub mod RuleLaws
 pub mod Computing
 pub mod PieceLaws
+pub mod Found
 pub mod Examples
