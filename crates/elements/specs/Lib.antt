@@ -1,3 +1,9 @@
 -- A value of iCalendar text, written as its XML element.
---     Words    a text as it stands, and a word in capitals
+--     Words      a text as it stands, and a word in capitals
+--     Tags       names of elements by number
+--     Rules      the elements of a rule, piece by piece
+--     PutRule    the rules of the code that writes them
 pub mod Words
+pub mod Tags
+pub mod Rules
+pub mod PutRule

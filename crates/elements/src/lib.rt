@@ -1,5 +1,8 @@
 // A value of iCalendar text, written as its XML element. Definitions and their laws are in specs/.
+mod rule;
+mod tag;
 mod word;
 
+pub use rule::put_rule_xml;
 pub use word::put_raw_element;
 pub use word::put_word_element;
