@@ -1,6 +1,7 @@
 -- Names of elements, written from a table by number.
 --     lineOf k t        the line of this number in a table; lines are numbered from 0, and there is nothing past the last
---     Lining            the invariant of the loop over the lines
+--     Lines             the contract of the search for a line
+--     Lining            the invariant of its loop
 --     part-line, type-line, type-other      the names of a rule's parts and of types, in small letters
 use mathlib.Core.Path.{_≡_, refl, sym, ap, _∙_}
 use mathlib.Core.Bool.{Bool, true, false}
@@ -8,6 +9,7 @@ use mathlib.Core.List.{List, [], _∷_, map}
 use Prim.Native.Nat.{ℕ, zero, suc, _-_, _≤_, _<_}
 use native.Mathlib.Omega.{arith}
 use lib.ListN.{length, take, getD, List·getD-map}
+use lib.Seq.{length-take-le}
 use Rattle.octets.specs.Ascii.{ascii}
 use Rattle.octets.specs.Pick.{pick}
 use Rattle.octets.specs.Class.{lower}
@@ -16,16 +18,28 @@ use Rattle.octets.specs.Computing.{octets-compute}
 use Rattle.model.specs.Calendar.{ValueType, UNKNOWN}
 use Rattle.sink.specs.Sink.{Put}
 use Rattle.source.specs.Source.{rest, Reads}
+use Rattle.source.specs.Facts.{rest-part}
 use Rattle.source.specs.declared.Step.{Step}
 use Rattle.schema.specs.Types.{typeName, valueTypes}
 use Rattle.schema.specs.Numbers.{typeAt}
 use Rattle.recur.specs.Parts.{partNames}
 use Rattle.recur.specs.Pieces.{Ends}
 use Rattle.recur.specs.PieceLaws.{pieces-any, pieces-last, pieces-more, step-less}
+use Rattle.elements.specs.declared.tag.Line.{Line}
 
 -- 10 is LF
 unfoldable pub lineOf : ℕ → List ℕ → List ℕ
 lineOf k t = getD (cutAt 10 t) k []
+
+pub record Lines (t : List ℕ) (k : ℕ) (r : Line) : Type 0 where
+  pub is : lineOf k t ≡ rest 0 (take (r .till) t) (r .from)
+  pub inside : r .till ≤ length t
+
+pub line-count : {t : List ℕ} {k : ℕ} {r : Line} → Lines t k r → r .till ≡ length (take (r .till) t)
+line-count {t} {k} {r} p = sym (length-take-le (r .till) t (p .inside))
+
+pub put-line-found : {t : List ℕ} {k : ℕ} {r : Line} {x y : List ℕ} {o q : ℕ} → Lines t k r → Put x y o q (rest 0 (take (r .till) t) (r .from)) → Put x y o q (lineOf k t)
+put-line-found p w = rw (p .is) w
 
 -- ---- the loop over the lines: n lines on from c stands the line that is sought
 
@@ -37,19 +51,22 @@ pub lining-start : (t : List ℕ) (k : ℕ) → Lining t k 0 k
 unfolding rest pick
 lining-start t k = record { left = refl; inside = omega arith }
 
+none-after : (t : List ℕ) (e : ℕ) → rest 0 (take e t) e ≡ []
+none-after t e = let z : e - e ≡ 0 = omega arith in rest-part t e e ∙ rw z
+
 module _ {t : List ℕ} {k c n e : ℕ} (i : Lining t k c n) (d : Ends 10 t c e) where
-  pub lining-here : {x y : List ℕ} {o r : ℕ} → n ≡ 0 → Put x y o r (rest 0 (take e t) c) → Put x y o r (lineOf k t)
+  pub lining-here : n ≡ 0 → Lines t k (record { from = c; till = e })
   unfolding lineOf
-  lining-here h p = rw (i .left, h, pieces-any d) p
+  lining-here h = record { is = i .left ∙ rw (h, pieces-any d); inside = d .inside }
 
   module _ {u : Step} (q : Reads 0 t e u) (h : n ≡ 0 → ⊥) where
-    pub lining-none : {x y : List ℕ} {o r : ℕ} → u .u ≡ 256 → Put x y o r [] → Put x y o r (lineOf k t)
+    pub lining-none : u .u ≡ 256 → Lines t k (record { from = e; till = e })
     unfolding lineOf
-    lining-none {x} {y} {o} {r} z p = rw (i .left, pieces-last d q z) (go n h)
+    lining-none z = record { is = i .left ∙ rw (pieces-last d q z, none-after t e) (go n h); inside = d .inside }
       where
-        go : (n : ℕ) → (n ≡ 0 → ⊥) → Put x y o r (getD (rest 0 (take e t) c ∷ []) n [])
+        go : (n : ℕ) → (n ≡ 0 → ⊥) → getD (rest 0 (take e t) c ∷ []) n [] ≡ []
         go zero h = absurd (h refl)
-        go (suc n) h = p
+        go (suc n) h = refl
 
     pub lining-more : (u .u ≡ 256 → ⊥) → Lining t k (u .next) (n - 1)
     unfolding lineOf

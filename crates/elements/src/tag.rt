@@ -9,27 +9,40 @@ ghost use Rattle.octets.specs.Class.{lower};
 ghost use Rattle.sink.specs.Sink.{Put};
 ghost use Rattle.xml.specs.Escape.{startTag, endTag};
 ghost use Rattle.recur.specs.Parts.{partNames};
-ghost use Rattle.elements.specs.Tags.{lineOf, typeLabel};
+ghost use Rattle.elements.specs.Tags.{lineOf, Lines, typeLabel};
 
-// The line `k` of a table; nothing where there is none.
-fn put_line(out: &mut [u8], o: usize, table: &[u8], k: usize) -> usize
-    ensures { λ r. ⌜ Put (now (out .entry)) (now (out .exit)) o r (lineOf k (now (table .entry))) ⌝ }
+// A line of a table, from one cursor to another.
+pub struct Line {
+    pub from: usize,
+    pub till: usize,
+}
+
+// The line `k`; an empty one where there is none.
+fn find_line(table: &[u8], k: usize) -> Line
+    ensures { λ r. ⌜ Lines (now (table .entry)) k r ⌝ }
 {
     let mut c = 0;
     let mut n = k;
     loop {
         let e = byte_end(10, table, c);
         if n == 0 {
-            return put_rest(out, o, 0, &table[..e], c);
+            return Line { from: c, till: e };
         }
         let t = unit(0, table, e);
         let u = t.u;
         if u == 256 {
-            return o;
+            return Line { from: e, till: e };
         }
         c = t.next;
         n -= 1;
     }
+}
+
+fn put_line(out: &mut [u8], o: usize, table: &[u8], k: usize) -> usize
+    ensures { λ r. ⌜ Put (now (out .entry)) (now (out .exit)) o r (lineOf k (now (table .entry))) ⌝ }
+{
+    let l = find_line(table, k);
+    put_rest(out, o, 0, &table[..l.till], l.from)
 }
 
 fn put_part_name(out: &mut [u8], o: usize, p: usize) -> usize
