@@ -1,4 +1,5 @@
--- `elements::put_recur_element` meets its contract. Assumes nothing.
+-- `elements::put_recur_element` meets its contract.
+use Rattle.elements.specs.PutElement.{put-recur, put-no-recur}
 use Rattle.sink.specs.Sink.{writing}
 use Rattle.elements.proofs.value.put_recur_element.Statement.{statement}
 use Rattle.elements.proofs.value.put_recur_element.Tie as tie
@@ -10,6 +11,6 @@ put-recur-element-spec = tie.close (tie.spec
     (λ c κs. search writing)  -- put-recur-xml-requires
     (λ c. search writing)  -- enum-told-2
     (λ c. search writing)  -- same-length
-    (λ c. search writing)  -- returns
-    (λ c. search writing)  -- returns-2
+    (λ c. put-recur _ (c .before .before .before .before .before .before .read-rule .ensures) (c .before .before .before .before .enum-told .given .1) (c .before .before .put-recur-xml .ensures))  -- returns
+    (λ c. put-no-recur _ (c .before .before .read-rule .ensures) (c .enum-told2 .given .1) (search writing))  -- returns-2
     )
