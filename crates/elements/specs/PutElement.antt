@@ -10,7 +10,6 @@ use Prim.Native.Nat.{ℕ, zero, suc}
 use Rattle.octets.specs.Ascii.{ascii}
 use Rattle.octets.specs.Class.{lower}
 use Rattle.octets.specs.Reading.{isRead, orNothing, none-some}
-use Rattle.octets.specs.Computing.{octets-compute}
 use Rattle.model.specs.Calendar.{ical, ValueType, BINARY, BOOLEAN, CAL-ADDRESS, DATE, DATE-TIME, DURATION, FLOAT, INTEGER, PERIOD, RECUR, TEXT, TIME, URI, UTC-OFFSET, UNKNOWN}
 use Rattle.model.specs.Calendar.{RulePart, Value, binary, boolean, calAddress, date, dateTime, duration, float, integer, recur, text, time, uri, utcOffset, unknown}
 use Rattle.sink.specs.Sink.{Put}
@@ -40,11 +39,7 @@ use Rattle.values.specs.declared.ValueRead.the-variants as value
 use Rattle.xml.specs.Escape.{escaped, elementOf}
 use Rattle.xcal.specs.WriteXml.{partsXml, valueXml}
 use Rattle.elements.specs.Tags.{typeLabel}
-
-nothing-read : {A : Type 0} (w : A → List ℕ) {d e : List ℕ} {o q : ℕ} (u : Option A) → isRead u ≡ false → Put d e o q [] → Put d e o q (orNothing w u)
-unfolding isRead
-nothing-read w none h p = p
-nothing-read w (some v) h p = absurd (false≢true (sym h))
+use Rattle.elements.specs.PutRule.{nothing-read}
 
 -- ---- RECUR
 

@@ -1,7 +1,7 @@
 -- PERIOD of iCalendar text as an element (RFC 6321, section 3.6.9): its start, and its end or its duration, as elements in it.
 --     periodXml x l      what the code writes of the period l, where x says that it has an end
 --     put-period, put-no-period     it is the element of the period that is read
-use mathlib.Core.Path.{_≡_, refl, sym, ap, _∙_}
+use mathlib.Core.Path.{_≡_, refl, sym, _∙_}
 use mathlib.Core.Bool.{Bool, true, false, false≢true}
 use mathlib.Core.List.{List, []}
 use mathlib.Core.Option.{Option, none, some}

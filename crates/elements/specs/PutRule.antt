@@ -3,12 +3,12 @@
 --     Itemizing                  the invariant of the loop over the items of a piece
 --     put-found, put-missing     the piece of a part
 --     Naming                     the invariant of the loop over the parts
---     put-rule, put-no-rule      the whole rule
+--     put-rule, put-no-rule      the whole rule;   nothing-read: nothing of what was not read
 use mathlib.Core.Path.{_≡_, refl, sym, ap, _∙_, subst}
 use mathlib.Core.Bool.{Bool, true, false, false≢true}
-use mathlib.Core.List.{List, [], _∷_}
+use mathlib.Core.List.{List, []}
 use mathlib.Core.Option.{Option, none, some}
-use Prim.Native.Nat.{ℕ, suc, _+_, _*_, _^_, _≤_, _<_}
+use Prim.Native.Nat.{ℕ, _+_, _*_, _^_, _≤_, _<_}
 use native.Mathlib.Omega.{arith}
 use native.Mathlib.Decide.{decLe}
 use native.Mathlib.Numerals.{add-one}
@@ -19,12 +19,12 @@ use Rattle.octets.specs.Append.{_⊕_, append-none}
 use Rattle.octets.specs.Words.{cutAt, rowOf}
 use Rattle.octets.specs.Reading.{isRead, orNothing}
 use Rattle.model.specs.Calendar.{RulePart}
-use Rattle.sink.specs.Sink.{Put, put-length, Todo, todo-all, todo-step, todo-done, put-none}
+use Rattle.sink.specs.Sink.{Put, put-length, Todo, todo-all, todo-step, todo-done}
 use Rattle.source.specs.Source.{rest, Reads}
 use Rattle.source.specs.declared.Step.{Step}
 use Rattle.recur.specs.Front.{past}
 use Rattle.recur.specs.Parts.{partOf, partNames, isListed, isListPart}
-use Rattle.recur.specs.Rule.{isEquals, itemsOf, readRule}
+use Rattle.recur.specs.Rule.{isEquals, readRule}
 use Rattle.recur.specs.Pieces.{Ends, pieceName, good}
 use Rattle.recur.specs.PieceLaws.{pieces-last, pieces-more, step-less, rule-beyond}
 use Rattle.recur.specs.Found.{Finds}
@@ -113,6 +113,12 @@ module _ {ws : List (List ℕ)} {d₀ : List ℕ} {at₀ : ℕ} {d : List ℕ} {
 
 -- ---- the whole rule
 
+-- nothing is written where nothing was read
+pub nothing-read : {A : Type 0} (w : A → List ℕ) {d e : List ℕ} {o q : ℕ} (u : Option A) → isRead u ≡ false → Put d e o q [] → Put d e o q (orNothing w u)
+unfolding isRead
+nothing-read w none h p = p
+nothing-read w (some v) h p = absurd (false≢true (sym h))
+
 pub rule-inside : (s : List ℕ) (c : ℕ) {r : RuleRead} → isRead (readRule (rest 0 s c)) ≡ good r → r ≡ Rule → c ≤ length s
 rule-inside s c {r} q h = go (decLe c (length s))
   where
@@ -130,9 +136,4 @@ module _ {d e : List ℕ} {o q : ℕ} (l : List ℕ) {r : RuleRead} (p : isRead 
       go (some v) k z = rw (rule-xml l v k) w
 
   pub put-no-rule : r ≡ Bad → Put d e o q [] → Put d e o q (orNothing partsXml (readRule l))
-  unfolding isRead
-  put-no-rule h w = go (readRule l) (p ∙ ap good h)
-    where
-      go : (v : Option (List RulePart)) → isRead v ≡ false → Put d e o q (orNothing partsXml v)
-      go none z = w
-      go (some v) z = absurd (false≢true (sym z))
+  put-no-rule h w = nothing-read partsXml (readRule l) (p ∙ ap good h) w

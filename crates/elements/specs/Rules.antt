@@ -13,7 +13,7 @@ use Rattle.octets.specs.Append.{_⊕_}
 use Rattle.octets.specs.Class.{lower}
 use Rattle.octets.specs.Words.{same, same-true, cutAt, rowOf}
 use Rattle.octets.specs.Lists.{distinct}
-use Rattle.octets.specs.Reading.{andThen, readEach, consRead, orNothing, andThen-some, consRead-some, provided-some}
+use Rattle.octets.specs.Reading.{readEach, consRead, orNothing, andThen-some, consRead-some, provided-some}
 use Rattle.model.specs.Calendar.{ical, xcal, RuleItem, moment, number, word, weekday, RulePart}
 use Rattle.times.specs.Date.{isDate, writeDate, date-read-back}
 use Rattle.times.specs.DateTime.{isDateTime, writeDateTime, date-time-read-back}

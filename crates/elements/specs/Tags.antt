@@ -4,7 +4,6 @@
 --     Lining            the invariant of its loop
 --     part-line, type-line, type-other      the names of a rule's parts and of types, in small letters
 use mathlib.Core.Path.{_≡_, refl, sym, ap, _∙_}
-use mathlib.Core.Bool.{Bool, true, false}
 use mathlib.Core.List.{List, [], _∷_, map}
 use Prim.Native.Nat.{ℕ, zero, suc, _-_, _≤_, _<_}
 use native.Mathlib.Omega.{arith}

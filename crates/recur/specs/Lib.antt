@@ -6,6 +6,7 @@
 --     Numeral      numbers as the code reads them through the cursor
 --     Fits         whether there is an item, as tests
 --     Shown        what is written of an item, from its characters
+--     PutShown     the rules of the code that writes it
 --     Pieces       a rule as the code reads it, piece by piece
 --     Found        the piece that has the name of a part
 --     NumberLaws, WordLaws, EnddateLaws    numbers, words and weekdays, dates are read back
@@ -23,6 +24,7 @@ pub mod Rule
 pub mod Numeral
 pub mod Fits
 pub mod Shown
+pub mod PutShown
 pub mod Pieces
 pub mod NumberLaws
 pub mod WordLaws

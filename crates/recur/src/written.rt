@@ -12,18 +12,18 @@ ghost use Rattle.recur.specs.Parts.{partNames, weekdaynum};
 ghost use Rattle.recur.specs.Item.{inCapitals, isMinus, readEnddate, writeEnddate, readItem, writeItem};
 ghost use Rattle.recur.specs.Numeral.{front};
 ghost use Rattle.recur.specs.Shown.{shownNumber, shownOrdinal, shown, rowAt, shownAt};
+use crate::item::is_item;
+use crate::number::after_sign;
+use crate::number::front_unit;
+use crate::number::numeral_of;
+use crate::word::first_letter;
 use names::put_rest;
 use names::put_upper;
 use numbers::integer::put_whole;
 use times::date::DateRead;
-use times::date::read_date;
 use times::date::put_date;
+use times::date::read_date;
 use times::date_time::put_date_time;
-use crate::number::front_unit;
-use crate::number::after_sign;
-use crate::number::numeral_of;
-use crate::word::first_letter;
-use crate::item::is_item;
 
 fn is_minus(letters: bool, mode: usize, s: &[u8], at: usize) -> bool
     ensures { λ r. ⌜ r ≡ isMinus (front letters (rest mode (now (s .entry)) at)) ⌝ }
@@ -62,7 +62,15 @@ fn put_word(out: &mut [u8], o: usize, from: bool, mode: usize, s: &[u8], at: usi
     put_upper(out, o, mode, s, at)
 }
 
-fn put_weekdaynum(out: &mut [u8], o: usize, from: bool, to: bool, mode: usize, s: &[u8], at: usize) -> usize
+fn put_weekdaynum(
+    out: &mut [u8],
+    o: usize,
+    from: bool,
+    to: bool,
+    mode: usize,
+    s: &[u8],
+    at: usize,
+) -> usize
     ensures { λ r. ⌜ Put (now (out .entry)) (now (out .exit)) o r (shown (formatOf to) (formatOf from) weekdaynum (rest mode (now (s .entry)) at)) ⌝ }
 {
     let q = put_ordinal(out, o, mode, s, at);
@@ -71,7 +79,15 @@ fn put_weekdaynum(out: &mut [u8], o: usize, from: bool, to: bool, mode: usize, s
 }
 
 // A date or a date-time.
-fn put_enddate(out: &mut [u8], o: usize, from: bool, to: bool, mode: usize, s: &[u8], at: usize) -> usize
+fn put_enddate(
+    out: &mut [u8],
+    o: usize,
+    from: bool,
+    to: bool,
+    mode: usize,
+    s: &[u8],
+    at: usize,
+) -> usize
     ensures { λ r. ⌜ Put (now (out .entry)) (now (out .exit)) o r (orNothing (writeEnddate (formatOf to)) (readEnddate (formatOf from) (rest mode (now (s .entry)) at))) ⌝ }
 {
     let a = read_date(from, mode, s, at);
@@ -82,7 +98,16 @@ fn put_enddate(out: &mut [u8], o: usize, from: bool, to: bool, mode: usize, s: &
 }
 
 // What is written of an item of the part at the place `p`, if there is one.
-fn put_shown(out: &mut [u8], o: usize, p: usize, from: bool, to: bool, mode: usize, s: &[u8], at: usize) -> usize
+fn put_shown(
+    out: &mut [u8],
+    o: usize,
+    p: usize,
+    from: bool,
+    to: bool,
+    mode: usize,
+    s: &[u8],
+    at: usize,
+) -> usize
     ensures { λ r. ⌜ Put (now (out .entry)) (now (out .exit)) o r (shownAt (formatOf to) (formatOf from) (rowAt p) (rest mode (now (s .entry)) at)) ⌝ }
 {
     if p == 0 {
@@ -104,7 +129,16 @@ fn put_shown(out: &mut [u8], o: usize, p: usize, from: bool, to: bool, mode: usi
 }
 
 // Writes the item of the part at the place `p`, read from one format and written in another.
-pub fn put_item(out: &mut [u8], o: usize, p: usize, from: bool, to: bool, mode: usize, s: &[u8], at: usize) -> usize
+pub fn put_item(
+    out: &mut [u8],
+    o: usize,
+    p: usize,
+    from: bool,
+    to: bool,
+    mode: usize,
+    s: &[u8],
+    at: usize,
+) -> usize
     ensures { λ r. ⌜ Put (now (out .entry)) (now (out .exit)) o r (orNothing (writeItem (formatOf to)) (readItem (formatOf from) (getD partNames p []) (rest mode (now (s .entry)) at))) ⌝ }
 {
     let fits = is_item(p, from, mode, s, at);

@@ -1,4 +1,4 @@
--- `elements::put_end_named` meets its contract. Assumes nothing.
+-- `elements::put_end_named` meets its contract.
 use Rattle.sink.specs.Sink.{writing}
 use Rattle.elements.proofs.period.put_end_named.Statement.{statement}
 use Rattle.elements.proofs.period.put_end_named.Tie as tie

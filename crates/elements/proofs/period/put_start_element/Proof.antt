@@ -1,4 +1,4 @@
--- `elements::put_start_element` meets its contract. Assumes nothing.
+-- `elements::put_start_element` meets its contract.
 use Rattle.sink.specs.Sink.{writing}
 use Rattle.elements.proofs.period.put_start_element.Statement.{statement}
 use Rattle.elements.proofs.period.put_start_element.Tie as tie

@@ -1,4 +1,4 @@
--- `elements::put_item_xml` meets its contract. Assumes nothing.
+-- `elements::put_item_xml` meets its contract.
 use Rattle.sink.specs.Sink.{writing}
 use Rattle.elements.proofs.rule.put_item_xml.Statement.{statement}
 use Rattle.elements.proofs.rule.put_item_xml.Tie as tie

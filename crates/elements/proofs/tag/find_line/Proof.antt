@@ -2,7 +2,6 @@
 use Rattle.elements.specs.Tags.{Lining, lining-start, lining-here, lining-none, lining-more}
 use Rattle.recur.specs.PieceLaws.{pieces-less}
 use lib.ListN.{length}
-use native.Mathlib.Omega.{arith}
 use Prim.Native.Nat.{_-_}
 use Rattle.sink.specs.Sink.{writing}
 use Rattle.elements.proofs.tag.find_line.Statement.{statement}

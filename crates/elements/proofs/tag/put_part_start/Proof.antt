@@ -1,4 +1,4 @@
--- `elements::put_part_start` meets its contract. Assumes nothing.
+-- `elements::put_part_start` meets its contract.
 use Rattle.sink.specs.Sink.{writing}
 use Rattle.elements.proofs.tag.put_part_start.Statement.{statement}
 use Rattle.elements.proofs.tag.put_part_start.Tie as tie

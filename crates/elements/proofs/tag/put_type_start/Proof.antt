@@ -1,4 +1,4 @@
--- `elements::put_type_start` meets its contract. Assumes nothing.
+-- `elements::put_type_start` meets its contract.
 use Rattle.sink.specs.Sink.{writing}
 use Rattle.elements.proofs.tag.put_type_start.Statement.{statement}
 use Rattle.elements.proofs.tag.put_type_start.Tie as tie

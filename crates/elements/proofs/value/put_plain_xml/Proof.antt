@@ -1,4 +1,4 @@
--- `elements::put_plain_xml` meets its contract. Assumes nothing.
+-- `elements::put_plain_xml` meets its contract.
 use Rattle.sink.specs.Sink.{writing}
 use Rattle.elements.proofs.value.put_plain_xml.Statement.{statement}
 use Rattle.elements.proofs.value.put_plain_xml.Tie as tie

@@ -1,4 +1,4 @@
--- `elements::put_recur_xml` meets its contract. Assumes nothing.
+-- `elements::put_recur_xml` meets its contract.
 use Rattle.sink.specs.Sink.{writing}
 use Rattle.elements.proofs.value.put_recur_xml.Statement.{statement}
 use Rattle.elements.proofs.value.put_recur_xml.Tie as tie

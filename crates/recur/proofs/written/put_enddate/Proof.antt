@@ -1,5 +1,5 @@
 -- `recur::put_enddate` meets its contract.
-use Rattle.recur.specs.Shown.{put-end-day, put-end-moment}
+use Rattle.recur.specs.PutShown.{put-end-day, put-end-moment}
 use Rattle.sink.specs.Sink.{writing}
 use Rattle.recur.proofs.written.put_enddate.Statement.{statement}
 use Rattle.recur.proofs.written.put_enddate.Tie as tie

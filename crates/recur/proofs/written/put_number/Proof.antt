@@ -1,5 +1,5 @@
 -- `recur::put_number` meets its contract.
-use Rattle.recur.specs.Shown.{put-number}
+use Rattle.recur.specs.PutShown.{put-number}
 use Rattle.sink.specs.Sink.{writing}
 use Rattle.recur.proofs.written.put_number.Statement.{statement}
 use Rattle.recur.proofs.written.put_number.Tie as tie

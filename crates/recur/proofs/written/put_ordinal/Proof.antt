@@ -1,5 +1,5 @@
 -- `recur::put_ordinal` meets its contract.
-use Rattle.recur.specs.Shown.{put-no-ordinal, put-an-ordinal}
+use Rattle.recur.specs.PutShown.{put-no-ordinal, put-an-ordinal}
 use Rattle.sink.specs.Sink.{writing}
 use Rattle.recur.proofs.written.put_ordinal.Statement.{statement}
 use Rattle.recur.proofs.written.put_ordinal.Tie as tie
