@@ -12,7 +12,7 @@ use native.Mathlib.Omega.{arith}
 use lib.Dec.{eqb}
 use lib.ListN.{getD}
 use borrow.Author.Tests.{ne-eqb, eqb-true}
-use Rattle.octets.specs.Pick.{pick, _or_}
+use Rattle.octets.specs.Pick.{pick}
 use Rattle.octets.specs.Class.{isAlpha, upper}
 use Rattle.octets.specs.Words.{isEmpty}
 use Rattle.octets.specs.Decimal.{digits}
