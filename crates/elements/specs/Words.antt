@@ -1,6 +1,6 @@
 -- The element of a TEXT value, by its characters.
 --     put-text-value        an element `text` of these characters is the value's
---     capitals             rules of the loop that writes a word in capitals, with `capitals-each`: byte by byte
+--     capitals              rules of the loop that writes a word in capitals, with `capitals-each`: byte by byte
 use mathlib.Core.Path.{_≡_, refl, ap}
 use mathlib.Core.List.{List, [], _∷_, _++_}
 use Prim.Native.Nat.{ℕ, _<_}

@@ -1,6 +1,6 @@
 -- `elements::put_end_element` meets its contract.
-use Rattle.elements.specs.PutPeriod.{put-end-named, put-duration-named}
 use Rattle.sink.specs.Sink.{writing}
+use Rattle.elements.specs.PutPeriod.{put-end-named, put-duration-named}
 use Rattle.elements.proofs.period.put_end_element.Statement.{statement}
 use Rattle.elements.proofs.period.put_end_element.Tie as tie
 

@@ -1,6 +1,6 @@
 -- `elements::put_period_element` meets its contract.
-use Rattle.elements.specs.PutPeriod.{put-period, put-no-period}
 use Rattle.sink.specs.Sink.{writing}
+use Rattle.elements.specs.PutPeriod.{put-period, put-no-period}
 use Rattle.elements.proofs.period.put_period_element.Statement.{statement}
 use Rattle.elements.proofs.period.put_period_element.Tie as tie
 

@@ -1,11 +1,11 @@
 -- `elements::put_items_xml` meets its contract.
-use Rattle.elements.specs.PutRule.{Itemizing, items-start, items-more, items-end}
+use mathlib.Core.List.{[]}
+use Prim.Native.Nat.{_-_}
+use lib.ListN.{length, getD}
 use Rattle.recur.specs.PieceLaws.{cut-count, pieces-less}
 use Rattle.recur.specs.Parts.{partNames}
-use lib.ListN.{length, getD}
-use Prim.Native.Nat.{_-_}
-use mathlib.Core.List.{[]}
 use Rattle.sink.specs.Sink.{writing}
+use Rattle.elements.specs.PutRule.{Itemizing, items-start, items-more, items-end}
 use Rattle.elements.proofs.rule.put_items_xml.Statement.{statement}
 use Rattle.elements.proofs.rule.put_items_xml.Tie as tie
 

@@ -1,6 +1,6 @@
 -- `elements::put_part_xml` meets its contract.
-use Rattle.elements.specs.PutRule.{put-found, put-missing, found-count, found-inside}
 use Rattle.sink.specs.Sink.{writing}
+use Rattle.elements.specs.PutRule.{put-found, put-missing, found-count, found-inside}
 use Rattle.elements.proofs.rule.put_part_xml.Statement.{statement}
 use Rattle.elements.proofs.rule.put_part_xml.Tie as tie
 

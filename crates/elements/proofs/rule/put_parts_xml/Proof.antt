@@ -1,9 +1,9 @@
 -- `elements::put_parts_xml` meets its contract.
-use Rattle.elements.specs.PutRule.{Naming, naming-start, naming-more, naming-end}
+use Prim.Native.Nat.{_-_}
 use Rattle.source.specs.Source.{rest}
 use Rattle.octets.specs.Words.{cutAt}
-use Prim.Native.Nat.{_-_}
 use Rattle.sink.specs.Sink.{writing}
+use Rattle.elements.specs.PutRule.{Naming, naming-start, naming-more, naming-end}
 use Rattle.elements.proofs.rule.put_parts_xml.Statement.{statement}
 use Rattle.elements.proofs.rule.put_parts_xml.Tie as tie
 

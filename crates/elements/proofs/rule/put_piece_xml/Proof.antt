@@ -1,6 +1,6 @@
 -- `elements::put_piece_xml` meets its contract.
-use Rattle.elements.specs.PutRule.{put-listed, put-single}
 use Rattle.sink.specs.Sink.{writing}
+use Rattle.elements.specs.PutRule.{put-listed, put-single}
 use Rattle.elements.proofs.rule.put_piece_xml.Statement.{statement}
 use Rattle.elements.proofs.rule.put_piece_xml.Tie as tie
 

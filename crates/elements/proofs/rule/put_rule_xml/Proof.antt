@@ -1,6 +1,6 @@
 -- `elements::put_rule_xml` meets its contract.
-use Rattle.elements.specs.PutRule.{rule-inside, put-rule, put-no-rule}
 use Rattle.sink.specs.Sink.{writing}
+use Rattle.elements.specs.PutRule.{rule-inside, put-rule, put-no-rule}
 use Rattle.elements.proofs.rule.put_rule_xml.Statement.{statement}
 use Rattle.elements.proofs.rule.put_rule_xml.Tie as tie
 

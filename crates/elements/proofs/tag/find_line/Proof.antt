@@ -1,9 +1,9 @@
 -- `elements::find_line` meets its contract.
-use Rattle.elements.specs.Tags.{Lining, lining-start, lining-here, lining-none, lining-more}
-use Rattle.recur.specs.PieceLaws.{pieces-less}
-use lib.ListN.{length}
 use Prim.Native.Nat.{_-_}
+use lib.ListN.{length}
+use Rattle.recur.specs.PieceLaws.{pieces-less}
 use Rattle.sink.specs.Sink.{writing}
+use Rattle.elements.specs.Tags.{Lining, lining-start, lining-here, lining-none, lining-more}
 use Rattle.elements.proofs.tag.find_line.Statement.{statement}
 use Rattle.elements.proofs.tag.find_line.Tie as tie
 

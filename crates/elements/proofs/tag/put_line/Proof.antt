@@ -1,6 +1,6 @@
 -- `elements::put_line` meets its contract.
-use Rattle.elements.specs.Tags.{line-count, put-line-found}
 use Rattle.sink.specs.Sink.{writing}
+use Rattle.elements.specs.Tags.{line-count, put-line-found}
 use Rattle.elements.proofs.tag.put_line.Statement.{statement}
 use Rattle.elements.proofs.tag.put_line.Tie as tie
 

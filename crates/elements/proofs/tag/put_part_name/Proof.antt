@@ -1,6 +1,6 @@
 -- `elements::put_part_name` meets its contract.
-use Rattle.elements.specs.Tags.{put-part-name}
 use Rattle.sink.specs.Sink.{writing}
+use Rattle.elements.specs.Tags.{put-part-name}
 use Rattle.elements.proofs.tag.put_part_name.Statement.{statement}
 use Rattle.elements.proofs.tag.put_part_name.Tie as tie
 

@@ -1,6 +1,6 @@
 -- `elements::put_type_name` meets its contract.
-use Rattle.elements.specs.Tags.{put-type-name, put-type-other}
 use Rattle.sink.specs.Sink.{writing}
+use Rattle.elements.specs.Tags.{put-type-name, put-type-other}
 use Rattle.elements.proofs.tag.put_type_name.Statement.{statement}
 use Rattle.elements.proofs.tag.put_type_name.Tie as tie
 

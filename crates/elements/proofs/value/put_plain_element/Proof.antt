@@ -1,6 +1,6 @@
 -- `elements::put_plain_element` meets its contract.
-use Rattle.elements.specs.PutElement.{put-plain, put-no-plain}
 use Rattle.sink.specs.Sink.{writing}
+use Rattle.elements.specs.PutElement.{put-plain, put-no-plain}
 use Rattle.elements.proofs.value.put_plain_element.Statement.{statement}
 use Rattle.elements.proofs.value.put_plain_element.Tie as tie
 

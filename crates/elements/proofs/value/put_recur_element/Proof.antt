@@ -1,6 +1,6 @@
 -- `elements::put_recur_element` meets its contract.
-use Rattle.elements.specs.PutElement.{put-recur, put-no-recur}
 use Rattle.sink.specs.Sink.{writing}
+use Rattle.elements.specs.PutElement.{put-recur, put-no-recur}
 use Rattle.elements.proofs.value.put_recur_element.Statement.{statement}
 use Rattle.elements.proofs.value.put_recur_element.Tie as tie
 

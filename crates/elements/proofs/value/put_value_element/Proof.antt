@@ -1,6 +1,6 @@
 -- `elements::put_value_element` meets its contract.
-use Rattle.elements.specs.PutElement.{put-at}
 use Rattle.sink.specs.Sink.{writing}
+use Rattle.elements.specs.PutElement.{put-at}
 use Rattle.elements.proofs.value.put_value_element.Statement.{statement}
 use Rattle.elements.proofs.value.put_value_element.Tie as tie
 
