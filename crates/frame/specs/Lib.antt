@@ -11,5 +11,5 @@ pub mod Components
 pub mod Fault
 pub mod Action
 pub mod Kinds
--- pub mod Turns
--- pub mod Outer
+pub mod Turns
+pub mod Outer
