@@ -1,4 +1,10 @@
 // The check of an unfolded text: refusals 4 to 9, in one pass over its lines that calls itself for each inner component. Definitions are in crate ical, laws in specs/.
+mod calendars;
+mod component;
+mod fault;
+mod line;
+
+pub use calendars::check;
 
 // What a line is in an open component: the beginning of the component of a number; the component's end; a property of a number, with the number of
 // ACTION's word where it is ACTION; or a refusal of a number.

@@ -1,0 +1,10 @@
+-- `frame::may_follow` meets its contract. Assumes nothing.
+use borrow.Author.Needs.{needs}
+use Rattle.frame.proofs.line.may_follow.Statement.{statement}
+use Rattle.frame.proofs.line.may_follow.Tie as tie
+
+pub may-follow-spec : {M : Type 1} → statement M
+may-follow-spec = tie.close (tie.spec
+    (λ c. ?)  -- returns
+    (λ c. ?)  -- returns-2
+    )
