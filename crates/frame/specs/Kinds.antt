@@ -10,6 +10,7 @@ use Prim.Native.Nat.{ℕ, _≤_, _<_}
 use native.Mathlib.Omega.{arith}
 use lib.Dec.{eqb, ltb}
 use lib.ListN.{length, take}
+use lib.Seq.{length-take-le}
 use borrow.Author.Tests.{eq-eqb, ne-eqb, eqb-true, lt-ltb, le-ltb, ltb-true, ltb-false}
 use Rattle.octets.specs.Ascii.{ascii}
 use Rattle.octets.specs.Pick.{pick, pick-yes, pick-no, _and_, _or_}
@@ -133,6 +134,14 @@ module _ (l : ContentLine) {k n : ℕ} (h : k < 9) (e : n ≡ placeOf (upper (l 
 
 -- ---- a property
 
+pub follow-inner : (inner t : Bool) → inner ≡ true → t ≡ (not inner or t)
+unfolding _or_
+follow-inner inner t h = rw h
+
+pub follow-first : (inner t : Bool) → inner ≡ false → true ≡ (not inner or t)
+unfolding _or_
+follow-first inner t h = rw h
+
 module _ {k p : ℕ} (inner : Bool) (w : List ℕ) (h : k < 9) (e : p ≡ placeOf w propertyNames) where
   follow-at : (not inner or same (componentName k) (ascii "VTIMEZONE")) ≡ (not inner or eqb k 5)
   follow-at = rw (timezone-place (componentName k), component-at k h)
@@ -191,6 +200,9 @@ module _ {s : List ℕ} {at e v : ℕ} (p : Parts 0 s at e v) where
   -- its name, cut out
   pub name-cut : rest 0 (take e s) at ≡ runOf isNameChar (rest 0 s at)
   name-cut = name-chars (p .name)
+
+  pub name-count : at ≤ length s → e ≡ length (take e s)
+  name-count h = sym (length-take-le e s (p .name .plain refl h))
 
   -- its name compared
   pub name-is : (w : List ℕ) {t : Bool} → t ≡ same (upper (rest 0 (take e s) at)) w → t ≡ same (upper (runOf isNameChar (rest 0 s at))) w

@@ -8,6 +8,7 @@ use mathlib.Core.List.{List, [], _∷_}
 use Prim.Native.Nat.{ℕ, _+_, _≤_, _<_}
 use native.Mathlib.Omega.{arith}
 use lib.ListN.{length, take}
+use lib.Seq.{length-take-le}
 use Rattle.source.specs.Source.{rest}
 use Rattle.source.specs.Facts.{rest-part}
 use Rattle.model.specs.Calendar.{Property}
@@ -40,6 +41,13 @@ pub record Turned (k : ℕ) (inner : Bool) (s : List ℕ) (at : ℕ) (t : Turn) 
   pub low : at < t .next
   pub high : t .next ≤ length s
   pub does : (seen : List Property) (st : List Open) → onFrom s at (openIn k seen inner ∷ st) ≡ onward (step line (openIn k seen inner) st) at (onFrom s (t .next))
+
+-- a line that ends at e, cut out
+pub line-count : (s : List ℕ) (at e : ℕ) → First s at (Whole e) → e ≡ length (take e s)
+line-count s at e f = sym (length-take-le e s (omega (arith, f .1)))
+
+pub line-inside : (s : List ℕ) (at e : ℕ) → First s at (Whole e) → at ≤ length (take e s)
+line-inside s at e f = rw (← (line-count s at e f)) (f .0)
 
 -- what a line does with these components open, where it ends at e
 pub line-moves : (s : List ℕ) (at e : ℕ) (st : List Open) → First s at (Whole e) → onFrom s at st ≡ onward (move (rest 0 (take e s) at) st) at (onFrom s (e + 2))

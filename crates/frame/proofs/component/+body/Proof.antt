@@ -1,4 +1,10 @@
 -- `frame::body`, which calls itself, meets its contract. Assumes nothing.
+use Rattle.frame.proofs.Walk.{Reached, reached-none, reached-held, reached-inner, starts-known, body-inner, body-closed, body-short, body-faulty, body-open}
+use Rattle.frame.specs.Turns.{Body}
+use native.Mathlib.Omega.{arith}
+use mathlib.Core.Path.{subst}
+use lib.ListN.{length}
+use Prim.Native.Nat.{_-_}
 use borrow.Author.Needs.{needs}
 use Prim.Native.Nat.{ℕ, _<_}
 use borrow.Fn.Kinds.{In}
@@ -14,7 +20,7 @@ use Rattle.frame.proofs.component.+body.{statement}
 use Rattle.frame.proofs.component.+body.Tie.{close}
 
 abbrev μ-body : Measures 1 body-kinds.ps ℕ
-μ-body κs a = ?
+μ-body κs a = length (a .0 .now) - a .1 .0
 
 abbrev body-at : ℕ → In 1 body-kinds.ps
 body-at t = and 1 body-kinds.ps (is 1 body-kinds.ps μ-body t) body.Pre
@@ -27,10 +33,10 @@ abbrev claims : ℕ → body-lts.Claims
 claims t = (next-line-reads.Asked, next-line-reads.Learnt, body-below t, body.Post, complete-counts-reads.Asked, complete-counts-reads.Learnt, bump-reads.Asked, bump-reads.Learnt, action-after-reads.Asked, action-after-reads.Learnt)
 
 abbrev body-Inv-loop : body-lts.InvT-loop
-body-Inv-loop s from k at₀ counts₀ action₀ inner₀ at counts action inner = ?
+body-Inv-loop s from k at₀ counts₀ action₀ inner₀ at counts action inner = Reached k s from at counts action inner
 
 abbrev body-μ-loop : body-lts.MeasureT-loop
-body-μ-loop s from k at₀ counts₀ action₀ inner₀ at counts action inner = ?
+body-μ-loop s from k at₀ counts₀ action₀ inner₀ at counts action inner = length s - at
 
 pub +body-spec : {M : Type 1} → statement M
 +body-spec = close μ-body
@@ -40,25 +46,25 @@ pub +body-spec : {M : Type 1} → statement M
     body.Post
     body-Inv-loop
     body-μ-loop
-    (λ c. ?)  -- loop-holds
-    (λ c κs. ?)  -- next-line-requires
-    (λ c. ?)  -- enum-known-kind
-    (λ c κs. ?)  -- body-requires
-    (λ c. ?)  -- enum-known-next
-    (λ c. ?)  -- loop-less
-    (λ c. ?)  -- loop-again
-    (λ c. ?)  -- enum-known-r
-    (λ c. ?)  -- returns
-    (λ c. ?)  -- enum-told
-    (λ c κs. ?)  -- complete-counts-requires
-    (λ c. ?)  -- returns-2
-    (λ c. ?)  -- returns-3
-    (λ c. ?)  -- enum-known-kind-2
-    (λ c κs. ?)  -- bump-requires
-    (λ c κs. ?)  -- action-after-requires
-    (λ c. ?)  -- loop-less-2
-    (λ c. ?)  -- loop-again-2
-    (λ c. ?)  -- enum-known-kind-3
-    (λ c. ?)  -- returns-4
-    (λ c. ?)  -- returns-5
+    (λ c. reached-none _ _ _ (c .before .pre .1 .0))  -- loop-holds
+    (λ c κs. (c .before .before .before .pre .1 .1, c .loop-test .taken))  -- next-line-requires
+    (λ c. search needs)  -- enum-known-kind
+    (λ c κs. (omega (arith, c .before .before .before .before .before .before .before .pre, c .before .before .before .before .before .loop .inv .low, c .before .before .before .next-line .ensures .low), c .before .before .before .next-line .ensures .high, starts-known (c .before .before .before .before .before .loop .inv) (c .before .before .before .next-line .ensures) (c .before .kind .given .1)))  -- body-requires
+    (λ c. search needs)  -- enum-known-next
+    (λ c. let b = (subst (Body _ _ _) (c .before .next .given .1) (c .before .before .before .body .ensures)) in omega (arith, b .ends, c .before .before .before .before .before .before .before .next-line .ensures .low))  -- loop-less
+    (λ c. reached-inner (c .before .before .before .before .before .before .before .before .before .loop .inv) (c .before .before .before .before .before .before .before .next-line .ensures) (c .before .before .before .before .before .kind .given .1) (subst (Body _ _ _) (c .before .next .given .1) (c .before .before .before .body .ensures)))  -- loop-again
+    (λ c. search needs)  -- enum-known-r
+    (λ c. body-inner (c .before .before .before .before .before .before .before .before .before .loop .inv) (c .before .before .before .before .before .before .before .next-line .ensures) (c .before .before .before .before .before .kind .given .1) (subst (Body _ _ _) (c .before .r .given .1) (c .before .before .before .body .ensures)))  -- returns
+    (λ c. search needs)  -- enum-told
+    (λ c κs. search needs)  -- complete-counts-requires
+    (λ c. body-closed (c .before .before .before .before .before .before .loop .inv) (c .before .before .before .before .next-line .ensures) (c .before .before .enum-told .given .1) (c .before .before .before .before .before .before .before .before .pre .1 .1) (c .before .complete-counts .ensures) (c .if1 .taken))  -- returns-2
+    (λ c. body-short (c .before .before .before .before .before .before .loop .inv) (c .before .before .before .before .next-line .ensures) (c .before .before .enum-told .given .1) (c .before .before .before .before .before .before .before .before .pre .1 .1) (c .before .complete-counts .ensures) (c .if1 .left))  -- returns-3
+    (λ c. search needs)  -- enum-known-kind-2
+    (λ c κs. search needs)  -- bump-requires
+    (λ c κs. search needs)  -- action-after-requires
+    (λ c. omega (arith, c .before .before .before .before .before .next-line .ensures .low))  -- loop-less-2
+    (λ c. reached-held (c .before .before .before .before .before .before .before .loop .inv) (c .before .before .before .before .before .next-line .ensures) (c .before .before .before .kind2 .given .1) (c .before .bump .ensures) (c .action-after .ensures))  -- loop-again-2
+    (λ c. search needs)  -- enum-known-kind-3
+    (λ c. body-faulty (c .before .before .before .before .before .loop .inv) (c .before .before .before .next-line .ensures) (c .before .kind3 .given .1))  -- returns-4
+    (λ c. body-open (c .before .loop .inv) (c .loop-test .left))  -- returns-5
     )

@@ -1,11 +1,14 @@
 -- `frame::action_of` meets its contract. Assumes nothing.
+use mathlib.Core.Path.{refl}
+use borrow.Author.Tests.{eq-eqb, ne-eqb}
+use Rattle.octets.specs.Pick.{pick-take, pick-skip}
 use borrow.Author.Needs.{needs}
 use Rattle.frame.proofs.line.action_of.Statement.{statement}
 use Rattle.frame.proofs.line.action_of.Tie as tie
 
 pub action-of-spec : {M : Type 1} → statement M
 action-of-spec = tie.close (tie.spec
-    (λ c κs. ?)  -- action-number-requires
-    (λ c. ?)  -- returns
-    (λ c. ?)  -- returns-2
+    (λ c κs. search needs)  -- action-number-requires
+    (λ c. pick-take _ _ _ (eq-eqb _ _ (c .before .if1 .taken)) (c .action-number .ensures))  -- returns
+    (λ c. pick-skip _ _ _ (ne-eqb _ _ (c .if1 .left)) refl)  -- returns-2
     )

@@ -1,10 +1,11 @@
 -- `frame::may_follow` meets its contract. Assumes nothing.
+use Rattle.frame.specs.Kinds.{follow-inner, follow-first}
 use borrow.Author.Needs.{needs}
 use Rattle.frame.proofs.line.may_follow.Statement.{statement}
 use Rattle.frame.proofs.line.may_follow.Tie as tie
 
 pub may-follow-spec : {M : Type 1} → statement M
 may-follow-spec = tie.close (tie.spec
-    (λ c. ?)  -- returns
-    (λ c. ?)  -- returns-2
+    (λ c. follow-inner _ _ (c .if1 .taken))  -- returns
+    (λ c. follow-first _ _ (c .if1 .left))  -- returns-2
     )

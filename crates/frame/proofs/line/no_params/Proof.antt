@@ -1,12 +1,13 @@
 -- `frame::no_params` meets its contract. Assumes nothing.
+use Rattle.frame.specs.Kinds.{params-some, params-bad, params-none}
 use borrow.Author.Needs.{needs}
 use Rattle.frame.proofs.line.no_params.Statement.{statement}
 use Rattle.frame.proofs.line.no_params.Tie as tie
 
 pub no-params-spec : {M : Type 1} → statement M
 no-params-spec = tie.close (tie.spec
-    (λ c κs. ?)  -- next-param-requires
-    (λ c. ?)  -- returns
-    (λ c. ?)  -- returns-2
-    (λ c. ?)  -- returns-3
+    (λ c κs. search needs)  -- next-param-requires
+    (λ c. params-some (c .before .before .next-param .ensures) (c .before .if1 .taken) (c .if2 .taken))  -- returns
+    (λ c. params-bad (c .before .before .next-param .ensures) (c .before .if1 .taken) (c .if2 .left))  -- returns-2
+    (λ c. params-none (c .before .next-param .ensures) (c .if1 .left))  -- returns-3
     )
