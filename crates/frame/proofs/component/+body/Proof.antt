@@ -49,7 +49,7 @@ pub +body-spec : {M : Type 1} → statement M
     (λ c. reached-none _ _ _ (c .before .pre .1 .0))  -- loop-holds
     (λ c κs. (c .before .before .before .pre .1 .1, c .loop-test .taken))  -- next-line-requires
     (λ c. search needs)  -- enum-known-kind
-    (λ c κs. (omega (arith, c .before .before .before .before .before .before .before .pre, c .before .before .before .before .before .loop .inv .low, c .before .before .before .next-line .ensures .low), c .before .before .before .next-line .ensures .high, starts-known (c .before .before .before .before .before .loop .inv) (c .before .before .before .next-line .ensures) (c .before .kind .given .1)))  -- body-requires
+    (λ c κs. (omega (arith, c .before .before .before .before .before .before .before .pre, c .before .before .before .before .before .loop .inv .low, c .before .before .before .next-line .ensures .low), (c .before .before .before .next-line .ensures .high, starts-known (c .before .before .before .before .before .loop .inv) (c .before .before .before .next-line .ensures) (c .before .kind .given .1))))  -- body-requires
     (λ c. search needs)  -- enum-known-next
     (λ c. let b = (subst (Body _ _ _) (c .before .next .given .1) (c .before .before .before .body .ensures)) in omega (arith, b .ends, c .before .before .before .before .before .before .before .next-line .ensures .low))  -- loop-less
     (λ c. reached-inner (c .before .before .before .before .before .before .before .before .before .loop .inv) (c .before .before .before .before .before .before .before .next-line .ensures) (c .before .before .before .before .before .kind .given .1) (subst (Body _ _ _) (c .before .next .given .1) (c .before .before .before .body .ensures)))  -- loop-again
