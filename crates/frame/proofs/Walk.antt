@@ -4,36 +4,32 @@
 use mathlib.Core.Path.{_≡_, refl, sym, ap, subst, _∙_}
 use mathlib.Core.Bool.{Bool, true, false}
 use mathlib.Core.List.{List, [], _∷_}
-use Prim.Native.Nat.{ℕ, _+_, _≤_, _<_}
+use Prim.Native.Nat.{ℕ, _≤_, _<_}
 use native.Mathlib.Omega.{arith}
 use lib.Dec.{eqb}
 use lib.ListN.{length, replicate}
-use Rattle.octets.specs.Pick.{pick, pick-yes, pick-no}
-use Rattle.names.specs.Table.{placeOf}
+use Rattle.octets.specs.Pick.{pick}
 use Rattle.model.specs.Calendar.{Property}
-use Rattle.model.specs.Refusal.{COUNT, FRAME, fine}
-use Rattle.schema.specs.Components.{componentNames}
+use Rattle.model.specs.Refusal.{COUNT}
 use Rattle.schema.specs.Numbers.{componentName}
 use Rattle.schema.specs.Counts.{actionOf, complete}
 use Rattle.schema.specs.Arrays.{bumped, tallies}
 use Rattle.schema.specs.Completing.{actionNumber, completeAt, complete-tallies}
 use Rattle.folding.specs.Lines.{Line, lines, linesAfter, lines-some}
-use Rattle.folding.specs.First.{linesAt, lines-start, lines-past}
-use Rattle.ical.specs.Nesting.{Open, Move, on, stop, opened, onward, ended, nesting}
-use Rattle.ical.specs.LineKind.{LineKind, starts, stops, holds, faulty, step}
+use Rattle.folding.specs.First.{lines-start, lines-past}
+use Rattle.ical.specs.Nesting.{Open, on, stop, opened, onward, ended, nesting}
+use Rattle.ical.specs.LineKind.{LineKind, step}
 use Rattle.ical.specs.ReadText.{linesVerdict}
 use Rattle.frame.specs.Answers.{refusalAt, Checks}
 use Rattle.frame.specs.Components.{component-at}
 use Rattle.frame.specs.Action.{action-seen}
 use Rattle.frame.specs.Kinds.{Held, KindIs}
-use Rattle.frame.specs.Turns.{onFrom, openIn, Turned, resumed, Ends, Body}
+use Rattle.frame.specs.Turns.{onFrom, openIn, Turned, Body}
 use Rattle.frame.specs.Outer.{Outer}
 use Rattle.frame.specs.declared.Kind.{Kind}
 use Rattle.frame.specs.declared.Kind.the-variants.{Starts, Stops, Holds, Faulty}
 use Rattle.frame.specs.declared.Turn.{Turn}
-use Rattle.frame.specs.declared.Step.{Step}
 use Rattle.frame.specs.declared.Step.the-variants.{Closed, Failed}
-use Rattle.frame.specs.declared.Checked.{Checked}
 use Rattle.frame.specs.declared.Checked.the-variants.{Fine, Refused}
 
 -- ---- in a component

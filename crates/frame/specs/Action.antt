@@ -4,7 +4,7 @@
 use mathlib.Core.Path.{_≡_, refl, sym, ap, _∙_}
 use mathlib.Core.Bool.{Bool, true, false, false≢true}
 use mathlib.Core.List.{List, [], _∷_}
-use mathlib.Core.Option.{Option, none, some, Option·map}
+use mathlib.Core.Option.{Option, none, some}
 use Prim.Native.Nat.{ℕ}
 use lib.Dec.{eqb}
 use borrow.Author.Tests.{eq-eqb, eqb-true}
@@ -15,7 +15,7 @@ use Rattle.octets.specs.Words.{same, isOneOf, same-true}
 use Rattle.octets.specs.Reading.{isRead, readOr, provided}
 use Rattle.octets.specs.Computing.{octets-compute}
 use Rattle.names.specs.Table.{placeOf}
-use Rattle.model.specs.Calendar.{ValueType, TEXT, Value, text, Property}
+use Rattle.model.specs.Calendar.{ValueType, TEXT, text, Property}
 use Rattle.model.specs.Refusal.{PARAMETER, VALUE}
 use Rattle.schema.specs.Types.{isTypeOf}
 use Rattle.schema.specs.Properties.{propertyNames, propertyRow, permittedTypes, propertyWords}

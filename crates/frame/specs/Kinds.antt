@@ -1,50 +1,45 @@
 -- The kind of a line in an open component, by numbers.
 --     lineFrom, named     the line whose parts stand at cursors
 --     KindIs              what the code's answer says of a kind;   Held: of a property
---     begin-starts ..     laws of the code that answers
+--     params-some ..      whether a line has parameters
+--     begin-starts ..     a BEGIN;   end-stops ..: an END
+--     kind-begin ..       a line, by its name
 use mathlib.Core.Path.{_≡_, refl, sym, ap, subst, _∙_}
-use mathlib.Core.Bool.{Bool, true, false, not, false≢true}
-use mathlib.Core.List.{List, [], _∷_}
-use mathlib.Core.Option.{Option, none, some}
+use mathlib.Core.Bool.{Bool, true, false, false≢true}
+use mathlib.Core.List.{List}
+use mathlib.Core.Option.{Option}
 use Prim.Native.Nat.{ℕ, _≤_, _<_}
-use native.Mathlib.Omega.{arith}
-use lib.Dec.{eqb, ltb}
+use lib.Dec.{ltb}
 use lib.ListN.{length, take}
 use lib.Seq.{length-take-le}
-use borrow.Author.Tests.{eq-eqb, ne-eqb, eqb-true, lt-ltb, le-ltb, ltb-true, ltb-false}
+use borrow.Author.Tests.{eq-eqb, ne-eqb, ltb-true, ltb-false}
 use Rattle.octets.specs.Ascii.{ascii}
-use Rattle.octets.specs.Pick.{pick, pick-yes, pick-no, _and_, _or_}
+use Rattle.octets.specs.Pick.{pick, pick-yes, pick-no, _and_}
 use Rattle.octets.specs.Class.{isNameChar, upper}
 use Rattle.octets.specs.Words.{same, isEmpty}
 use Rattle.octets.specs.Runs.{runOf}
 use Rattle.octets.specs.Lists.{every}
 use Rattle.source.specs.Source.{rest}
-use Rattle.names.specs.Table.{placeOf, one-of-place}
+use Rattle.names.specs.Table.{placeOf}
 use Rattle.model.specs.Calendar.{Property}
-use Rattle.model.specs.Refusal.{Refusal, LENGTH, LINE, NAME, FRAME, PARAMETER, numberOf}
-use Rattle.schema.specs.Components.{componentNames, mayStand}
-use Rattle.schema.specs.Properties.{propertyNames, isKnownProperty}
-use Rattle.schema.specs.Numbers.{componentName, propertyName}
-use Rattle.schema.specs.Columns.{mayBegin, begin-none, stand-place}
-use Rattle.schema.specs.Sets.{timezone-place}
+use Rattle.schema.specs.Components.{componentNames}
+use Rattle.schema.specs.Properties.{propertyNames}
+use Rattle.schema.specs.Numbers.{componentName}
+use Rattle.schema.specs.Columns.{mayBegin, begin-none}
 use Rattle.schema.specs.Counts.{firstText}
-use Rattle.schema.specs.Completing.{actionNames, actionNumber}
-use Rattle.lines.specs.ContentLine.{RawParameter, ContentLine, contentLine, nextParam}
+use Rattle.schema.specs.Completing.{actionNumber}
+use Rattle.lines.specs.ContentLine.{ContentLine, nextParam}
 use Rattle.lines.specs.Names.{isCarriedName}
 use Rattle.lines.specs.Cursor.{paramsAt}
 use Rattle.lines.specs.Params.{ParamOf, name-chars, param-more, param-over, param-fault}
-use Rattle.lines.specs.Line.{Parts, lineOf, LineAt}
+use Rattle.lines.specs.Line.{Parts, LineAt}
 use Rattle.lines.specs.Carried.{carriesName}
 use Rattle.lines.specs.declared.ParamRead.{ParamRead}
-use Rattle.lines.specs.declared.LineRead.{LineRead}
 use Rattle.lines.specs.declared.LineRead.the-variants.{Line, Bad}
-use Rattle.ical.specs.Statement.{propertyFault, propertyOf}
-use Rattle.ical.specs.Nesting.{mayHold, namesCarried}
-use Rattle.ical.specs.LineKind.{LineKind, starts, stops, holds, faulty, openAs, beginKind, endKind, heldBy, propertyKind, kindBy, kindOf, lineKind}
-use Rattle.frame.specs.Answers.{refusalAt, refusal-back}
-use Rattle.frame.specs.Fault.{faultNumber}
-use Rattle.frame.specs.Components.{component-at, named-component, same-component, begins-at}
-use Rattle.frame.specs.Action.{action-read}
+use Rattle.ical.specs.Nesting.{namesCarried}
+use Rattle.ical.specs.LineKind.{LineKind, starts, stops, holds, faulty, beginKind, endKind, propertyKind, kindBy, kindOf, lineKind}
+use Rattle.frame.specs.Answers.{refusalAt}
+use Rattle.frame.specs.Components.{named-component, same-component, begins-at}
 use Rattle.frame.specs.declared.Kind.{Kind}
 use Rattle.frame.specs.declared.Kind.the-variants.{Starts, Stops, Holds, Faulty}
 
@@ -131,68 +126,6 @@ module _ (l : ContentLine) {k n : ℕ} (h : k < 9) (e : n ≡ placeOf (upper (l 
     pub end-parameters : b ≡ false → KindIs (endKind (componentName k) l) (Faulty 7)
     unfolding refusalAt
     end-parameters g = pick-yes _ _ _ (same-component (upper (l .value)) k h e ∙ eq-eqb n k f) ∙ pick-no _ _ _ (sym p ∙ g)
-
--- ---- a property
-
-pub follow-inner : (inner t : Bool) → inner ≡ true → t ≡ (not inner or t)
-unfolding _or_
-follow-inner inner t h = rw h
-
-pub follow-first : (inner t : Bool) → inner ≡ false → true ≡ (not inner or t)
-unfolding _or_
-follow-first inner t h = rw h
-
-module _ {k p : ℕ} (inner : Bool) (w : List ℕ) (h : k < 9) (e : p ≡ placeOf w propertyNames) where
-  follow-at : (not inner or same (componentName k) (ascii "VTIMEZONE")) ≡ (not inner or eqb k 5)
-  follow-at = rw (timezone-place (componentName k), component-at k h)
-
-  hold-at : mayHold w (openAs (componentName k) inner) ≡ ((not (ltb p 46) or mayStand (componentName k) (propertyName p)) and (not inner or eqb k 5))
-  unfolding isKnownProperty
-  hold-at = rw (one-of-place w propertyNames, stand-place (componentName k) w, component-at k h, ← e, follow-at)
-
-  pub hold-known : {m r : Bool} → p < 46 → m ≡ mayStand (componentName k) (propertyName p) → m ≡ true → r ≡ (not inner or eqb k 5) → r ≡ mayHold w (openAs (componentName k) inner)
-  unfolding _and_ _or_
-  hold-known f q g u = u ∙ sym (hold-at ∙ rw (lt-ltb p 46 f, ← q, g))
-
-  pub hold-not : {m : Bool} → p < 46 → m ≡ mayStand (componentName k) (propertyName p) → m ≡ false → false ≡ mayHold w (openAs (componentName k) inner)
-  unfolding _and_ _or_
-  hold-not f q g = sym (hold-at ∙ rw (lt-ltb p 46 f, ← q, g))
-
-  pub hold-other : {r : Bool} → 46 ≤ p → r ≡ (not inner or eqb k 5) → r ≡ mayHold w (openAs (componentName k) inner)
-  unfolding _and_ _or_
-  hold-other f u = u ∙ sym (hold-at ∙ rw (le-ltb p 46 f))
-
--- a fault's number
-fault-none : (o : Option Refusal) → faultNumber o ≡ 0 → o ≡ none
-unfolding refusalAt
-fault-none none h = refl
-fault-none (some r) h = absurd (no-zero r h)
-  where
-    no-zero : (r : Refusal) → numberOf r ≡ 0 → ⊥
-    no-zero r h = let q : r ≡ LENGTH = sym (refusal-back r) ∙ ap refusalAt h in let z : numberOf r ≡ 1 = ap numberOf q in omega arith
-
-fault-some : (o : Option Refusal) (p : Property) (f : ℕ) → f ≡ faultNumber o → (f ≡ 0 → ⊥) → heldBy o p ≡ faulty (refusalAt f)
-fault-some none p f e h = absurd (h e)
-fault-some (some r) p f e h = ap faulty (sym (ap refusalAt e ∙ refusal-back r))
-
-module _ (l : ContentLine) (k : ℕ) {p : ℕ} (inner : Bool) {m : Bool} (e : p ≡ placeOf (upper (l .name)) propertyNames) (q : m ≡ mayHold (upper (l .name)) (openAs (componentName k) inner)) where
-  pub property-not : m ≡ false → KindIs (propertyKind (componentName k) inner l) (Faulty 6)
-  unfolding refusalAt
-  property-not g = pick-no _ _ _ (sym q ∙ g)
-
-  module _ {f : ℕ} (g : m ≡ true) (u : f ≡ faultNumber (propertyFault (componentName k) l)) where
-    pub property-faulty : (f ≡ 0 → ⊥) → KindIs (propertyKind (componentName k) inner l) (Faulty f)
-    property-faulty z = pick-yes _ _ _ (sym q ∙ g) ∙ fault-some (propertyFault (componentName k) l) (propertyOf (componentName k) l) f u z
-
-    pub property-held : {a : ℕ} → f ≡ 0 → a ≡ pick (eqb p 38) (placeOf (upper (l .value)) actionNames) 3 → KindIs (propertyKind (componentName k) inner l) (Holds p a)
-    unfolding pick propertyOf
-    property-held {a} z y =
-        let none-here : propertyFault (componentName k) l ≡ none = fault-none (propertyFault (componentName k) l) (sym u ∙ z) in record {
-          property = propertyOf (componentName k) l;
-          is = pick-yes _ _ _ (sym q ∙ g) ∙ ap (λ (o : Option Refusal). heldBy o (propertyOf (componentName k) l)) none-here;
-          number = e;
-          action = λ x. y ∙ rw (eq-eqb p 38 x) (sym (action-read (componentName k) l none-here (sym e ∙ x)));
-        }
 
 -- ---- a line
 

@@ -4,6 +4,7 @@
 --     Fault
 --     Action       the word of ACTION
 --     Kinds        the kind of a line in an open component
+--     Holding      a property in an open component
 --     Turns        a line in its text, and a component
 --     Outer        a line where nothing is open
 pub mod Answers
@@ -11,5 +12,6 @@ pub mod Components
 pub mod Fault
 pub mod Action
 pub mod Kinds
+pub mod Holding
 pub mod Turns
 pub mod Outer

@@ -4,7 +4,7 @@
 use mathlib.Core.Path.{_≡_, refl, sym, ap, _∙_}
 use mathlib.Core.Bool.{Bool, true, false}
 use mathlib.Core.List.{List, [], _∷_}
-use Prim.Native.Nat.{ℕ, _+_, _≤_, _<_}
+use Prim.Native.Nat.{ℕ, _+_, _≤_}
 use native.Mathlib.Omega.{arith}
 use lib.Dec.{eqb}
 use lib.ListN.{length, take}
@@ -19,16 +19,15 @@ use Rattle.source.specs.Source.{rest}
 use Rattle.names.specs.Table.{placeOf}
 use Rattle.schema.specs.Components.{componentNames}
 use Rattle.schema.specs.Numbers.{componentName}
-use Rattle.model.specs.Refusal.{FRAME}
 use Rattle.folding.specs.First.{First}
 use Rattle.folding.specs.declared.lines.Ending.the-variants.{Whole, Loose}
-use Rattle.lines.specs.ContentLine.{RawParameter, ContentLine}
+use Rattle.lines.specs.ContentLine.{RawParameter}
 use Rattle.lines.specs.Names.{isCarriedName}
 use Rattle.lines.specs.Cursor.{paramsAt}
 use Rattle.lines.specs.Line.{Parts, LineAt}
 use Rattle.lines.specs.Carried.{carriesName}
 use Rattle.lines.specs.declared.LineRead.the-variants.{Line, Bad}
-use Rattle.ical.specs.Nesting.{Open, Move, on, stop, opened, begins, ends, states, namesCarried, moveBy, moveOf, move, onward}
+use Rattle.ical.specs.Nesting.{Move, on, stop, opened, begins, ends, states, namesCarried, moveBy, moveOf, move, onward}
 use Rattle.frame.specs.Answers.{refusalAt}
 use Rattle.frame.specs.Components.{same-component, named-component}
 use Rattle.frame.specs.Kinds.{named, name-is}

@@ -4,7 +4,7 @@
 --     Body        a component: whatever is open around it, the text goes on behind it, or is refused
 use mathlib.Core.Path.{_≡_, refl, sym, ap, _∙_}
 use mathlib.Core.Bool.{Bool}
-use mathlib.Core.List.{List, [], _∷_}
+use mathlib.Core.List.{List, _∷_}
 use Prim.Native.Nat.{ℕ, _+_, _≤_, _<_}
 use native.Mathlib.Omega.{arith}
 use lib.ListN.{length, take}
@@ -14,7 +14,7 @@ use Rattle.source.specs.Facts.{rest-part}
 use Rattle.model.specs.Calendar.{Property}
 use Rattle.model.specs.Refusal.{LINE, Verdict, refuse}
 use Rattle.schema.specs.Numbers.{componentName}
-use Rattle.folding.specs.Lines.{Line, whole, loose}
+use Rattle.folding.specs.Lines.{Line}
 use Rattle.folding.specs.First.{linesAt, First}
 use Rattle.folding.specs.declared.lines.Ending.the-variants.{Whole, Loose}
 use Rattle.ical.specs.Nesting.{Open, opened, onward, move, nesting}

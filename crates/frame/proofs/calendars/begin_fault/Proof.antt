@@ -1,6 +1,6 @@
--- `frame::begin_fault` meets its contract. Assumes nothing.
-use Rattle.frame.specs.Outer.{outer-begins, outer-parameters, outer-other}
+-- `frame::calendars::begin_fault` meets its contract.
 use borrow.Author.Needs.{needs}
+use Rattle.frame.specs.Outer.{outer-begins, outer-parameters, outer-other}
 use Rattle.frame.proofs.calendars.begin_fault.Statement.{statement}
 use Rattle.frame.proofs.calendars.begin_fault.Tie as tie
 

@@ -1,10 +1,10 @@
--- `frame::calendar` meets its contract. Assumes nothing.
+-- `frame::calendars::calendar` meets its contract.
+use mathlib.Core.Path.{subst}
+use native.Mathlib.Omega.{arith}
+use borrow.Author.Needs.{needs}
+use Rattle.folding.specs.First.{First}
 use Rattle.frame.specs.Outer.{outer-loose, outer-fault, outer-body}
 use Rattle.frame.specs.Turns.{line-count, line-inside}
-use native.Mathlib.Omega.{arith}
-use mathlib.Core.Path.{subst}
-use Rattle.folding.specs.First.{First}
-use borrow.Author.Needs.{needs}
 use Rattle.frame.proofs.calendars.calendar.Statement.{statement}
 use Rattle.frame.proofs.calendars.calendar.Tie as tie
 

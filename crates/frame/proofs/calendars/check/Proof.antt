@@ -1,11 +1,11 @@
--- `frame::check` meets its contract. Assumes nothing.
-use Rattle.frame.proofs.Walk.{Between, between-none, between-more, checked-refused, checked-fine, checked-empty}
-use Rattle.frame.specs.Outer.{Outer}
-use native.Mathlib.Omega.{arith}
+-- `frame::calendars::check` meets its contract.
 use mathlib.Core.Path.{subst}
-use lib.ListN.{length}
 use Prim.Native.Nat.{_-_}
+use native.Mathlib.Omega.{arith}
+use lib.ListN.{length}
 use borrow.Author.Needs.{needs}
+use Rattle.frame.specs.Outer.{Outer}
+use Rattle.frame.proofs.Walk.{Between, between-none, between-more, checked-refused, checked-fine, checked-empty}
 use Rattle.frame.proofs.calendars.check.Statement.{statement}
 use Rattle.frame.proofs.calendars.check.Tie as tie
 

@@ -1,7 +1,7 @@
--- `frame::content_fault` meets its contract. Assumes nothing.
+-- `frame::calendars::content_fault` meets its contract.
+use borrow.Author.Needs.{needs}
 use Rattle.frame.specs.Outer.{outer-begin, outer-stray, outer-uncarried}
 use Rattle.frame.specs.Kinds.{name-count}
-use borrow.Author.Needs.{needs}
 use Rattle.frame.proofs.calendars.content_fault.Statement.{statement}
 use Rattle.frame.proofs.calendars.content_fault.Tie as tie
 

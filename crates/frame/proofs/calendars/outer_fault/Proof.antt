@@ -1,8 +1,8 @@
--- `frame::outer_fault` meets its contract. Assumes nothing.
-use Rattle.frame.specs.Outer.{outer-bad, outer-line}
+-- `frame::calendars::outer_fault` meets its contract.
 use mathlib.Core.Path.{subst}
-use Rattle.lines.specs.Line.{LineAt}
 use borrow.Author.Needs.{needs}
+use Rattle.lines.specs.Line.{LineAt}
+use Rattle.frame.specs.Outer.{outer-bad, outer-line}
 use Rattle.frame.proofs.calendars.outer_fault.Statement.{statement}
 use Rattle.frame.proofs.calendars.outer_fault.Tie as tie
 

@@ -1,14 +1,13 @@
--- `frame::body`, which calls itself, meets its contract. Assumes nothing.
-use Rattle.frame.proofs.Walk.{Reached, reached-none, reached-held, reached-inner, starts-known, body-inner, body-closed, body-short, body-faulty, body-open}
-use Rattle.frame.specs.Turns.{Body}
-use native.Mathlib.Omega.{arith}
+-- `frame::component::body`, which calls itself, meets its contract.
 use mathlib.Core.Path.{subst}
+use Prim.Native.Nat.{ℕ, _-_, _<_}
+use native.Mathlib.Omega.{arith}
 use lib.ListN.{length}
-use Prim.Native.Nat.{_-_}
 use borrow.Author.Needs.{needs}
-use Prim.Native.Nat.{ℕ, _<_}
 use borrow.Fn.Kinds.{In}
 use borrow.Fn.PlainCycle.{Measures, is, falls, and}
+use Rattle.frame.specs.Turns.{Body}
+use Rattle.frame.proofs.Walk.{Reached, reached-none, reached-held, reached-inner, starts-known, body-inner, body-closed, body-short, body-faulty, body-open}
 use Rattle.frame.proofs.component.body.Reads as body
 use Rattle.frame.proofs.component.body.Kinds as body-kinds
 use Rattle.frame.proofs.component.+body.Lts-body as body-lts

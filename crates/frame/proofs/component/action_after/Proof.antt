@@ -1,8 +1,7 @@
--- `frame::action_after` meets its contract. Assumes nothing.
+-- `frame::component::action_after` meets its contract.
 use mathlib.Core.Path.{refl}
 use borrow.Author.Tests.{eq-eqb, ne-eqb}
 use Rattle.octets.specs.Pick.{pick-take, pick-skip}
-use borrow.Author.Needs.{needs}
 use Rattle.frame.proofs.component.action_after.Statement.{statement}
 use Rattle.frame.proofs.component.action_after.Tie as tie
 

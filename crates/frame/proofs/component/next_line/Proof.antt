@@ -1,9 +1,9 @@
--- `frame::next_line` meets its contract. Assumes nothing.
-use Rattle.frame.specs.Turns.{line-count, line-inside, turned-loose, turned-whole}
-use native.Mathlib.Omega.{arith}
+-- `frame::component::next_line` meets its contract.
 use mathlib.Core.Path.{subst}
-use Rattle.folding.specs.First.{First}
+use native.Mathlib.Omega.{arith}
 use borrow.Author.Needs.{needs}
+use Rattle.folding.specs.First.{First}
+use Rattle.frame.specs.Turns.{line-count, line-inside, turned-loose, turned-whole}
 use Rattle.frame.proofs.component.next_line.Statement.{statement}
 use Rattle.frame.proofs.component.next_line.Tie as tie
 

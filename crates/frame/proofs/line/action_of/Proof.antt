@@ -1,8 +1,8 @@
--- `frame::action_of` meets its contract. Assumes nothing.
+-- `frame::line::action_of` meets its contract.
 use mathlib.Core.Path.{refl}
 use borrow.Author.Tests.{eq-eqb, ne-eqb}
-use Rattle.octets.specs.Pick.{pick-take, pick-skip}
 use borrow.Author.Needs.{needs}
+use Rattle.octets.specs.Pick.{pick-take, pick-skip}
 use Rattle.frame.proofs.line.action_of.Statement.{statement}
 use Rattle.frame.proofs.line.action_of.Tie as tie
 

@@ -1,6 +1,6 @@
--- `frame::begin_line` meets its contract. Assumes nothing.
-use Rattle.frame.specs.Kinds.{lineFrom, begin-starts, begin-parameters, begin-not}
+-- `frame::line::begin_line` meets its contract.
 use borrow.Author.Needs.{needs}
+use Rattle.frame.specs.Kinds.{lineFrom, begin-starts, begin-parameters, begin-not}
 use Rattle.frame.proofs.line.begin_line.Statement.{statement}
 use Rattle.frame.proofs.line.begin_line.Tie as tie
 

@@ -1,7 +1,7 @@
--- `frame::content_line` meets its contract. Assumes nothing.
+-- `frame::line::content_line` meets its contract.
 use mathlib.Core.List.{[]}
-use Rattle.frame.specs.Kinds.{name-count, kind-begin, kind-end, kind-property, kind-uncarried}
 use borrow.Author.Needs.{needs}
+use Rattle.frame.specs.Kinds.{name-count, kind-begin, kind-end, kind-property, kind-uncarried}
 use Rattle.frame.proofs.line.content_line.Statement.{statement}
 use Rattle.frame.proofs.line.content_line.Tie as tie
 

@@ -1,6 +1,6 @@
--- `frame::end_line` meets its contract. Assumes nothing.
-use Rattle.frame.specs.Kinds.{lineFrom, end-stops, end-parameters, end-other}
+-- `frame::line::end_line` meets its contract.
 use borrow.Author.Needs.{needs}
+use Rattle.frame.specs.Kinds.{lineFrom, end-stops, end-parameters, end-other}
 use Rattle.frame.proofs.line.end_line.Statement.{statement}
 use Rattle.frame.proofs.line.end_line.Tie as tie
 

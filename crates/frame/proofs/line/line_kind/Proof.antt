@@ -1,8 +1,8 @@
--- `frame::line_kind` meets its contract. Assumes nothing.
-use Rattle.frame.specs.Kinds.{kind-bad, kind-line}
+-- `frame::line::line_kind` meets its contract.
 use mathlib.Core.Path.{subst}
-use Rattle.lines.specs.Line.{LineAt}
 use borrow.Author.Needs.{needs}
+use Rattle.lines.specs.Line.{LineAt}
+use Rattle.frame.specs.Kinds.{kind-bad, kind-line}
 use Rattle.frame.proofs.line.line_kind.Statement.{statement}
 use Rattle.frame.proofs.line.line_kind.Tie as tie
 

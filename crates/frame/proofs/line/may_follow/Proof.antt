@@ -1,6 +1,5 @@
--- `frame::may_follow` meets its contract. Assumes nothing.
-use Rattle.frame.specs.Kinds.{follow-inner, follow-first}
-use borrow.Author.Needs.{needs}
+-- `frame::line::may_follow` meets its contract.
+use Rattle.frame.specs.Holding.{follow-inner, follow-first}
 use Rattle.frame.proofs.line.may_follow.Statement.{statement}
 use Rattle.frame.proofs.line.may_follow.Tie as tie
 

@@ -1,6 +1,6 @@
--- `frame::may_hold` meets its contract. Assumes nothing.
-use Rattle.frame.specs.Kinds.{hold-known, hold-not, hold-other}
+-- `frame::line::may_hold` meets its contract.
 use borrow.Author.Needs.{needs}
+use Rattle.frame.specs.Holding.{hold-known, hold-not, hold-other}
 use Rattle.frame.proofs.line.may_hold.Statement.{statement}
 use Rattle.frame.proofs.line.may_hold.Tie as tie
 

@@ -1,6 +1,6 @@
--- `frame::no_params` meets its contract. Assumes nothing.
-use Rattle.frame.specs.Kinds.{params-some, params-bad, params-none}
+-- `frame::line::no_params` meets its contract.
 use borrow.Author.Needs.{needs}
+use Rattle.frame.specs.Kinds.{params-some, params-bad, params-none}
 use Rattle.frame.proofs.line.no_params.Statement.{statement}
 use Rattle.frame.proofs.line.no_params.Tie as tie
 

@@ -1,6 +1,6 @@
--- `frame::property_line` meets its contract. Assumes nothing.
-use Rattle.frame.specs.Kinds.{name-count, name-number}
+-- `frame::line::property_line` meets its contract.
 use borrow.Author.Needs.{needs}
+use Rattle.frame.specs.Kinds.{name-count, name-number}
 use Rattle.frame.proofs.line.property_line.Statement.{statement}
 use Rattle.frame.proofs.line.property_line.Tie as tie
 
