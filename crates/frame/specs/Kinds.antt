@@ -104,10 +104,12 @@ module _ (l : ContentLine) {k n : ℕ} (h : k < 9) (e : n ≡ placeOf (upper (l 
           go false z = absurd (false≢true (begin-none k n (ltb-false n 9 z) ∙ begun))
 
       pub begin-starts : b ≡ true → KindIs (beginKind (componentName k) l) (Starts n)
-      begin-starts g =
-          (pick-yes _ _ _ (begins-at (upper (l .value)) k h e ∙ begun)
-          ∙ pick-yes _ _ _ (sym p ∙ g)
-          ∙ ap starts (named-component (upper (l .value)) e below), below)
+      begin-starts g = (
+        pick-yes _ _ _ (begins-at (upper (l .value)) k h e ∙ begun)
+            ∙ pick-yes _ _ _ (sym p ∙ g)
+            ∙ ap starts (named-component (upper (l .value)) e below),
+        below,
+      )
 
       pub begin-parameters : b ≡ false → KindIs (beginKind (componentName k) l) (Faulty 7)
       unfolding refusalAt

@@ -57,9 +57,7 @@ pub fn body(s: &[u8], from: usize, k: usize) -> Step
                     inner = true;
                     at = next;
                 }
-                Step::Failed(r, p) => {
-                    return Step::Failed(r, p);
-                }
+                Step::Failed(r, p) => return Step::Failed(r, p),
             },
             Kind::Stops => {
                 let complete = complete_counts(k, counts, action, inner);
@@ -74,9 +72,7 @@ pub fn body(s: &[u8], from: usize, k: usize) -> Step
                 action = action_after(p, a, action);
                 at = l.next;
             }
-            Kind::Faulty(r) => {
-                return Step::Failed(r, at);
-            }
+            Kind::Faulty(r) => return Step::Failed(r, at),
         }
     }
     Step::Failed(6, s.len())
