@@ -45,21 +45,21 @@ rowAt q = parameterAt q
 
 module _ {d e : List ℕ} {o r : ℕ} (q : ℕ) (l : List ℕ) {t : Bool} (h : t ≡ isRead (parameterWordsAt q)) where
   pub put-word : t ≡ true → Put d e o r (valueXml (text (upper l))) → Put d e o r (valueShown (rowAt q) l)
-  unfolding rowAt
+  unfolding rowAt valueShown
   put-word k p = put-yes _ _ _ (sym h ∙ k) p
 
   module _ {n : ℕ} (i : n ≡ typePlace (parameterAt q .type)) (k : t ≡ false) where
     pub put-raw : n ≡ 10 → Put d e o r (valueXml (text l)) → Put d e o r (valueShown (rowAt q) l)
-    unfolding rowAt sameType
+    unfolding rowAt valueShown sameType
     put-raw z p = put-no _ _ _ (sym h ∙ k) (put-yes _ _ _ (eq-eqb _ _ (sym i ∙ z)) p)
 
     pub put-typed : (n ≡ 10 → ⊥) → Put d e o r (orNothing valueXml (readValue ical (typeAt n) l)) → Put d e o r (valueShown (rowAt q) l)
-    unfolding rowAt sameType
+    unfolding rowAt valueShown sameType
     put-typed z p = put-no _ _ _ (sym h ∙ k) (put-no _ _ _ (ne-eqb _ _ (λ y. z (i ∙ y))) (rw (← (place-type (parameterAt q .type)), ← i) p))
 
 -- ---- the values of a parameter
 
-module _ {p : ParameterRow} {s : List ℕ} {c : ℕ} {r : ParamAt} (v : ValueAt paramValue 0 s c r) {d : List ℕ} {o : ℕ} where
+module _ (p : ParameterRow) {s : List ℕ} {c : ℕ} {r : ParamAt} (v : ValueAt paramValue 0 s c r) {d : List ℕ} {o : ℕ} where
   pub put-first : {e f : List ℕ} {a n : ℕ} → r .ok ≡ true → Put d e o a (valueShown p (rest 0 (take (r .to) s) (r .from))) → Put e f a n (joined (map (charsShown p) (items nextValue (rest 0 s (r .next))))) →
       Put d f o n (joined (map (charsShown p) (valuesAt 0 s c)))
   unfolding joined

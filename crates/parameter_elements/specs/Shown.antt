@@ -27,7 +27,7 @@ use Rattle.ical.specs.Parameters.{readWord, readParamValue, isSingle, readParam
 use Rattle.xcal.specs.WriteXml.{valueXml, valuesXml, parameterXml, parametersXml}
 
 -- a word of a closed set in capitals, TEXT as it stands, another value as the element of its type
-abbrev pub valueShown : ParameterRow → List ℕ → List ℕ
+unfoldable pub valueShown : ParameterRow → List ℕ → List ℕ
 valueShown p s = pick (isRead (p .words)) (valueXml (text (upper s))) (pick (sameType (p .type) TEXT) (valueXml (text s)) (orNothing valueXml (readValue ical (p .type) s)))
 
 abbrev pub charsShown : ParameterRow → ParamValue → List ℕ
@@ -78,7 +78,7 @@ parameters-joined (p ∷ ps) = rw (parameters-joined ps)
 -- ---- what is readable
 
 value-is : (n : List ℕ) (v : ParamValue) (x : Value) → readParamValue n v ≡ some x → charsShown (parameterRow n) v ≡ valueXml x
-unfolding readParamValue pick isRead
+unfolding valueShown readParamValue pick isRead
 value-is n v x h = quotes (not (v .quoted) and isQuotedParameter n) h
   where
     s : List ℕ

@@ -46,7 +46,7 @@ module _ {A : Type 0} {f : A → List ℕ} {d₀ : List ℕ} {at₀ : ℕ} {all 
 
 -- ---- the values that follow the first
 
-module _ {p : ParameterRow} {d₀ : List ℕ} {at₀ : ℕ} {all : List ParamValue} {d : List ℕ} {at : ℕ} {s : List ℕ} {c : ℕ} {r : ParamAt}
+module _ (p : ParameterRow) {d₀ : List ℕ} {at₀ : ℕ} {all : List ParamValue} {d : List ℕ} {at : ℕ} {s : List ℕ} {c : ℕ} {r : ParamAt}
     (t : Writing (charsShown p) d₀ at₀ all d at (items nextValue (rest 0 s c))) (v : ValueAt nextValue 0 s c r) where
   pub value-written : {e : List ℕ} {m : ℕ} → r .there ≡ true → r .ok ≡ true → Put d e at m (valueShown p (rest 0 (take (r .to) s) (r .from))) →
       Writing (charsShown p) d₀ at₀ all e m (items nextValue (rest 0 s (r .next)))

@@ -1,0 +1,14 @@
+-- `parameter_elements::put_values` meets its contract. Assumes nothing.
+use Rattle.sink.specs.Sink.{writing}
+use Rattle.parameter_elements.proofs.value.put_values.Statement.{statement}
+use Rattle.parameter_elements.proofs.value.put_values.Tie as tie
+
+pub put-values-spec : {M : Type 1} → statement M
+put-values-spec = tie.close (tie.spec
+    (λ c κs. search writing)  -- param-value-requires
+    (λ c κs. search writing)  -- put-cut-value-requires
+    (λ c κs. search writing)  -- put-next-values-requires
+    (λ c. search writing)  -- same-length
+    (λ c. search writing)  -- returns
+    (λ c. search writing)  -- returns-2
+    )
