@@ -3,12 +3,14 @@
 --     put-word, put-raw, put-typed      a value, by what its parameter takes
 --     put-first, put-no-first           the values of a parameter, from the first on
 --     put-parameter, put-value-name, put-other-name     a parameter
+--     past-same, past-value, past-own   a slice whose cut is past its end
 --     put-unread, put-only, put-shown   the element `parameters`, or nothing
 use mathlib.Core.Path.{_≡_, refl, sym, ap, _∙_, subst}
 use mathlib.Core.Bool.{Bool, true, false, false≢true}
 use mathlib.Core.List.{List, [], _∷_, map}
 use mathlib.Core.Option.{Option, none, some}
 use Prim.Native.Nat.{ℕ, _*_, _^_, _≤_, _<_}
+use native.Mathlib.Omega.{arith}
 use lib.ListN.{length, take}
 use lib.Seq.{take-all}
 use borrow.Author.Tests.{eq-eqb, ne-eqb}
@@ -37,6 +39,7 @@ use Rattle.xml.specs.Escape.{startTag, endTag, elementOf}
 use Rattle.ical.specs.Parameters.{readParameter, ownParameters, readParameters}
 use Rattle.xcal.specs.WriteXml.{valueXml, parametersXml, parametersElement}
 use Rattle.parameter_elements.specs.Shown.{valueShown, charsShown, shown, ownShown, parametersShown, shown-is}
+use Rattle.parameter_elements.specs.Walk.{cutParam}
 
 unfoldable pub rowAt : ℕ → ParameterRow
 rowAt q = parameterAt q
@@ -71,10 +74,6 @@ module _ (p : ParameterRow) {s : List ℕ} {c : ℕ} {r : ParamAt} (v : ValueAt 
 
 -- ---- a parameter
 
--- a slice that is not cut, because the cut is past its end
-pub past-cut : (s : List ℕ) (e : ℕ) → length s ≤ e → s ≡ take e s
-past-cut s e h = sym (take-all e s h)
-
 pub put-parameter : {d e f g : List ℕ} {o a b r q : ℕ} (n : List ℕ) (vs : List ParamValue) → q ≡ placeOf (upper n) parameterNames →
     Put d e o a (startTag (lower n)) → Put e f a b (joined (map (charsShown (rowAt q)) vs)) → Put f g b r (endTag (lower n)) → Put d g o r (shown (record { name = n; values = vs }))
 unfolding rowAt
@@ -86,6 +85,22 @@ module _ {d : List ℕ} {o : ℕ} (n : List ℕ) (vs : List ParamValue) {t : Boo
 
   pub put-other-name : {e : List ℕ} {r : ℕ} → t ≡ false → Put d e o r (shown (record { name = n; values = vs })) → Put d e o r (ownShown (record { name = n; values = vs }))
   put-other-name k p = put-no _ _ _ (sym h ∙ k) p
+
+-- ---- a slice whose cut is past its end
+
+uncut : (s : List ℕ) (e : ℕ) → length s < e → take e s ≡ s
+uncut s e h = take-all e s (omega arith)
+
+module _ (s : List ℕ) (e c : ℕ) (h : length s < e) where
+  pub past-same : {t : Bool} (w : List ℕ) → t ≡ same (upper (rest 0 s c)) w → t ≡ same (upper (rest 0 (take e s) c)) w
+  past-same w q = rw (uncut s e h) q
+
+  module _ {d f : List ℕ} {o r : ℕ} where
+    pub past-value : (p : ParameterRow) → Put d f o r (valueShown p (rest 0 s c)) → Put d f o r (valueShown p (rest 0 (take e s) c))
+    past-value p w = rw (uncut s e h) w
+
+    pub past-own : (first : ℕ) → Put d f o r (ownShown (record { name = rest 0 s c; values = valuesAt 0 s first })) → Put d f o r (ownShown (cutParam s c e first))
+    past-own first w = rw (uncut s e h) w
 
 -- ---- all parameters
 

@@ -1,4 +1,4 @@
--- `parameter_elements::put_end` meets its contract. Assumes nothing.
+-- `parameter_elements::parameter::put_end` meets its contract.
 use Rattle.sink.specs.Sink.{writing}
 use Rattle.parameter_elements.proofs.parameter.put_end.Statement.{statement}
 use Rattle.parameter_elements.proofs.parameter.put_end.Tie as tie

@@ -1,4 +1,5 @@
--- `parameter_elements::put_parameter` meets its contract. Assumes nothing.
+-- `parameter_elements::parameter::put_parameter` meets its contract.
+use Rattle.parameter_elements.specs.Parts.{put-parameter}
 use Rattle.sink.specs.Sink.{writing}
 use Rattle.parameter_elements.proofs.parameter.put_parameter.Statement.{statement}
 use Rattle.parameter_elements.proofs.parameter.put_parameter.Tie as tie
@@ -10,5 +11,5 @@ put-parameter-spec = tie.close (tie.spec
     (λ c κs. search writing)  -- put-values-requires
     (λ c κs. search writing)  -- put-end-requires
     (λ c. search writing)  -- same-length
-    (λ c. search writing)  -- returns
+    (λ c. search (put-parameter, writing))  -- returns
     )

@@ -1,4 +1,4 @@
--- `parameter_elements::put_start` meets its contract. Assumes nothing.
+-- `parameter_elements::parameter::put_start` meets its contract.
 use Rattle.sink.specs.Sink.{writing}
 use Rattle.parameter_elements.proofs.parameter.put_start.Statement.{statement}
 use Rattle.parameter_elements.proofs.parameter.put_start.Tie as tie

@@ -1,4 +1,5 @@
--- `parameter_elements::put_values` meets its contract. Assumes nothing.
+-- `parameter_elements::value::put_values` meets its contract.
+use Rattle.parameter_elements.specs.Parts.{put-first, put-no-first}
 use Rattle.sink.specs.Sink.{writing}
 use Rattle.parameter_elements.proofs.value.put_values.Statement.{statement}
 use Rattle.parameter_elements.proofs.value.put_values.Tie as tie
@@ -9,6 +10,6 @@ put-values-spec = tie.close (tie.spec
     (λ c κs. search writing)  -- put-cut-value-requires
     (λ c κs. search writing)  -- put-next-values-requires
     (λ c. search writing)  -- same-length
-    (λ c. search writing)  -- returns
-    (λ c. search writing)  -- returns-2
+    (λ c. search (put-first, writing))  -- returns
+    (λ c. search (put-no-first, writing))  -- returns-2
     )
