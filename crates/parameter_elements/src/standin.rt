@@ -12,28 +12,24 @@ ghost use Rattle.ical.specs.Parameters.{readParameters};
 ghost use Rattle.xcal.specs.WriteXml.{valueXml};
 
 pub fn are_read(s: &[u8], e: usize) -> bool
-    requires { ⌜ ⊥ ⌝ }
     ensures { λ r. ⌜ r ≡ isRead (readParameters (paramsAt 0 (now (s .entry)) e)) ⌝ }
 {
     false
 }
 
 pub fn put_value_element(out: &mut [u8], o: usize, t: usize, s: &[u8], at: usize) -> usize
-    requires { ⌜ ⊥ ⌝ }
     ensures { λ r. ⌜ Put (now (out .entry)) (now (out .exit)) o r (orNothing valueXml (readValue ical (typeAt t) (rest 0 (now (s .entry)) at))) ⌝ }
 {
     o
 }
 
 pub fn put_raw_element(out: &mut [u8], o: usize, s: &[u8], at: usize) -> usize
-    requires { ⌜ ⊥ ⌝ }
     ensures { λ r. ⌜ Put (now (out .entry)) (now (out .exit)) o r (valueXml (text (rest 0 (now (s .entry)) at))) ⌝ }
 {
     o
 }
 
 pub fn put_word_element(out: &mut [u8], o: usize, s: &[u8], at: usize) -> usize
-    requires { ⌜ ⊥ ⌝ }
     ensures { λ r. ⌜ Put (now (out .entry)) (now (out .exit)) o r (valueXml (text (upper (rest 0 (now (s .entry)) at)))) ⌝ }
 {
     o

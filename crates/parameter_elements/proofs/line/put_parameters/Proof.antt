@@ -6,7 +6,7 @@ use Rattle.parameter_elements.proofs.line.put_parameters.Tie as tie
 
 pub put-parameters-spec : {M : Type 1} → statement M
 put-parameters-spec = tie.close (tie.spec
-    (λ c κs. ?)  -- are-read-requires
+    (λ c κs. search writing)  -- are-read-requires
     (λ c κs. search writing)  -- is-bare-requires
     (λ c. search (put-only, writing))  -- returns
     (λ c κs. search writing)  -- put-element-requires
