@@ -5,27 +5,26 @@
 --     put-parameter, put-value-name, put-other-name     a parameter
 --     past-same, past-value, past-own   a slice whose cut is past its end
 --     put-unread, put-only, put-shown   the element `parameters`, or nothing
-use mathlib.Core.Path.{_≡_, refl, sym, ap, _∙_, subst}
+use mathlib.Core.Path.{_≡_, refl, sym, _∙_, subst}
 use mathlib.Core.Bool.{Bool, true, false, false≢true}
 use mathlib.Core.List.{List, [], _∷_, map}
 use mathlib.Core.Option.{Option, none, some}
-use Prim.Native.Nat.{ℕ, _*_, _^_, _≤_, _<_}
+use Prim.Native.Nat.{ℕ, _*_, _^_, _<_}
 use native.Mathlib.Omega.{arith}
 use lib.ListN.{length, take}
 use lib.Seq.{take-all}
 use borrow.Author.Tests.{eq-eqb, ne-eqb}
 use Rattle.octets.specs.Ascii.{ascii}
-use Rattle.octets.specs.Pick.{pick}
-use Rattle.octets.specs.Append.{_⊕_, joined}
+use Rattle.octets.specs.Append.{joined}
 use Rattle.octets.specs.Class.{upper, lower}
 use Rattle.octets.specs.Words.{same, isEmpty}
 use Rattle.octets.specs.Reading.{isRead, readOr, orNothing, each-empty}
-use Rattle.model.specs.Calendar.{ical, TEXT, text, Parameter}
+use Rattle.model.specs.Calendar.{ical, text, Parameter}
 use Rattle.sink.specs.Sink.{Put, put-none, put-yes, put-no, _▷_}
 use Rattle.source.specs.Source.{rest}
 use Rattle.names.specs.Table.{placeOf}
 use Rattle.schema.specs.Types.{sameType, typePlace, place-type}
-use Rattle.schema.specs.Parameters.{ParameterRow, parameterNames, parameterRow}
+use Rattle.schema.specs.Parameters.{ParameterRow, parameterNames}
 use Rattle.schema.specs.Numbers.{typeAt, parameterAt, parameter-place}
 use Rattle.schema.specs.Sets.{parameterWordsAt}
 use Rattle.values.specs.ReadValue.{readValue}
@@ -63,8 +62,8 @@ module _ {d e : List ℕ} {o r : ℕ} (q : ℕ) (l : List ℕ) {t : Bool} (h : t
 -- ---- the values of a parameter
 
 module _ (p : ParameterRow) {s : List ℕ} {c : ℕ} {r : ParamAt} (v : ValueAt paramValue 0 s c r) {d : List ℕ} {o : ℕ} where
-  pub put-first : {e f : List ℕ} {a n : ℕ} → r .ok ≡ true → Put d e o a (valueShown p (rest 0 (take (r .to) s) (r .from))) → Put e f a n (joined (map (charsShown p) (items nextValue (rest 0 s (r .next))))) →
-      Put d f o n (joined (map (charsShown p) (valuesAt 0 s c)))
+  pub put-first : {e f : List ℕ} {a n : ℕ} → r .ok ≡ true → Put d e o a (valueShown p (rest 0 (take (r .to) s) (r .from))) →
+      Put e f a n (joined (map (charsShown p) (items nextValue (rest 0 s (r .next))))) → Put d f o n (joined (map (charsShown p) (valuesAt 0 s c)))
   unfolding joined
   put-first {e} {f} {a} {n} h x y = rw (value-first v h) (subst (λ (l : List ℕ). Put d e o a (valueShown p l)) (value-chars v (value-there v)) x ▷ y)
 
@@ -75,7 +74,8 @@ module _ (p : ParameterRow) {s : List ℕ} {c : ℕ} {r : ParamAt} (v : ValueAt 
 -- ---- a parameter
 
 pub put-parameter : {d e f g : List ℕ} {o a b r q : ℕ} (n : List ℕ) (vs : List ParamValue) → q ≡ placeOf (upper n) parameterNames →
-    Put d e o a (startTag (lower n)) → Put e f a b (joined (map (charsShown (rowAt q)) vs)) → Put f g b r (endTag (lower n)) → Put d g o r (shown (record { name = n; values = vs }))
+    Put d e o a (startTag (lower n)) → Put e f a b (joined (map (charsShown (rowAt q)) vs)) → Put f g b r (endTag (lower n)) →
+    Put d g o r (shown (record { name = n; values = vs }))
 unfolding rowAt
 put-parameter n vs h x y z = x ▷ rw (parameter-place (upper n), ← h) y ▷ z
 
@@ -126,7 +126,8 @@ module _ {d : List ℕ} {o : ℕ} (rs : List RawParameter) {t : Bool} (h : t ≡
         go none e = put-none d o z
         go (some ps) e = all ps (each-empty readParameter (ownParameters rs) ps e ∙ sym i ∙ w)
 
-    pub put-shown : {e : List ℕ} {r : ℕ} → u ≡ false → Put d e o r (elementOf (ascii "parameters") (parametersShown rs)) → Put d e o r (parametersElement (readOr [] (readParameters rs)))
+    pub put-shown : {e : List ℕ} {r : ℕ} → u ≡ false → Put d e o r (elementOf (ascii "parameters") (parametersShown rs)) →
+        Put d e o r (parametersElement (readOr [] (readParameters rs)))
     unfolding isRead readOr
     put-shown {e} {r} w p = go (readParameters rs) refl (sym h ∙ k)
       where

@@ -3,7 +3,7 @@
 --     parametersShown                all parameters of a line, but VALUE
 --     lower-any-case                 a name in small letters is the same whatever case it stands in
 --     shown-is                       of parameters that are readable it is the XML of what they state
-use mathlib.Core.Path.{_≡_, refl, sym, ap, _∙_}
+use mathlib.Core.Path.{_≡_, refl, ap, _∙_}
 use mathlib.Core.Bool.{Bool, true, false, not}
 use mathlib.Core.List.{List, [], _∷_, map}
 use mathlib.Core.Option.{Option, none, some, Option·map}
@@ -28,7 +28,9 @@ use Rattle.xcal.specs.WriteXml.{valueXml, valuesXml, parameterXml, parametersXm
 
 -- a word of a closed set in capitals, TEXT as it stands, another value as the element of its type
 unfoldable pub valueShown : ParameterRow → List ℕ → List ℕ
-valueShown p s = pick (isRead (p .words)) (valueXml (text (upper s))) (pick (sameType (p .type) TEXT) (valueXml (text s)) (orNothing valueXml (readValue ical (p .type) s)))
+valueShown p s =
+    pick (isRead (p .words)) (valueXml (text (upper s)))
+    (pick (sameType (p .type) TEXT) (valueXml (text s)) (orNothing valueXml (readValue ical (p .type) s)))
 
 abbrev pub charsShown : ParameterRow → ParamValue → List ℕ
 charsShown p v = valueShown p (v .chars)
@@ -46,7 +48,10 @@ parametersShown rs = joined (map ownShown rs)
 
 lower-any-byte : (b : ℕ) → lowerByte (upperByte b) ≡ lowerByte b
 unfolding pick
-lower-any-byte b = upper-by-cases (λ x. lowerByte x ≡ lowerByte b) b (λ l h. rw (within-yes 65 90 (b - 32) (le-leb 65 (b - 32) (omega arith)) (le-leb (b - 32) 90 (omega arith)), and-no-right (leb 65 b) (leb b 90) (lt-leb b 90 (omega arith))) (omega arith)) (λ e. refl)
+lower-any-byte b =
+    upper-by-cases (λ x. lowerByte x ≡ lowerByte b) b
+    (λ l h. rw (within-yes 65 90 (b - 32) (le-leb 65 (b - 32) (omega arith)) (le-leb (b - 32) 90 (omega arith)), and-no-right (leb 65 b) (leb b 90) (lt-leb b 90 (omega arith))) (omega arith))
+    (λ e. refl)
 
 pub lower-any-case : (n : List ℕ) → lower (upper n) ≡ lower n
 unfolding upper lower
@@ -84,12 +89,14 @@ value-is n v x h = quotes (not (v .quoted) and isQuotedParameter n) h
     s : List ℕ
     s = v .chars
 
-    typed : (t : Bool) → pick t (some (text s)) (readValue ical (parameterType n) s) ≡ some x → pick t (valueXml (text s)) (orNothing valueXml (readValue ical (parameterType n) s)) ≡ valueXml x
+    typed : (t : Bool) → pick t (some (text s)) (readValue ical (parameterType n) s) ≡ some x →
+        pick t (valueXml (text s)) (orNothing valueXml (readValue ical (parameterType n) s)) ≡ valueXml x
     typed true h = let z : text s ≡ x = cc in rw z
     typed false h = rw h
 
     word : (o : Option (List (List ℕ))) → readWord o (parameterType n) s ≡ some x →
-        pick (isRead o) (valueXml (text (upper s))) (pick (sameType (parameterType n) TEXT) (valueXml (text s)) (orNothing valueXml (readValue ical (parameterType n) s))) ≡ valueXml x
+        pick (isRead o) (valueXml (text (upper s)))
+        (pick (sameType (parameterType n) TEXT) (valueXml (text s)) (orNothing valueXml (readValue ical (parameterType n) s))) ≡ valueXml x
     word none h = typed (sameType (parameterType n) TEXT) h
     word (some ws) h = ap valueXml (provided-some (isOneOf (upper s) ws) (text (upper s)) x h .1)
 
@@ -104,13 +111,16 @@ parameter-is r p h = go (isListedParameter n or isSingle (r .values)) h
     n : List ℕ
     n = upper (r .name)
 
-    of : (o : Option (List Value)) → readEach (readParamValue n) (r .values) ≡ o → Option·map (λ vs. record { name = n; values = vs }) o ≡ some p → shown r ≡ parameterXml p
+    of : (o : Option (List Value)) → readEach (readParamValue n) (r .values) ≡ o → Option·map (λ vs. record { name = n; values = vs }) o ≡ some p →
+        shown r ≡ parameterXml p
     of none e h = none-some h
     of (some vs) e h =
         let z : _≡_ {A = Parameter} (record { name = n; values = vs }) p = cc in
-        rw (← z, lower-any-case (r .name), ← (values-joined vs), each-written (readParamValue n) (charsShown (parameterRow n)) valueXml (value-is n) (r .values) vs e)
+        let q = each-written (readParamValue n) (charsShown (parameterRow n)) valueXml (value-is n) (r .values) vs e in
+        rw (← z, lower-any-case (r .name), ← (values-joined vs), q)
 
-    go : (t : Bool) → pick t (Option·map (λ vs. record { name = n; values = vs }) (readEach (readParamValue n) (r .values))) none ≡ some p → shown r ≡ parameterXml p
+    go : (t : Bool) → pick t (Option·map (λ vs. record { name = n; values = vs }) (readEach (readParamValue n) (r .values))) none ≡ some p →
+        shown r ≡ parameterXml p
     go true h = of (readEach (readParamValue n) (r .values)) refl h
     go false h = none-some h
 
@@ -119,7 +129,8 @@ unfolding joined ownParameters pick
 own-joined [] = refl
 own-joined (r ∷ rs) = go (isValueParameter r) (own-joined rs)
   where
-    go : (t : Bool) → parametersShown rs ≡ joined (map shown (ownParameters rs)) → pick t [] (shown r) ⊕ parametersShown rs ≡ joined (map shown (pick t (ownParameters rs) (r ∷ ownParameters rs)))
+    go : (t : Bool) → parametersShown rs ≡ joined (map shown (ownParameters rs)) →
+        pick t [] (shown r) ⊕ parametersShown rs ≡ joined (map shown (pick t (ownParameters rs) (r ∷ ownParameters rs)))
     go true e = append-empty (parametersShown rs) ∙ e
     go false e = ap (λ (l : List ℕ). shown r ⊕ l) e
 

@@ -3,8 +3,8 @@
 --     writing-start, writing-more, writing-end     its laws
 --     value-written, values-over, values-fault     over the values of a parameter
 --     param-written, params-over, params-fault     over the parameters of a line
---     OnlyValue laws                               over the parameters of a line, looking for one besides VALUE
-use mathlib.Core.Path.{_≡_, refl, sym, ap, _∙_, subst}
+--     only-more, only-stop, only-over, only-fault  over the parameters of a line, as long as they are VALUE
+use mathlib.Core.Path.{_≡_, refl, sym, _∙_, subst}
 use mathlib.Core.Bool.{Bool, true, false}
 use mathlib.Core.List.{List, [], _∷_, map}
 use Prim.Native.Nat.{ℕ, _*_, _^_, _<_}
@@ -12,8 +12,7 @@ use lib.ListN.{length, take}
 use Rattle.octets.specs.Ascii.{ascii}
 use Rattle.octets.specs.Pick.{pick}
 use Rattle.octets.specs.Append.{_⊕_, joined}
-use Rattle.octets.specs.Class.{isNameChar, upper}
-use Rattle.octets.specs.Runs.{runOf}
+use Rattle.octets.specs.Class.{upper}
 use Rattle.octets.specs.Words.{same, isEmpty}
 use Rattle.sink.specs.Sink.{Put, put-length, Todo, todo-all, todo-step, todo-done}
 use Rattle.source.specs.Source.{rest}

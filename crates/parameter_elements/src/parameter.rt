@@ -31,14 +31,7 @@ fn put_end(out: &mut [u8], o: usize, n: &[u8], at: usize) -> usize
 }
 
 // The parameter whose name stands in `n` from the cursor on, and whose values stand in `s` from the cursor `first` on.
-fn put_parameter(
-    out: &mut [u8],
-    o: usize,
-    n: &[u8],
-    at: usize,
-    s: &[u8],
-    first: usize,
-) -> usize
+fn put_parameter(out: &mut [u8], o: usize, n: &[u8], at: usize, s: &[u8], first: usize) -> usize
     ensures { λ r. ⌜ Put (now (out .entry)) (now (out .exit)) o r (shown (record { name = rest 0 (now (n .entry)) at; values = valuesAt 0 (now (s .entry)) first })) ⌝ }
 {
     let q = parameter_number(0, n, at);
