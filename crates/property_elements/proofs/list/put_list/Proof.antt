@@ -1,0 +1,17 @@
+-- `property_elements::put_list` meets its contract. Assumes nothing.
+use Rattle.sink.specs.Sink.{writing}
+use Rattle.property_elements.proofs.list.put_list.Statement.{statement}
+use Rattle.property_elements.proofs.list.put_list.Tie as tie
+
+pub put-list-spec : {M : Type 1} → statement M
+put-list-spec = tie.close (tie.spec
+    (λ c κs. search writing)  -- put-texts-xml-requires
+    (λ c. search writing)  -- same-length
+    (λ c. search writing)  -- returns
+    (λ c κs. search writing)  -- put-pieces-requires
+    (λ c. search writing)  -- same-length-2
+    (λ c. search writing)  -- returns-2
+    (λ c κs. search writing)  -- put-pieces-requires-2
+    (λ c. search writing)  -- same-length-3
+    (λ c. search writing)  -- returns-3
+    )

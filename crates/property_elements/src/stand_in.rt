@@ -1,0 +1,64 @@
+// Stand-ins.
+ghost use mathlib.Core.Path.{_≡_};
+ghost use mathlib.Core.List.{List, []};
+ghost use Prim.Native.Nat.{ℕ, _≤_};
+ghost use Rattle.octets.specs.Class.{upper};
+ghost use Rattle.octets.specs.Reading.{orNothing, isRead, readOr};
+ghost use Rattle.names.specs.Table.{placeOf};
+ghost use Rattle.model.specs.Calendar.{ical, text};
+ghost use Rattle.sink.specs.Sink.{Put};
+ghost use Rattle.source.specs.Source.{rest};
+ghost use Rattle.schema.specs.Numbers.{typeAt};
+ghost use Rattle.schema.specs.Components.{componentNames};
+ghost use Rattle.schema.specs.Properties.{propertyNames};
+ghost use Rattle.values.specs.ReadValue.{readValue};
+ghost use Rattle.lines.specs.Cursor.{paramsAt};
+ghost use Rattle.ical.specs.Parameters.{readParameters};
+ghost use Rattle.ical.specs.Values.{readValues};
+ghost use Rattle.xcal.specs.WriteXml.{valueXml, parametersElement};
+ghost use Rattle.property_elements.specs.StandIn.{StatedAt, valuesRead};
+
+pub enum TypeRead {
+    Type(usize),
+    Bad,
+}
+
+pub enum ValuesRead {
+    Good(usize),
+    Bad,
+}
+
+pub fn stated_type(p: usize, s: &[u8], e: usize) -> TypeRead
+    requires { ⌜ ⊥ ⌝ }
+    ensures { λ r. ⌜ StatedAt p (now (s .entry)) e r ⌝ }
+{
+    TypeRead::Bad
+}
+
+pub fn read_values(k: usize, p: usize, t: usize, s: &[u8], at: usize) -> ValuesRead
+    requires { ⌜ ⊥ ⌝ }
+    ensures { λ r. ⌜ (c w : List ℕ) → k ≡ placeOf c componentNames → p ≡ placeOf w propertyNames → t ≤ 14 → r ≡ valuesRead t (isRead (readValues c w (typeAt t) (rest 0 (now (s .entry)) at))) ⌝ }
+{
+    ValuesRead::Bad
+}
+
+pub fn put_value_element(out: &mut [u8], o: usize, t: usize, s: &[u8], at: usize) -> usize
+    requires { ⌜ ⊥ ⌝ }
+    ensures { λ r. ⌜ Put (now (out .entry)) (now (out .exit)) o r (orNothing valueXml (readValue ical (typeAt t) (rest 0 (now (s .entry)) at))) ⌝ }
+{
+    o
+}
+
+pub fn put_word_element(out: &mut [u8], o: usize, s: &[u8], at: usize) -> usize
+    requires { ⌜ ⊥ ⌝ }
+    ensures { λ r. ⌜ Put (now (out .entry)) (now (out .exit)) o r (valueXml (text (upper (rest 0 (now (s .entry)) at)))) ⌝ }
+{
+    o
+}
+
+pub fn put_parameters(out: &mut [u8], o: usize, s: &[u8], e: usize) -> usize
+    requires { ⌜ ⊥ ⌝ }
+    ensures { λ r. ⌜ Put (now (out .entry)) (now (out .exit)) o r (parametersElement (readOr [] (readParameters (paramsAt 0 (now (s .entry)) e)))) ⌝ }
+{
+    o
+}
