@@ -91,23 +91,23 @@ module _ {s : List ℕ} {c e v : ℕ} (a : LineAt 0 s c (Line e v)) where
   unfolding propertyXml propertyOf
   property-xml k =
       ap (orNothing (λ l. propertyXml (propertyOf (componentName k) l))) (a .is)
-      ∙ rw (name-chars (a .parts .name)) (ap (λ (n : List ℕ). elementOf n _) (lower-upper (runOf isNameChar (rest 0 s c))))
+      ∙ rw (name-chars (a .parts .name), lower-upper (runOf isNameChar (rest 0 s c)))
 
 -- ---- for the code
 
-module _ {d : List ℕ} {at k : ℕ} {s : List ℕ} {c : ℕ} {r : LineRead} (a : LineAt 0 s c r) where
+module _ {s : List ℕ} {c : ℕ} {r : LineRead} (a : LineAt 0 s c r) where
   pub parts-inside : (e v : ℕ) → r ≡ Line e v → e ≤ length s
   parts-inside e v h = let b : LineAt 0 s c (Line e v) = rw h at a in name-inside b
 
-  pub put-parts : {f : List ℕ} {o : ℕ} (e v : ℕ) → r ≡ Line e v → Put d f at o (partsXml k s c e v) →
+  pub put-parts : {d f : List ℕ} {at o : ℕ} (k e v : ℕ) → r ≡ Line e v → Put d f at o (partsXml k s c e v) →
       Put d f at o (orNothing (λ l. propertyXml (propertyOf (componentName k) l)) (contentLine (rest 0 s c)))
-  put-parts e v h w = let b : LineAt 0 s c (Line e v) = rw h at a in rw (property-xml b k) w
+  put-parts k e v h w = let b : LineAt 0 s c (Line e v) = rw h at a in rw (property-xml b k) w
 
-  pub put-no-line : r ≡ Bad → length d * 1 < 2 ^ 63 → Put d d at at (orNothing (λ l. propertyXml (propertyOf (componentName k) l)) (contentLine (rest 0 s c)))
-  put-no-line h z = let b : LineAt 0 s c Bad = rw h at a in rw (b .is) (put-none d at z)
+  pub put-no-line : {d : List ℕ} {at : ℕ} (k : ℕ) → r ≡ Bad → length d * 1 < 2 ^ 63 → Put d d at at (orNothing (λ l. propertyXml (propertyOf (componentName k) l)) (contentLine (rest 0 s c)))
+  put-no-line {d} {at} k h z = let b : LineAt 0 s c Bad = rw h at a in rw (b .is) (put-none d at z)
 
 -- the values, by the number of the line's name and by the type that was found
-module _ {d f : List ℕ} {at o k p : ℕ} {s : List ℕ} {c e v : ℕ} {r : TypeRead} (h : p ≡ placeOf (upper (nameIn s c e)) propertyNames) (a : StatedAt p s e r) where
+module _ {d f : List ℕ} {at o : ℕ} (k : ℕ) {p : ℕ} {s : List ℕ} (c : ℕ) {e : ℕ} (v : ℕ) {r : TypeRead} (h : p ≡ placeOf (upper (nameIn s c e)) propertyNames) (a : StatedAt p s e r) where
   pub put-typed : (t : ℕ) → r ≡ Typed t → Put d f at o (valuesXml (readOr [] (readValues (componentName k) (propertyName p) (typeAt t) (rest 0 s v)))) →
       Put d f at o (statedXml k s c e v)
   unfolding readOr

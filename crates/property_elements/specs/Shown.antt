@@ -20,6 +20,7 @@ use Rattle.octets.specs.Computing.{octets-compute}
 use Rattle.names.specs.Table.{placeOf}
 use Rattle.model.specs.Calendar.{ical, ValueType, TEXT, Value, text}
 use Rattle.sink.specs.Sink.{Put, put-none}
+use Rattle.source.specs.Source.{rest}
 use Rattle.schema.specs.Types.{typeName, sameType, isTypeOf}
 use Rattle.schema.specs.Components.{componentNames}
 use Rattle.schema.specs.Properties.{propertyNames}
@@ -37,7 +38,7 @@ use Rattle.ical.specs.Values.{oneValue, readListed, readChosen, readValues}
 use Rattle.xcal.specs.WriteXml.{textElement, dataXml, valueXml, valuesXml}
 use Rattle.property_elements.specs.Pieces.{piecesXml, listedXml}
 use Rattle.property_elements.specs.Placed.{ownAt, valuesAt, values-at, type-text}
-use Rattle.property_elements.specs.StandIn.{valuesRead}
+use Rattle.property_elements.specs.StandIn.{valuesRead, ValuesAsked}
 use Rattle.property_elements.specs.declared.stand_in.ValuesRead.{ValuesRead}
 use Rattle.property_elements.specs.declared.stand_in.ValuesRead.the-variants.{Good, Bad}
 
@@ -154,32 +155,32 @@ values-shown c w t l h =
 
 -- ---- for the code: the numbers of the component, the property and the type are a, b, u, and r is what reading answered
 
-good-yes : {t n : ℕ} (b : Bool) → Good n ≡ valuesRead t b → b ≡ true
-good-yes true h = refl
-good-yes false h = let z : _≡_ {A = ℕ} 0 1 = cc in absurd (omega arith)
+good-yes : (t : ℕ) {n : ℕ} (b : Bool) → Good n ≡ valuesRead t b → b ≡ true
+good-yes t true h = refl
+good-yes t false h = let z : _≡_ {A = ℕ} 0 1 = cc in absurd (omega arith)
 
-bad-no : {t : ℕ} (b : Bool) → Bad ≡ valuesRead t b → b ≡ false
-bad-no true h = let z : _≡_ {A = ℕ} 0 1 = cc in absurd (omega arith)
-bad-no false h = refl
+bad-no : (t : ℕ) (b : Bool) → Bad ≡ valuesRead t b → b ≡ false
+bad-no t true h = let z : _≡_ {A = ℕ} 0 1 = cc in absurd (omega arith)
+bad-no t false h = refl
 
-module _ {a b u k p t : ℕ} {l : List ℕ} {r : ValuesRead} (f : a ≡ placeOf (componentName k) componentNames) (g : b ≡ placeOf (propertyName p) propertyNames)
+module _ {a b u : ℕ} (k p t : ℕ) (s : List ℕ) (c : ℕ) {r : ValuesRead} (f : a ≡ placeOf (componentName k) componentNames) (g : b ≡ placeOf (propertyName p) propertyNames)
     (h : (typeAt u ≡ typeAt t) × (u ≤ 14))
-    (q : (c w : List ℕ) → a ≡ placeOf c componentNames → b ≡ placeOf w propertyNames → u ≤ 14 → r ≡ valuesRead u (isRead (readValues c w (typeAt u) l))) where
-  asked : r ≡ valuesRead u (isRead (readValues (componentName k) (propertyName p) (typeAt t) l))
-  asked = q (componentName k) (propertyName p) f g (h .1) ∙ ap (λ (x : ValueType). valuesRead u (isRead (readValues (componentName k) (propertyName p) x l))) (h .0)
+    (q : ValuesAsked a b u s c r) where
+  asked : r ≡ valuesRead u (isRead (readValues (componentName k) (propertyName p) (typeAt t) (rest 0 s c)))
+  asked = q (componentName k) (propertyName p) f g (h .1) ∙ ap (λ (x : ValueType). valuesRead u (isRead (readValues (componentName k) (propertyName p) x (rest 0 s c)))) (h .0)
 
-  pub put-shown : {d e : List ℕ} {at o : ℕ} (n : ℕ) → r ≡ Good n → Put d e at o (shownXml a b u l) →
-      Put d e at o (valuesXml (readOr [] (readValues (componentName k) (propertyName p) (typeAt t) l)))
+  pub put-shown : {d e : List ℕ} {at o : ℕ} (n : ℕ) → r ≡ Good n → Put d e at o (shownXml a b u (rest 0 s c)) →
+      Put d e at o (valuesXml (readOr [] (readValues (componentName k) (propertyName p) (typeAt t) (rest 0 s c))))
   put-shown n z w =
-      let y : isRead (readValues (componentName k) (propertyName p) (typeAt t) l) ≡ true = good-yes (isRead (readValues (componentName k) (propertyName p) (typeAt t) l)) (sym z ∙ asked) in
-      let x = values-shown (componentName k) (propertyName p) u l (ap (λ (v : ValueType). isRead (readValues (componentName k) (propertyName p) v l)) (h .0) ∙ y) in
+      let y : isRead (readValues (componentName k) (propertyName p) (typeAt t) (rest 0 s c)) ≡ true = good-yes u (isRead (readValues (componentName k) (propertyName p) (typeAt t) (rest 0 s c))) (sym z ∙ asked) in
+      let x = values-shown (componentName k) (propertyName p) u (rest 0 s c) (ap (λ (v : ValueType). isRead (readValues (componentName k) (propertyName p) v (rest 0 s c))) (h .0) ∙ y) in
       rw (← (h .0), ← x, ← f, ← g) w
 
   pub put-no-values : {d : List ℕ} {at : ℕ} → r ≡ Bad → length d * 1 < 2 ^ 63 →
-      Put d d at at (valuesXml (readOr [] (readValues (componentName k) (propertyName p) (typeAt t) l)))
+      Put d d at at (valuesXml (readOr [] (readValues (componentName k) (propertyName p) (typeAt t) (rest 0 s c))))
   unfolding isRead readOr valuesXml
   put-no-values {d} {at} z y =
-      go (readValues (componentName k) (propertyName p) (typeAt t) l) (bad-no (isRead (readValues (componentName k) (propertyName p) (typeAt t) l)) (sym z ∙ asked))
+      go (readValues (componentName k) (propertyName p) (typeAt t) (rest 0 s c)) (bad-no u (isRead (readValues (componentName k) (propertyName p) (typeAt t) (rest 0 s c))) (sym z ∙ asked))
     where
       go : (o : Option (List Value)) → isRead o ≡ false → Put d d at at (valuesXml (readOr [] o))
       go none e = put-none d at y

@@ -16,7 +16,7 @@ ghost use Rattle.lines.specs.Cursor.{paramsAt};
 ghost use Rattle.ical.specs.Parameters.{readParameters};
 ghost use Rattle.ical.specs.Values.{readValues};
 ghost use Rattle.xcal.specs.WriteXml.{valueXml, parametersElement};
-ghost use Rattle.property_elements.specs.StandIn.{StatedAt, valuesRead};
+ghost use Rattle.property_elements.specs.StandIn.{StatedAt, ValuesAsked};
 
 pub enum TypeRead {
     Type(usize),
@@ -37,7 +37,7 @@ pub fn stated_type(p: usize, s: &[u8], e: usize) -> TypeRead
 
 pub fn read_values(k: usize, p: usize, t: usize, s: &[u8], at: usize) -> ValuesRead
     requires { ⌜ ⊥ ⌝ }
-    ensures { λ r. ⌜ (c w : List ℕ) → k ≡ placeOf c componentNames → p ≡ placeOf w propertyNames → t ≤ 14 → r ≡ valuesRead t (isRead (readValues c w (typeAt t) (rest 0 (now (s .entry)) at))) ⌝ }
+    ensures { λ r. ⌜ ValuesAsked k p t (now (s .entry)) at r ⌝ }
 {
     ValuesRead::Bad
 }
