@@ -10,8 +10,8 @@ put-property-spec = tie.close (tie.spec
     (λ c κs. search writing)  -- line-at-requires
     (λ c. search writing)  -- enum-known-e
     (λ c. search writing)  -- enum-told
-    (λ c. put-no-line (c .before .before .line-at .ensures) _ (c .enum-told .given .1) (search needs))  -- returns
+    (λ c. put-no-line (c .before .before .line-at .ensures) (c .before .before .before .before .before .args .k) (c .enum-told .given .1) (search needs))  -- returns
     (λ c κs. parts-inside (c .before .before .before .before .line-at .ensures) _ _ (c .before .before .e .given .1))  -- put-parts-requires
     (λ c. search writing)  -- same-length
-    (λ c. put-parts (c .before .before .before .before .before .before .before .line-at .ensures) _ _ _ (c .before .before .before .before .before .e .given .1) (c .before .before .put-parts .ensures))  -- returns-2
+    (λ c. put-parts (c .before .before .before .before .before .before .before .line-at .ensures) (c .before .before .before .before .before .before .before .before .before .before .args .k) _ _ (c .before .before .before .before .before .e .given .1) (c .before .before .put-parts .ensures))  -- returns-2
     )
