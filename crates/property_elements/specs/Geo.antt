@@ -2,21 +2,21 @@
 --     coordinatesXml     `latitude` and `longitude`, from the cursors of the two numbers
 --     geo-xml            what is read, written number by number
 use mathlib.Core.Path.{_≡_, refl, sym, ap, _∙_}
-use mathlib.Core.Bool.{Bool, true, false, false≢true}
-use mathlib.Core.List.{List, []}
+use mathlib.Core.Bool.{true, false≢true}
+use mathlib.Core.List.{List}
 use mathlib.Core.Option.{Option, none, some}
 use Prim.Native.Nat.{ℕ, _*_, _^_, _<_}
 use lib.ListN.{length}
 use Rattle.octets.specs.Ascii.{ascii}
 use Rattle.octets.specs.Append.{_⊕_}
 use Rattle.octets.specs.Reading.{andThen, isRead, orNothing}
-use Rattle.model.specs.Calendar.{Decimal, Value}
+use Rattle.model.specs.Calendar.{Decimal}
 use Rattle.sink.specs.Sink.{Put, put-none}
 use Rattle.source.specs.Source.{rest}
 use Rattle.numbers.specs.Float.{readFloat, writeFloat}
 use Rattle.numbers.specs.Until.{until}
 use Rattle.numbers.specs.Geo.{readGeo}
-use Rattle.numbers.specs.ReadGeo.{bothOf, geoOf, isGood, ReadsGeo}
+use Rattle.numbers.specs.ReadGeo.{bothOf, ReadsGeo}
 use Rattle.numbers.specs.declared.geo.GeoRead.{GeoRead}
 use Rattle.numbers.specs.declared.geo.GeoRead.the-variants.{At, Bad}
 use Rattle.xml.specs.Escape.{elementOf}

@@ -3,14 +3,13 @@
 --     values-named   the values of a property are those of its number's name;   property-of-place: and so is the property that a line states
 --     component-again, property-again, type-again    the number of the name of a number
 use mathlib.Core.Path.{_≡_, refl, sym, ap, _∙_}
-use mathlib.Core.Bool.{Bool, true, false}
 use mathlib.Core.List.{List, [], _∷_, map}
 use mathlib.Core.Option.{Option, none}
 use Prim.Native.Nat.{ℕ, _≤_, _<_}
 use native.Mathlib.Omega.{arith}
 use native.Mathlib.Decide.{decLe}
 use lib.Dec.{eqb}
-use lib.ListN.{length, getD, List·getD-eq-default}
+use lib.ListN.{getD, List·getD-eq-default}
 use borrow.Author.Tests.{ne-eqb}
 use Rattle.octets.specs.Ascii.{ascii}
 use Rattle.octets.specs.Pick.{pick}
@@ -21,7 +20,7 @@ use Rattle.names.specs.Table.{placeOf, place-within}
 use Rattle.model.specs.Calendar.{ValueType, TEXT, UNKNOWN, Value}
 use Rattle.schema.specs.Types.{valueTypes, typePlace, sameType, isTypeOf}
 use Rattle.schema.specs.Components.{componentNames}
-use Rattle.schema.specs.Properties.{PropertyRow, propertyNames, permittedTypes, isListedProperty, propertyWords}
+use Rattle.schema.specs.Properties.{PropertyRow, propertyNames, permittedTypes, isListedProperty}
 use Rattle.schema.specs.Numbers.{typeAt, propertyAt, componentName, propertyName, property-place, same-place}
 use Rattle.schema.specs.Cells.{tabled, tabled-at, column-at}
 use Rattle.schema.specs.Arrays.{place-at}

@@ -4,9 +4,8 @@
 --     contentXml     those of its parameters and its values
 --     partsXml       the whole element;   property-xml: what is written of the line
 use mathlib.Core.Path.{_≡_, refl, sym, ap, _∙_}
-use mathlib.Core.Bool.{Bool, true, false}
 use mathlib.Core.List.{List, [], _∷_}
-use mathlib.Core.Option.{Option, none, some}
+use mathlib.Core.Option.{none}
 use Prim.Native.Nat.{ℕ, _+_, _-_, _*_, _^_, _≤_, _<_}
 use native.Mathlib.Omega.{arith}
 use native.Mathlib.Decide.{decLe}
@@ -21,16 +20,16 @@ use Rattle.octets.specs.Runs.{runOf}
 use Rattle.octets.specs.Scan.{spanLen}
 use Rattle.octets.specs.Reading.{readOr, orNothing, none-some}
 use Rattle.names.specs.Table.{placeOf}
-use Rattle.model.specs.Calendar.{ValueType, TEXT}
+use Rattle.model.specs.Calendar.{TEXT}
 use Rattle.sink.specs.Sink.{Put, put-none}
 use Rattle.source.specs.Source.{rest}
 use Rattle.schema.specs.Properties.{propertyNames}
 use Rattle.schema.specs.Numbers.{typeAt, componentName, propertyName}
 use Rattle.xml.specs.Escape.{elementOf}
-use Rattle.lines.specs.ContentLine.{ContentLine, contentLine}
+use Rattle.lines.specs.ContentLine.{contentLine}
 use Rattle.lines.specs.Cursor.{paramsAt}
 use Rattle.lines.specs.Params.{name-chars}
-use Rattle.lines.specs.Line.{lineOf, LineAt}
+use Rattle.lines.specs.Line.{LineAt}
 use Rattle.lines.specs.declared.LineRead.{LineRead}
 use Rattle.lines.specs.declared.LineRead.the-variants.{Line, Bad}
 use Rattle.ical.specs.Parameters.{statedType, readParameters}

@@ -21,7 +21,7 @@ use Rattle.names.specs.Table.{placeOf}
 use Rattle.model.specs.Calendar.{ical, ValueType, TEXT, Value, text}
 use Rattle.sink.specs.Sink.{Put, put-none}
 use Rattle.source.specs.Source.{rest}
-use Rattle.schema.specs.Types.{typeName, sameType, isTypeOf}
+use Rattle.schema.specs.Types.{typeName, isTypeOf}
 use Rattle.schema.specs.Components.{componentNames}
 use Rattle.schema.specs.Properties.{propertyNames}
 use Rattle.schema.specs.Numbers.{typeAt, propertyAt, componentName, propertyName}

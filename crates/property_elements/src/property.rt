@@ -1,15 +1,15 @@
 // A content line written as the element of its property. See specs/Property.antt.
+use crate::shown::put_values;
 use crate::stand_in::TypeRead;
 use crate::stand_in::put_parameters;
 use crate::stand_in::stated_type;
-use crate::shown::put_values;
 use lines::LineRead;
 use lines::line_at;
 use names::put_lower;
 use schema::property_number;
 use sink::put_all;
 ghost use Prim.Native.Nat.{_≤_};
-ghost use lib.ListN.{length, take};
+ghost use lib.ListN.{length};
 ghost use Rattle.octets.specs.Class.{lower};
 ghost use Rattle.octets.specs.Reading.{orNothing};
 ghost use Rattle.sink.specs.Sink.{Put};
@@ -19,7 +19,7 @@ ghost use Rattle.lines.specs.ContentLine.{contentLine};
 ghost use Rattle.schema.specs.Numbers.{componentName};
 ghost use Rattle.ical.specs.Statement.{propertyOf};
 ghost use Rattle.xcal.specs.WriteXml.{propertyXml};
-ghost use Rattle.property_elements.specs.Property.{nameIn, statedXml, contentXml, partsXml};
+ghost use Rattle.property_elements.specs.Property.{statedXml, contentXml, partsXml};
 
 // The start tag of a name in small letters.
 fn put_small_start(out: &mut [u8], o: usize, s: &[u8], at: usize) -> usize
@@ -39,15 +39,7 @@ fn put_small_end(out: &mut [u8], o: usize, s: &[u8], at: usize) -> usize
 }
 
 // The values from the cursor `v` on, of the type that the line states: its name ends at the cursor `e`.
-fn put_stated(
-    out: &mut [u8],
-    o: usize,
-    k: usize,
-    s: &[u8],
-    at: usize,
-    e: usize,
-    v: usize,
-) -> usize
+fn put_stated(out: &mut [u8], o: usize, k: usize, s: &[u8], at: usize, e: usize, v: usize) -> usize
     requires { ⌜ e ≤ length (now s) ⌝ }
     ensures { λ r. ⌜ Put (now (out .entry)) (now (out .exit)) o r (statedXml k (now (s .entry)) at e v) ⌝ }
 {
@@ -59,15 +51,7 @@ fn put_stated(
 }
 
 // The parameters and the values.
-fn put_content(
-    out: &mut [u8],
-    o: usize,
-    k: usize,
-    s: &[u8],
-    at: usize,
-    e: usize,
-    v: usize,
-) -> usize
+fn put_content(out: &mut [u8], o: usize, k: usize, s: &[u8], at: usize, e: usize, v: usize) -> usize
     requires { ⌜ e ≤ length (now s) ⌝ }
     ensures { λ r. ⌜ Put (now (out .entry)) (now (out .exit)) o r (contentXml k (now (s .entry)) at e v) ⌝ }
 {
@@ -75,15 +59,7 @@ fn put_content(
     put_stated(out, a, k, s, at, e, v)
 }
 
-fn put_parts(
-    out: &mut [u8],
-    o: usize,
-    k: usize,
-    s: &[u8],
-    at: usize,
-    e: usize,
-    v: usize,
-) -> usize
+fn put_parts(out: &mut [u8], o: usize, k: usize, s: &[u8], at: usize, e: usize, v: usize) -> usize
     requires { ⌜ e ≤ length (now s) ⌝ }
     ensures { λ r. ⌜ Put (now (out .entry)) (now (out .exit)) o r (partsXml k (now (s .entry)) at e v) ⌝ }
 {

@@ -1,20 +1,14 @@
 // Stand-ins.
-ghost use mathlib.Core.Path.{_≡_};
-ghost use mathlib.Core.List.{List, []};
-ghost use Prim.Native.Nat.{ℕ, _≤_};
+ghost use mathlib.Core.List.{[]};
 ghost use Rattle.octets.specs.Class.{upper};
-ghost use Rattle.octets.specs.Reading.{orNothing, isRead, readOr};
-ghost use Rattle.names.specs.Table.{placeOf};
+ghost use Rattle.octets.specs.Reading.{orNothing, readOr};
 ghost use Rattle.model.specs.Calendar.{ical, text};
 ghost use Rattle.sink.specs.Sink.{Put};
 ghost use Rattle.source.specs.Source.{rest};
 ghost use Rattle.schema.specs.Numbers.{typeAt};
-ghost use Rattle.schema.specs.Components.{componentNames};
-ghost use Rattle.schema.specs.Properties.{propertyNames};
 ghost use Rattle.values.specs.ReadValue.{readValue};
 ghost use Rattle.lines.specs.Cursor.{paramsAt};
 ghost use Rattle.ical.specs.Parameters.{readParameters};
-ghost use Rattle.ical.specs.Values.{readValues};
 ghost use Rattle.xcal.specs.WriteXml.{valueXml, parametersElement};
 ghost use Rattle.property_elements.specs.StandIn.{StatedAt, ValuesAsked};
 

@@ -1,4 +1,4 @@
--- `property_elements::put_coordinates` meets its contract. Assumes nothing.
+-- `property_elements::put_coordinates` meets its contract.
 use Rattle.sink.specs.Sink.{writing}
 use Rattle.property_elements.proofs.geo.put_coordinates.Statement.{statement}
 use Rattle.property_elements.proofs.geo.put_coordinates.Tie as tie

@@ -1,4 +1,4 @@
--- `property_elements::put_geo` meets its contract. Assumes nothing.
+-- `property_elements::put_geo` meets its contract.
 use Rattle.property_elements.specs.Geo.{put-geo, put-no-geo}
 use Rattle.sink.specs.Sink.{writing}
 use Rattle.property_elements.proofs.geo.put_geo.Statement.{statement}

@@ -1,4 +1,4 @@
--- `property_elements::put_latitude` meets its contract. Assumes nothing.
+-- `property_elements::put_latitude` meets its contract.
 use Rattle.sink.specs.Sink.{writing}
 use Rattle.property_elements.proofs.geo.put_latitude.Statement.{statement}
 use Rattle.property_elements.proofs.geo.put_latitude.Tie as tie

@@ -1,4 +1,4 @@
--- `property_elements::put_longitude` meets its contract. Assumes nothing.
+-- `property_elements::put_longitude` meets its contract.
 use Rattle.sink.specs.Sink.{writing}
 use Rattle.property_elements.proofs.geo.put_longitude.Statement.{statement}
 use Rattle.property_elements.proofs.geo.put_longitude.Tie as tie

@@ -1,4 +1,4 @@
--- `property_elements::piece_end` meets its contract. Assumes nothing.
+-- `property_elements::piece_end` meets its contract.
 use Prim.Native.Nat.{_-_}
 use native.Mathlib.Omega.{arith}
 use lib.ListN.{length}

@@ -1,4 +1,4 @@
--- `property_elements::put_list` meets its contract. Assumes nothing.
+-- `property_elements::put_list` meets its contract.
 use Rattle.property_elements.specs.Pieces.{put-list-texts, put-list-past, put-list-pieces}
 use Rattle.sink.specs.Sink.{writing}
 use Rattle.property_elements.proofs.list.put_list.Statement.{statement}

@@ -1,4 +1,4 @@
--- `property_elements::put_piece` meets its contract. Assumes nothing.
+-- `property_elements::put_piece` meets its contract.
 use lib.Seq.{length-take-le}
 use borrow.Author.Needs.{needs}
 use Rattle.sink.specs.Sink.{writing}

@@ -1,4 +1,4 @@
--- `property_elements::put_pieces` meets its contract. Assumes nothing.
+-- `property_elements::put_pieces` meets its contract.
 use Prim.Native.Nat.{_-_}
 use lib.ListN.{length}
 use Rattle.property_elements.specs.Pieces.{Piecing, piecing}

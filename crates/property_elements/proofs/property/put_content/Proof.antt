@@ -1,4 +1,4 @@
--- `property_elements::put_content` meets its contract. Assumes nothing.
+-- `property_elements::put_content` meets its contract.
 use Rattle.sink.specs.Sink.{writing}
 use Rattle.property_elements.proofs.property.put_content.Statement.{statement}
 use Rattle.property_elements.proofs.property.put_content.Tie as tie

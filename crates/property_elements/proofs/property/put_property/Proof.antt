@@ -1,4 +1,4 @@
--- `property_elements::put_property` meets its contract. Assumes nothing.
+-- `property_elements::put_property` meets its contract.
 use borrow.Author.Needs.{needs}
 use Rattle.property_elements.specs.Property.{put-parts, put-no-line, parts-inside}
 use Rattle.sink.specs.Sink.{writing}

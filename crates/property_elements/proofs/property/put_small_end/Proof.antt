@@ -1,4 +1,4 @@
--- `property_elements::put_small_end` meets its contract. Assumes nothing.
+-- `property_elements::put_small_end` meets its contract.
 use Rattle.sink.specs.Sink.{writing}
 use Rattle.property_elements.proofs.property.put_small_end.Statement.{statement}
 use Rattle.property_elements.proofs.property.put_small_end.Tie as tie

@@ -1,4 +1,4 @@
--- `property_elements::put_stated` meets its contract. Assumes nothing.
+-- `property_elements::put_stated` meets its contract.
 use lib.Seq.{length-take-le}
 use borrow.Author.Needs.{needs}
 use Rattle.property_elements.specs.Property.{put-typed, put-untyped}

@@ -1,4 +1,4 @@
--- `property_elements::component_place` meets its contract. Assumes nothing.
+-- `property_elements::component_place` meets its contract.
 use borrow.Author.Needs.{needs}
 use Rattle.property_elements.specs.Placed.{component-again, component-other}
 use Rattle.property_elements.proofs.shown.component_place.Statement.{statement}

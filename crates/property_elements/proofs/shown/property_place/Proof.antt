@@ -1,4 +1,4 @@
--- `property_elements::property_place` meets its contract. Assumes nothing.
+-- `property_elements::property_place` meets its contract.
 use borrow.Author.Needs.{needs}
 use Rattle.property_elements.specs.Placed.{property-again, property-other}
 use Rattle.property_elements.proofs.shown.property_place.Statement.{statement}

@@ -1,4 +1,4 @@
--- `property_elements::put_shown` meets its contract. Assumes nothing.
+-- `property_elements::put_shown` meets its contract.
 use Rattle.octets.specs.Pick.{flag-yes, flag-no}
 use Rattle.sink.specs.Sink.{writing}
 use Rattle.property_elements.proofs.shown.put_shown.Statement.{statement}

@@ -1,4 +1,4 @@
--- `property_elements::put_values` meets its contract. Assumes nothing.
+-- `property_elements::put_values` meets its contract.
 use borrow.Author.Needs.{needs}
 use Rattle.sink.specs.Sink.{writing}
 use Rattle.property_elements.specs.Shown.{put-shown, put-no-values}

@@ -1,4 +1,4 @@
--- `property_elements::type_place` meets its contract. Assumes nothing.
+-- `property_elements::type_place` meets its contract.
 use borrow.Author.Needs.{needs}
 use Rattle.property_elements.specs.Placed.{type-here, type-other}
 use Rattle.property_elements.proofs.shown.type_place.Statement.{statement}
