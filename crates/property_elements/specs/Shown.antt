@@ -38,7 +38,7 @@ use Rattle.ical.specs.Values.{oneValue, readListed, readChosen, readValues}
 use Rattle.xcal.specs.WriteXml.{textElement, dataXml, valueXml, valuesXml}
 use Rattle.property_elements.specs.Pieces.{piecesXml, listedXml}
 use Rattle.property_elements.specs.Placed.{ownAt, valuesAt, values-at, type-text}
-use Rattle.property_elements.specs.StandIn.{valuesRead, ValuesAsked}
+use Rattle.property_elements.specs.StandIn.{valuesRead}
 use Rattle.property_elements.specs.declared.stand_in.ValuesRead.{ValuesRead}
 use Rattle.property_elements.specs.declared.stand_in.ValuesRead.the-variants.{Good, Bad}
 
@@ -153,7 +153,14 @@ values-shown c w t l h =
     at-shown (placeOf c componentNames) (placeOf w propertyNames) t l (ap isRead (sym (values-at c w (typeAt t) l)) ∙ h)
     ∙ ap (λ (o : Option (List Value)). valuesXml (readOr [] o)) (sym (values-at c w (typeAt t) l))
 
--- ---- for the code: the numbers of the component, the property and the type are a, b, u, and r is what reading answered
+-- ---- for the code
+
+-- the answer r of reading: whether the values of each component and property of these numbers can be read
+abbrev pub ValuesAsked : ℕ → ℕ → ℕ → List ℕ → ℕ → ValuesRead → Type 0
+ValuesAsked k p t s at r =
+    (c w : List ℕ) → k ≡ placeOf c componentNames → p ≡ placeOf w propertyNames → t ≤ 14 → r ≡ valuesRead t (isRead (readValues c w (typeAt t) (rest 0 s at)))
+
+-- the numbers of the component, the property and the type are a, b, u, and r is what reading answered
 
 good-yes : (t : ℕ) {n : ℕ} (b : Bool) → Good n ≡ valuesRead t b → b ≡ true
 good-yes t true h = refl

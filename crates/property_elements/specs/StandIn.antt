@@ -4,16 +4,12 @@ use mathlib.Core.Bool.{Bool, true, false}
 use mathlib.Core.List.{List}
 use mathlib.Core.Option.{Option, none, some}
 use Prim.Native.Nat.{ℕ, _≤_}
-use Rattle.octets.specs.Reading.{isRead}
-use Rattle.source.specs.Source.{rest}
 use Rattle.names.specs.Table.{placeOf}
 use Rattle.model.specs.Calendar.{ValueType}
 use Rattle.schema.specs.Numbers.{typeAt}
-use Rattle.schema.specs.Components.{componentNames}
 use Rattle.schema.specs.Properties.{propertyNames}
 use Rattle.lines.specs.Cursor.{paramsAt}
 use Rattle.ical.specs.Parameters.{statedType}
-use Rattle.ical.specs.Values.{readValues}
 use Rattle.property_elements.specs.declared.stand_in.TypeRead.{TypeRead}
 use Rattle.property_elements.specs.declared.stand_in.TypeRead.the-variants.{«Type» as Typed, Bad as NoType}
 use Rattle.property_elements.specs.declared.stand_in.ValuesRead.{ValuesRead}
@@ -34,6 +30,3 @@ pub record StatedAt (p : ℕ) (s : List ℕ) (e : ℕ) (r : TypeRead) : Type 0 w
 abbrev pub valuesRead : ℕ → Bool → ValuesRead
 valuesRead t true = Good t
 valuesRead t false = NoValues
-
-abbrev pub ValuesAsked : ℕ → ℕ → ℕ → List ℕ → ℕ → ValuesRead → Type 0
-ValuesAsked k p t s at r = (c w : List ℕ) → k ≡ placeOf c componentNames → p ≡ placeOf w propertyNames → t ≤ 14 → r ≡ valuesRead t (isRead (readValues c w (typeAt t) (rest 0 s at)))

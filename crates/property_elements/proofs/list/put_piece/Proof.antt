@@ -8,7 +8,7 @@ use Rattle.property_elements.proofs.list.put_piece.Tie as tie
 pub put-piece-spec : {M : Type 1} → statement M
 put-piece-spec = tie.close (tie.spec
     (λ c. search (length-take-le, needs))  -- slice-aggregate-put-value-element
-    (λ c κs. ?)  -- put-value-element-requires
+    (λ c κs. search writing)  -- put-value-element-requires
     (λ c. search writing)  -- same-length
     (λ c. search writing)  -- returns
     )

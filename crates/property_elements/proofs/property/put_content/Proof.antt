@@ -5,7 +5,7 @@ use Rattle.property_elements.proofs.property.put_content.Tie as tie
 
 pub put-content-spec : {M : Type 1} → statement M
 put-content-spec = tie.close (tie.spec
-    (λ c κs. ?)  -- put-parameters-requires
+    (λ c κs. search writing)  -- put-parameters-requires
     (λ c κs. search writing)  -- put-stated-requires
     (λ c. search writing)  -- same-length
     (λ c. search writing)  -- returns

@@ -10,7 +10,7 @@ pub put-stated-spec : {M : Type 1} → statement M
 put-stated-spec = tie.close (tie.spec
     (λ c. search (length-take-le, needs))  -- slice-aggregate-property-number
     (λ c κs. search writing)  -- property-number-requires
-    (λ c κs. ?)  -- stated-type-requires
+    (λ c κs. search writing)  -- stated-type-requires
     (λ c. search writing)  -- enum-known-t
     (λ c. search writing)  -- enum-told
     (λ c κs. search writing)  -- put-values-requires

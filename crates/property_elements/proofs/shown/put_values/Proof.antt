@@ -10,7 +10,7 @@ put-values-spec = tie.close (tie.spec
     (λ c κs. search writing)  -- component-place-requires
     (λ c κs. search writing)  -- property-place-requires
     (λ c κs. search writing)  -- type-place-requires
-    (λ c κs. ?)  -- read-values-requires
+    (λ c κs. search writing)  -- read-values-requires
     (λ c. search writing)  -- enum-known-n
     (λ c. search writing)  -- enum-told
     (λ c. let a = c .before .before .before .before .before .before .before .before .args in put-no-values (a .k) (a .p) (a .t) _ _ (c .before .before .before .before .before .component-place .ensures) (c .before .before .before .before .property-place .ensures) (c .before .before .before .type-place .ensures) (c .before .before .read-values .ensures) (c .enum-told .given .1) (search needs))  -- returns
