@@ -1,0 +1,9 @@
+// A property of iCalendar text written as its element of XML: name, parameters, values. Definitions and laws are in specs/.
+mod geo;
+mod list;
+mod property;
+mod shown;
+mod stand_in;
+
+pub use property::put_property;
+pub use shown::put_values;
