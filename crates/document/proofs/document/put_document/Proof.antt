@@ -1,0 +1,13 @@
+-- `document::put_document` meets its contract. Assumes nothing.
+use Rattle.sink.specs.Sink.{writing}
+use Rattle.document.proofs.document.put_document.Statement.{statement}
+use Rattle.document.proofs.document.put_document.Tie as tie
+
+pub put-document-spec : {M : Type 1} → statement M
+put-document-spec = tie.close (tie.spec
+    (λ c κs. search writing)  -- put-front-requires
+    (λ c κs. search writing)  -- put-components-requires
+    (λ c κs. search writing)  -- put-back-requires
+    (λ c. search writing)  -- same-length
+    (λ c. search writing)  -- returns
+    )
