@@ -1,5 +1,5 @@
 // The components of a text, or of a component. See specs/Walks.antt.
-use crate::entry::Found;
+use crate::entry::Kind;
 use crate::entry::entry_at;
 use crate::parts::put_head;
 use crate::parts::put_tail;
@@ -15,31 +15,32 @@ pub fn put_components(out: &mut [u8], o: usize, s: &[u8], from: usize) -> usize
     let mut at = from;
     let mut depth: usize = 0;
     while at < s.len() {
-        match entry_at(s, at) {
-            Found::Begin(v, e) => {
+        let f = entry_at(s, at);
+        match f.kind {
+            Kind::Begin => {
                 if depth == 0 {
-                    let a = put_head(out, p, s, v, e);
-                    let b = put_components(out, a, s, e + 2);
-                    p = put_tail(out, b, s, v, e);
+                    let a = put_head(out, p, s, f.value, f.end, f.next);
+                    let b = put_components(out, a, s, f.next);
+                    p = put_tail(out, b, s, f.value, f.end, f.next);
                     depth = 1;
-                    at = e + 2;
+                    at = f.next;
                 } else {
                     depth += 1;
-                    at = e + 2;
+                    at = f.next;
                 }
             }
-            Found::End(e) => {
+            Kind::End => {
                 if depth == 0 {
                     return p;
                 }
                 depth -= 1;
-                at = e + 2;
+                at = f.next;
             }
-            Found::Property(e) => {
-                at = e + 2;
+            Kind::Property => {
+                at = f.next;
             }
-            Found::Nothing(n) => {
-                at = n;
+            Kind::Nothing => {
+                at = f.next;
             }
         }
     }

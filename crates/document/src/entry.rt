@@ -9,30 +9,37 @@ ghost use Prim.Native.Nat.{_<_};
 ghost use lib.ListN.{length};
 ghost use Rattle.octets.specs.Class.{upper};
 ghost use Rattle.source.specs.Source.{rest};
-ghost use Rattle.document.specs.Entries.{named, FoundAt};
+ghost use Rattle.document.specs.Entries.{kindNamed, FoundAt};
 
-// The beginning of a component, with the cursor of its name, the end of one, or a property, each with the index where the line ends;
-// or none of these, with the index of the next line.
-pub enum Found {
-    Begin(usize, usize),
-    End(usize),
-    Property(usize),
-    Nothing(usize),
+// The beginning of a component, the end of one, a property, or none of these.
+pub enum Kind {
+    Begin,
+    End,
+    Property,
+    Nothing,
 }
 
-// The line that ends at `e` and whose value stands at `v`, by its name.
-fn named_entry(name: &[u8], at: usize, v: usize, e: usize) -> Found
-    ensures { λ r. ⌜ r ≡ named (upper (rest 0 (now (name .entry)) at)) v e ⌝ }
+// A line: what it is, the cursor of its value, the index where it ends, and that of the next line.
+pub struct Found {
+    pub kind: Kind,
+    pub value: usize,
+    pub end: usize,
+    pub next: usize,
+}
+
+// What a content line is, by its name.
+fn kind_of(name: &[u8], at: usize) -> Kind
+    ensures { λ r. ⌜ r ≡ kindNamed (upper (rest 0 (now (name .entry)) at)) ⌝ }
 {
     let begin = is_word_any_case(0, name, at, b"BEGIN");
     if begin {
-        return Found::Begin(v, e);
+        return Kind::Begin;
     }
     let end = is_word_any_case(0, name, at, b"END");
     if end {
-        return Found::End(e);
+        return Kind::End;
     }
-    Found::Property(e)
+    Kind::Property
 }
 
 // The line at `at`.
@@ -41,10 +48,25 @@ pub fn entry_at(s: &[u8], at: usize) -> Found
     ensures { λ r. ⌜ FoundAt (now (s .entry)) at r ⌝ }
 {
     match line_end(s, at) {
-        Ending::Loose => Found::Nothing(s.len()),
+        Ending::Loose => Found {
+            kind: Kind::Nothing,
+            value: at,
+            end: at,
+            next: s.len(),
+        },
         Ending::Whole(e) => match line_at(0, &s[..e], at) {
-            LineRead::Bad => Found::Nothing(e + 2),
-            LineRead::Line(n, v) => named_entry(&s[..n], at, v, e),
+            LineRead::Bad => Found {
+                kind: Kind::Nothing,
+                value: e,
+                end: e,
+                next: e + 2,
+            },
+            LineRead::Line(n, v) => Found {
+                kind: kind_of(&s[..n], at),
+                value: v,
+                end: e,
+                next: e + 2,
+            },
         },
     }
 }

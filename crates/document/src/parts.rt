@@ -1,5 +1,6 @@
-// The parts of a component's element around its subcomponents. The BEGIN line of the component ends at `e`, its name stands there from `v` on.
-use crate::entry::Found;
+// The parts of a component's element around its subcomponents. The BEGIN line of the component ends at `e`, its name
+// stands there from `v` on, and its other lines begin at `from`.
+use crate::entry::Kind;
 use crate::entry::entry_at;
 use crate::properties::put_properties_element;
 use names::is_word_any_case;
@@ -10,7 +11,7 @@ use xml::put_end_tag;
 use xml::put_start_tag;
 ghost use mathlib.Core.Path.{_≡_};
 ghost use mathlib.Core.List.{[]};
-ghost use Prim.Native.Nat.{_+_, _≤_};
+ghost use Prim.Native.Nat.{_≤_};
 ghost use lib.ListN.{length, take};
 ghost use Rattle.octets.specs.Ascii.{ascii};
 ghost use Rattle.octets.specs.Pick.{pick};
@@ -29,18 +30,19 @@ fn is_bare(s: &[u8], from: usize) -> bool
 {
     let mut at = from;
     while at < s.len() {
-        match entry_at(s, at) {
-            Found::Begin(_, _) => {
+        let f = entry_at(s, at);
+        match f.kind {
+            Kind::Begin => {
                 return false;
             }
-            Found::End(_) => {
+            Kind::End => {
                 return true;
             }
-            Found::Property(e) => {
-                at = e + 2;
+            Kind::Property => {
+                at = f.next;
             }
-            Found::Nothing(n) => {
-                at = n;
+            Kind::Nothing => {
+                at = f.next;
             }
         }
     }
@@ -48,15 +50,15 @@ fn is_bare(s: &[u8], from: usize) -> bool
 }
 
 // The component has an element `components`.
-fn has_components(s: &[u8], v: usize, e: usize) -> bool
-    requires { ⌜ e + 2 ≤ length (now s) ⌝ }
-    ensures { λ r. ⌜ r ≡ hasComponents (upper (rest 0 (take e (now (s .entry))) v)) (entriesAt (now (s .entry)) (e + 2)) ⌝ }
+fn has_components(s: &[u8], v: usize, e: usize, from: usize) -> bool
+    requires { ⌜ e ≤ length (now s) ⌝ }
+    ensures { λ r. ⌜ r ≡ hasComponents (upper (rest 0 (take e (now (s .entry))) v)) (entriesAt (now (s .entry)) from) ⌝ }
 {
     let calendar = is_word_any_case(0, &s[..e], v, b"VCALENDAR");
     if calendar {
         return true;
     }
-    let bare = is_bare(s, e + 2);
+    let bare = is_bare(s, from);
     if bare {
         return false;
     }
@@ -100,23 +102,23 @@ fn put_components_end(out: &mut [u8], o: usize, there: bool) -> usize
 }
 
 // What stands before the subcomponents.
-pub fn put_head(out: &mut [u8], o: usize, s: &[u8], v: usize, e: usize) -> usize
-    requires { ⌜ e + 2 ≤ length (now s) ⌝ }
-    ensures { λ r. ⌜ Put (now (out .entry)) (now (out .exit)) o r (headXml (upper (rest 0 (take e (now (s .entry))) v)) (entriesAt (now (s .entry)) (e + 2))) ⌝ }
+pub fn put_head(out: &mut [u8], o: usize, s: &[u8], v: usize, e: usize, from: usize) -> usize
+    requires { ⌜ e ≤ length (now s) ⌝ }
+    ensures { λ r. ⌜ Put (now (out .entry)) (now (out .exit)) o r (headXml (upper (rest 0 (take e (now (s .entry))) v)) (entriesAt (now (s .entry)) from)) ⌝ }
 {
-    let there = has_components(s, v, e);
+    let there = has_components(s, v, e, from);
     let k = component_number(0, &s[..e], v);
     let a = put_name_start(out, o, &s[..e], v);
-    let b = put_properties_element(out, a, k, s, e + 2);
+    let b = put_properties_element(out, a, k, s, from);
     put_components_start(out, b, there)
 }
 
 // What stands behind them.
-pub fn put_tail(out: &mut [u8], o: usize, s: &[u8], v: usize, e: usize) -> usize
-    requires { ⌜ e + 2 ≤ length (now s) ⌝ }
-    ensures { λ r. ⌜ Put (now (out .entry)) (now (out .exit)) o r (tailXml (upper (rest 0 (take e (now (s .entry))) v)) (entriesAt (now (s .entry)) (e + 2))) ⌝ }
+pub fn put_tail(out: &mut [u8], o: usize, s: &[u8], v: usize, e: usize, from: usize) -> usize
+    requires { ⌜ e ≤ length (now s) ⌝ }
+    ensures { λ r. ⌜ Put (now (out .entry)) (now (out .exit)) o r (tailXml (upper (rest 0 (take e (now (s .entry))) v)) (entriesAt (now (s .entry)) from)) ⌝ }
 {
-    let there = has_components(s, v, e);
+    let there = has_components(s, v, e, from);
     let a = put_components_end(out, o, there);
     put_name_end(out, a, &s[..e], v)
 }

@@ -1,5 +1,5 @@
 // The properties of a component. See specs/Walks.antt.
-use crate::entry::Found;
+use crate::entry::Kind;
 use crate::entry::entry_at;
 use xml::put_end_tag;
 use xml::put_start_tag;
@@ -32,28 +32,29 @@ fn put_properties(out: &mut [u8], o: usize, k: usize, s: &[u8], from: usize) -> 
     let mut at = from;
     let mut depth: usize = 0;
     while at < s.len() {
-        match entry_at(s, at) {
-            Found::Begin(_, e) => {
+        let f = entry_at(s, at);
+        match f.kind {
+            Kind::Begin => {
                 depth += 1;
-                at = e + 2;
+                at = f.next;
             }
-            Found::End(e) => {
+            Kind::End => {
                 if depth == 0 {
                     return p;
                 }
                 depth -= 1;
-                at = e + 2;
+                at = f.next;
             }
-            Found::Property(e) => {
+            Kind::Property => {
                 if depth == 0 {
-                    p = put_property(out, p, k, &s[..e], at);
-                    at = e + 2;
+                    p = put_property(out, p, k, &s[..f.end], at);
+                    at = f.next;
                 } else {
-                    at = e + 2;
+                    at = f.next;
                 }
             }
-            Found::Nothing(n) => {
-                at = n;
+            Kind::Nothing => {
+                at = f.next;
             }
         }
     }

@@ -5,9 +5,9 @@ use Rattle.document.proofs.document.put_back.Tie as tie
 
 pub put-back-spec : {M : Type 1} → statement M
 put-back-spec = tie.close (tie.spec
-    (λ c. search writing)  -- slice-aggregate-put-all
-    (λ c κs. search writing)  -- put-all-requires
-    (λ c κs. search writing)  -- put-requires
-    (λ c. search writing)  -- same-length
-    (λ c. search writing)  -- returns
+    (λ c. ?)  -- slice-aggregate-put-all
+    (λ c κs. ?)  -- put-all-requires
+    (λ c κs. ?)  -- put-requires
+    (λ c. ?)  -- same-length
+    (λ c. ?)  -- returns
     )

@@ -5,9 +5,9 @@ use Rattle.document.proofs.document.put_document.Tie as tie
 
 pub put-document-spec : {M : Type 1} → statement M
 put-document-spec = tie.close (tie.spec
-    (λ c κs. search writing)  -- put-front-requires
-    (λ c κs. search writing)  -- put-components-requires
-    (λ c κs. search writing)  -- put-back-requires
-    (λ c. search writing)  -- same-length
-    (λ c. search writing)  -- returns
+    (λ c κs. ?)  -- put-front-requires
+    (λ c κs. ?)  -- put-components-requires
+    (λ c κs. ?)  -- put-back-requires
+    (λ c. ?)  -- same-length
+    (λ c. ?)  -- returns
     )

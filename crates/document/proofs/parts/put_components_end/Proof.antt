@@ -5,9 +5,9 @@ use Rattle.document.proofs.parts.put_components_end.Tie as tie
 
 pub put-components-end-spec : {M : Type 1} → statement M
 put-components-end-spec = tie.close (tie.spec
-    (λ c. search writing)  -- slice-aggregate-put-end-tag
-    (λ c κs. search writing)  -- put-end-tag-requires
-    (λ c. search writing)  -- same-length
-    (λ c. search writing)  -- returns
-    (λ c. search writing)  -- returns-2
+    (λ c. ?)  -- slice-aggregate-put-end-tag
+    (λ c κs. ?)  -- put-end-tag-requires
+    (λ c. ?)  -- same-length
+    (λ c. ?)  -- returns
+    (λ c. ?)  -- returns-2
     )
