@@ -9,7 +9,7 @@ use mathlib.Core.Option.{Option, none, some}
 use Prim.Native.Nat.{ℕ, _+_, _≤_, _<_}
 use native.Mathlib.Omega.{arith}
 use lib.ListN.{length, take}
-use lib.Seq.{take-take}
+use lib.Seq.{take-take, length-take-le}
 use Rattle.octets.specs.Ascii.{ascii}
 use Rattle.octets.specs.Pick.{pick}
 use Rattle.octets.specs.Class.{isNameChar, upper}
@@ -24,6 +24,7 @@ use Rattle.lines.specs.ContentLine.{ContentLine, contentLine}
 use Rattle.lines.specs.Cursor.{paramsAt}
 use Rattle.lines.specs.Params.{name-chars}
 use Rattle.lines.specs.Line.{LineAt}
+use Rattle.lines.specs.declared.LineRead.{LineRead}
 use Rattle.lines.specs.declared.LineRead.the-variants.{Line as LineThere, Bad}
 use Rattle.ical.specs.Tree.{Entry, begin, end, property, nothing, entryBy, entryOf, innerOf, calendarOf}
 use Rattle.document.specs.declared.entry.Found.{Found}
@@ -75,37 +76,51 @@ entries-past s at h = ap (map entryOf) (lines-past s at h)
 
 -- ---- what is found
 
-pub found-loose : (s : List ℕ) (at v : ℕ) → at < length s → FirstLine s at Loose → FoundAt s at (record { kind = Nothing; value = v; end = at; next = length s })
-unfolding entriesAt entryOf
-found-loose s at v h f = record {
-  onward = h;
-  inside = omega arith;
-  ends = omega arith;
-  found = ap (map entryOf) f ∙ ap (λ (l : List Entry). nothing ∷ l) (sym (entries-past s (length s) (omega arith)));
-}
-
-module _ (s : List ℕ) (at e : ℕ) (f : FirstLine s at (Whole e)) where
-  whole-line : (o : Option ContentLine) → contentLine (rest 0 (take e s) at) ≡ o → First s at (entryBy o) (e + 2)
+module _ (s : List ℕ) (at : ℕ) where
+  pub found-loose : (v : ℕ) → at < length s → FirstLine s at Loose → FoundAt s at (record { kind = Nothing; value = v; end = at; next = length s })
   unfolding entriesAt entryOf
-  whole-line o k = ap (map entryOf) (f .2) ∙ rw (← (rest-part s at e), k)
+  found-loose v h f = record {
+    onward = h;
+    inside = omega arith;
+    ends = omega arith;
+    found = ap (map entryOf) f ∙ ap (λ (l : List Entry). nothing ∷ l) (sym (entries-past s (length s) (omega arith)));
+  }
 
-  found-whole : (k : Kind) (v : ℕ) → FoundBy k s at v e (e + 2) → FoundAt s at (record { kind = k; value = v; end = e; next = e + 2 })
-  found-whole k v h = record { onward = omega (arith, f .0); inside = f .1; ends = omega (arith, f .1); found = h }
+  module _ (e : ℕ) (f : FirstLine s at (Whole e)) where
+    pub line-within : (at ≤ e) × (e + 2 ≤ length s)
+    line-within = (f .0, f .1)
 
-  pub found-bad : (v : ℕ) → LineAt 0 (take e s) at Bad → FoundAt s at (record { kind = Nothing; value = v; end = e; next = e + 2 })
-  unfolding entryBy
-  found-bad v l = found-whole Nothing v (whole-line none (l .is))
+    whole-line : (o : Option ContentLine) → contentLine (rest 0 (take e s) at) ≡ o → First s at (entryBy o) (e + 2)
+    unfolding entriesAt entryOf
+    whole-line o k = ap (map entryOf) (f .2) ∙ rw (← (rest-part s at e), k)
 
-  -- what is found by the two tests of the name
-  by-name : (w : List ℕ) (v : ℕ) (l : ContentLine) → w ≡ upper (l .name) → l .value ≡ rest 0 (take e s) v → contentLine (rest 0 (take e s) at) ≡ some l → FoundBy (kindNamed w) s at v e (e + 2)
-  unfolding entryBy pick
-  by-name w v l q z k = go (same w (ascii "BEGIN")) refl (same w (ascii "END")) refl
-    where
-      go : (t : Bool) → same w (ascii "BEGIN") ≡ t → (u : Bool) → same w (ascii "END") ≡ u → FoundBy (pick t Begin (pick u End Property)) s at v e (e + 2)
-      go true x u y = subst (λ n. First s at n (e + 2)) (rw (← q, x, z)) (whole-line (some l) k)
-      go false x true y = subst (λ n. First s at n (e + 2)) (rw (← q, x, y)) (whole-line (some l) k)
-      go false x false y = record { line = l; is = k; first = subst (λ n. First s at n (e + 2)) (rw (← q, x, y)) (whole-line (some l) k) }
+    found-whole : (k : Kind) (v : ℕ) → FoundBy k s at v e (e + 2) → FoundAt s at (record { kind = k; value = v; end = e; next = e + 2 })
+    found-whole k v h = record { onward = omega (arith, line-within .0); inside = line-within .1; ends = omega (arith, line-within .1); found = h }
 
-  pub found-named : {n v : ℕ} {k : Kind} → LineAt 0 (take e s) at (LineThere n v) → n ≤ e → k ≡ kindNamed (upper (rest 0 (take n s) at)) → FoundAt s at (record { kind = k; value = v; end = e; next = e + 2 })
-  found-named {n} {v} {k} l h q = found-whole k v (rw q (by-name _ v (record { name = runOf isNameChar (rest 0 (take e s) at); parameters = paramsAt 0 (take e s) n; value = rest 0 (take e s) v })
-      (ap upper (ap (λ (x : List ℕ). rest 0 x at) (sym (take-take n e s h)) ∙ name-chars (l .parts .name))) refl (l .is)))
+    -- what is found by the two tests of the name
+    by-name : (w : List ℕ) (v : ℕ) (l : ContentLine) → w ≡ upper (l .name) → l .value ≡ rest 0 (take e s) v → contentLine (rest 0 (take e s) at) ≡ some l → FoundBy (kindNamed w) s at v e (e + 2)
+    unfolding entryBy pick
+    by-name w v l q z k = go (same w (ascii "BEGIN")) refl (same w (ascii "END")) refl
+      where
+        go : (t : Bool) → same w (ascii "BEGIN") ≡ t → (u : Bool) → same w (ascii "END") ≡ u → FoundBy (pick t Begin (pick u End Property)) s at v e (e + 2)
+        go true x u y = subst (λ n. First s at n (e + 2)) (rw (← q, x, z)) (whole-line (some l) k)
+        go false x true y = subst (λ n. First s at n (e + 2)) (rw (← q, x, y)) (whole-line (some l) k)
+        go false x false y = record { line = l; is = k; first = subst (λ n. First s at n (e + 2)) (rw (← q, x, y)) (whole-line (some l) k) }
+
+    module _ {y : LineRead} (l : LineAt 0 (take e s) at y) where
+      pub found-bad : (v : ℕ) → y ≡ Bad → FoundAt s at (record { kind = Nothing; value = v; end = e; next = e + 2 })
+      unfolding entryBy
+      found-bad v z = found-whole Nothing v (whole-line none (subst (LineAt 0 (take e s) at) z l .is))
+
+      module _ {n v : ℕ} (z : y ≡ LineThere n v) where
+        pub name-within : n ≤ e
+        name-within =
+            let g : LineAt 0 (take e s) at (LineThere n v) = subst (LineAt 0 (take e s) at) z l in
+            let b : length (take e s) ≡ e = length-take-le e s (omega (arith, line-within .1)) in
+            omega (arith, b, g .parts .name .plain refl (omega (arith, b, line-within .0)))
+
+        pub found-named : {k : Kind} → k ≡ kindNamed (upper (rest 0 (take n s) at)) → FoundAt s at (record { kind = k; value = v; end = e; next = e + 2 })
+        found-named {k} h =
+            let g : LineAt 0 (take e s) at (LineThere n v) = subst (LineAt 0 (take e s) at) z l in
+            found-whole k v (rw h (by-name _ v (record { name = runOf isNameChar (rest 0 (take e s) at); parameters = paramsAt 0 (take e s) n; value = rest 0 (take e s) v })
+            (ap upper (ap (λ (x : List ℕ). rest 0 x at) (sym (take-take n e s name-within)) ∙ name-chars (g .parts .name))) refl (g .is)))

@@ -16,7 +16,8 @@ pub fn put_components(out: &mut [u8], o: usize, s: &[u8], from: usize) -> usize
     let mut depth: usize = 0;
     while at < s.len() {
         let f = entry_at(s, at);
-        match f.kind {
+        let kind = f.kind;
+        match kind {
             Kind::Begin => {
                 if depth == 0 {
                     let a = put_head(out, p, s, f.value, f.end, f.next);

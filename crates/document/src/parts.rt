@@ -31,7 +31,8 @@ fn is_bare(s: &[u8], from: usize) -> bool
     let mut at = from;
     while at < s.len() {
         let f = entry_at(s, at);
-        match f.kind {
+        let kind = f.kind;
+        match kind {
             Kind::Begin => {
                 return false;
             }

@@ -33,7 +33,8 @@ fn put_properties(out: &mut [u8], o: usize, k: usize, s: &[u8], from: usize) -> 
     let mut depth: usize = 0;
     while at < s.len() {
         let f = entry_at(s, at);
-        match f.kind {
+        let kind = f.kind;
+        match kind {
             Kind::Begin => {
                 depth += 1;
                 at = f.next;
