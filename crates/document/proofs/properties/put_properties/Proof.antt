@@ -1,6 +1,8 @@
 -- `document::properties::put_properties` meets its contract.
 use Prim.Native.Nat.{_-_}
 use lib.ListN.{length}
+use lib.Seq.{length-take-le}
+use borrow.Author.Needs.{needs}
 use Rattle.schema.specs.Numbers.{componentName}
 use Rattle.document.proofs.Walking.{Walking, own, owns}
 use Rattle.document.proofs.properties.put_properties.Statement.{statement}
@@ -29,7 +31,7 @@ put-properties-spec = tie.close (tie.spec
     (λ c. search owns)  -- loop-less-2
     (λ c. search owns)  -- loop-again-2
     (λ c. search owns)  -- enum-told-3
-    (λ c. search owns)  -- slice-aggregate-put-property
+    (λ c. search (length-take-le, needs))  -- slice-aggregate-put-property
     (λ c κs. ?)  -- put-property-requires
     (λ c. search owns)  -- loop-less-3
     (λ c. search owns)  -- loop-again-3
