@@ -2,9 +2,8 @@
 --     Walk, walkXml    what is written: a component's own properties, or its subcomponents
 --     Walking          the invariant: what is left to write from the line at hand on, at its depth
 --     owns, inners     the rules of the two walks, for `search`
-use mathlib.Core.Path.{_≡_, refl, sym, ap, subst, _∙_}
+use mathlib.Core.Path.{_≡_, refl, ap, subst, _∙_}
 use mathlib.Core.List.{List, [], _∷_}
-use mathlib.Core.Option.{some}
 use Prim.Native.Nat.{ℕ, _+_, _-_, _*_, _^_, _≤_, _<_}
 use native.Mathlib.Omega.{arith}
 use lib.ListN.{length, take}
@@ -12,11 +11,11 @@ use borrow.Author.Needs.{needs}
 use Rattle.octets.specs.Append.{_⊕_, append-is}
 use Rattle.octets.specs.Class.{upper}
 use Rattle.octets.specs.Reading.{orNothing}
-use Rattle.sink.specs.Sink.{Put, put-none, put-length, _▷_, Todo, todo-all, todo-step, todo-done}
+use Rattle.sink.specs.Sink.{Put, put-length, _▷_, Todo, todo-all, todo-step, todo-done}
 use Rattle.source.specs.Source.{rest}
-use Rattle.lines.specs.ContentLine.{ContentLine, contentLine}
+use Rattle.lines.specs.ContentLine.{contentLine}
 use Rattle.ical.specs.Statement.{propertyOf}
-use Rattle.ical.specs.Tree.{Entry, begin, end, property, nothing}
+use Rattle.ical.specs.Tree.{Entry, begin}
 use Rattle.xcal.specs.WriteXml.{propertyXml}
 use Rattle.document.specs.declared.entry.Found.{Found}
 use Rattle.document.specs.declared.entry.Kind.the-variants.{Begin, End, Property, Nothing}

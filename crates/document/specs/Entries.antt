@@ -17,7 +17,6 @@ use Rattle.octets.specs.Words.{same}
 use Rattle.octets.specs.Runs.{runOf}
 use Rattle.source.specs.Source.{rest}
 use Rattle.source.specs.Facts.{rest-part}
-use Rattle.folding.specs.Lines.{Line}
 use Rattle.folding.specs.First.{linesAt, First as FirstLine, lines-past}
 use Rattle.folding.specs.declared.lines.Ending.the-variants.{Whole, Loose}
 use Rattle.lines.specs.ContentLine.{ContentLine, contentLine}

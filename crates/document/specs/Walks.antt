@@ -16,7 +16,6 @@ use Rattle.octets.specs.Class.{upper}
 use Rattle.octets.specs.Words.{isOneOf}
 use Rattle.octets.specs.Computing.{octets-compute}
 use Rattle.names.specs.Table.{placeOf, place-within, one-of-place}
-use Rattle.model.specs.Calendar.{Property}
 use Rattle.schema.specs.Components.{componentNames}
 use Rattle.schema.specs.Properties.{propertyNames, propertyWords}
 use Rattle.schema.specs.Numbers.{componentName, placed}

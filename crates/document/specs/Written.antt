@@ -1,11 +1,11 @@
 -- The document of a text.
 --     document-put    what stands before the components, the components, what stands behind them
-use mathlib.Core.Path.{_≡_, ap, sym, subst, _∙_}
+use mathlib.Core.Path.{_≡_, ap, subst, _∙_}
 use mathlib.Core.List.{List, [], _∷_}
 use Prim.Native.Nat.{ℕ}
 use Rattle.octets.specs.Append.{_⊕_, append-regroup}
 use Rattle.sink.specs.Sink.{Put, _▷_}
-use Rattle.folding.specs.Lines.{Line, lines}
+use Rattle.folding.specs.Lines.{lines}
 use Rattle.folding.specs.First.{lines-start}
 use Rattle.model.specs.Calendar.{Components}
 use Rattle.ical.specs.Tree.{innerOf, calendarOf}

@@ -3,7 +3,6 @@ use crate::entry::Kind;
 use crate::entry::entry_at;
 use xml::put_end_tag;
 use xml::put_start_tag;
-ghost use lib.ListN.{length};
 ghost use Rattle.octets.specs.Ascii.{ascii};
 ghost use Rattle.octets.specs.Reading.{orNothing};
 ghost use Rattle.source.specs.Source.{rest};
@@ -63,13 +62,7 @@ fn put_properties(out: &mut [u8], o: usize, k: usize, s: &[u8], from: usize) -> 
 }
 
 // The same, as the element `properties`.
-pub fn put_properties_element(
-    out: &mut [u8],
-    o: usize,
-    k: usize,
-    s: &[u8],
-    from: usize,
-) -> usize
+pub fn put_properties_element(out: &mut [u8], o: usize, k: usize, s: &[u8], from: usize) -> usize
     ensures { λ r. ⌜ Put (now (out .entry)) (now (out .exit)) o r (elementOf (ascii "properties") (ownXml (componentName k) (entriesAt (now (s .entry)) from) 0)) ⌝ }
 {
     let a = put_start_tag(out, o, b"properties");
