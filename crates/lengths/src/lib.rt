@@ -1,0 +1,1 @@
+// How long the XML of a text is: specifications only.
