@@ -1,27 +1,15 @@
 // The properties of a component. See specs/Walks.antt.
 use crate::entry::Kind;
 use crate::entry::entry_at;
+use property_elements::put_property;
 use xml::put_end_tag;
 use xml::put_start_tag;
 ghost use Rattle.octets.specs.Ascii.{ascii};
-ghost use Rattle.octets.specs.Reading.{orNothing};
-ghost use Rattle.source.specs.Source.{rest};
 ghost use Rattle.sink.specs.Sink.{Put};
 ghost use Rattle.xml.specs.Escape.{elementOf};
 ghost use Rattle.schema.specs.Numbers.{componentName};
-ghost use Rattle.lines.specs.ContentLine.{contentLine};
-ghost use Rattle.ical.specs.Statement.{propertyOf};
-ghost use Rattle.xcal.specs.WriteXml.{propertyXml};
 ghost use Rattle.document.specs.Entries.{entriesAt};
 ghost use Rattle.document.specs.Walks.{ownXml};
-
-// STAND-IN
-fn put_property(out: &mut [u8], o: usize, k: usize, s: &[u8], at: usize) -> usize
-    requires { ⌜ ⊥ ⌝ }
-    ensures { λ r. ⌜ Put (now (out .entry)) (now (out .exit)) o r (orNothing (λ l. propertyXml (propertyOf (componentName k) l)) (contentLine (rest 0 (now (s .entry)) at))) ⌝ }
-{
-    o
-}
 
 // The properties of the component of the number `k` whose lines begin at `from`: those at depth 0, up to its end.
 fn put_properties(out: &mut [u8], o: usize, k: usize, s: &[u8], from: usize) -> usize

@@ -28,7 +28,7 @@ use Rattle.ical.specs.Statement.{propertyFault, propertyOf}
 use Rattle.ical.specs.Nesting.{mayHold}
 use Rattle.ical.specs.LineKind.{faulty, openAs, heldBy, propertyKind}
 use Rattle.frame.specs.Answers.{refusalAt, refusal-back}
-use Rattle.frame.specs.Fault.{faultNumber}
+use Rattle.statement.specs.Faults.{faultNumber}
 use Rattle.frame.specs.Components.{component-at}
 use Rattle.frame.specs.Action.{action-read}
 use Rattle.frame.specs.Kinds.{KindIs}

@@ -9,7 +9,6 @@
 --     Outer        a line where nothing is open
 pub mod Answers
 pub mod Components
-pub mod Fault
 pub mod Action
 pub mod Kinds
 pub mod Holding

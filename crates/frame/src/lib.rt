@@ -1,7 +1,6 @@
 // The check of an unfolded text: refusals 4 to 9, in one pass over its lines that calls itself for each inner component. Definitions are in crate ical, laws in specs/.
 mod calendars;
 mod component;
-mod fault;
 mod line;
 
 pub use calendars::check;

@@ -19,7 +19,7 @@ ghost use Rattle.ical.specs.Nesting.{mayHold};
 ghost use Rattle.ical.specs.LineKind.{openAs, beginKind, endKind, propertyKind, kindBy, lineKind};
 ghost use Rattle.frame.specs.Kinds.{KindIs, lineFrom, named};
 use crate::Kind;
-use crate::fault::property_fault;
+use statement::property_fault;
 use lines::LineRead;
 use lines::line_at;
 use lines::names_carried;

@@ -1,6 +1,6 @@
 // The parameters of a line as an element.
 use crate::parameter::put_cut_own;
-use crate::standin::are_read;
+use parameters::are_read;
 use lines::next_param;
 use names::is_word_any_case;
 use xml::put_end_tag;

@@ -1,7 +1,7 @@
 // The values of a parameter as elements. See specs/Shown.antt.
-use crate::standin::put_raw_element;
-use crate::standin::put_value_element;
-use crate::standin::put_word_element;
+use elements::put_raw_element;
+use elements::put_value_element;
+use elements::put_word_element;
 use lines::next_value;
 use lines::param_value;
 use schema::parameter_has_words;

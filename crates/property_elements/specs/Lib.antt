@@ -4,7 +4,6 @@
 --     Placed     the values of a property, by numbers of its names
 --     Shown      what is written of the values of a property, by numbers
 --     Property   the element of a content line's property
-pub mod StandIn
 pub mod Geo
 pub mod Pieces
 pub mod Placed

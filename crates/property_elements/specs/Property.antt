@@ -37,9 +37,9 @@ use Rattle.ical.specs.Values.{readValues}
 use Rattle.ical.specs.Statement.{propertyOf}
 use Rattle.xcal.specs.WriteXml.{valuesXml, parametersElement, propertyXml}
 use Rattle.property_elements.specs.Placed.{values-named}
-use Rattle.property_elements.specs.StandIn.{StatedAt}
-use Rattle.property_elements.specs.declared.stand_in.TypeRead.{TypeRead}
-use Rattle.property_elements.specs.declared.stand_in.TypeRead.the-variants.{«Type» as Typed, Bad as NoType}
+use Rattle.parameters.specs.Stating.{StatedAt}
+use Rattle.parameters.specs.declared.TypeRead.{TypeRead}
+use Rattle.parameters.specs.declared.TypeRead.the-variants.{«Type» as Typed, Bad as NoType}
 
 abbrev pub nameIn : List ℕ → ℕ → ℕ → List ℕ
 nameIn s c e = rest 0 (take e s) c

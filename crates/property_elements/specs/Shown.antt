@@ -38,9 +38,9 @@ use Rattle.ical.specs.Values.{oneValue, readListed, readChosen, readValues}
 use Rattle.xcal.specs.WriteXml.{textElement, dataXml, valueXml, valuesXml}
 use Rattle.property_elements.specs.Pieces.{piecesXml, listedXml}
 use Rattle.property_elements.specs.Placed.{ownAt, valuesAt, values-at, type-text}
-use Rattle.property_elements.specs.StandIn.{valuesRead}
-use Rattle.property_elements.specs.declared.stand_in.ValuesRead.{ValuesRead}
-use Rattle.property_elements.specs.declared.stand_in.ValuesRead.the-variants.{Good, Bad}
+use Rattle.statement.specs.ValuesAt.{valuesRead}
+use Rattle.statement.specs.declared.ValuesRead.{ValuesRead}
+use Rattle.statement.specs.declared.ValuesRead.the-variants.{Good, Bad}
 
 -- a word of a closed set in capitals, or a value of the type t
 abbrev pub singleXml : ℕ → ℕ → ℕ → List ℕ → List ℕ

@@ -3,7 +3,6 @@ mod geo;
 mod list;
 mod property;
 mod shown;
-mod stand_in;
 
 pub use property::put_property;
 pub use shown::put_values;

@@ -1,5 +1,5 @@
 // A list of values in text, written as an element for each. See specs/Pieces.antt.
-use crate::stand_in::put_value_element;
+use elements::put_value_element;
 use source::unit;
 use texts::put_texts_xml;
 ghost use Prim.Native.Nat.{_≤_};

@@ -1,8 +1,8 @@
 // A content line written as the element of its property. See specs/Property.antt.
 use crate::shown::put_values;
-use crate::stand_in::TypeRead;
-use crate::stand_in::put_parameters;
-use crate::stand_in::stated_type;
+use parameters::TypeRead;
+use parameter_elements::put_parameters;
+use parameters::stated_type;
 use lines::LineRead;
 use lines::line_at;
 use names::put_lower;

@@ -1,10 +1,10 @@
 // The values of a property in text, written as their elements. See specs/Shown.antt.
 use crate::geo::put_geo;
 use crate::list::put_list;
-use crate::stand_in::ValuesRead;
-use crate::stand_in::put_value_element;
-use crate::stand_in::put_word_element;
-use crate::stand_in::read_values;
+use statement::ValuesRead;
+use elements::put_value_element;
+use elements::put_word_element;
+use statement::read_values;
 use schema::has_words;
 use schema::is_listed;
 use texts::put_request_status_xml;

@@ -32,7 +32,7 @@ put-properties-spec = tie.close (tie.spec
     (λ c. search owns)  -- loop-again-2
     (λ c. search owns)  -- enum-told-3
     (λ c. search (length-take-le, needs))  -- slice-aggregate-put-property
-    (λ c κs. ?)  -- put-property-requires
+    (λ c κs. search needs)  -- put-property-requires
     (λ c. search owns)  -- loop-less-3
     (λ c. search owns)  -- loop-again-3
     (λ c. search owns)  -- loop-less-4
