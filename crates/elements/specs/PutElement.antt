@@ -33,7 +33,7 @@ use Rattle.recur.specs.declared.rule.RuleRead.{RuleRead}
 use Rattle.recur.specs.declared.rule.RuleRead.the-variants.{Rule, Bad}
 use Rattle.values.specs.ReadValue.{readValue}
 use Rattle.values.specs.WriteValue.{characters}
-use Rattle.values.specs.ValueAt.{valueRead, isGood, good-value}
+use Rattle.values.specs.ValueAt.{isGood}
 use Rattle.values.specs.declared.ValueRead.{ValueRead}
 use Rattle.values.specs.declared.ValueRead.the-variants as value
 use Rattle.xml.specs.Escape.{escaped, elementOf}
@@ -120,10 +120,7 @@ not-made (suc (suc (suc (suc (suc (suc (suc (suc (suc (suc (suc (suc zero)))))))
 not-made (suc (suc (suc (suc (suc (suc (suc (suc (suc (suc (suc (suc (suc zero))))))))))))) a b = refl
 not-made (suc (suc (suc (suc (suc (suc (suc (suc (suc (suc (suc (suc (suc (suc t)))))))))))))) a b = refl
 
-module _ {d e : List ℕ} {o q : ℕ} (t : ℕ) (l : List ℕ) {r : ValueRead} (a : r ≡ valueRead t (isRead (readValue ical (typeAt t) l))) where
-  p : isRead (readValue ical (typeAt t) l) ≡ isGood r
-  p = good-value t (isRead (readValue ical (typeAt t) l)) a
-
+module _ {d e : List ℕ} {o q : ℕ} (t : ℕ) (l : List ℕ) {r : ValueRead} (p : isRead (readValue ical (typeAt t) l) ≡ isGood r) where
   pub put-plain : {k : ℕ} → (t ≡ 8 → ⊥) → (t ≡ 9 → ⊥) → r ≡ value.Good k →
       Put d e o q (elementOf (typeLabel t) (orNothing (λ v. escaped (characters v)) (readValue ical (typeAt t) l))) → Put d e o q (orNothing valueXml (readValue ical (typeAt t) l))
   unfolding isRead
