@@ -40,7 +40,7 @@ fn is_rule(s: &[u8], at: usize) -> bool
 
 // RECUR is made of elements in XML, and in text it stands in bytes as they are.
 pub fn is_recur(xcal: bool, mode: usize, s: &[u8], at: usize) -> bool
-    ensures { λ r. ⌜ (xcal ≡ false → mode ≡ 0) → r ≡ isRead (readValue (formatOf xcal) RECUR (rest mode (now (s .entry)) at)) ⌝ }
+    ensures { λ r. ⌜ ((xcal ≡ false → mode ≡ 0) → r ≡ isRead (readValue (formatOf xcal) RECUR (rest mode (now (s .entry)) at))) ⌝ }
 {
     if xcal {
         return false;
