@@ -16,7 +16,7 @@ fn joined(n: u64, v: usize) -> u64
 }
 
 // The number of an answer.
-fn number_of(a: Answer) -> u64
+pub fn number_of(a: Answer) -> u64
     ensures { λ r. ⌜ r ≡ numbers (outcomeOf a) .0 ⌝ }
 {
     match a {
@@ -36,7 +36,7 @@ fn number_of(a: Answer) -> u64
 }
 
 // Its value.
-fn value_of(a: Answer) -> usize
+pub fn value_of(a: Answer) -> usize
     ensures { λ r. ⌜ r ≡ numbers (outcomeOf a) .1 ⌝ }
 {
     match a {
