@@ -1,5 +1,6 @@
 -- `mallettriton::text_to_xml::written` meets its contract.
 use Prim.Native.Nat.{_^_, _<_}
+use native.Mathlib.Omega.{arith}
 use borrow.Author.Needs.{needs}
 use lib.ListN.{length}
 use Rattle.sink.specs.Sink.{writing}
@@ -18,7 +19,7 @@ written-spec = tie.close (tie.spec
     (λ c κs. search needs)  -- put-document-requires
     (λ c κs. search needs)  -- put-document-requires-2
     (λ c. search writing)  -- same-length
-    (λ c. let k : length (writeDocument (calendarOf (lines (c .before .before .before .before .before .before .before .before .before .before .before .args .kept .now)))) < 2 ^ 63 = xml-fits _ (c .before .before .before .before .before .before .before .before .before .before .before .pre) in done-written k (c .before .before .before .before .before .before .before .put-document .ensures) (c .before .before .before .before .if1 .taken) (c .before .before .put-document2 .ensures))  -- returns
+    (λ c. let k : length (writeDocument (calendarOf (lines (c .before .before .before .before .before .before .before .before .before .before .before .args .kept .now)))) < 2 ^ 63 = xml-fits _ (c .before .before .before .before .before .before .before .before .before .before .before .pre) in done-written k (c .before .before .before .before .before .before .before .put-document .ensures) (omega (arith, c .before .before .before .before .if1 .taken)) (c .before .before .put-document2 .ensures))  -- returns
     (λ c. search writing)  -- same-length-2
-    (λ c. let k : length (writeDocument (calendarOf (lines (c .before .before .before .before .before .before .before .args .kept .now)))) < 2 ^ 63 = xml-fits _ (c .before .before .before .before .before .before .before .pre) in done-room k (c .before .before .before .put-document .ensures) (c .if1 .left))  -- returns-2
+    (λ c. let k : length (writeDocument (calendarOf (lines (c .before .before .before .before .before .before .before .args .kept .now)))) < 2 ^ 63 = xml-fits _ (c .before .before .before .before .before .before .before .pre) in done-room k (c .before .before .before .put-document .ensures) (omega (arith, c .if1 .left)))  -- returns-2
     )
