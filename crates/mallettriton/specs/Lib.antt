@@ -13,4 +13,3 @@ pub mod Answered
 pub mod Steps
 pub mod Codes
 pub mod Computing
-pub mod Standin

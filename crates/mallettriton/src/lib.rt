@@ -3,7 +3,6 @@
 //     number_of, value_of    what an answer says, as two numbers (exported.rt)
 //     mallettriton_to_xml    to_xml for C, with one number for an answer
 mod exported;
-mod standin;
 mod text_to_xml;
 
 pub use exported::mallettriton_to_xml;

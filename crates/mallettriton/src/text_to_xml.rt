@@ -12,9 +12,9 @@ ghost use Rattle.mallettriton.specs.ToXml.{toXmlOutcome, toXmlOutput, to
 ghost use Rattle.mallettriton.specs.Answered.{outcomeOf, answerElse, answerAt, Done};
 ghost use Rattle.mallettriton.specs.Steps.{keptGives, Converts};
 use crate::Answer;
-use crate::standin::put_document;
-use crate::standin::Checked;
-use crate::standin::check;
+use document::put_document;
+use frame::Checked;
+use frame::check;
 use folding::unfolding::place_of;
 use folding::unfolding::unfold;
 use utf8::Found;

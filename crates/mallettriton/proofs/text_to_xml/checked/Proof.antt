@@ -1,7 +1,7 @@
 -- `mallettriton::text_to_xml::checked` meets its contract.
 use mathlib.Core.Path.{_≡_, sym, ap, subst, _∙_}
 use borrow.Author.Needs.{needs}
-use Rattle.mallettriton.specs.Standin.{Checks}
+use Rattle.frame.specs.Answers.{Checks}
 use Rattle.mallettriton.specs.Steps.{lines-refused, lines-fine}
 use Rattle.mallettriton.proofs.text_to_xml.checked.Statement.{statement}
 use Rattle.mallettriton.proofs.text_to_xml.checked.Tie as tie
