@@ -71,5 +71,11 @@ pub fn next_case(input: &mut [u8], output: &mut [u8]) -> Case {
     let value = next_number();
     let n = next_parts(input);
     let m = next_parts(output);
-    Case { there: there, number: number, value: value, input: n, output: m }
+    Case {
+        there: there,
+        number: number,
+        value: value,
+        input: n,
+        output: m,
+    }
 }

@@ -12,6 +12,7 @@ use std::num::wrapping_add_usize;
 use std::num::wrapping_sub_usize;
 
 const WORK: u8 = 165;
+
 const OUT: u8 = 90;
 
 // The output holds the result and its other bytes as before.
@@ -94,7 +95,15 @@ fn code(number: u64, value: u64) -> u64 {
 }
 
 // With w bytes of work room and o of output the answer is this number and value.
-fn answers(input: &[u8], w: usize, o: usize, number: u64, value: u64, work: &mut [u8], out: &mut [u8]) -> bool {
+fn answers(
+    input: &[u8],
+    w: usize,
+    o: usize,
+    number: u64,
+    value: u64,
+    work: &mut [u8],
+    out: &mut [u8],
+) -> bool {
     fill(work, WORK);
     fill(out, OUT);
     if w <= work.len() {
@@ -109,7 +118,15 @@ fn answers(input: &[u8], w: usize, o: usize, number: u64, value: u64, work: &mut
 }
 
 // The same of the call for C.
-fn answers_code(input: &[u8], w: usize, o: usize, number: u64, value: u64, work: &mut [u8], out: &mut [u8]) -> bool {
+fn answers_code(
+    input: &[u8],
+    w: usize,
+    o: usize,
+    number: u64,
+    value: u64,
+    work: &mut [u8],
+    out: &mut [u8],
+) -> bool {
     fill(work, WORK);
     fill(out, OUT);
     if w <= work.len() {
@@ -128,8 +145,22 @@ fn with_room(c: Case, input: &[u8], result: &[u8], work: &mut [u8], out: &mut [u
 }
 
 // An output exactly as long as the result: none at all where the input is refused.
-fn with_none_to_spare(c: Case, input: &[u8], result: &[u8], work: &mut [u8], out: &mut [u8]) -> bool {
-    let is_answered = answers_code(input, input.len(), result.len(), c.number, c.value, work, out);
+fn with_none_to_spare(
+    c: Case,
+    input: &[u8],
+    result: &[u8],
+    work: &mut [u8],
+    out: &mut [u8],
+) -> bool {
+    let is_answered = answers_code(
+        input,
+        input.len(),
+        result.len(),
+        c.number,
+        c.value,
+        work,
+        out,
+    );
     is_answered & is_written(result, out) & is_kept(c.number, input, work)
 }
 
@@ -141,7 +172,13 @@ fn with_long_work(c: Case, input: &[u8], result: &[u8], work: &mut [u8], out: &m
 }
 
 // An output one byte shorter than the result: 10, and the result's length.
-fn with_short_output(c: Case, input: &[u8], result: &[u8], work: &mut [u8], out: &mut [u8]) -> bool {
+fn with_short_output(
+    c: Case,
+    input: &[u8],
+    result: &[u8],
+    work: &mut [u8],
+    out: &mut [u8],
+) -> bool {
     if c.number == 0 {
         let o = wrapping_sub_usize(result.len(), 1);
         let is_answered = answers_code(input, input.len(), o, 10, result.len() as u64, work, out);

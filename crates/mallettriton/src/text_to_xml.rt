@@ -10,13 +10,13 @@ ghost use Rattle.xcal.specs.WriteXml.{writeDocument};
 ghost use Rattle.mallettriton.specs.Conversion.{converted};
 ghost use Rattle.mallettriton.specs.ToXml.{toXmlOutcome, toXmlOutput, toXmlWork};
 ghost use Rattle.mallettriton.specs.Answered.{outcomeOf, answerElse, answerAt, Done};
-ghost use Rattle.mallettriton.specs.Steps.{keptGives, Converts};
+ghost use Rattle.mallettriton.specs.Steps.{keptGives};
 use crate::Answer;
 use document::put_document;
-use frame::Checked;
-use frame::check;
 use folding::unfolding::place_of;
 use folding::unfolding::unfold;
+use frame::Checked;
+use frame::check;
 use utf8::Found;
 use utf8::first_bad;
 
