@@ -42,7 +42,7 @@ fn convert(input: &[u8], work: &mut [u8], out: &mut [u8]) {
     }
 }
 
-// A work room as long as the longest input, and an output that has room for any result: no byte of a text becomes more than 20.
+// A work room as long as the longest input, and an output with 20 bytes for each byte of it.
 fn with_rooms(input: &[u8]) {
     let mut work = io::large_buffer();
     let mut out = [0u8; 1310720];
