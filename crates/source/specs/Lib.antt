@@ -4,8 +4,10 @@
 --     Facts    laws of a step
 --     Stepping  the step over the characters of an XML element
 --     Copying  loops that write what they read
+--     Examples  computed
 pub mod Characters
 pub mod Source
 pub mod Facts
 pub mod Stepping
 pub mod Copying
+pub mod Examples
