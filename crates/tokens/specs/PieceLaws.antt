@@ -13,12 +13,13 @@ use lib.Dec.{eqb, ltb}
 use lib.ListN.{length, getD, take, drop, length-drop, drop-of-length-le}
 use lib.Seq.{take-nil}
 use borrow.Author.Needs.{needs}
-use borrow.Author.Tests.{eq-eqb, ne-eqb, lt-ltb}
+use borrow.Author.Tests.{eq-eqb, ne-eqb, lt-ltb, ltb-true, ltb-false}
 use Rattle.octets.specs.Pick.{pick, _and_, _or_, flag-yes, flag-no, and-both}
 use Rattle.octets.specs.Scan.{spanLen, spanEnd, drop-next}
 use Rattle.octets.specs.Class.{isAlpha, isNameChar, isSpace, lower, lowerByte}
 use Rattle.octets.specs.Words.{same, starts, same-true}
 use Rattle.octets.specs.Runs.{runOf, afterRun}
+use Rattle.octets.specs.Reading.{none-some}
 use Rattle.source.specs.Source.{rest}
 use Rattle.names.specs.Runs.{RunEnds}
 use Rattle.xml.specs.Pieces.{from, first, exactly, inAnyCase, S, S?, Name, nameOf}
@@ -95,26 +96,27 @@ module _ (s : List ℕ) (at : ℕ) (w : List ℕ) where
   unfolding from
   lowering-start = let k : length w - 0 ≡ length w = omega arith in record { inside = omega arith; left = rw k }
 
-  module _ (c i : ℕ) (t : Lowering s at w c i) where
+  module _ (c i : ℕ) (q : Lowering s at w c i) where
     lowering-step : i < length w → c < length s → same (lower (take (length w) (from at s))) w ≡ (eqb (lowerByte (getD s c 0)) (getD w i 0) and same (lower (take (length w - (i + 1)) (from (c + 1) s))) (from (i + 1) w))
     unfolding same lower
-    lowering-step h k = let q : length w - i ≡ suc (length w - (i + 1)) = omega arith in t .left ∙ rw (q, from-next w i h, from-next s c k)
+    lowering-step h k = let e : length w - i ≡ suc (length w - (i + 1)) = omega arith in q .left ∙ rw (e, from-next w i h, from-next s c k)
 
-    pub lowering-more : i < length w → c < length s → lowerByte (getD s c 0) ≡ getD w i 0 → Lowering s at w (c + 1) (i + 1)
-    unfolding _and_
-    lowering-more h k e = record { inside = omega arith; left = lowering-step h k ∙ rw (eq-eqb (lowerByte (getD s c 0)) (getD w i 0) e) }
+    module _ {b l t : ℕ} (h : i < length w) (k : c < length s) (x : (b ≡ getD s c 0) × (b < 256)) (y : l ≡ lowerByte b) (z : (t ≡ getD w i 0) × (t < 256)) where
+      pub lowering-more : l ≡ t → Lowering s at w (c + 1) (i + 1)
+      unfolding _and_
+      lowering-more e = record { inside = omega arith; left = lowering-step h k ∙ rw (← (x .0), ← (z .0), ← y, eq-eqb l t e) }
 
-    pub lowering-stop : i < length w → c < length s → (lowerByte (getD s c 0) ≡ getD w i 0 → ⊥) → false ≡ same (lower (take (length w) (from at s))) w
-    unfolding _and_
-    lowering-stop h k e = sym (lowering-step h k ∙ rw (ne-eqb (lowerByte (getD s c 0)) (getD w i 0) e))
+      pub lowering-stop : (l ≡ t → ⊥) → false ≡ same (lower (take (length w) (from at s))) w
+      unfolding _and_
+      lowering-stop e = sym (lowering-step h k ∙ rw (← (x .0), ← (z .0), ← y, ne-eqb l t e))
 
     pub lowering-short : i < length w → length s ≤ c → false ≡ same (lower (take (length w) (from at s))) w
     unfolding same lower
-    lowering-short h k = sym (t .left ∙ rw (from-past s c k, take-nil, from-next w i h))
+    lowering-short h k = sym (q .left ∙ rw (from-past s c k, take-nil, from-next w i h))
 
     pub lowering-end : length w ≤ i → true ≡ same (lower (take (length w) (from at s))) w
     unfolding same lower
-    lowering-end h = let q : length w - i ≡ 0 = omega arith in sym (t .left ∙ rw (q, from-past w i h))
+    lowering-end h = let e : length w - i ≡ 0 = omega arith in sym (q .left ∙ rw (e, from-past w i h))
 
 pub ruleset lowering = (lowering-start, lowering-more, lowering-stop, lowering-short, lowering-end, needs)
 
@@ -154,9 +156,9 @@ module _ (s : List ℕ) (at : ℕ) where
   pub blank-start : Blank s at at
   blank-start = record { onward = omega arith; near = omega arith; left = refl }
 
-  pub blank-more : (j : ℕ) → Blank s at j → j < length s → isSpace (getD s j 0) ≡ true → Blank s at (j + 1)
+  pub blank-more : (j b : ℕ) → Blank s at j → j < length s → (b ≡ getD s j 0) × (b < 256) → isSpace b ≡ true → Blank s at (j + 1)
   unfolding spanLen pick
-  blank-more j t h e = record { onward = omega (arith, t .onward); near = omega arith; left = t .left ∙ rw (from-next s j h, e) (omega arith) }
+  blank-more j b t h x e = record { onward = omega (arith, t .onward); near = omega arith; left = t .left ∙ rw (from-next s j h, ← (x .0), e) (omega arith) }
 
   blank-ends : (j : ℕ) → Blank s at j → spanLen isSpace (from j s) ≡ 0 → Ends S? s at j
   unfolding S?
@@ -164,9 +166,9 @@ module _ (s : List ℕ) (at : ℕ) where
       let q : spanLen isSpace (from at s) ≡ j - at = omega (arith, t .left, t .onward) in
       record { onward = t .onward; near = omega (arith, t .near); stands = λ k. ap some q; misses = λ k l. absurd (omega (arith, t .near)) }
 
-  pub blank-stop : (j : ℕ) → Blank s at j → j < length s → isSpace (getD s j 0) ≡ false → Ends S? s at j
+  pub blank-stop : (j b : ℕ) → Blank s at j → j < length s → (b ≡ getD s j 0) × (b < 256) → isSpace b ≡ false → Ends S? s at j
   unfolding spanLen pick
-  blank-stop j t h e = blank-ends j t (rw (from-next s j h, e))
+  blank-stop j b t h x e = blank-ends j t (rw (from-next s j h, ← (x .0), e))
 
   pub blank-end : (j : ℕ) → Blank s at j → length s ≤ j → Ends S? s at j
   unfolding spanLen
@@ -174,21 +176,29 @@ module _ (s : List ℕ) (at : ℕ) where
 
 pub ruleset passing = (blank-start, blank-more, blank-stop, blank-end, flag-yes, flag-no, needs)
 
-module _ (s : List ℕ) (at e : ℕ) (x : Ends S? s at e) where
-  blank-count : e ≤ length s → spanLen isSpace (from at s) ≡ e - at
+module _ (s : List ℕ) (at e : ℕ) (x : Ends S? s at e) (h : at ≤ length s) where
+  pub blank-inside : e ≤ length s
   unfolding S?
-  blank-count h = let q = x .stands h in cc
+  blank-inside = go (ltb (length s) e) refl
+    where
+      go : (t : Bool) → ltb (length s) e ≡ t → e ≤ length s
+      go true q = none-some (sym (x .misses h (ltb-true (length s) e q)))
+      go false q = ltb-false (length s) e q
 
-  pub space-some : e ≤ length s → at < e → Ends S s at e
-  unfolding S pick
-  space-some h l =
-      let q = blank-count h in
-      ends-found S s at (e - at) e (rw (q, lt-ltb 0 (e - at) (omega arith))) (omega arith) (omega arith)
+  blank-count : spanLen isSpace (from at s) ≡ e - at
+  unfolding S?
+  blank-count = let q = x .stands blank-inside in cc
 
-  pub space-none : at ≤ length s → e ≡ at → Ends S s at (length s + 1)
+  pub space-some : (e ≡ at → ⊥) → Ends S s at e
   unfolding S pick
-  space-none h l =
-      let q : spanLen isSpace (from at s) ≡ 0 = blank-count (omega arith) ∙ omega arith in
+  space-some l =
+      let k : at < e = omega (arith, x .onward, l) in
+      ends-found S s at (e - at) e (rw (blank-count, lt-ltb 0 (e - at) (omega arith))) (omega arith) (omega (arith, blank-inside))
+
+  pub space-none : e ≡ at → Ends S s at (length s + 1)
+  unfolding S pick
+  space-none l =
+      let q : spanLen isSpace (from at s) ≡ 0 = blank-count ∙ omega arith in
       ends-missing S s at h (rw q)
 
 -- ---- names

@@ -8,8 +8,9 @@ ghost use mathlib.Core.Path.{_≡_};
 ghost use lib.ListN.{length, take};
 ghost use Rattle.octets.specs.Class.{lower};
 ghost use Rattle.octets.specs.Words.{same, starts};
-ghost use Rattle.xml.specs.Pieces.{from, exactly, inAnyCase, S, S?, Name, Eq, quoted, _then_};
+ghost use Rattle.xml.specs.Pieces.{from, exactly, inAnyCase, S, S?, Name, Eq, quoted};
 ghost use Rattle.tokens.specs.Ends.{Ends};
+ghost use Rattle.tokens.specs.Prologue.{attribute};
 
 // The bytes `w` are there.
 fn starts_at(s: &[u8], at: usize, w: &[u8]) -> bool
@@ -161,7 +162,7 @@ fn quoted_any_case_at(s: &[u8], at: usize, w: &[u8]) -> usize
 
 // White space and an attribute with the name and the value given.
 pub fn attribute_at(s: &[u8], at: usize, name: &[u8], value: &[u8]) -> usize
-    ensures { λ r. ⌜ Ends (S then exactly (now (name .entry)) then Eq then quoted (exactly (now (value .entry)))) (now (s .entry)) at r ⌝ }
+    ensures { λ r. ⌜ Ends (attribute (now (name .entry)) (exactly (now (value .entry)))) (now (s .entry)) at r ⌝ }
 {
     let a = space_at(s, at);
     let b = exactly_at(s, a, name);
@@ -171,7 +172,7 @@ pub fn attribute_at(s: &[u8], at: usize, name: &[u8], value: &[u8]) -> usize
 
 // The same with the value in any case.
 pub fn any_case_attribute_at(s: &[u8], at: usize, name: &[u8], value: &[u8]) -> usize
-    ensures { λ r. ⌜ Ends (S then exactly (now (name .entry)) then Eq then quoted (inAnyCase (now (value .entry)))) (now (s .entry)) at r ⌝ }
+    ensures { λ r. ⌜ Ends (attribute (now (name .entry)) (inAnyCase (now (value .entry)))) (now (s .entry)) at r ⌝ }
 {
     let a = space_at(s, at);
     let b = exactly_at(s, a, name);

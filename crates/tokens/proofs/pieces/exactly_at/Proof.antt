@@ -1,14 +1,18 @@
 -- `tokens::exactly_at` meets its contract. Assumes nothing.
+use native.Mathlib.Omega.{arith}
+use mathlib.Core.Path.{_≡_, sym, _∙_}
+use Rattle.tokens.specs.PieceLaws.{exact-room, exact-yes, exact-no}
+use Rattle.tokens.specs.Ends.{ends-stuck}
 use borrow.Author.Needs.{needs}
 use Rattle.tokens.proofs.pieces.exactly_at.Statement.{statement}
 use Rattle.tokens.proofs.pieces.exactly_at.Tie as tie
 
 pub exactly-at-spec : {M : Type 1} → statement M
 exactly-at-spec = tie.close (tie.spec
-    (λ c. search needs)  -- returns
+    (λ c. ends-stuck _ _ _ (c .if1 .taken))  -- returns
     (λ c κs. search needs)  -- starts-at-requires
-    (λ c. search needs)  -- add-result
-    (λ c. search needs)  -- returns-2
+    (λ c. omega (arith, exact-room _ _ _ (c .before .before .if1 .left) (sym (c .before .starts-at .ensures) ∙ c .if2 .taken)))  -- add-result
+    (λ c. exact-yes _ _ _ (c .before .before .if1 .left) (sym (c .before .starts-at .ensures) ∙ c .if2 .taken))  -- returns-2
     (λ c. search needs)  -- add-result-2
-    (λ c. search needs)  -- returns-3
+    (λ c. exact-no _ _ _ (c .before .before .if1 .left) (sym (c .before .starts-at .ensures) ∙ c .if2 .left))  -- returns-3
     )

@@ -1,4 +1,5 @@
 -- `tokens::declaration_at` meets its contract. Assumes nothing.
+use Rattle.tokens.specs.Prologue.{ends-declaration}
 use borrow.Author.Needs.{needs}
 use Rattle.tokens.proofs.prolog.declaration_at.Statement.{statement}
 use Rattle.tokens.proofs.prolog.declaration_at.Tie as tie
@@ -16,5 +17,5 @@ declaration-at-spec = tie.close (tie.spec
     (λ c κs. search needs)  -- blank-at-requires
     (λ c. search needs)  -- slice-aggregate-exactly-at-2
     (λ c κs. search needs)  -- exactly-at-requires-2
-    (λ c. search needs)  -- returns
+    (λ c. ends-declaration (c .before .before .before .before .before .before .before .before .before .exactly-at .ensures) (c .before .before .before .before .before .before .attribute-at .ensures) (c .before .before .before .any-case-attribute-at .ensures) (c .before .before .blank-at .ensures) (c .exactly-at2 .ensures))  -- returns
     )
