@@ -4,6 +4,7 @@
 --     Left                                  the invariant of a loop over pieces;   items-.., place-.., parts-..: its ways
 --     value-none, value-after, listed-at, part-listed, part-single    one part
 --     rule-read                             whether there is a rule
+--     cons-read, rest-gone                  one more read; what stands past the end
 use mathlib.Core.Path.{_≡_, refl, sym, ap, _∙_}
 use mathlib.Core.Bool.{Bool, true, false, not, false≢true}
 use mathlib.Core.List.{List, [], _∷_, map}
@@ -242,7 +243,7 @@ nth-inside (x ∷ l) (suc k) a h = omega (arith, nth-inside l k a h)
 part-place : (n : List ℕ) → partOf n ≡ partOf (getD partNames (placeOf n partNames) [])
 part-place n = row-place (λ (r : Part). r .name) n partTable ∙ nth-at partTable (placeOf n partNames) ∙ sym (part-at (placeOf n partNames))
 
-cons-read : {A : Type 0} (o : Option A) (q : Option (List A)) → isRead (andThen o (λ b. consRead b q)) ≡ (isRead o and isRead q)
+pub cons-read : {A : Type 0} (o : Option A) (q : Option (List A)) → isRead (andThen o (λ b. consRead b q)) ≡ (isRead o and isRead q)
 unfolding andThen consRead isRead _and_
 cons-read none q = refl
 cons-read (some a) none = refl
@@ -365,7 +366,7 @@ rule-read s = rw (each-part (cutAt 59 s)) (go (readEach readPart (cutAt 59 s)) r
         let h = names-kept (cutAt 59 s) ps e in
         provided-is (distinct (map nameOf ps) and isComplete ps) (inOrder partNames ps) ∙ rw (h, whole-is (cutAt 59 s) ps h)
 
-rest-gone : (s : List ℕ) (c : ℕ) → length s < c → rest 0 s c ≡ []
+pub rest-gone : (s : List ℕ) (c : ℕ) → length s < c → rest 0 s c ≡ []
 unfolding rest pick
 rest-gone s c h = let l : length s ≤ c = omega arith in drop-of-length-le s l
 

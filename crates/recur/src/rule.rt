@@ -23,7 +23,7 @@ pub enum RuleRead {
 const LISTED: [u8; 14] = [0, 0, 0, 0, 1, 1, 1, 1, 1, 1, 1, 1, 1, 0];
 
 // The cursor at the first byte `k`, or at the end.
-fn byte_end(k: usize, s: &[u8], at: usize) -> usize
+pub fn byte_end(k: usize, s: &[u8], at: usize) -> usize
     requires { ⌜ at ≤ length (now s) ⌝ }
     ensures { λ r. ⌜ Ends k (now (s .entry)) at r ⌝ }
 {

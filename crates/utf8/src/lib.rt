@@ -1,5 +1,10 @@
 // The characters that an input may hold, in UTF-8 by RFC 3629: see specs/Utf8.antt. The check is an
 // automaton that takes a byte at a time: see specs/Automaton.antt.
+mod spell;
+
+pub use spell::is_character;
+pub use spell::spelled_byte;
+pub use spell::spelled_length;
 ghost use mathlib.Core.Path.{_≡_};
 ghost use Rattle.octets.specs.Pick.{within};
 ghost use Rattle.utf8.specs.Utf8.{isAscii, more, low, high, highAfter, firstBad};

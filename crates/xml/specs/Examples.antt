@@ -23,13 +23,11 @@ tree : documentNodes (withRoot (ascii "<a>x&lt;<b/></a >\r\ny")) ≡
 unfolding xml-compute
 tree = refl
 
--- of the same content, what stands in it directly
+-- of the content of `<a>`, what stands in it directly
 content : Nodes
-content =
-    element 56 (ascii "a") 68 (literal 59 120 (referred 60 (60 ∷ []) (element 64 (ascii "b") 64 noNodes noNodes)))
-    (literal 73 10 (literal 75 121 noNodes))
+content = literal 59 120 (referred 60 (60 ∷ []) (element 64 (ascii "b") 64 noNodes noNodes))
 
-direct : (charactersOf content ≡ ascii "\ny") × (hasElement content ≡ true) × (hasElement (literal 73 10 (literal 75 121 noNodes)) ≡ false)
+direct : (charactersOf content ≡ ascii "x<") × (hasElement content ≡ true) × (hasElement (literal 73 10 (literal 75 121 noNodes)) ≡ false)
 unfolding xml-compute content
 direct = (refl, refl, refl)
 

@@ -5,6 +5,11 @@
 --     Marks         a document as the list of its marks, with their places
 --     WellFormed    whether a document is within the profile, and where it is not
 --     Nodes         the content of a document as a tree
+--     NodesAt       the content of an element from a place on
+--     CharAt        the character at a place
+--     Starting      given bytes at a place
+--     Digits        the digits of a character reference, read from the left
+--     References    the readings of references and literal bytes
 --     Escape        writing: character data, tags, elements, the document
 --     Reads         tags and character data that are written are read back as marks
 --     Content       the content of an element as it is written
@@ -18,6 +23,11 @@ pub mod Prolog
 pub mod Marks
 pub mod WellFormed
 pub mod Nodes
+pub mod NodesAt
+pub mod CharAt
+pub mod Starting
+pub mod Digits
+pub mod References
 pub mod Escape
 pub mod Reads
 pub mod Content

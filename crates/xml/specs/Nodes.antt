@@ -1,7 +1,7 @@
 -- The content of an element as a tree, of a document that is well formed.
 --     Nodes          nothing; or an element, a literal byte or a referred character, and what follows it
 --     documentNodes  the root as one element
---     charactersOf   the bytes of the characters that stand directly there, in order
+--     charactersOf   the bytes of the characters that stand there, up to an element
 --     hasElement     whether an element stands there
 use mathlib.Core.Bool.{Bool, true, false}
 use mathlib.Core.List.{List, [], _∷_}
@@ -61,7 +61,7 @@ documentNodes s = rootNode (documentMarks s)
 
 unfoldable pub charactersOf : Nodes → List ℕ
 charactersOf noNodes = []
-charactersOf (element p nm e inner next) = charactersOf next
+charactersOf (element p nm e inner next) = []
 charactersOf (literal p b next) = b ∷ charactersOf next
 charactersOf (referred p bs next) = bs ⊕ charactersOf next
 

@@ -78,17 +78,21 @@ unfoldable pub charRef : ℕ → ℕ → ℕ → List ℕ → Token
 charRef k d v s = pick (ltb 0 d and starts (ascii ";") (from d s) and isCharacter v) (Reference v (k + d + 1)) Fault
 
 -- after `&`
--- CharRef ::= '&#' [0-9]+ ';' | '&#x' [0-9a-fA-F]+ ';'
 -- EntityRef ::= '&' Name ';', of the five entities of section 4.6
+abbrev pub entityRef : List ℕ → Token
+entityRef s =
+    pick (starts (ascii "amp;") s) (Reference 38 4)
+    (pick (starts (ascii "lt;") s) (Reference 60 3)
+    (pick (starts (ascii "gt;") s) (Reference 62 3)
+    (pick (starts (ascii "apos;") s) (Reference 39 5)
+    (pick (starts (ascii "quot;") s) (Reference 34 5) Fault))))
+
+-- CharRef ::= '&#' [0-9]+ ';' | '&#x' [0-9a-fA-F]+ ';'
 unfoldable pub reference : List ℕ → Token
 reference s =
     pick (starts (ascii "#x") s) (let r = from 2 s in let d = spanLen isHexDigit r in charRef 2 d (hexValue 0 (take d r)) r)
     (pick (starts (ascii "#") s) (let r = from 1 s in let d = spanLen isDigit r in charRef 1 d (value 0 (take d r)) r)
-    (pick (starts (ascii "amp;") s) (Reference 38 4)
-    (pick (starts (ascii "lt;") s) (Reference 60 3)
-    (pick (starts (ascii "gt;") s) (Reference 62 3)
-    (pick (starts (ascii "apos;") s) (Reference 39 5)
-    (pick (starts (ascii "quot;") s) (Reference 34 5) Fault))))))
+    (entityRef s))
 
 -- ---- characters
 

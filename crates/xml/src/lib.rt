@@ -1,7 +1,14 @@
-// The XML profile: definitions and laws are in specs/. Here: writing character data and tags.
-mod markup;
+// The XML profile: definitions and laws are in specs/. Here: the character at a place.
+mod characters;
+mod entities;
+mod references;
+mod starting;
 
-pub use markup::put_end_tag;
-pub use markup::put_escaped;
-pub use markup::put_escaped_byte;
-pub use markup::put_start_tag;
+pub use characters::char_at;
+pub use starting::starts_at;
+
+// The character at a place: a byte, 256 where none stands there, 257 and its code point where a reference does; and the place after it.
+pub struct CharRead {
+    pub u: usize,
+    pub next: usize,
+}

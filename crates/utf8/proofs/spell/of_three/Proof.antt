@@ -1,0 +1,15 @@
+-- `utf8::spell::of_three` meets its contract.
+use Rattle.octets.specs.Pick.{branching}
+use Rattle.utf8.proofs.spell.of_three.Statement.{statement}
+use Rattle.utf8.proofs.spell.of_three.Tie as tie
+
+pub of-three-spec : {M : Type 1} → statement M
+of-three-spec = tie.close (tie.spec
+    (λ c. search branching)  -- add-result
+    (λ c. search branching)  -- returns
+    (λ c. search branching)  -- add-result-2
+    (λ c. search branching)  -- returns-2
+    (λ c. search branching)  -- add-result-3
+    (λ c. search branching)  -- returns-3
+    (λ c. search branching)  -- returns-4
+    )

@@ -1,0 +1,13 @@
+-- `utf8::spell::of_two` meets its contract.
+use Rattle.octets.specs.Pick.{branching}
+use Rattle.utf8.proofs.spell.of_two.Statement.{statement}
+use Rattle.utf8.proofs.spell.of_two.Tie as tie
+
+pub of-two-spec : {M : Type 1} → statement M
+of-two-spec = tie.close (tie.spec
+    (λ c. search branching)  -- add-result
+    (λ c. search branching)  -- returns
+    (λ c. search branching)  -- add-result-2
+    (λ c. search branching)  -- returns-2
+    (λ c. search branching)  -- returns-3
+    )

@@ -1,0 +1,11 @@
+-- `xml::references::cap` meets its contract.
+use Rattle.xml.specs.Digits.{capping}
+use borrow.Author.Needs.{needs}
+use Rattle.xml.proofs.references.cap.Statement.{statement}
+use Rattle.xml.proofs.references.cap.Tie as tie
+
+pub cap-spec : {M : Type 1} → statement M
+cap-spec = tie.close (tie.spec
+    (λ c. search capping)  -- returns
+    (λ c. search capping)  -- returns-2
+    )
