@@ -1,5 +1,4 @@
 -- Single pieces of markup at a place, and the loops that find them.
---     Starting     given bytes, compared;   its rules `starting`
 --     Lowering     given bytes in any case, compared;   its rules `lowering`
 --     Blank        white space, passed over;   its rules `passing`
 --     exact-yes, exact-no, any-case-yes, any-case-no, space-some, space-none, name-some, name-none    the piece that was found
@@ -14,7 +13,7 @@ use lib.ListN.{length, getD, take, drop, length-drop, drop-of-length-le}
 use lib.Seq.{take-nil}
 use borrow.Author.Needs.{needs}
 use borrow.Author.Tests.{eq-eqb, ne-eqb, lt-ltb, ltb-true, ltb-false}
-use Rattle.octets.specs.Pick.{pick, _and_, _or_, flag-yes, flag-no, and-both}
+use Rattle.octets.specs.Pick.{pick, _and_, _or_, flag-yes, flag-no}
 use Rattle.octets.specs.Scan.{spanLen, spanEnd, drop-next}
 use Rattle.octets.specs.Class.{isAlpha, isNameChar, isSpace, lower, lowerByte}
 use Rattle.octets.specs.Words.{same, starts, same-true}
@@ -22,6 +21,7 @@ use Rattle.octets.specs.Runs.{runOf, afterRun}
 use Rattle.octets.specs.Reading.{none-some}
 use Rattle.source.specs.Source.{rest}
 use Rattle.names.specs.Runs.{RunEnds}
+use Rattle.xml.specs.Starting.{starts-inside}
 use Rattle.xml.specs.Pieces.{from, first, exactly, inAnyCase, S, S?, Name, nameOf}
 use Rattle.tokens.specs.Ends.{Ends, ends-stuck, ends-found, ends-missing}
 
@@ -37,52 +37,15 @@ pub length-from : (i : ℕ) (s : List ℕ) → length (from i s) ≡ length s - 
 unfolding from
 length-from i s = length-drop i s
 
--- ---- given bytes: i of them stand before the place c
-
-pub record Starting (s : List ℕ) (at : ℕ) (w : List ℕ) (c i : ℕ) : Type 0 where
-  pub inside : i ≤ length w
-  pub left : starts w (from at s) ≡ starts (from i w) (from c s)
-
-module _ (s : List ℕ) (at : ℕ) (w : List ℕ) where
-  pub starting-start : Starting s at w at 0
-  unfolding from
-  starting-start = record { inside = omega arith; left = refl }
-
-  module _ (c i : ℕ) (t : Starting s at w c i) where
-    pub starting-more : i < length w → c < length s → getD s c 0 ≡ getD w i 0 → Starting s at w (c + 1) (i + 1)
-    unfolding starts _and_
-    starting-more h k e = record { inside = omega arith; left = t .left ∙ rw (from-next w i h, from-next s c k, eq-eqb (getD w i 0) (getD s c 0) (sym e)) }
-
-    pub starting-stop : i < length w → c < length s → (getD s c 0 ≡ getD w i 0 → ⊥) → false ≡ starts w (from at s)
-    unfolding starts _and_
-    starting-stop h k e = sym (t .left ∙ rw (from-next w i h, from-next s c k, ne-eqb (getD w i 0) (getD s c 0) (λ q. e (sym q))))
-
-    pub starting-short : i < length w → length s ≤ c → false ≡ starts w (from at s)
-    unfolding starts
-    starting-short h k = sym (t .left ∙ rw (from-next w i h, from-past s c k))
-
-    pub starting-end : length w ≤ i → true ≡ starts w (from at s)
-    unfolding starts
-    starting-end h = sym (t .left ∙ rw (from-past w i h))
-
-pub ruleset starting = (starting-start, starting-more, starting-stop, starting-short, starting-end, needs)
-
-pub starts-inside : (w s : List ℕ) → starts w s ≡ true → length w ≤ length s
-unfolding starts
-starts-inside [] s h = omega arith
-starts-inside (x ∷ w) [] h = let z : _≡_ {A = ℕ} 0 1 = cc in absurd (omega arith)
-starts-inside (x ∷ w) (y ∷ s) h = let k = starts-inside w s (and-both (eqb x y) (starts w s) h .1) in omega arith
+-- ---- given bytes
 
 module _ (s : List ℕ) (at : ℕ) (w : List ℕ) (h : at ≤ length s) where
-  pub exact-room : starts w (from at s) ≡ true → at + length w ≤ length s
-  exact-room e = omega (arith, starts-inside w (from at s) e, length-from at s)
+  pub exact-yes : starts w (drop at s) ≡ true → Ends (exactly w) s at (at + length w)
+  unfolding exactly pick from
+  exact-yes e = ends-found (exactly w) s at (length w) (at + length w) (rw e) refl (starts-inside w s at h e)
 
-  pub exact-yes : starts w (from at s) ≡ true → Ends (exactly w) s at (at + length w)
-  unfolding exactly pick
-  exact-yes e = ends-found (exactly w) s at (length w) (at + length w) (rw e) refl (exact-room e)
-
-  pub exact-no : starts w (from at s) ≡ false → Ends (exactly w) s at (length s + 1)
-  unfolding exactly pick
+  pub exact-no : starts w (drop at s) ≡ false → Ends (exactly w) s at (length s + 1)
+  unfolding exactly pick from
   exact-no e = ends-missing (exactly w) s at h (rw e)
 
 -- ---- given bytes in any case

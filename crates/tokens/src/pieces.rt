@@ -4,34 +4,14 @@ use octets::is_alpha;
 use octets::is_space;
 use octets::lower_unit;
 use octets::wide;
+use xml::starts_at;
 ghost use mathlib.Core.Path.{_≡_};
 ghost use lib.ListN.{length, take};
 ghost use Rattle.octets.specs.Class.{lower};
-ghost use Rattle.octets.specs.Words.{same, starts};
+ghost use Rattle.octets.specs.Words.{same};
 ghost use Rattle.xml.specs.Pieces.{from, exactly, inAnyCase, S, S?, Name, Eq, quoted};
 ghost use Rattle.tokens.specs.Ends.{Ends};
 ghost use Rattle.tokens.specs.Prologue.{attribute};
-
-// The bytes `w` are there.
-fn starts_at(s: &[u8], at: usize, w: &[u8]) -> bool
-    ensures { λ r. ⌜ r ≡ starts (now (w .entry)) (from at (now (s .entry))) ⌝ }
-{
-    let mut c = at;
-    let mut i = 0;
-    while i < w.len() {
-        if c < s.len() {
-            if s[c] == w[i] {
-                c += 1;
-                i += 1;
-            } else {
-                return false;
-            }
-        } else {
-            return false;
-        }
-    }
-    true
-}
 
 // The bytes `w`, which has no capitals, are there in any case.
 fn lowered_at(s: &[u8], at: usize, w: &[u8]) -> bool
