@@ -2,6 +2,12 @@
 --     Ends         a piece of markup at a place
 --     PieceLaws    single pieces at a place, and the loops that find them
 --     Prologue     the prolog at the front of the input
+--     TokenAt      a token at a place
+--     Tags         tags at a place
+--     TokenLaws    the token at a place, by the ways of the code
 pub mod Ends
 pub mod PieceLaws
 pub mod Prologue
+pub mod TokenAt
+pub mod Tags
+pub mod TokenLaws
