@@ -5,9 +5,11 @@
 --     TokenAt      a token at a place
 --     Tags         tags at a place
 --     TokenLaws    the token at a place, by the ways of the code
+--     MarksAt      the marks from a place on, by the token there
 pub mod Ends
 pub mod PieceLaws
 pub mod Prologue
 pub mod TokenAt
 pub mod Tags
 pub mod TokenLaws
+pub mod MarksAt
