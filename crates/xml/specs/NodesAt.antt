@@ -39,7 +39,7 @@ module _ (s : List ℕ) (p b : ℕ) (r : List ℕ) (e : drop p s ≡ b ∷ r) wh
       let i : 1 + k ≡ suc k = omega arith in
       rw (j, ← (drop-drop (1 + k) p s), e, i)
 
-  passed : (k : ℕ) → scan r (p + 1) k ≡ marksAt s (p + 1 + k)
+  pub passed : (k : ℕ) → scan r (p + 1) k ≡ marksAt s (p + 1 + k)
   unfolding marksAt
   passed k = scan-pass r (p + 1) k ∙ ap (λ (l : List ℕ). scan l (p + 1 + k) 0) (sym (after k))
 

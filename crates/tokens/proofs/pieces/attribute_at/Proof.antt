@@ -1,0 +1,14 @@
+-- `tokens::attribute_at` meets its contract. Assumes nothing.
+use Rattle.tokens.specs.Ends.{ends-then}
+use borrow.Author.Needs.{needs}
+use Rattle.tokens.proofs.pieces.attribute_at.Statement.{statement}
+use Rattle.tokens.proofs.pieces.attribute_at.Tie as tie
+
+pub attribute-at-spec : {M : Type 1} → statement M
+attribute-at-spec = tie.close (tie.spec
+    (λ c κs. search needs)  -- space-at-requires
+    (λ c κs. search needs)  -- exactly-at-requires
+    (λ c κs. search needs)  -- eq-at-requires
+    (λ c κs. search needs)  -- quoted-at-requires
+    (λ c. ends-then (c .before .before .before .space-at .ensures) (ends-then (c .before .before .exactly-at .ensures) (ends-then (c .before .eq-at .ensures) (c .quoted-at .ensures))))  -- returns
+    )

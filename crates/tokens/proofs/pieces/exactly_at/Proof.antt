@@ -1,0 +1,20 @@
+-- `tokens::exactly_at` meets its contract. Assumes nothing.
+use denote.Ref.{now}
+use native.Mathlib.Omega.{arith}
+use mathlib.Core.Path.{_≡_, sym, _∙_}
+use Rattle.tokens.specs.PieceLaws.{exact-yes, exact-no}
+use Rattle.xml.specs.Starting.{starts-inside}
+use Rattle.tokens.specs.Ends.{ends-stuck}
+use borrow.Author.Needs.{needs}
+use Rattle.tokens.proofs.pieces.exactly_at.Statement.{statement}
+use Rattle.tokens.proofs.pieces.exactly_at.Tie as tie
+
+pub exactly-at-spec : {M : Type 1} → statement M
+exactly-at-spec = tie.close (tie.spec
+    (λ c. ends-stuck _ _ _ (c .if1 .taken))  -- returns
+    (λ c κs. c .if1 .left)  -- starts-at-requires
+    (λ c. omega (arith, starts-inside (now (c .before .before .before .before .before .args .w)) (now (c .before .before .before .before .before .args .s)) (c .before .before .before .before .before .args .at) (c .before .before .if1 .left) (sym (c .before .starts-at .ensures) ∙ c .if2 .taken)))  -- add-result
+    (λ c. exact-yes _ _ _ (c .before .before .if1 .left) (sym (c .before .starts-at .ensures) ∙ c .if2 .taken))  -- returns-2
+    (λ c. search needs)  -- add-result-2
+    (λ c. exact-no _ _ _ (c .before .before .if1 .left) (sym (c .before .starts-at .ensures) ∙ c .if2 .left))  -- returns-3
+    )

@@ -1,0 +1,22 @@
+-- `tokens::name_at` meets its contract. Assumes nothing.
+use native.Mathlib.Omega.{arith}
+use mathlib.Core.Path.{_≡_, sym, _∙_}
+use Rattle.tokens.specs.PieceLaws.{name-some, name-none, name-over}
+use Rattle.tokens.specs.Ends.{ends-stuck}
+use borrow.Author.Needs.{needs}
+use Rattle.tokens.proofs.pieces.name_at.Statement.{statement}
+use Rattle.tokens.proofs.pieces.name_at.Tie as tie
+
+pub name-at-spec : {M : Type 1} → statement M
+name-at-spec = tie.close (tie.spec
+    (λ c. ends-stuck _ _ _ (c .if1 .taken))  -- returns
+    (λ c. search needs)  -- shared-slice-read-wide
+    (λ c κs. search needs)  -- wide-requires
+    (λ c κs. search needs)  -- is-alpha-requires
+    (λ c κs. search needs)  -- name-end-requires
+    (λ c. name-some _ _ _ (c .name-end .ensures) (c .before .before .before .before .before .before .if1 .left) (c .before .before .before .before .before .if2 .taken) (rw (← (c .before .before .before .wide .ensures .0), ← (c .before .before .is-alpha .ensures)) (c .before .if3 .taken)))  -- returns-2
+    (λ c. search needs)  -- add-result
+    (λ c. name-none _ _ (c .before .before .before .before .if2 .taken) (rw (← (c .before .before .wide .ensures .0), ← (c .before .is-alpha .ensures)) (c .if3 .left)))  -- returns-3
+    (λ c. search needs)  -- add-result-2
+    (λ c. name-over _ _ (omega arith))  -- returns-4
+    )

@@ -1,0 +1,16 @@
+-- `tokens::space_at` meets its contract. Assumes nothing.
+use native.Mathlib.Omega.{arith}
+use Rattle.tokens.specs.PieceLaws.{space-none, space-some}
+use Rattle.tokens.specs.Ends.{ends-stuck}
+use borrow.Author.Needs.{needs}
+use Rattle.tokens.proofs.pieces.space_at.Statement.{statement}
+use Rattle.tokens.proofs.pieces.space_at.Tie as tie
+
+pub space-at-spec : {M : Type 1} → statement M
+space-at-spec = tie.close (tie.spec
+    (λ c. ends-stuck _ _ _ (c .if1 .taken))  -- returns
+    (λ c κs. search needs)  -- blank-at-requires
+    (λ c. search needs)  -- add-result
+    (λ c. space-none _ _ _ (c .before .blank-at .ensures) (c .before .before .if1 .left) (c .if2 .taken))  -- returns-2
+    (λ c. space-some _ _ _ (c .before .blank-at .ensures) (c .before .before .if1 .left) (c .if2 .left))  -- returns-3
+    )

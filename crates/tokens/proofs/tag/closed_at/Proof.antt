@@ -1,0 +1,16 @@
+-- `tokens::closed_at` meets its contract. Assumes nothing.
+use Rattle.tokens.specs.TokenLaws.{end-read, end-fault}
+use borrow.Author.Needs.{needs}
+use Rattle.tokens.proofs.tag.closed_at.Statement.{statement}
+use Rattle.tokens.proofs.tag.closed_at.Tie as tie
+
+pub closed-at-spec : {M : Type 1} → statement M
+closed-at-spec = tie.close (tie.spec
+    (λ c κs. search needs)  -- name-at-requires
+    (λ c κs. search needs)  -- blank-at-requires
+    (λ c. search needs)  -- slice-aggregate-exactly-at
+    (λ c κs. search needs)  -- exactly-at-requires
+    (λ c. end-read (c .before .before .before .before .before .before .pre .0) (c .before .before .before .before .name-at .ensures) (c .before .before .before .blank-at .ensures) (c .before .exactly-at .ensures) (c .if1 .taken))  -- returns
+    (λ c κs. search needs)  -- fault-at-requires
+    (λ c. end-fault (c .before .before .before .before .before .before .before .pre .0) (c .before .before .before .before .before .name-at .ensures) (c .before .before .before .before .blank-at .ensures) (c .before .before .exactly-at .ensures) (c .before .before .before .before .before .before .before .pre .1) (c .before .if1 .left) (c .fault-at .ensures))  -- returns-2
+    )
