@@ -8,6 +8,7 @@
 --     Walks        walks over nodes
 pub mod NodesAt
 pub mod Marked
+pub mod Standing
 pub mod Tokens
 pub mod Closing
 pub mod NodeFound

@@ -10,7 +10,7 @@ use lib.Seq.{drop-nil, drop-drop}
 use Rattle.octets.specs.Scan.{drop-next}
 use Rattle.xml.specs.Token.{Token, STag, EmptyElemTag, ETag, CharByte, Reference, Fault, token}
 use Rattle.xml.specs.Marks.{Mark, marks, marksBy, scan}
-use Rattle.xml.specs.Nodes.{nodes}
+use Rattle.xml.specs.Nodes.{nodes, noNodes}
 use Rattle.nodes.specs.NodesAt.{nodesAt}
 
 unfoldable pub marksAt : List ℕ → ℕ → List Mark
@@ -28,6 +28,10 @@ pub marks-past : (s : List ℕ) (p : ℕ) → length s ≤ p → marksAt s p ≡
 unfolding marksAt scan
 marks-past s p h = rw (drop-of-length-le s h)
 
+pub nodes-past : (s : List ℕ) (p : ℕ) → length s ≤ p → nodesAt s p ≡ noNodes
+unfolding nodes
+nodes-past s p h = nodes-are s p ∙ rw (marks-past s p h)
+
 -- k bytes are passed over
 scan-over : (s : List ℕ) (p k : ℕ) → scan s p k ≡ scan (drop k s) (p + k) 0
 unfolding scan
@@ -38,8 +42,7 @@ scan-over (b ∷ s) p (suc k) = let z : p + suc k ≡ p + 1 + k = omega arith in
 scan-on : (s : List ℕ) (p k : ℕ) → scan (drop (p + 1) s) (p + 1) k ≡ marksAt s (p + 1 + k)
 unfolding marksAt
 scan-on s p k =
-    let z : k + (p + 1) ≡ p + 1 + k = omega arith in
-    scan-over (drop (p + 1) s) (p + 1) k ∙ ap (λ (r : List ℕ). scan r (p + 1 + k) 0) (drop-drop k (p + 1) s ∙ ap (λ (n : ℕ). drop n s) z)
+    scan-over (drop (p + 1) s) (p + 1) k ∙ ap (λ (r : List ℕ). scan r (p + 1 + k) 0) (drop-drop k (p + 1) s)
 
 by-token : (s : List ℕ) (p : ℕ) (t : Token) → marksBy t p (scan (drop (p + 1) s) (p + 1)) ≡ marksBy t p (λ k. marksAt s (p + 1 + k))
 unfolding marksBy

@@ -23,7 +23,7 @@ use Rattle.nodes.specs.declared.token.TokenKind.the-variants.{Start, Emp
 
 -- the name of a tag
 abbrev pub nameIn : List ℕ → TokenAt → List ℕ
-nameIn s t = rest 0 (take (t .name_end) s) (t .name)
+nameIn s t = rest 0 (take (t .«name_end») s) (t .name)
 
 -- nothing is open any more, and nothing follows: the bytes end, or are no token
 abbrev pub Over : List Mark → Type 0
@@ -37,13 +37,29 @@ MarkedBy Char s at t = marksAt s at ≡ char at (t .unit) ∷ marksAt s (t .next
 MarkedBy Reference s at t = marksAt s at ≡ refers at (spell (t .unit)) ∷ marksAt s (t .next)
 MarkedBy Fault s at t = Over (marksAt s at)
 
-over-end : Over []
+pub over-end : Over []
 unfolding nodes endPlace
 over-end d = (refl, refl)
 
 over-fault : (p : ℕ) → Over (fault p ∷ [])
 unfolding nodes nodesBy endPlace endPlaceBy
 over-fault p d = (refl, refl)
+
+-- the kinds that are no fault
+pub start-sound : Start ≡ Fault → ⊥
+start-sound e = let z : _≡_ {A = ℕ} 0 1 = cc in absurd (omega arith)
+
+pub empty-sound : Empty ≡ Fault → ⊥
+empty-sound e = let z : _≡_ {A = ℕ} 0 1 = cc in absurd (omega arith)
+
+pub end-sound : End ≡ Fault → ⊥
+end-sound e = let z : _≡_ {A = ℕ} 0 1 = cc in absurd (omega arith)
+
+pub char-sound : Char ≡ Fault → ⊥
+char-sound e = let z : _≡_ {A = ℕ} 0 1 = cc in absurd (omega arith)
+
+pub reference-sound : Reference ≡ Fault → ⊥
+reference-sound e = let z : _≡_ {A = ℕ} 0 1 = cc in absurd (omega arith)
 
 module _ {s : List ℕ} {at : ℕ} {t : TokenAt} (f : TokenFound s at t) where
   -- the marks of the token, where there is one
@@ -63,11 +79,11 @@ module _ {s : List ℕ} {at : ℕ} {t : TokenAt} (f : TokenFound s at t) where
 
   pub marked : (k : TokenKind) → t .kind ≡ k → MarkedBy k s at t
   unfolding marksBy
-  marked Start q = found Start q (token-there q (λ e. cc)) ∙ rw (token-next q (λ e. cc))
-  marked Empty q = found Empty q (token-there q (λ e. cc)) ∙ rw (token-next q (λ e. cc))
-  marked End q = found End q (token-there q (λ e. cc)) ∙ rw (token-next q (λ e. cc))
-  marked Char q = found Char q (token-there q (λ e. cc)) ∙ rw (token-next q (λ e. cc))
-  marked Reference q = found Reference q (token-there q (λ e. cc)) ∙ rw (token-next q (λ e. cc))
+  marked Start q = found Start q (token-there q start-sound) ∙ rw (token-next q start-sound)
+  marked Empty q = found Empty q (token-there q empty-sound) ∙ rw (token-next q empty-sound)
+  marked End q = found End q (token-there q end-sound) ∙ rw (token-next q end-sound)
+  marked Char q = found Char q (token-there q char-sound) ∙ rw (token-next q char-sound)
+  marked Reference q = found Reference q (token-there q reference-sound) ∙ rw (token-next q reference-sound)
   marked Fault q = go (ltb at (length s)) refl
     where
       go : (b : Bool) → ltb at (length s) ≡ b → Over (marksAt s at)

@@ -32,20 +32,20 @@ fn capital_from(s: &[u8], at: usize) -> bool
 }
 
 // A name has a capital.
-pub fn has_capital(s: &[u8], name: usize, name_end: usize) -> bool
-    ensures { λ r. ⌜ r ≡ hasCapital (rest 0 (take name_end (now (s .entry))) name) ⌝ }
+pub fn has_capital(s: &[u8], name: usize, end: usize) -> bool
+    ensures { λ r. ⌜ r ≡ hasCapital (rest 0 (take end (now (s .entry))) name) ⌝ }
 {
-    if name_end < s.len() {
-        return capital_from(&s[..name_end], name);
+    if end < s.len() {
+        return capital_from(&s[..end], name);
     }
     capital_from(s, name)
 }
 
 // The refusal of an element that has no place there.
-pub fn unexpected(s: &[u8], place: usize, name: usize, name_end: usize) -> Judged
-    ensures { λ r. ⌜ unexpected place (rest 0 (take name_end (now (s .entry))) name) ≡ judgedAs r ⌝ }
+pub fn unexpected(s: &[u8], place: usize, name: usize, end: usize) -> Judged
+    ensures { λ r. ⌜ unexpected place (rest 0 (take end (now (s .entry))) name) ≡ judgedAs r ⌝ }
 {
-    let capital = has_capital(s, name, name_end);
+    let capital = has_capital(s, name, end);
     if capital {
         return Judged::Refused(5, place);
     }
