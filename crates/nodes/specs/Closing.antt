@@ -11,8 +11,7 @@ use borrow.Author.Needs.{needs}
 use Rattle.utf8.specs.Spell.{spell}
 use Rattle.xml.specs.Marks.{Mark, opens, closes, char, refers}
 use Rattle.xml.specs.Nodes.{Nodes, nodes, nodesBy, noNodes, endPlace, endPlaceBy}
-use Rattle.nodes.specs.NodesAt.{nodesAt}
-use Rattle.nodes.specs.Marked.{marksAt, marks-past, nodes-are, nodes-past}
+use Rattle.nodes.specs.NodesAt.{marksAt, mark-none, nodesAt, nodes-none}
 use Rattle.nodes.specs.Tokens.{nameIn, Over, over-end, marked, token-onward, start-sound, empty-sound, end-sound, char-sound, reference-sound}
 use Rattle.nodes.specs.Standing.{TokenFound}
 use Rattle.nodes.specs.declared.Ended.{Ended}
@@ -25,6 +24,10 @@ pub record EndedAt (s : List ℕ) (from : ℕ) (r : Ended) : Type 0 where
   pub after : nodes (marksAt s from) 1 ≡ nodesAt s (r .next)
   pub onward : from ≤ r .next
   pub inside : r .next ≤ length s
+
+pub nodes-are : (s : List ℕ) (p : ℕ) → nodesAt s p ≡ nodes (marksAt s p) 0
+unfolding nodesAt
+nodes-are s p = refl
 
 -- what is sought from one list of marks, d elements deep, is sought from another, e deep
 pub record Seeks (ms : List Mark) (d : ℕ) (ns : List Mark) (e : ℕ) : Type 0 where
@@ -87,13 +90,13 @@ module _ {s : List ℕ} {from at depth : ℕ} (c : Closing s from at depth) wher
   closing-over : Over (marksAt s at) → EndedAt s from (record { place = 0; next = length s })
   closing-over o = record {
     place = c .left .place ∙ o depth .1;
-    after = c .left .after ∙ o (suc depth) .0 ∙ sym (nodes-past s (length s) (omega arith));
+    after = c .left .after ∙ o (suc depth) .0 ∙ sym (nodes-none s (length s) (omega arith));
     onward = omega (arith, c .low, c .high);
     inside = omega arith;
   }
 
   pub closing-past : length s ≤ at → EndedAt s from (record { place = 0; next = length s })
-  closing-past h = closing-over (rw (marks-past s at h) over-end)
+  closing-past h = closing-over (rw (mark-none s at h) over-end)
 
   module _ {t : TokenAt} (f : TokenFound s at t) where
     -- a token that leads on

@@ -1,13 +1,11 @@
 -- The content of an element, node by node.
 --     NodesAt      the content of an open element from a place on
---     Marked       the marks from a place on
 --     Tokens       what a token that was found says of them
 --     Closing      the end tag of an open element
 --     NodeFound    the node at a place
 --     Judging      what readers find, as a verdict
 --     Walks        walks over nodes
 pub mod NodesAt
-pub mod Marked
 pub mod Standing
 pub mod Tokens
 pub mod Closing

@@ -5,19 +5,18 @@
 use mathlib.Core.Path.{_≡_, refl, sym, ap, subst, _∙_}
 use mathlib.Core.List.{List, [], _∷_}
 use Prim.{Unit, tt}
-use Prim.Native.Nat.{ℕ, _-_, _≤_, _<_}
+use Prim.Native.Nat.{ℕ, _+_, _-_, _≤_, _<_}
 use native.Mathlib.Omega.{arith}
 use lib.ListN.{length, take}
 use borrow.Author.Needs.{needs}
+use Rattle.octets.specs.Scan.{drop-next}
 use Rattle.utf8.specs.Spell.{spell}
 use Rattle.source.specs.Source.{rest}
-use Rattle.xml.specs.Marks.{Mark, opens, closes, char, refers}
-use Rattle.xml.specs.Nodes.{Nodes, noNodes, element, literal, referred, nodes, nodesBy, endPlace, endPlaceBy}
-use Rattle.nodes.specs.NodesAt.{nodesAt}
-use Rattle.nodes.specs.Marked.{marksAt, nodes-are, nodes-past}
-use Rattle.nodes.specs.Tokens.{nameIn, marked, token-onward, start-sound, empty-sound, char-sound, reference-sound}
+use Rattle.xml.specs.Nodes.{Nodes, noNodes, element, literal, referred}
+use Rattle.nodes.specs.NodesAt.{nodesAt, nodes-start, nodes-empty, nodes-end, nodes-char, nodes-reference, nodes-none}
+use Rattle.nodes.specs.Tokens.{nameIn, marked, token-onward, token-there, token-past, token-is, start-sound, empty-sound, end-sound, char-sound, reference-sound}
 use Rattle.nodes.specs.Standing.{TokenFound}
-use Rattle.nodes.specs.Closing.{EndedAt}
+use Rattle.nodes.specs.Closing.{EndedAt, nodes-are}
 use Rattle.nodes.specs.declared.Ended.{Ended}
 use Rattle.nodes.specs.declared.Node.{Node}
 use Rattle.nodes.specs.declared.NodeKind.{NodeKind}
@@ -106,35 +105,15 @@ noNode e = record { kind = None; name = 0; «name_end» = 0; inside = e; end = 0
 abbrev pub characterNode : NodeKind → ℕ → ℕ → ℕ → Node
 characterNode k e u next = record { kind = k; name = 0; «name_end» = 0; inside = e; end = 0; next = next; unit = u }
 
-abbrev contents : List Mark → Nodes
-contents ms = nodes ms 0
-
-nodes-open : (p : ℕ) (nm : List ℕ) (ms : List Mark) → nodes (opens p nm ∷ ms) 0 ≡ element p nm (endPlace ms 0) (nodes ms 0) (nodes ms 1)
-unfolding nodes nodesBy
-nodes-open p nm ms = refl
-
-nodes-empty : (p : ℕ) (nm : List ℕ) (ms : List Mark) → nodes (opens p nm ∷ closes p nm ∷ ms) 0 ≡ element p nm p noNodes (nodes ms 0)
-unfolding nodes nodesBy endPlace endPlaceBy
-nodes-empty p nm ms = refl
-
-nodes-close : (p : ℕ) (nm : List ℕ) (ms : List Mark) → nodes (closes p nm ∷ ms) 0 ≡ noNodes
-unfolding nodes nodesBy
-nodes-close p nm ms = refl
-
-nodes-char : (p b : ℕ) (ms : List Mark) → nodes (char p b ∷ ms) 0 ≡ literal p b (nodes ms 0)
-unfolding nodes nodesBy
-nodes-char p b ms = refl
-
-nodes-refers : (p : ℕ) (bs : List ℕ) (ms : List Mark) → nodes (refers p bs ∷ ms) 0 ≡ referred p bs (nodes ms 0)
-unfolding nodes nodesBy
-nodes-refers p bs ms = refl
-
 module _ {s : List ℕ} {at : ℕ} {t : TokenAt} (f : TokenFound s at t) where
+  pub start-within : t .kind ≡ Start → t .next ≤ length s
+  start-within q = token-onward f q start-sound .1
+
   pub found-start : {e : Ended} → t .kind ≡ Start → EndedAt s (t .next) e →
       NodeAt s at (record { kind = Element; name = t .name; «name_end» = t .«name_end»; inside = t .next; end = e .place; next = e .next; unit = 0 })
   found-start {e} q d =
       let b = token-onward f q start-sound in record {
-        is = nodes-are s at ∙ ap contents (marked f Start q) ∙ nodes-open at (nameIn s t) (marksAt s (t .next)) ∙ rw (d .place, d .after, nodes-are s (t .next));
+        is = nodes-start s at _ _ (drop-next s at (token-there f q start-sound)) (nameIn s t) (t .next - (at + 1)) (token-is f Start q (token-there f q start-sound)) ∙ rw (token-past f q start-sound, d .place, d .after);
         named = f .named;
         name-within = f .inside;
         inside-within = b .1;
@@ -146,7 +125,7 @@ module _ {s : List ℕ} {at : ℕ} {t : TokenAt} (f : TokenFound s at t) where
       NodeAt s at (record { kind = Element; name = t .name; «name_end» = t .«name_end»; inside = length s; end = at; next = t .next; unit = 0 })
   found-empty q =
       let b = token-onward f q empty-sound in record {
-        is = nodes-are s at ∙ ap contents (marked f Empty q) ∙ nodes-empty at (nameIn s t) (marksAt s (t .next)) ∙ rw (nodes-past s (length s) (omega arith), nodes-are s (t .next));
+        is = nodes-empty s at _ _ (drop-next s at (token-there f q empty-sound)) (nameIn s t) (t .next - (at + 1)) (token-is f Empty q (token-there f q empty-sound)) ∙ rw (token-past f q empty-sound, nodes-none s (length s) (omega arith));
         named = f .named;
         name-within = f .inside;
         inside-within = omega arith;
@@ -158,7 +137,7 @@ module _ {s : List ℕ} {at : ℕ} {t : TokenAt} (f : TokenFound s at t) where
   none-found {r} e h = rw e (record { is = h; named = omega arith; name-within = omega arith; inside-within = omega arith; next-within = omega arith; takes = tt })
 
   pub found-end : {r : Node} → t .kind ≡ End → r ≡ noNode (length s) → NodeAt s at r
-  found-end q e = none-found e (nodes-are s at ∙ ap contents (marked f End q) ∙ nodes-close at (nameIn s t) (marksAt s (t .next)))
+  found-end q e = none-found e (nodes-end s at _ _ (drop-next s at (token-there f q end-sound)) (nameIn s t) (t .next - (at + 1)) (token-is f End q (token-there f q end-sound)))
 
   pub found-fault : {r : Node} → t .kind ≡ Fault → r ≡ noNode (length s) → NodeAt s at r
   found-fault q e = none-found e (nodes-are s at ∙ marked f Fault q 0 .0)
@@ -166,7 +145,7 @@ module _ {s : List ℕ} {at : ℕ} {t : TokenAt} (f : TokenFound s at t) where
   pub found-char : {r : Node} → t .kind ≡ Char → r ≡ characterNode Literal (length s) (t .unit) (t .next) → NodeAt s at r
   found-char q e =
       let b = token-onward f q char-sound in rw e (record {
-        is = nodes-are s at ∙ ap contents (marked f Char q) ∙ nodes-char at (t .unit) (marksAt s (t .next)) ∙ rw (nodes-are s (t .next));
+        is = nodes-char s at _ _ (drop-next s at (token-there f q char-sound)) (t .unit) (t .next - (at + 1)) (token-is f Char q (token-there f q char-sound)) ∙ rw (token-past f q char-sound);
         named = omega arith;
         name-within = omega arith;
         inside-within = omega arith;
@@ -177,7 +156,7 @@ module _ {s : List ℕ} {at : ℕ} {t : TokenAt} (f : TokenFound s at t) where
   pub found-reference : {r : Node} → t .kind ≡ Reference → r ≡ characterNode Referred (length s) (t .unit) (t .next) → NodeAt s at r
   found-reference q e =
       let b = token-onward f q reference-sound in rw e (record {
-        is = nodes-are s at ∙ ap contents (marked f Reference q) ∙ nodes-refers at (spell (t .unit)) (marksAt s (t .next)) ∙ rw (nodes-are s (t .next));
+        is = nodes-reference s at _ _ (drop-next s at (token-there f q reference-sound)) (t .unit) (t .next - (at + 1)) (token-is f Reference q (token-there f q reference-sound)) ∙ rw (token-past f q reference-sound);
         named = omega arith;
         name-within = omega arith;
         inside-within = omega arith;
@@ -185,4 +164,4 @@ module _ {s : List ℕ} {at : ℕ} {t : TokenAt} (f : TokenFound s at t) where
         takes = b .0;
       })
 
-pub ruleset nodes-found = (found-start, found-empty, found-end, found-fault, found-char, found-reference, needs)
+pub ruleset nodes-found = (start-within, found-start, found-empty, found-end, found-fault, found-char, found-reference, needs)

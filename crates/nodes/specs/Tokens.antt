@@ -1,5 +1,6 @@
 -- What a token that was found at a place says of the marks from there on.
 --     MarkedBy       the marks, by the kind of token;   marked: they are so
+--     token-is       the token as XML has it
 --     token-onward   a token, unless it is a fault, takes bytes and is within the input
 use mathlib.Core.Path.{_≡_, refl, sym, ap, subst, _∙_}
 use mathlib.Core.Bool.{Bool, true, false}
@@ -13,9 +14,9 @@ use Rattle.octets.specs.Scan.{drop-next}
 use Rattle.utf8.specs.Spell.{spell}
 use Rattle.source.specs.Source.{rest}
 use Rattle.xml.specs.Token.{token}
-use Rattle.xml.specs.Marks.{Mark, marksBy, opens, closes, char, refers, fault}
+use Rattle.xml.specs.Marks.{Mark, opens, closes, char, refers, fault}
 use Rattle.xml.specs.Nodes.{nodes, nodesBy, noNodes, endPlace, endPlaceBy}
-use Rattle.nodes.specs.Marked.{marksAt, marks-token, marks-past}
+use Rattle.nodes.specs.NodesAt.{marksAt, mark-start, mark-empty, mark-end, mark-char, mark-reference, mark-fault, mark-none}
 use Rattle.nodes.specs.Standing.{TokenFound, tokenBy}
 use Rattle.nodes.specs.declared.token.TokenAt.{TokenAt}
 use Rattle.nodes.specs.declared.token.TokenKind.{TokenKind}
@@ -62,30 +63,40 @@ pub reference-sound : Reference ≡ Fault → ⊥
 reference-sound e = let z : _≡_ {A = ℕ} 0 1 = cc in absurd (omega arith)
 
 module _ {s : List ℕ} {at : ℕ} {t : TokenAt} (f : TokenFound s at t) where
-  -- the marks of the token, where there is one
-  found : (k : TokenKind) → t .kind ≡ k → at < length s → marksAt s at ≡ marksBy (tokenBy k s at t) at (λ n. marksAt s (at + 1 + n))
-  found k q h = marks-token s at h ∙ ap (λ x. marksBy x at (λ n. marksAt s (at + 1 + n)))
-      (f .is (getD s at 0) (drop (at + 1) s) (drop-next s at h) ∙ ap (λ (x : TokenKind). tokenBy x s at t) q)
-
   module _ {k : TokenKind} (q : t .kind ≡ k) (n : k ≡ Fault → ⊥) where
     pub token-onward : (at < t .next) × (t .next ≤ length s)
     token-onward = f .onward (λ e. n (sym q ∙ e))
 
-    token-there : at < length s
+    -- the first byte, and how many bytes there are after it
+    pub token-there : at < length s
     token-there = omega (arith, token-onward)
 
-    token-next : marksAt s (at + 1 + (t .next - (at + 1))) ≡ marksAt s (t .next)
-    token-next = let z : at + 1 + (t .next - (at + 1)) ≡ t .next = omega (arith, token-onward) in rw z
+    pub token-past : at + 1 + (t .next - (at + 1)) ≡ t .next
+    token-past = omega (arith, token-onward)
+
+  pub token-is : (k : TokenKind) → t .kind ≡ k → at < length s → token (getD s at 0) (drop (at + 1) s) ≡ tokenBy k s at t
+  token-is k q h = f .is (getD s at 0) (drop (at + 1) s) (drop-next s at h) ∙ ap (λ (x : TokenKind). tokenBy x s at t) q
 
   pub marked : (k : TokenKind) → t .kind ≡ k → MarkedBy k s at t
-  unfolding marksBy
-  marked Start q = found Start q (token-there q start-sound) ∙ rw (token-next q start-sound)
-  marked Empty q = found Empty q (token-there q empty-sound) ∙ rw (token-next q empty-sound)
-  marked End q = found End q (token-there q end-sound) ∙ rw (token-next q end-sound)
-  marked Char q = found Char q (token-there q char-sound) ∙ rw (token-next q char-sound)
-  marked Reference q = found Reference q (token-there q reference-sound) ∙ rw (token-next q reference-sound)
+  marked Start q =
+      let h = token-there q start-sound in
+      mark-start s at _ _ (drop-next s at h) (nameIn s t) (t .next - (at + 1)) (token-is Start q h) ∙ rw (token-past q start-sound)
+  marked Empty q =
+      let h = token-there q empty-sound in
+      mark-empty s at _ _ (drop-next s at h) (nameIn s t) (t .next - (at + 1)) (token-is Empty q h) ∙ rw (token-past q empty-sound)
+  marked End q =
+      let h = token-there q end-sound in
+      mark-end s at _ _ (drop-next s at h) (nameIn s t) (t .next - (at + 1)) (token-is End q h) ∙ rw (token-past q end-sound)
+  marked Char q =
+      let h = token-there q char-sound in
+      mark-char s at _ _ (drop-next s at h) (t .unit) (t .next - (at + 1)) (token-is Char q h) ∙ rw (token-past q char-sound)
+  marked Reference q =
+      let h = token-there q reference-sound in
+      mark-reference s at _ _ (drop-next s at h) (t .unit) (t .next - (at + 1)) (token-is Reference q h) ∙ rw (token-past q reference-sound)
   marked Fault q = go (ltb at (length s)) refl
     where
       go : (b : Bool) → ltb at (length s) ≡ b → Over (marksAt s at)
-      go true h = subst Over (sym (found Fault q (ltb-true at (length s) h))) (over-fault at)
-      go false h = subst Over (sym (marks-past s at (ltb-false at (length s) h))) over-end
+      go true h =
+          let l = ltb-true at (length s) h in
+          subst Over (sym (mark-fault s at _ _ (drop-next s at l) (token-is Fault q l))) (over-fault at)
+      go false h = subst Over (sym (mark-none s at (ltb-false at (length s) h))) over-end

@@ -96,5 +96,5 @@ module _ {s : List ℕ} {from at : ℕ} {n : Step} (c : Capitals s from at) (p :
 pub ruleset capitals = (capitals-start, capitals-end, capitals-found, capitals-more, capitals-less, needs)
 
 -- bytes that are cut behind their end
-pub capital-whole : (s : List ℕ) (a e : ℕ) {b : Bool} → length s ≤ e → b ≡ hasCapital (rest 0 s a) → b ≡ hasCapital (rest 0 (take e s) a)
-capital-whole s a e h q = q ∙ ap (λ (x : List ℕ). hasCapital (rest 0 x a)) (sym (take-all e s h))
+pub capital-whole : (s : List ℕ) (a e : ℕ) {b : Bool} → length s < e → b ≡ hasCapital (rest 0 s a) → b ≡ hasCapital (rest 0 (take e s) a)
+capital-whole s a e h q = q ∙ ap (λ (x : List ℕ). hasCapital (rest 0 x a)) (sym (take-all e s (omega arith)))

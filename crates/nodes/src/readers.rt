@@ -35,7 +35,7 @@ fn capital_from(s: &[u8], at: usize) -> bool
 pub fn has_capital(s: &[u8], name: usize, end: usize) -> bool
     ensures { λ r. ⌜ r ≡ hasCapital (rest 0 (take end (now (s .entry))) name) ⌝ }
 {
-    if end < s.len() {
+    if end <= s.len() {
         return capital_from(&s[..end], name);
     }
     capital_from(s, name)
