@@ -127,7 +127,7 @@ module _ {s : List ℕ} {from at depth : ℕ} (c : Closing s from at depth) wher
     closing-done q z =
         let b = token-onward f q end-sound in
         let g : Seeks (marksAt s from) 0 (closes at (nameIn s t) ∷ marksAt s (t .next)) 0 =
-            subst (λ ms. Seeks (marksAt s from) 0 ms 0) (marked f End q) (subst (Seeks (marksAt s from) 0 (marksAt s at)) z (c .left)) in record {
+        subst (λ ms. Seeks (marksAt s from) 0 ms 0) (marked f End q) (subst (Seeks (marksAt s from) 0 (marksAt s at)) z (c .left)) in record {
           place = g .place ∙ end-here (marksAt s (t .next)) at (nameIn s t);
           after = g .after ∙ after-here (marksAt s (t .next)) at (nameIn s t) ∙ sym (nodes-are s (t .next));
           onward = omega (arith, b, c .low);
@@ -152,5 +152,20 @@ module _ {s : List ℕ} {from at depth : ℕ} (c : Closing s from at depth) wher
     pub closing-less-reference : t .kind ≡ Reference → length s - t .next < length s - at
     closing-less-reference q = less q reference-sound
 
-pub ruleset closing = (closing-start, closing-past, closing-starts, closing-empty, closing-ends, closing-char, closing-reference, closing-done, closing-fault,
-    closing-less-start, closing-less-empty, closing-less-end, closing-less-char, closing-less-reference, needs)
+pub ruleset closing = (
+  closing-start,
+  closing-past,
+  closing-starts,
+  closing-empty,
+  closing-ends,
+  closing-char,
+  closing-reference,
+  closing-done,
+  closing-fault,
+  closing-less-start,
+  closing-less-empty,
+  closing-less-end,
+  closing-less-char,
+  closing-less-reference,
+  needs,
+)

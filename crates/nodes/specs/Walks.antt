@@ -66,6 +66,7 @@ module _ {s : List ℕ} {from at : ℕ} {r : Node} where
     inner-referred q = record { is = p .is ∙ ap innerElement (node-referred n q) }
 
 pub ruleset having = (passing-start, has-none, has-here, has-literal, has-referred, literal-less, referred-less, needs)
+
 pub ruleset inners = (passing-start, inner-none, inner-here, inner-literal, inner-referred, literal-less, referred-less, needs)
 
 -- ---- capitals
