@@ -1,8 +1,8 @@
 -- The end tag of an open element, and what follows it.
 --     EndedAt     the contract of `element_end`
 --     Closing     the invariant of its loop over tokens: depth elements are open inside the one whose end is sought;   `search closing`
-use mathlib.Core.Path.{_≡_, refl, sym, ap, subst, _∙_}
-use mathlib.Core.List.{List, [], _∷_}
+use mathlib.Core.Path.{_≡_, refl, sym, subst, _∙_}
+use mathlib.Core.List.{List, _∷_}
 use Prim.Native.Nat.{ℕ, zero, suc, _+_, _-_, _≤_, _<_}
 use native.Mathlib.Numerals.{add-one, sub-one}
 use native.Mathlib.Omega.{arith}
@@ -10,7 +10,7 @@ use lib.ListN.{length}
 use borrow.Author.Needs.{needs}
 use Rattle.utf8.specs.Spell.{spell}
 use Rattle.xml.specs.Marks.{Mark, opens, closes, char, refers}
-use Rattle.xml.specs.Nodes.{Nodes, nodes, nodesBy, noNodes, endPlace, endPlaceBy}
+use Rattle.xml.specs.Nodes.{nodes, nodesBy, endPlace, endPlaceBy}
 use Rattle.nodes.specs.NodesAt.{marksAt, mark-none, nodesAt, nodes-none}
 use Rattle.nodes.specs.Tokens.{nameIn, Over, over-end, marked, token-onward, start-sound, empty-sound, end-sound, char-sound, reference-sound}
 use Rattle.nodes.specs.Standing.{TokenFound}

@@ -3,18 +3,19 @@
 --     is-name .. is-count          the refusals that content is given
 --     after-fine, after-refused    one check after another
 --     unexpected-..                an element that has no place;   `search judging`
-use mathlib.Core.Path.{_≡_, refl, sym, ap, _∙_}
+use mathlib.Core.Path.{_≡_, refl, sym, _∙_}
 use mathlib.Core.Bool.{Bool, true, false}
 use mathlib.Core.List.{List, [], _∷_}
 use Prim.Native.Nat.{ℕ, _-_}
 use lib.ListN.{getD}
 use borrow.Author.Needs.{needs}
-use Rattle.octets.specs.Pick.{pick, pick-yes, pick-no}
+use Rattle.octets.specs.Pick.{pick-yes, pick-no}
 use Rattle.model.specs.Refusal.{Refusal, LENGTH, WORK, CHARACTER, LINE, NAME, FRAME, PARAMETER, VALUE, COUNT, ROOM, XML, Verdict, fine, refuse, _otherwise_}
 use Rattle.xcal.specs.Layout.{hasCapital, unexpected}
 use Rattle.nodes.specs.declared.Judged.{Judged}
 use Rattle.nodes.specs.declared.Judged.the-variants.{Fine, Refused}
 
+-- STAND-IN, the same as in crate frame
 unfoldable pub refusalAt : ℕ → Refusal
 refusalAt n = getD (LENGTH ∷ WORK ∷ CHARACTER ∷ LINE ∷ NAME ∷ FRAME ∷ PARAMETER ∷ VALUE ∷ COUNT ∷ ROOM ∷ XML ∷ []) (n - 1) LENGTH
 

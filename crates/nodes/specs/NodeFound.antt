@@ -2,19 +2,18 @@
 --     nodeOf, NodeAt     what a node that was found says of the content from its place on, and its bounds: the contract of `next_node`
 --     node-none, node-element, node-literal, node-referred    the content, by the kind of node
 --     node-less-..       a node takes bytes;   `search nodes-found` for the answers of `next_node`
-use mathlib.Core.Path.{_≡_, refl, sym, ap, subst, _∙_}
-use mathlib.Core.List.{List, [], _∷_}
+use mathlib.Core.Path.{_≡_, ap, subst, _∙_}
+use mathlib.Core.List.{List}
 use Prim.{Unit, tt}
-use Prim.Native.Nat.{ℕ, _+_, _-_, _≤_, _<_}
+use Prim.Native.Nat.{ℕ, _-_, _≤_, _<_}
 use native.Mathlib.Omega.{arith}
 use lib.ListN.{length, take}
 use borrow.Author.Needs.{needs}
-use Rattle.octets.specs.Scan.{drop-next}
 use Rattle.utf8.specs.Spell.{spell}
 use Rattle.source.specs.Source.{rest}
 use Rattle.xml.specs.Nodes.{Nodes, noNodes, element, literal, referred}
 use Rattle.nodes.specs.NodesAt.{nodesAt, nodes-start, nodes-empty, nodes-end, nodes-char, nodes-reference, nodes-none}
-use Rattle.nodes.specs.Tokens.{nameIn, marked, token-onward, token-there, token-past, token-is, start-sound, empty-sound, end-sound, char-sound, reference-sound}
+use Rattle.nodes.specs.Tokens.{marked, token-onward, token-first, token-is, token-past, start-sound, empty-sound, end-sound, char-sound, reference-sound}
 use Rattle.nodes.specs.Standing.{TokenFound}
 use Rattle.nodes.specs.Closing.{EndedAt, nodes-are}
 use Rattle.nodes.specs.declared.Ended.{Ended}
@@ -113,7 +112,7 @@ module _ {s : List ℕ} {at : ℕ} {t : TokenAt} (f : TokenFound s at t) where
       NodeAt s at (record { kind = Element; name = t .name; «name_end» = t .«name_end»; inside = t .next; end = e .place; next = e .next; unit = 0 })
   found-start {e} q d =
       let b = token-onward f q start-sound in record {
-        is = nodes-start s at _ _ (drop-next s at (token-there f q start-sound)) (nameIn s t) (t .next - (at + 1)) (token-is f Start q (token-there f q start-sound)) ∙ rw (token-past f q start-sound, d .place, d .after);
+        is = nodes-start s at _ _ (token-first f q start-sound) _ _ (token-is f q start-sound) ∙ rw (token-past f q start-sound, d .place, d .after);
         named = f .named;
         name-within = f .inside;
         inside-within = b .1;
@@ -125,7 +124,7 @@ module _ {s : List ℕ} {at : ℕ} {t : TokenAt} (f : TokenFound s at t) where
       NodeAt s at (record { kind = Element; name = t .name; «name_end» = t .«name_end»; inside = length s; end = at; next = t .next; unit = 0 })
   found-empty q =
       let b = token-onward f q empty-sound in record {
-        is = nodes-empty s at _ _ (drop-next s at (token-there f q empty-sound)) (nameIn s t) (t .next - (at + 1)) (token-is f Empty q (token-there f q empty-sound)) ∙ rw (token-past f q empty-sound, nodes-none s (length s) (omega arith));
+        is = nodes-empty s at _ _ (token-first f q empty-sound) _ _ (token-is f q empty-sound) ∙ rw (token-past f q empty-sound, nodes-none s (length s) (omega arith));
         named = f .named;
         name-within = f .inside;
         inside-within = omega arith;
@@ -137,7 +136,7 @@ module _ {s : List ℕ} {at : ℕ} {t : TokenAt} (f : TokenFound s at t) where
   none-found {r} e h = rw e (record { is = h; named = omega arith; name-within = omega arith; inside-within = omega arith; next-within = omega arith; takes = tt })
 
   pub found-end : {r : Node} → t .kind ≡ End → r ≡ noNode (length s) → NodeAt s at r
-  found-end q e = none-found e (nodes-end s at _ _ (drop-next s at (token-there f q end-sound)) (nameIn s t) (t .next - (at + 1)) (token-is f End q (token-there f q end-sound)))
+  found-end q e = none-found e (nodes-end s at _ _ (token-first f q end-sound) _ _ (token-is f q end-sound))
 
   pub found-fault : {r : Node} → t .kind ≡ Fault → r ≡ noNode (length s) → NodeAt s at r
   found-fault q e = none-found e (nodes-are s at ∙ marked f Fault q 0 .0)
@@ -145,7 +144,7 @@ module _ {s : List ℕ} {at : ℕ} {t : TokenAt} (f : TokenFound s at t) where
   pub found-char : {r : Node} → t .kind ≡ Char → r ≡ characterNode Literal (length s) (t .unit) (t .next) → NodeAt s at r
   found-char q e =
       let b = token-onward f q char-sound in rw e (record {
-        is = nodes-char s at _ _ (drop-next s at (token-there f q char-sound)) (t .unit) (t .next - (at + 1)) (token-is f Char q (token-there f q char-sound)) ∙ rw (token-past f q char-sound);
+        is = nodes-char s at _ _ (token-first f q char-sound) _ _ (token-is f q char-sound) ∙ rw (token-past f q char-sound);
         named = omega arith;
         name-within = omega arith;
         inside-within = omega arith;
@@ -156,7 +155,7 @@ module _ {s : List ℕ} {at : ℕ} {t : TokenAt} (f : TokenFound s at t) where
   pub found-reference : {r : Node} → t .kind ≡ Reference → r ≡ characterNode Referred (length s) (t .unit) (t .next) → NodeAt s at r
   found-reference q e =
       let b = token-onward f q reference-sound in rw e (record {
-        is = nodes-reference s at _ _ (drop-next s at (token-there f q reference-sound)) (t .unit) (t .next - (at + 1)) (token-is f Reference q (token-there f q reference-sound)) ∙ rw (token-past f q reference-sound);
+        is = nodes-reference s at _ _ (token-first f q reference-sound) _ _ (token-is f q reference-sound) ∙ rw (token-past f q reference-sound);
         named = omega arith;
         name-within = omega arith;
         inside-within = omega arith;

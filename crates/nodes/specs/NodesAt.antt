@@ -1,3 +1,4 @@
+-- STAND-IN, the same as in crate xml.
 -- The content of an open element from a place on, by the token that stands there.
 --     marksAt s p     the marks from the place p on;   mark-start, mark-empty, mark-end, mark-char, mark-reference, mark-fault, mark-none
 --     nodesAt s p     the nodes from the place p on, up to the end tag;   nodes-start, nodes-empty, nodes-end, nodes-char, nodes-reference, nodes-fault, nodes-none

@@ -1,4 +1,4 @@
--- stand-in
+-- STAND-IN for crate tokens: the contract of `token_at`.
 use mathlib.Core.Path.{_≡_}
 use mathlib.Core.List.{List, _∷_}
 use Prim.Native.Nat.{ℕ, _+_, _-_, _≤_, _<_}

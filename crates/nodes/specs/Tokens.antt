@@ -1,6 +1,6 @@
 -- What a token that was found at a place says of the marks from there on.
 --     MarkedBy       the marks, by the kind of token;   marked: they are so
---     token-is       the token as XML has it
+--     token-first, token-is, token-past    the bytes of a token, the token as XML has it, and what follows
 --     token-onward   a token, unless it is a fault, takes bytes and is within the input
 use mathlib.Core.Path.{_≡_, refl, sym, ap, subst, _∙_}
 use mathlib.Core.Bool.{Bool, true, false}
@@ -63,40 +63,32 @@ pub reference-sound : Reference ≡ Fault → ⊥
 reference-sound e = let z : _≡_ {A = ℕ} 0 1 = cc in absurd (omega arith)
 
 module _ {s : List ℕ} {at : ℕ} {t : TokenAt} (f : TokenFound s at t) where
+  token-by : (k : TokenKind) → t .kind ≡ k → at < length s → token (getD s at 0) (drop (at + 1) s) ≡ tokenBy k s at t
+  token-by k q h = f .is (getD s at 0) (drop (at + 1) s) (drop-next s at h) ∙ ap (λ (x : TokenKind). tokenBy x s at t) q
+
   module _ {k : TokenKind} (q : t .kind ≡ k) (n : k ≡ Fault → ⊥) where
     pub token-onward : (at < t .next) × (t .next ≤ length s)
     token-onward = f .onward (λ e. n (sym q ∙ e))
 
-    -- the first byte, and how many bytes there are after it
-    pub token-there : at < length s
-    token-there = omega (arith, token-onward)
+    pub token-first : drop at s ≡ getD s at 0 ∷ drop (at + 1) s
+    token-first = drop-next s at (omega (arith, token-onward))
+
+    pub token-is : token (getD s at 0) (drop (at + 1) s) ≡ tokenBy k s at t
+    token-is = token-by k q (omega (arith, token-onward))
 
     pub token-past : at + 1 + (t .next - (at + 1)) ≡ t .next
     token-past = omega (arith, token-onward)
 
-  pub token-is : (k : TokenKind) → t .kind ≡ k → at < length s → token (getD s at 0) (drop (at + 1) s) ≡ tokenBy k s at t
-  token-is k q h = f .is (getD s at 0) (drop (at + 1) s) (drop-next s at h) ∙ ap (λ (x : TokenKind). tokenBy x s at t) q
-
   pub marked : (k : TokenKind) → t .kind ≡ k → MarkedBy k s at t
-  marked Start q =
-      let h = token-there q start-sound in
-      mark-start s at _ _ (drop-next s at h) (nameIn s t) (t .next - (at + 1)) (token-is Start q h) ∙ rw (token-past q start-sound)
-  marked Empty q =
-      let h = token-there q empty-sound in
-      mark-empty s at _ _ (drop-next s at h) (nameIn s t) (t .next - (at + 1)) (token-is Empty q h) ∙ rw (token-past q empty-sound)
-  marked End q =
-      let h = token-there q end-sound in
-      mark-end s at _ _ (drop-next s at h) (nameIn s t) (t .next - (at + 1)) (token-is End q h) ∙ rw (token-past q end-sound)
-  marked Char q =
-      let h = token-there q char-sound in
-      mark-char s at _ _ (drop-next s at h) (t .unit) (t .next - (at + 1)) (token-is Char q h) ∙ rw (token-past q char-sound)
-  marked Reference q =
-      let h = token-there q reference-sound in
-      mark-reference s at _ _ (drop-next s at h) (t .unit) (t .next - (at + 1)) (token-is Reference q h) ∙ rw (token-past q reference-sound)
+  marked Start q = mark-start s at _ _ (token-first q start-sound) _ _ (token-is q start-sound) ∙ rw (token-past q start-sound)
+  marked Empty q = mark-empty s at _ _ (token-first q empty-sound) _ _ (token-is q empty-sound) ∙ rw (token-past q empty-sound)
+  marked End q = mark-end s at _ _ (token-first q end-sound) _ _ (token-is q end-sound) ∙ rw (token-past q end-sound)
+  marked Char q = mark-char s at _ _ (token-first q char-sound) _ _ (token-is q char-sound) ∙ rw (token-past q char-sound)
+  marked Reference q = mark-reference s at _ _ (token-first q reference-sound) _ _ (token-is q reference-sound) ∙ rw (token-past q reference-sound)
   marked Fault q = go (ltb at (length s)) refl
     where
       go : (b : Bool) → ltb at (length s) ≡ b → Over (marksAt s at)
       go true h =
           let l = ltb-true at (length s) h in
-          subst Over (sym (mark-fault s at _ _ (drop-next s at l) (token-is Fault q l))) (over-fault at)
+          subst Over (sym (mark-fault s at _ _ (drop-next s at l) (token-by Fault q l))) (over-fault at)
       go false h = subst Over (sym (mark-none s at (ltb-false at (length s) h))) over-end

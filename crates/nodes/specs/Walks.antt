@@ -3,19 +3,19 @@
 --     Capitals     the invariant of the look for a capital;   `search capitals`
 use mathlib.Core.Path.{_≡_, refl, sym, ap, _∙_}
 use mathlib.Core.Bool.{Bool, true, false}
-use mathlib.Core.List.{List, [], _∷_}
-use Prim.Native.Nat.{ℕ, _+_, _-_, _*_, _≤_, _<_}
+use mathlib.Core.List.{List}
+use Prim.Native.Nat.{ℕ, _-_, _*_, _<_}
 use native.Mathlib.Omega.{arith}
 use lib.ListN.{length, take}
 use lib.Seq.{take-all}
 use borrow.Author.Needs.{needs}
-use Rattle.octets.specs.Pick.{_or_, flag-yes, flag-no}
+use Rattle.octets.specs.Pick.{_or_}
 use Rattle.octets.specs.Class.{isCapital}
 use Rattle.model.specs.Refusal.{Verdict}
 use Rattle.source.specs.Source.{rest, Reads}
 use Rattle.source.specs.Facts.{rest-byte, rest-end, byte-small}
 use Rattle.source.specs.declared.Step.{Step}
-use Rattle.xml.specs.Nodes.{Nodes, noNodes, element, literal, referred, hasElement}
+use Rattle.xml.specs.Nodes.{Nodes, hasElement}
 use Rattle.xcal.specs.Layout.{hasCapital, unexpected, innerElement}
 use Rattle.nodes.specs.NodesAt.{nodesAt}
 use Rattle.nodes.specs.NodeFound.{NodeAt, node-none, node-element, node-literal, node-referred, literal-less, referred-less}

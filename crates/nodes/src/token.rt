@@ -1,3 +1,4 @@
+// STAND-IN for crate tokens.
 ghost use Rattle.nodes.specs.Standing.{TokenFound};
 
 pub enum TokenKind {
