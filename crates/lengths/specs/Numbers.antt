@@ -96,7 +96,7 @@ unfolding afterPoint
 point-length [] = omega arith
 point-length (b ∷ s) = omega arith
 
-written-length : (d : Decimal) → length (writeFloat d) ≤ digitsIn d + 3
+pub written-length : (d : Decimal) → length (writeFloat d) ≤ digitsIn d + 3
 written-length d =
     let a : List ℕ = orZero (d .before) in
     let b : List ℕ = afterPoint (d .after) in

@@ -38,7 +38,7 @@ values-or k n t s = go (readValues k n t s) refl
     go none e = omega arith
     go (some vs) e = values-length k n t s vs e
 
-line-length : (l : ContentLine) → length (writeContentLine l) ≡ length (l .name) + bytes (l .parameters) + suc (length (l .value))
+pub line-length : (l : ContentLine) → length (writeContentLine l) ≡ length (l .name) + bytes (l .parameters) + suc (length (l .value))
 unfolding writeContentLine
 line-length l = omega (arith, length-both (l .name) (joined (map writeParameter (l .parameters)) ⊕ 58 ∷ l .value), length-both (joined (map writeParameter (l .parameters))) (58 ∷ l .value))
 

@@ -49,7 +49,7 @@ pub time-length : (s v : List ℕ) → readTime ical s ≡ some v → length (wr
 unfolding readTime writeTime
 time-length s v h = omega (arith, marks-length timeMarks v, upper-kept s v (keep-is isTime (upper s) v h))
 
-duration-kept : (s v : List ℕ) → durationOf s ≡ some v → length v ≤ length s
+pub duration-kept : (s v : List ℕ) → durationOf s ≡ some v → length v ≤ length s
 unfolding durationOf pick
 duration-kept s v h = go (begins 43 unsigned s) h
   where

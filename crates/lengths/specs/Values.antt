@@ -50,7 +50,7 @@ Short s v = length (valueXml v) ≤ rate * suc (length s)
 
 -- ---- a value of character data
 
-type-length : (t : ValueType) → length (typeName t) ≤ 11
+pub type-length : (t : ValueType) → length (typeName t) ≤ 11
 type-length BINARY = omega arith
 type-length BOOLEAN = omega arith
 type-length CAL-ADDRESS = omega arith
