@@ -147,7 +147,7 @@ marked Fault s p rest f h = omega arith
 pub scan-within : (s : List ℕ) (p k : ℕ) → bytesOf (scan s p k) ≤ length s - k
 unfolding scan
 scan-within [] p k = unfold bytesOf in omega arith
-scan-within (b ∷ s) p zero = marked (token b s) s p (scan s (p + 1)) (token-fits b s) (scan-within s (p + 1))
+scan-within (b ∷ s) p zero = omega (arith, marked (token b s) s p (scan s (p + 1)) (token-fits b s) (scan-within s (p + 1)))
 scan-within (b ∷ s) p (suc k) = omega (arith, scan-within s (p + 1) k)
 
 pub root-within : (p : ℕ) (s : List ℕ) → bytesOf (rootMarks p s) ≤ length s

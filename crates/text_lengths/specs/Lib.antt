@@ -1,2 +1,4 @@
 pub mod Bytes
 pub mod Sizes
+pub mod Values
+pub mod Rules

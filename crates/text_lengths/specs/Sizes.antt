@@ -64,12 +64,12 @@ module _ (p : ℕ) (ms : List Mark) where
   fault-anywhere : (k : ℕ) (d : ℕ) → levels k (fault p ∷ ms) d ≡ 0
   unfolding levels nodes nodesBy size
   fault-anywhere zero d = refl
-  fault-anywhere (suc k) d = fault-anywhere k (suc d)
+  fault-anywhere (suc k) d = omega (arith, fault-anywhere k (suc d))
 
 none-anywhere : (k : ℕ) (d : ℕ) → levels k [] d ≡ 0
 unfolding levels nodes size
 none-anywhere zero d = refl
-none-anywhere (suc k) d = none-anywhere k (suc d)
+none-anywhere (suc k) d = omega (arith, none-anywhere k (suc d))
 
 levels-within : (ms : List Mark) (k : ℕ) → levels k ms 0 ≤ bytesOf ms
 unfolding levels bytesOf nodes nodesBy size
