@@ -1,6 +1,6 @@
 -- Numbers: a whole number has ten digits at most, a decimal number no more digits than were read.
 --     digits-length, integer-length, truth-length
---     float-length    and a sign, a zero and a point
+--     written-length    a decimal number has its digits, and a sign, a zero and a point;   float-length: by what it is read from
 --     Geo, geo-length    a latitude and a longitude
 use mathlib.Core.Path.{_≡_}
 use mathlib.Core.Bool.{Bool, true, false}

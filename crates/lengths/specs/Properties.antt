@@ -1,6 +1,6 @@
 -- The XML of a property, by the length of its content line.
 --     property-length    the property that a line states
---     value-within       the value of a line is a part of it
+--     line-length        a content line, by its parts;   value-within: its value is a part of it
 use mathlib.Core.Path.{_≡_, refl}
 use mathlib.Core.List.{List, [], _∷_, map}
 use mathlib.Core.Option.{Option, none, some}

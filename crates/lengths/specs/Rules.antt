@@ -1,5 +1,7 @@
 -- Recurrence rules: an item for each piece between commas, a part for each piece between semicolons. A part's element stands for each of its items, but its
 -- name is one of fourteen.
+--     whole-length, ordinal-length    a number
+--     from-length    what follows the first byte that passes a test
 --     item-length    an item
 --     part-length    the elements of a part
 --     rule-length    the elements of a rule

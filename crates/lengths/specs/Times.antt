@@ -1,5 +1,6 @@
 -- Dates and times: XML has no more bytes than the text that they were read from, and four marks at most.
 --     date-length, time-length, date-time-length, duration-length, offset-length
+--     duration-kept    what is kept of a duration, in text or in XML
 use mathlib.Core.Path.{_≡_, sym, ap}
 use mathlib.Core.Bool.{Bool, true, false}
 use mathlib.Core.List.{List}

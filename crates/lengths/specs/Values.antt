@@ -1,5 +1,6 @@
 -- The XML of a value, of any type: no more than a fixed number of bytes for each byte of its text, and one byte more.
 --     rate            that number
+--     type-length     the name of a type
 --     value-length    a value
 --     each-length     the values of pieces of a text
 use mathlib.Core.Path.{_≡_, refl}

@@ -3,25 +3,24 @@
 --     scan-within     marks have no more bytes than what they are read from
 --     root-within     nor has the root's tag with what follows it
 use mathlib.Core.Path.{_≡_, refl}
-use mathlib.Core.Bool.{Bool, true, false, false≢true}
+use mathlib.Core.Bool.{true, false≢true}
 use mathlib.Core.List.{List, [], _∷_}
 use mathlib.Core.Option.{Option, none, some}
 use Prim.{Unit, tt}
-use Prim.Native.Nat.{ℕ, zero, suc, _+_, _-_, _≤_, _<_}
+use Prim.Native.Nat.{ℕ, zero, suc, _+_, _-_, _≤_}
 use native.Mathlib.Omega.{arith}
 use lib.Dec.{eqb, ltb}
-use lib.ListN.{length, take, length-take, length-drop}
+use lib.ListN.{length, length-take, length-drop}
 use borrow.Author.Tests.{ltb-true}
 use Rattle.octets.specs.Ascii.{ascii}
 use Rattle.octets.specs.Pick.{pick, pick-either, pick-case, _and_, and-both}
 use Rattle.octets.specs.Scan.{spanLen}
 use Rattle.octets.specs.Class.{isAlpha, isNameChar, isDigit}
 use Rattle.octets.specs.Words.{starts}
-use Rattle.octets.specs.Decimal.{value}
 use Rattle.octets.specs.Reading.{andThen-some, provided-some, none-some}
 use Rattle.utf8.specs.Spell.{spell, isCharacter}
 use Rattle.xml.specs.Pieces.{from, first, Piece, S?, Name, nameOf, both, _then_, exactly}
-use Rattle.xml.specs.Token.{Token, STag, EmptyElemTag, ETag, CharByte, Reference, Fault, namespaceAttribute, startBy, endBy, tag, rootTag, isHexDigit, hexValue, charRef, reference, literalByte, token}
+use Rattle.xml.specs.Token.{Token, STag, EmptyElemTag, ETag, CharByte, Reference, Fault, namespaceAttribute, startBy, endBy, tag, rootTag, isHexDigit, charRef, reference, literalByte, token}
 use Rattle.xml.specs.Marks.{Mark, opens, closes, char, refers, fault, marksBy, scan, rootMarks}
 
 unfoldable pub bytesOf : List Mark → ℕ

@@ -5,7 +5,7 @@
 use mathlib.Core.Path.{_≡_, refl, ap}
 use mathlib.Core.Bool.{Bool, true, false}
 use mathlib.Core.List.{List, [], _∷_}
-use Prim.Native.Nat.{ℕ, suc, _+_, _*_, _^_, _≤_, _<_}
+use Prim.Native.Nat.{ℕ, _+_, _*_, _^_, _≤_, _<_}
 use native.Mathlib.Omega.{arith}
 use lib.Dec.{ltb}
 use lib.ListN.{length, drop, length-drop}
@@ -17,9 +17,8 @@ use Rattle.octets.specs.Class.{upper}
 use Rattle.octets.specs.Words.{same}
 use Rattle.octets.specs.Lists.{every, distinct}
 use Rattle.octets.specs.Computing.{octets-compute}
-use Rattle.model.specs.Calendar.{Property, Components, noMore, component}
-use Rattle.folding.specs.Unfold.{crlf}
-use Rattle.folding.specs.Fold.{isOver, breakBefore, columnAt, foldFrom, foldedLine}
+use Rattle.model.specs.Calendar.{Property, Components, component}
+use Rattle.folding.specs.Fold.{isOver, breakBefore, columnAt, foldFrom}
 use Rattle.lines.specs.Write.{writeContentLine}
 use Rattle.ical.specs.WriteText.{contentLineOf, propertyLine, propertyLines, beginLine, endLine, writeCalendar}
 use Rattle.xml.specs.Marks.{marks}
@@ -28,6 +27,7 @@ use Rattle.xcal.specs.PropertyNodes.{readProperties}
 use Rattle.xcal.specs.ComponentNodes.{insideOf, readComponents, readInner, readRoot}
 use Rattle.lengths.specs.Elements.{upper-length}
 use Rattle.text_lengths.specs.Sizes.{size, nodes-size, document-size, part, named, parts, parts-size}
+use Rattle.text_lengths.specs.Children.{inside-size}
 use Rattle.text_lengths.specs.Lines.{propertyIn, line-length}
 
 abbrev pub rate : ℕ
@@ -52,17 +52,6 @@ properties-length (element p m x kids more) =
     omega (arith, length-both (propertyLine q) (propertyLines (readProperties more)), fold-length 0 (writeContentLine (contentLineOf q)), line-length m kids, properties-length more)
 
 -- ---- components
-
-inside-size : (n : List ℕ) (ns : Nodes) → size (insideOf n ns) ≤ part (named n) ns
-unfolding insideOf part pick
-inside-size n noNodes = unfold size in omega arith
-inside-size n (literal p b more) = inside-size n more
-inside-size n (referred p bs more) = inside-size n more
-inside-size n (element p m x kids more) = go (same m n) (inside-size n more)
-  where
-    go : (t : Bool) → size (insideOf n more) ≤ part (named n) more → size (pick t kids (insideOf n more)) ≤ pick t (length m + 2 + size kids) 0 + part (named n) more
-    go true ih = omega arith
-    go false ih = omega (arith, ih)
 
 abbrev componentParts : List (List ℕ)
 componentParts = ascii "properties" ∷ ascii "components" ∷ []

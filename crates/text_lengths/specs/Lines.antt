@@ -1,7 +1,6 @@
 -- The content line of a property, by the size of its element.
 --     propertyIn       the property that an element states
 --     line-length      its content line
-use mathlib.Core.Path.{_≡_, refl}
 use mathlib.Core.List.{List, [], _∷_, map}
 use Prim.Native.Nat.{ℕ, _+_, _*_, _≤_}
 use native.Mathlib.Omega.{arith}
@@ -11,10 +10,10 @@ use Rattle.octets.specs.Pick.{pick, pick-either}
 use Rattle.octets.specs.Append.{_⊕_, joined, length-both}
 use Rattle.octets.specs.Class.{upper}
 use Rattle.octets.specs.Words.{eachAfter, joinedBy}
-use Rattle.model.specs.Calendar.{ValueType, Parameter, Property}
+use Rattle.model.specs.Calendar.{ValueType, Property}
 use Rattle.schema.specs.Types.{typeName, sameType}
 use Rattle.schema.specs.Properties.{defaultType}
-use Rattle.values.specs.WriteValue.{typeOfAll, writeValues}
+use Rattle.values.specs.WriteValue.{typeOfAll}
 use Rattle.lines.specs.ContentLine.{RawParameter}
 use Rattle.lines.specs.Write.{writeParamValue, writeParameter, writeContentLine}
 use Rattle.ical.specs.WriteText.{rawOf, valueParameter, withValue, contentLineOf}

@@ -12,13 +12,10 @@ use Rattle.octets.specs.Append.{_⊕_, joined, length-both}
 use Rattle.octets.specs.Class.{isSpace, upper, lower}
 use Rattle.octets.specs.Words.{same, same-true, isOneOf, holds, joinedBy}
 use Rattle.octets.specs.Reading.{provided-some, andThen, andThen-some, consRead, consRead-some, readOr, none-some}
-use Rattle.model.specs.Calendar.{xcal, ValueType, Value, text, Parameter}
+use Rattle.model.specs.Calendar.{ValueType, Value, text}
 use Rattle.schema.specs.Types.{typeName}
-use Rattle.schema.specs.Parameters.{parameterType, parameterWords, isQuotedParameter}
-use Rattle.texts.specs.Quoting.{needsQuotes}
-use Rattle.values.specs.ReadValue.{readValue}
-use Rattle.values.specs.WriteValue.{writeValue}
-use Rattle.lines.specs.ContentLine.{ParamValue, RawParameter}
+use Rattle.schema.specs.Parameters.{parameterType, parameterWords}
+use Rattle.lines.specs.ContentLine.{ParamValue}
 use Rattle.lines.specs.Write.{writeParamValue, writeParameter}
 use Rattle.ical.specs.WriteText.{paramChars, paramValueOf, rawOf}
 use Rattle.xml.specs.Nodes.{Nodes, noNodes, element, literal, referred, charactersOf, hasElement}
@@ -28,7 +25,7 @@ use Rattle.lengths.specs.Pieces.{weight, joined-within}
 use Rattle.lengths.specs.Parameters.{bytes}
 use Rattle.text_lengths.specs.Sizes.{size, characters-size}
 use Rattle.text_lengths.specs.Values.{value-length, parameter-length}
-use Rattle.text_lengths.specs.PropertyValues.{type-least}
+use Rattle.text_lengths.specs.TypedValues.{type-least}
 
 -- ---- a value
 

@@ -5,13 +5,13 @@ use mathlib.Core.Path.{_≡_, refl, ap}
 use mathlib.Core.Bool.{Bool, true, false}
 use mathlib.Core.List.{List, [], _∷_, map}
 use mathlib.Core.Option.{Option, none, some}
-use Prim.Native.Nat.{ℕ, suc, _+_, _*_, _≤_}
+use Prim.Native.Nat.{ℕ, _+_, _*_, _≤_}
 use native.Mathlib.Omega.{arith}
 use lib.Dec.{leb}
 use lib.ListN.{length}
 use borrow.Author.Tests.{leb-true}
 use Rattle.octets.specs.Pick.{pick, pick-either}
-use Rattle.octets.specs.Append.{_⊕_, length-both}
+use Rattle.octets.specs.Append.{length-both}
 use Rattle.octets.specs.Class.{isAlpha, lower}
 use Rattle.octets.specs.Words.{same, same-true, isOneOf, joinedBy}
 use Rattle.octets.specs.Lists.{every, every-both, distinct}

@@ -11,7 +11,7 @@ use Prim.Native.Nat.{ℕ, zero, suc, _+_, _≤_}
 use native.Mathlib.Omega.{arith}
 use lib.ListN.{length, length-drop}
 use Rattle.octets.specs.Pick.{pick, pick-either, pick-second, _or_}
-use Rattle.octets.specs.Append.{_⊕_, length-both}
+use Rattle.octets.specs.Append.{length-both}
 use Rattle.octets.specs.Words.{same, same-true, isOneOf}
 use Rattle.octets.specs.Lists.{distinct}
 use Rattle.xml.specs.Pieces.{from}

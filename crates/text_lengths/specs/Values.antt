@@ -13,7 +13,7 @@ use lib.Dec.{eqb}
 use lib.ListN.{length}
 use Rattle.octets.specs.Ascii.{ascii}
 use Rattle.octets.specs.Pick.{pick, pick-either}
-use Rattle.octets.specs.Append.{_⊕_, length-both}
+use Rattle.octets.specs.Append.{length-both}
 use Rattle.octets.specs.Class.{isSpace}
 use Rattle.octets.specs.Reading.{readOr, none-some}
 use Rattle.model.specs.Calendar.{ical, xcal, ValueType, BINARY, BOOLEAN, CAL-ADDRESS, DATE, DATE-TIME, DURATION, FLOAT, INTEGER, PERIOD, RECUR, TEXT, TIME, URI, UTC-OFFSET, UNKNOWN}
