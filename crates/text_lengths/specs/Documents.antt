@@ -53,10 +53,10 @@ properties-length (element p m x kids more) =
 
 -- ---- components
 
-abbrev componentParts : List (List ℕ)
-componentParts = ascii "properties" ∷ ascii "components" ∷ []
+abbrev partNames : List (List ℕ)
+partNames = ascii "properties" ∷ ascii "components" ∷ []
 
-parts-distinct : distinct componentParts ≡ true
+parts-distinct : distinct partNames ≡ true
 unfolding octets-compute
 parts-distinct = refl
 
@@ -72,16 +72,20 @@ around-length n ps inner next =
     let ends : length (endLine n) ≤ 4 * length n + 18 = omega (arith, fold-length 0 (ascii "END:" ⊕ n), length-both (ascii "END:") n) in
     omega (arith, length-both (beginLine n) (a ⊕ b ⊕ endLine n ⊕ c), length-both a (b ⊕ endLine n ⊕ c), length-both b (endLine n ⊕ c), length-both (endLine n) c, begins, ends)
 
-component-length : (m : List ℕ) (kids more : Nodes) → length (writeCalendar (readInner kids)) ≤ rate * part (named (ascii "components")) kids → length (writeCalendar (readComponents more)) ≤ rate * size more →
+abbrev componentsPart : Nodes → ℕ
+componentsPart ns = part (named (ascii "components")) ns
+
+component-length : (m : List ℕ) (kids more : Nodes) →
+    length (writeCalendar (readInner kids)) ≤ rate * componentsPart kids → length (writeCalendar (readComponents more)) ≤ rate * size more →
     length (writeCalendar (component (upper m) (readProperties (insideOf (ascii "properties") kids)) (readInner kids) (readComponents more))) ≤ rate * (length m + 2 + size kids + size more)
 unfolding parts
 component-length m kids more inner next =
     let ps : Nodes = insideOf (ascii "properties") kids in
     let around = around-length (upper m) (readProperties ps) (readInner kids) (readComponents more) in
-    omega (arith, around, upper-length m, properties-length ps, inside-size (ascii "properties") kids, parts-size componentParts parts-distinct kids, inner, next)
+    omega (arith, around, upper-length m, properties-length ps, inside-size (ascii "properties") kids, parts-size partNames parts-distinct kids, inner, next)
 
 -- the components that nodes state, and those in the `components` among nodes
-calendar-length : (ns : Nodes) → (length (writeCalendar (readComponents ns)) ≤ rate * size ns) × (length (writeCalendar (readInner ns)) ≤ rate * part (named (ascii "components")) ns)
+calendar-length : (ns : Nodes) → (length (writeCalendar (readComponents ns)) ≤ rate * size ns) × (length (writeCalendar (readInner ns)) ≤ rate * componentsPart ns)
 unfolding readComponents readInner size part pick
 calendar-length noNodes = unfold writeCalendar in (omega arith, omega arith)
 calendar-length (literal p b more) = (omega (arith, calendar-length more .0), calendar-length more .1)
@@ -89,8 +93,8 @@ calendar-length (referred p bs more) = (omega (arith, calendar-length more .0), 
 calendar-length (element p m x kids more) =
     (component-length m kids more (calendar-length kids .1) (calendar-length more .0), go (same m (ascii "components")) (calendar-length kids .0) (calendar-length more .1))
   where
-    go : (t : Bool) → length (writeCalendar (readComponents kids)) ≤ rate * size kids → length (writeCalendar (readInner more)) ≤ rate * part (named (ascii "components")) more →
-        length (writeCalendar (pick t (readComponents kids) (readInner more))) ≤ rate * (pick t (length m + 2 + size kids) 0 + part (named (ascii "components")) more)
+    go : (t : Bool) → length (writeCalendar (readComponents kids)) ≤ rate * size kids → length (writeCalendar (readInner more)) ≤ rate * componentsPart more →
+        length (writeCalendar (pick t (readComponents kids) (readInner more))) ≤ rate * (pick t (length m + 2 + size kids) 0 + componentsPart more)
     go true h k = omega (arith, h)
     go false h k = omega (arith, k)
 

@@ -40,6 +40,9 @@ float-or s = go (readFloat s) refl
     go none e = omega (arith, written-length zero′)
     go (some d) e = float-length s d e
 
+float-part : (n : List ℕ) (ns : Nodes) → length (writeFloat (floatOf n ns)) ≤ part (named n) ns + 4
+float-part n ns = omega (arith, float-or (textOf n ns), named-text n ns)
+
 status-length : (c d : List ℕ) (x : Option (List ℕ)) → length (writeRequestStatus c d x) ≤ 2 * (length c + length d + length (readOr [] x)) + 3
 unfolding readOr weight
 status-length c d none = omega (arith, joined-within 59 (map writeText (statusParts c d none)), escaped-most c, escaped-most d)
@@ -55,10 +58,10 @@ one-value v = omega (arith, joined-within 44 (writeValue v ∷ []))
 unfoldable Short : List ℕ → Nodes → List Value → Type 0
 Short n ns vs = length (writeValues vs) + 3 * size (parametersIn n ns) ≤ 3 * size ns + 10
 
-abbrev geoParts : List (List ℕ)
-geoParts = ascii "parameters" ∷ ascii "latitude" ∷ ascii "longitude" ∷ []
+abbrev geoNames : List (List ℕ)
+geoNames = ascii "parameters" ∷ ascii "latitude" ∷ ascii "longitude" ∷ []
 
-geo-distinct : distinct geoParts ≡ true
+geo-distinct : distinct geoNames ≡ true
 unfolding octets-compute
 geo-distinct = refl
 
@@ -67,10 +70,8 @@ unfolding Short writeValue parts
 geo-short n ns =
     let la : Decimal = floatOf (ascii "latitude") ns in
     let lo : Decimal = floatOf (ascii "longitude") ns in
-    let written : length (writeValues (geo la lo ∷ [])) ≤ length (writeFloat la) + length (writeFloat lo) + 2 = omega (arith, one-value (geo la lo), length-both (writeFloat la) (59 ∷ writeFloat lo)) in
-    let latitude : length (writeFloat la) ≤ part (named (ascii "latitude")) ns + 4 = omega (arith, float-or (textOf (ascii "latitude") ns), named-text (ascii "latitude") ns) in
-    let longitude : length (writeFloat lo) ≤ part (named (ascii "longitude")) ns + 4 = omega (arith, float-or (textOf (ascii "longitude") ns), named-text (ascii "longitude") ns) in
-    omega (arith, written, latitude, longitude, parameters-part n ns, parts-size geoParts geo-distinct ns)
+    let written = length-both (writeFloat la) (59 ∷ writeFloat lo) in
+    omega (arith, one-value (geo la lo), written, float-part (ascii "latitude") ns, float-part (ascii "longitude") ns, parameters-part n ns, parts-size geoNames geo-distinct ns)
 
 abbrev statusNames : List (List ℕ)
 statusNames = ascii "parameters" ∷ ascii "code" ∷ ascii "description" ∷ ascii "data" ∷ []
@@ -85,10 +86,10 @@ status-short n ns =
     let c : List ℕ = textOf (ascii "code") ns in
     let d : List ℕ = textOf (ascii "description") ns in
     let x : Option (List ℕ) = childNamed (ascii "data") ns in
-    let written : length (writeValues (requestStatus c d x ∷ [])) ≤ 2 * (length c + length d + length (readOr [] x)) + 4 = omega (arith, one-value (requestStatus c d x), status-length c d x) in
-    let texts : length c + length d + length (readOr [] x) ≤ part (named (ascii "code")) ns + part (named (ascii "description")) ns + part (named (ascii "data")) ns =
-        omega (arith, named-text (ascii "code") ns, named-text (ascii "description") ns, named-text (ascii "data") ns) in
-    omega (arith, written, texts, parameters-part n ns, parts-size statusNames status-distinct ns)
+    let code = named-text (ascii "code") ns in
+    let description = named-text (ascii "description") ns in
+    let extra = named-text (ascii "data") ns in
+    omega (arith, one-value (requestStatus c d x), status-length c d x, code, description, extra, parameters-part n ns, parts-size statusNames status-distinct ns)
 
 -- `parameters` is no type
 no-type : (m : List ℕ) → same m (ascii "parameters") ≡ true → typed m ≡ false
