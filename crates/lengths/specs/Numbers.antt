@@ -1,6 +1,6 @@
 -- Numbers: a whole number has ten digits at most, a decimal number no more digits than were read.
 --     digits-length, integer-length, truth-length
---     float-length    and a sign, a zero and a point
+--     written-length    a decimal number has its digits, and a sign, a zero and a point;   float-length: by what it is read from
 --     Geo, geo-length    a latitude and a longitude
 use mathlib.Core.Path.{_≡_}
 use mathlib.Core.Bool.{Bool, true, false}
@@ -96,7 +96,7 @@ unfolding afterPoint
 point-length [] = omega arith
 point-length (b ∷ s) = omega arith
 
-written-length : (d : Decimal) → length (writeFloat d) ≤ digitsIn d + 3
+pub written-length : (d : Decimal) → length (writeFloat d) ≤ digitsIn d + 3
 written-length d =
     let a : List ℕ = orZero (d .before) in
     let b : List ℕ = afterPoint (d .after) in

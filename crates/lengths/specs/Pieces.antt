@@ -2,7 +2,7 @@
 --     weight          how many bytes the pieces have, and how many they are
 --     cut-weight      pieces that a text is cut into
 --     split-weight    texts that escaped text is split into
---     joined-weight   pieces joined
+--     joined-weight, joined-within    pieces joined
 use mathlib.Core.Path.{_≡_, refl}
 use mathlib.Core.Bool.{Bool, true, false}
 use mathlib.Core.List.{List, [], _∷_}
@@ -69,3 +69,8 @@ pub joined-weight : (c : ℕ) (ps : List (List ℕ)) → weight ps ≤ suc (leng
 unfolding weight joinedBy
 joined-weight c [] = omega arith
 joined-weight c (p ∷ ps) = omega (arith, length-both p (eachAfter c ps), after-weight c ps)
+
+pub joined-within : (c : ℕ) (ps : List (List ℕ)) → length (joinedBy c ps) ≤ weight ps
+unfolding weight joinedBy
+joined-within c [] = omega arith
+joined-within c (p ∷ ps) = omega (arith, length-both p (eachAfter c ps), after-weight c ps)

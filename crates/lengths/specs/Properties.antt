@@ -1,6 +1,6 @@
 -- The XML of a property, by the length of its content line.
 --     property-length    the property that a line states
---     value-within       the value of a line is a part of it
+--     line-length        a content line, by its parts;   value-within: its value is a part of it
 use mathlib.Core.Path.{_≡_, refl}
 use mathlib.Core.List.{List, [], _∷_, map}
 use mathlib.Core.Option.{Option, none, some}
@@ -38,7 +38,7 @@ values-or k n t s = go (readValues k n t s) refl
     go none e = omega arith
     go (some vs) e = values-length k n t s vs e
 
-line-length : (l : ContentLine) → length (writeContentLine l) ≡ length (l .name) + bytes (l .parameters) + suc (length (l .value))
+pub line-length : (l : ContentLine) → length (writeContentLine l) ≡ length (l .name) + bytes (l .parameters) + suc (length (l .value))
 unfolding writeContentLine
 line-length l = omega (arith, length-both (l .name) (joined (map writeParameter (l .parameters)) ⊕ 58 ∷ l .value), length-both (joined (map writeParameter (l .parameters))) (58 ∷ l .value))
 

@@ -1,5 +1,7 @@
 -- Recurrence rules: an item for each piece between commas, a part for each piece between semicolons. A part's element stands for each of its items, but its
 -- name is one of fourteen.
+--     whole-length, ordinal-length    a number
+--     from-length    what follows the first byte that passes a test
 --     item-length    an item
 --     part-length    the elements of a part
 --     rule-length    the elements of a rule
@@ -36,16 +38,16 @@ use Rattle.lengths.specs.Numbers.{digits-length}
 
 -- ---- an item
 
-whole-length : (w : Whole) → length (writeWhole w) ≤ 11
+pub whole-length : (w : Whole) → length (writeWhole w) ≤ 11
 whole-length w =
     pick-either (λ (s : List ℕ). length s ≤ 11) (w .negative) (45 ∷ digits 9 (w .magnitude)) (digits 9 (w .magnitude))
     (omega (arith, digits-length 9 (w .magnitude))) (omega (arith, digits-length 9 (w .magnitude)))
 
-ordinal-length : (o : Option Whole) → length (writeOrdinal o) ≤ 11
+pub ordinal-length : (o : Option Whole) → length (writeOrdinal o) ≤ 11
 ordinal-length none = omega arith
 ordinal-length (some w) = whole-length w
 
-from-length : (p : ℕ → Bool) (s : List ℕ) → length (fromOn p s) ≤ length s
+pub from-length : (p : ℕ → Bool) (s : List ℕ) → length (fromOn p s) ≤ length s
 unfolding fromOn
 from-length p [] = omega arith
 from-length p (b ∷ s) = pick-either (λ (l : List ℕ). length l ≤ suc (length s)) (p b) (b ∷ s) (fromOn p s) (omega arith) (omega (arith, from-length p s))

@@ -1,5 +1,6 @@
 -- Dates and times: XML has no more bytes than the text that they were read from, and four marks at most.
 --     date-length, time-length, date-time-length, duration-length, offset-length
+--     duration-kept    what is kept of a duration, in text or in XML
 use mathlib.Core.Path.{_≡_, sym, ap}
 use mathlib.Core.Bool.{Bool, true, false}
 use mathlib.Core.List.{List}
@@ -49,7 +50,7 @@ pub time-length : (s v : List ℕ) → readTime ical s ≡ some v → length (wr
 unfolding readTime writeTime
 time-length s v h = omega (arith, marks-length timeMarks v, upper-kept s v (keep-is isTime (upper s) v h))
 
-duration-kept : (s v : List ℕ) → durationOf s ≡ some v → length v ≤ length s
+pub duration-kept : (s v : List ℕ) → durationOf s ≡ some v → length v ≤ length s
 unfolding durationOf pick
 duration-kept s v h = go (begins 43 unsigned s) h
   where

@@ -1,5 +1,6 @@
 -- The XML of a value, of any type: no more than a fixed number of bytes for each byte of its text, and one byte more.
 --     rate            that number
+--     type-length     the name of a type
 --     value-length    a value
 --     each-length     the values of pieces of a text
 use mathlib.Core.Path.{_≡_, refl}
@@ -50,7 +51,7 @@ Short s v = length (valueXml v) ≤ rate * suc (length s)
 
 -- ---- a value of character data
 
-type-length : (t : ValueType) → length (typeName t) ≤ 11
+pub type-length : (t : ValueType) → length (typeName t) ≤ 11
 type-length BINARY = omega arith
 type-length BOOLEAN = omega arith
 type-length CAL-ADDRESS = omega arith

@@ -1,0 +1,31 @@
+-- `nodes::readers::has_element` meets its contract.
+use Prim.Native.Nat.{_-_}
+use lib.ListN.{length}
+use Rattle.xml.specs.Nodes.{hasElement}
+use Rattle.nodes.specs.Walks.{Passing, having}
+use Rattle.nodes.proofs.readers.has_element.Statement.{statement}
+use Rattle.nodes.proofs.readers.has_element.Tie as tie
+
+abbrev Inv-loop : tie.InvT-loop
+Inv-loop s at c₀ c = Passing hasElement s at c
+
+abbrev μ-loop : tie.MeasureT-loop
+μ-loop s at c₀ c = length s - c
+
+pub has-element-spec : {M : Type 1} → statement M
+has-element-spec = tie.close (tie.spec
+    Inv-loop
+    μ-loop
+    (λ c. search having)  -- loop-holds
+    (λ c κs. search having)  -- next-node-requires
+    (λ c. search having)  -- enum-told
+    (λ c. search having)  -- returns
+    (λ c. search having)  -- enum-told-2
+    (λ c. search having)  -- returns-2
+    (λ c. search having)  -- enum-told-3
+    (λ c. search having)  -- loop-less
+    (λ c. search having)  -- loop-again
+    (λ c. search having)  -- enum-told-4
+    (λ c. search having)  -- loop-less-2
+    (λ c. search having)  -- loop-again-2
+    )

@@ -1,0 +1,32 @@
+-- `nodes::readers::inner_element` meets its contract.
+use Prim.Native.Nat.{_-_}
+use lib.ListN.{length}
+use Rattle.xcal.specs.Layout.{innerElement}
+use Rattle.nodes.specs.Walks.{Passing, inners}
+use Rattle.nodes.proofs.readers.inner_element.Statement.{statement}
+use Rattle.nodes.proofs.readers.inner_element.Tie as tie
+
+abbrev Inv-loop : tie.InvT-loop
+Inv-loop s at c₀ c = Passing innerElement s at c
+
+abbrev μ-loop : tie.MeasureT-loop
+μ-loop s at c₀ c = length s - c
+
+pub inner-element-spec : {M : Type 1} → statement M
+inner-element-spec = tie.close (tie.spec
+    Inv-loop
+    μ-loop
+    (λ c. search inners)  -- loop-holds
+    (λ c κs. search inners)  -- next-node-requires
+    (λ c. search inners)  -- enum-told
+    (λ c. search inners)  -- returns
+    (λ c. search inners)  -- enum-told-2
+    (λ c κs. search inners)  -- unexpected-requires
+    (λ c. search inners)  -- returns-2
+    (λ c. search inners)  -- enum-told-3
+    (λ c. search inners)  -- loop-less
+    (λ c. search inners)  -- loop-again
+    (λ c. search inners)  -- enum-told-4
+    (λ c. search inners)  -- loop-less-2
+    (λ c. search inners)  -- loop-again-2
+    )

@@ -1,0 +1,68 @@
+-- What readers of elements find, as a verdict.
+--     judgedAs                     the verdict of an answer
+--     is-name .. is-count          the refusals that content is given
+--     after-fine, after-refused    one check after another
+--     unexpected-..                an element that has no place;   `search judging`
+use mathlib.Core.Path.{_≡_, refl, sym, _∙_}
+use mathlib.Core.Bool.{Bool, true, false}
+use mathlib.Core.List.{List, [], _∷_}
+use Prim.Native.Nat.{ℕ, _-_}
+use lib.ListN.{getD}
+use borrow.Author.Needs.{needs}
+use Rattle.octets.specs.Pick.{pick-yes, pick-no}
+use Rattle.model.specs.Refusal.{Refusal, LENGTH, WORK, CHARACTER, LINE, NAME, FRAME, PARAMETER, VALUE, COUNT, ROOM, XML, Verdict, fine, refuse, _otherwise_}
+use Rattle.xcal.specs.Layout.{hasCapital, unexpected}
+use Rattle.nodes.specs.declared.Judged.{Judged}
+use Rattle.nodes.specs.declared.Judged.the-variants.{Fine, Refused}
+
+-- STAND-IN, the same as in crate frame
+unfoldable pub refusalAt : ℕ → Refusal
+refusalAt n = getD (LENGTH ∷ WORK ∷ CHARACTER ∷ LINE ∷ NAME ∷ FRAME ∷ PARAMETER ∷ VALUE ∷ COUNT ∷ ROOM ∷ XML ∷ []) (n - 1) LENGTH
+
+abbrev pub judgedAs : Judged → Verdict
+judgedAs Fine = fine
+judgedAs (Refused n p) = refuse (refusalAt n) p
+
+-- ---- the refusals that content is given
+
+pub is-name : (p : ℕ) → judgedAs (Refused 5 p) ≡ refuse NAME p
+unfolding refusalAt
+is-name p = refl
+
+pub is-frame : (p : ℕ) → judgedAs (Refused 6 p) ≡ refuse FRAME p
+unfolding refusalAt
+is-frame p = refl
+
+pub is-parameter : (p : ℕ) → judgedAs (Refused 7 p) ≡ refuse PARAMETER p
+unfolding refusalAt
+is-parameter p = refl
+
+pub is-value : (p : ℕ) → judgedAs (Refused 8 p) ≡ refuse VALUE p
+unfolding refusalAt
+is-value p = refl
+
+pub is-count : (p : ℕ) → judgedAs (Refused 9 p) ≡ refuse COUNT p
+unfolding refusalAt
+is-count p = refl
+
+-- ---- one check after another
+
+module _ {v : Verdict} {j : Judged} (w : Verdict) (h : v ≡ judgedAs j) where
+  pub after-fine : j ≡ Fine → (v otherwise w) ≡ w
+  unfolding _otherwise_
+  after-fine e = rw (h, e)
+
+  pub after-refused : {n p : ℕ} → j ≡ Refused n p → (v otherwise w) ≡ judgedAs (Refused n p)
+  unfolding _otherwise_
+  after-refused e = rw (h, e)
+
+-- ---- an element that has no place
+
+module _ (nm : List ℕ) (p : ℕ) {b : Bool} (h : b ≡ hasCapital nm) where
+  pub unexpected-name : b ≡ true → unexpected p nm ≡ judgedAs (Refused 5 p)
+  unexpected-name e = pick-yes (hasCapital nm) _ _ (sym h ∙ e) ∙ sym (is-name p)
+
+  pub unexpected-frame : b ≡ false → unexpected p nm ≡ judgedAs (Refused 6 p)
+  unexpected-frame e = pick-no (hasCapital nm) _ _ (sym h ∙ e) ∙ sym (is-frame p)
+
+pub ruleset judging = (unexpected-name, unexpected-frame, needs)

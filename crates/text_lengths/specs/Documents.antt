@@ -1,0 +1,136 @@
+-- The length of a document's text grows no faster than the document's, whether the document is accepted or not. The bounds are crude: they serve to show
+-- that a sink can count the text, and that a room for one content line is large enough.
+--     text-bound    a fixed number of bytes for each byte of the document;   text-short: of a document within the limit
+--     line-fits     the content line of a property that an element states;   lines-fit: of each that is stated at a place
+use mathlib.Core.Path.{_≡_, refl, ap}
+use mathlib.Core.Bool.{Bool, true, false}
+use mathlib.Core.List.{List, [], _∷_}
+use Prim.Native.Nat.{ℕ, _+_, _*_, _^_, _≤_, _<_}
+use native.Mathlib.Omega.{arith}
+use lib.Dec.{ltb}
+use lib.ListN.{length, drop, length-drop}
+use borrow.Author.Tests.{lt-ltb}
+use Rattle.octets.specs.Ascii.{ascii}
+use Rattle.octets.specs.Pick.{pick, pick-either, and-yes}
+use Rattle.octets.specs.Append.{_⊕_, length-both}
+use Rattle.octets.specs.Class.{upper}
+use Rattle.octets.specs.Words.{same}
+use Rattle.octets.specs.Lists.{every, distinct}
+use Rattle.octets.specs.Computing.{octets-compute}
+use Rattle.model.specs.Calendar.{Property, Components, component}
+use Rattle.folding.specs.Fold.{isOver, breakBefore, columnAt, foldFrom}
+use Rattle.lines.specs.Write.{writeContentLine}
+use Rattle.ical.specs.WriteText.{contentLineOf, propertyLine, propertyLines, beginLine, endLine, writeCalendar}
+use Rattle.xml.specs.Marks.{marks}
+use Rattle.xml.specs.Nodes.{Nodes, noNodes, element, literal, referred, nodes, documentNodes}
+use Rattle.xcal.specs.PropertyNodes.{readProperties}
+use Rattle.xcal.specs.ComponentNodes.{insideOf, readComponents, readInner, readRoot}
+use Rattle.lengths.specs.Elements.{upper-length}
+use Rattle.text_lengths.specs.Sizes.{size, nodes-size, document-size, part, named, parts, parts-size}
+use Rattle.text_lengths.specs.Children.{inside-size}
+use Rattle.text_lengths.specs.Lines.{propertyIn, line-length}
+
+abbrev pub rate : ℕ
+rate = 60
+
+-- ---- folded lines: three bytes more before a byte, at most
+
+fold-length : (c : ℕ) (s : List ℕ) → length (foldFrom c s) ≤ 4 * length s + 2
+unfolding foldFrom
+fold-length c [] = omega arith
+fold-length c (b ∷ s) =
+    let break : length (breakBefore c b) ≤ 3 = pick-either (λ (l : List ℕ). length l ≤ 3) (isOver c b) (13 ∷ 10 ∷ 32 ∷ []) [] (omega arith) (omega arith) in
+    omega (arith, length-both (breakBefore c b) (b ∷ foldFrom (columnAt c b + 1) s), break, fold-length (columnAt c b + 1) s)
+
+properties-length : (ns : Nodes) → length (propertyLines (readProperties ns)) ≤ rate * size ns
+unfolding readProperties propertyLines size
+properties-length noNodes = omega arith
+properties-length (literal p b more) = omega (arith, properties-length more)
+properties-length (referred p bs more) = omega (arith, properties-length more)
+properties-length (element p m x kids more) =
+    let q : Property = propertyIn m kids in
+    omega (arith, length-both (propertyLine q) (propertyLines (readProperties more)), fold-length 0 (writeContentLine (contentLineOf q)), line-length m kids, properties-length more)
+
+-- ---- components
+
+abbrev partNames : List (List ℕ)
+partNames = ascii "properties" ∷ ascii "components" ∷ []
+
+parts-distinct : distinct partNames ≡ true
+unfolding octets-compute
+parts-distinct = refl
+
+-- the lines of a component, beside its properties and its subcomponents
+around-length : (n : List ℕ) (ps : List Property) (inner next : Components) →
+    length (writeCalendar (component n ps inner next)) ≤ 8 * length n + 44 + length (propertyLines ps) + length (writeCalendar inner) + length (writeCalendar next)
+unfolding writeCalendar
+around-length n ps inner next =
+    let a : List ℕ = propertyLines ps in
+    let b : List ℕ = writeCalendar inner in
+    let c : List ℕ = writeCalendar next in
+    let begins : length (beginLine n) ≤ 4 * length n + 26 = omega (arith, fold-length 0 (ascii "BEGIN:" ⊕ n), length-both (ascii "BEGIN:") n) in
+    let ends : length (endLine n) ≤ 4 * length n + 18 = omega (arith, fold-length 0 (ascii "END:" ⊕ n), length-both (ascii "END:") n) in
+    omega (arith, length-both (beginLine n) (a ⊕ b ⊕ endLine n ⊕ c), length-both a (b ⊕ endLine n ⊕ c), length-both b (endLine n ⊕ c), length-both (endLine n) c, begins, ends)
+
+abbrev componentsPart : Nodes → ℕ
+componentsPart ns = part (named (ascii "components")) ns
+
+component-length : (m : List ℕ) (kids more : Nodes) →
+    length (writeCalendar (readInner kids)) ≤ rate * componentsPart kids → length (writeCalendar (readComponents more)) ≤ rate * size more →
+    length (writeCalendar (component (upper m) (readProperties (insideOf (ascii "properties") kids)) (readInner kids) (readComponents more))) ≤ rate * (length m + 2 + size kids + size more)
+unfolding parts
+component-length m kids more inner next =
+    let ps : Nodes = insideOf (ascii "properties") kids in
+    let around = around-length (upper m) (readProperties ps) (readInner kids) (readComponents more) in
+    omega (arith, around, upper-length m, properties-length ps, inside-size (ascii "properties") kids, parts-size partNames parts-distinct kids, inner, next)
+
+-- the components that nodes state, and those in the `components` among nodes
+calendar-length : (ns : Nodes) → (length (writeCalendar (readComponents ns)) ≤ rate * size ns) × (length (writeCalendar (readInner ns)) ≤ rate * componentsPart ns)
+unfolding readComponents readInner size part pick
+calendar-length noNodes = unfold writeCalendar in (omega arith, omega arith)
+calendar-length (literal p b more) = (omega (arith, calendar-length more .0), calendar-length more .1)
+calendar-length (referred p bs more) = (omega (arith, calendar-length more .0), calendar-length more .1)
+calendar-length (element p m x kids more) =
+    (component-length m kids more (calendar-length kids .1) (calendar-length more .0), go (same m (ascii "components")) (calendar-length kids .0) (calendar-length more .1))
+  where
+    go : (t : Bool) → length (writeCalendar (readComponents kids)) ≤ rate * size kids → length (writeCalendar (readInner more)) ≤ rate * componentsPart more →
+        length (writeCalendar (pick t (readComponents kids) (readInner more))) ≤ rate * (pick t (length m + 2 + size kids) 0 + componentsPart more)
+    go true h k = omega (arith, h)
+    go false h k = omega (arith, k)
+
+-- ---- the text
+
+root-length : (ns : Nodes) → length (writeCalendar (readRoot ns)) ≤ rate * size ns
+unfolding readRoot size
+root-length noNodes = unfold writeCalendar in omega arith
+root-length (literal p b more) = unfold writeCalendar in omega arith
+root-length (referred p bs more) = unfold writeCalendar in omega arith
+root-length (element p m x kids more) = omega (arith, calendar-length kids .0)
+
+pub text-bound : (s : List ℕ) → length (writeCalendar (readRoot (documentNodes s))) ≤ rate * length s
+text-bound s = omega (arith, root-length (documentNodes s), document-size s)
+
+pub text-short : (s : List ℕ) → length s ≤ 65535 → length (writeCalendar (readRoot (documentNodes s))) < 2 ^ 32
+text-short s h = omega (arith, text-bound s, h)
+
+-- ---- one content line
+
+-- the property that the element at the place p states, whose content is kids
+pub line-fits : (s : List ℕ) (p q : ℕ) (m : List ℕ) (x : ℕ) (kids more : Nodes) → length s ≤ 65535 → nodes (marks p (drop p s)) 0 ≡ element q m x kids more →
+    length (writeContentLine (contentLineOf (propertyIn m kids))) < 262144
+unfolding size
+line-fits s p q m x kids more h e = omega (arith, line-length m kids, ap size e, nodes-size (drop p s) p 0, length-drop p s)
+
+unfoldable pub lineFits : Property → Bool
+lineFits q = ltb (length (writeContentLine (contentLineOf q))) 262144
+
+each-fits : (ns : Nodes) → size ns ≤ 65535 → every lineFits (readProperties ns) ≡ true
+unfolding readProperties every lineFits size
+each-fits noNodes h = refl
+each-fits (literal p b more) h = each-fits more (omega arith)
+each-fits (referred p bs more) h = each-fits more (omega arith)
+each-fits (element p m x kids more) h = and-yes _ _ (lt-ltb (length (writeContentLine (contentLineOf (propertyIn m kids)))) 262144 (omega (arith, line-length m kids))) (each-fits more (omega arith))
+
+-- the properties that the elements from the place p on state
+pub lines-fit : (s : List ℕ) (p : ℕ) → length s ≤ 65535 → every lineFits (readProperties (nodes (marks p (drop p s)) 0)) ≡ true
+lines-fit s p h = each-fits (nodes (marks p (drop p s)) 0) (omega (arith, nodes-size (drop p s) p 0, length-drop p s))

@@ -1,0 +1,54 @@
+-- The content line of a property, by the size of its element.
+--     propertyIn       the property that an element states
+--     line-length      its content line
+use mathlib.Core.List.{List, [], _∷_, map}
+use Prim.Native.Nat.{ℕ, _+_, _*_, _≤_}
+use native.Mathlib.Omega.{arith}
+use lib.ListN.{length}
+use Rattle.octets.specs.Ascii.{ascii}
+use Rattle.octets.specs.Pick.{pick, pick-either}
+use Rattle.octets.specs.Append.{_⊕_, joined, length-both}
+use Rattle.octets.specs.Class.{upper}
+use Rattle.octets.specs.Words.{eachAfter, joinedBy}
+use Rattle.model.specs.Calendar.{ValueType, Property}
+use Rattle.schema.specs.Types.{typeName, sameType}
+use Rattle.schema.specs.Properties.{defaultType}
+use Rattle.values.specs.WriteValue.{typeOfAll}
+use Rattle.lines.specs.ContentLine.{RawParameter}
+use Rattle.lines.specs.Write.{writeParamValue, writeParameter, writeContentLine}
+use Rattle.ical.specs.WriteText.{rawOf, valueParameter, withValue, contentLineOf}
+use Rattle.xml.specs.Nodes.{Nodes}
+use Rattle.xcal.specs.ValueNodes.{readValueNodes}
+use Rattle.xcal.specs.ParameterNodes.{readParameterNodes}
+use Rattle.xcal.specs.PropertyNodes.{parametersIn}
+use Rattle.lengths.specs.Elements.{upper-length}
+use Rattle.lengths.specs.Values.{type-length}
+use Rattle.lengths.specs.Parameters.{bytes}
+use Rattle.lengths.specs.Properties.{line-length as length-of-line}
+use Rattle.text_lengths.specs.Sizes.{size}
+use Rattle.text_lengths.specs.PropertyValues.{values-length}
+use Rattle.text_lengths.specs.Parameters.{parameters-length}
+
+abbrev pub propertyIn : List ℕ → Nodes → Property
+propertyIn m kids = record { name = upper m; parameters = readParameterNodes (parametersIn (upper m) kids); values = readValueNodes (upper m) kids }
+
+-- ;VALUE= and the name of a type
+value-parameter : (t : ValueType) → length (writeParameter (valueParameter t)) ≤ 18
+unfolding writeParameter writeParamValue joinedBy eachAfter pick
+value-parameter t =
+    omega (arith, length-both (ascii "VALUE") (61 ∷ (typeName t ⊕ [])), length-both (typeName t) [], type-length t)
+
+with-length : (n : List ℕ) (t : ValueType) (ps : List RawParameter) → bytes (withValue n t ps) ≤ 18 + bytes ps
+unfolding withValue
+with-length n t ps =
+    pick-either (λ (l : List RawParameter). bytes l ≤ 18 + bytes ps) (sameType t (defaultType n)) ps (valueParameter t ∷ ps) (omega arith)
+    (unfold joined in omega (arith, length-both (writeParameter (valueParameter t)) (joined (map writeParameter ps)), value-parameter t))
+
+pub line-length : (m : List ℕ) (kids : Nodes) → length (writeContentLine (contentLineOf (propertyIn m kids))) ≤ length m + 29 + 3 * size kids
+unfolding contentLineOf
+line-length m kids =
+    let n : List ℕ = upper m in
+    let ps : List RawParameter = map rawOf (readParameterNodes (parametersIn n kids)) in
+    let t : ValueType = typeOfAll (readValueNodes n kids) in
+    let whole = length-of-line (contentLineOf (propertyIn m kids)) in
+    omega (arith, whole, upper-length m, with-length n t ps, parameters-length (parametersIn n kids), values-length n kids)

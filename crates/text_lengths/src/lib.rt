@@ -1,0 +1,1 @@
+// How long the text of a document is: specifications only.
