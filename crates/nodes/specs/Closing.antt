@@ -11,13 +11,13 @@ use borrow.Author.Needs.{needs}
 use Rattle.utf8.specs.Spell.{spell}
 use Rattle.xml.specs.Marks.{Mark, opens, closes, char, refers}
 use Rattle.xml.specs.Nodes.{nodes, nodesBy, endPlace, endPlaceBy}
-use Rattle.nodes.specs.NodesAt.{marksAt, mark-none, nodesAt, nodes-none}
-use Rattle.nodes.specs.Tokens.{nameIn, Over, over-end, marked, token-onward, start-sound, empty-sound, end-sound, char-sound, reference-sound}
-use Rattle.nodes.specs.Standing.{TokenFound}
+use Rattle.xml.specs.NodesAt.{marksAt, mark-none, nodesAt, nodes-none}
+use Rattle.nodes.specs.Tokens.{Over, over-end, marked, token-onward, start-sound, empty-sound, end-sound, char-sound, reference-sound}
+use Rattle.tokens.specs.TokenAt.{Reads, tokenIn, nameIn}
 use Rattle.nodes.specs.declared.Ended.{Ended}
-use Rattle.nodes.specs.declared.token.TokenAt.{TokenAt}
-use Rattle.nodes.specs.declared.token.TokenKind.{TokenKind}
-use Rattle.nodes.specs.declared.token.TokenKind.the-variants.{Start, Empty, End, Char, Reference, Fault}
+use Rattle.tokens.specs.declared.TokenAt.{TokenAt}
+use Rattle.tokens.specs.declared.TokenKind.{TokenKind}
+use Rattle.tokens.specs.declared.TokenKind.the-variants.{Start, Empty, End, Char, Reference, Fault}
 
 pub record EndedAt (s : List ℕ) (from : ℕ) (r : Ended) : Type 0 where
   pub place : endPlace (marksAt s from) 0 ≡ r .place
@@ -98,7 +98,7 @@ module _ {s : List ℕ} {from at depth : ℕ} (c : Closing s from at depth) wher
   pub closing-past : length s ≤ at → EndedAt s from (record { place = 0; next = length s })
   closing-past h = closing-over (rw (mark-none s at h) over-end)
 
-  module _ {t : TokenAt} (f : TokenFound s at t) where
+  module _ {t : TokenAt} (f : Reads tokenIn s at at t) where
     -- a token that leads on
     step : {k : TokenKind} → t .kind ≡ k → (k ≡ Fault → ⊥) → (d : ℕ) → d ≤ depth + 1 → Seeks (marksAt s at) depth (marksAt s (t .next)) d → Closing s from (t .next) d
     step q n d l h =

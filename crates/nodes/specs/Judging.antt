@@ -5,19 +5,15 @@
 --     unexpected-..                an element that has no place;   `search judging`
 use mathlib.Core.Path.{_≡_, refl, sym, _∙_}
 use mathlib.Core.Bool.{Bool, true, false}
-use mathlib.Core.List.{List, [], _∷_}
-use Prim.Native.Nat.{ℕ, _-_}
-use lib.ListN.{getD}
+use mathlib.Core.List.{List}
+use Prim.Native.Nat.{ℕ}
 use borrow.Author.Needs.{needs}
 use Rattle.octets.specs.Pick.{pick-yes, pick-no}
-use Rattle.model.specs.Refusal.{Refusal, LENGTH, WORK, CHARACTER, LINE, NAME, FRAME, PARAMETER, VALUE, COUNT, ROOM, XML, Verdict, fine, refuse, _otherwise_}
+use Rattle.model.specs.Refusal.{NAME, FRAME, PARAMETER, VALUE, COUNT, Verdict, fine, refuse, _otherwise_}
+use Rattle.frame.specs.Answers.{refusalAt}
 use Rattle.xcal.specs.Layout.{hasCapital, unexpected}
 use Rattle.nodes.specs.declared.Judged.{Judged}
 use Rattle.nodes.specs.declared.Judged.the-variants.{Fine, Refused}
-
--- STAND-IN, the same as in crate frame
-unfoldable pub refusalAt : ℕ → Refusal
-refusalAt n = getD (LENGTH ∷ WORK ∷ CHARACTER ∷ LINE ∷ NAME ∷ FRAME ∷ PARAMETER ∷ VALUE ∷ COUNT ∷ ROOM ∷ XML ∷ []) (n - 1) LENGTH
 
 abbrev pub judgedAs : Judged → Verdict
 judgedAs Fine = fine

@@ -12,16 +12,16 @@ use borrow.Author.Needs.{needs}
 use Rattle.utf8.specs.Spell.{spell}
 use Rattle.source.specs.Source.{rest}
 use Rattle.xml.specs.Nodes.{Nodes, noNodes, element, literal, referred}
-use Rattle.nodes.specs.NodesAt.{nodesAt, nodes-start, nodes-empty, nodes-end, nodes-char, nodes-reference, nodes-none}
-use Rattle.nodes.specs.Tokens.{marked, token-onward, token-first, token-is, token-past, start-sound, empty-sound, end-sound, char-sound, reference-sound}
-use Rattle.nodes.specs.Standing.{TokenFound}
+use Rattle.xml.specs.NodesAt.{nodesAt, nodes-start, nodes-empty, nodes-end, nodes-char, nodes-reference, nodes-none}
+use Rattle.nodes.specs.Tokens.{marked, token-onward, name-inside, token-first, token-is, token-past, start-sound, empty-sound, end-sound, char-sound, reference-sound}
+use Rattle.tokens.specs.TokenAt.{Reads, tokenIn}
 use Rattle.nodes.specs.Closing.{EndedAt, nodes-are}
 use Rattle.nodes.specs.declared.Ended.{Ended}
 use Rattle.nodes.specs.declared.Node.{Node}
 use Rattle.nodes.specs.declared.NodeKind.{NodeKind}
 use Rattle.nodes.specs.declared.NodeKind.the-variants.{None, Element, Literal, Referred}
-use Rattle.nodes.specs.declared.token.TokenAt.{TokenAt}
-use Rattle.nodes.specs.declared.token.TokenKind.the-variants.{Start, Empty, End, Char, Reference, Fault}
+use Rattle.tokens.specs.declared.TokenAt.{TokenAt}
+use Rattle.tokens.specs.declared.TokenKind.the-variants.{Start, Empty, End, Char, Reference, Fault}
 
 -- the content from the place of a node on
 abbrev pub nodeBy : NodeKind → List ℕ → ℕ → Node → Nodes
@@ -104,7 +104,7 @@ noNode e = record { kind = None; name = 0; «name_end» = 0; inside = e; end = 0
 abbrev pub characterNode : NodeKind → ℕ → ℕ → ℕ → Node
 characterNode k e u next = record { kind = k; name = 0; «name_end» = 0; inside = e; end = 0; next = next; unit = u }
 
-module _ {s : List ℕ} {at : ℕ} {t : TokenAt} (f : TokenFound s at t) where
+module _ {s : List ℕ} {at : ℕ} {t : TokenAt} (f : Reads tokenIn s at at t) where
   pub start-within : t .kind ≡ Start → t .next ≤ length s
   start-within q = token-onward f q start-sound .1
 
@@ -114,7 +114,7 @@ module _ {s : List ℕ} {at : ℕ} {t : TokenAt} (f : TokenFound s at t) where
       let b = token-onward f q start-sound in record {
         is = nodes-start s at _ _ (token-first f q start-sound) _ _ (token-is f q start-sound) ∙ rw (token-past f q start-sound, d .place, d .after);
         named = f .named;
-        name-within = f .inside;
+        name-within = name-inside f q start-sound;
         inside-within = b .1;
         next-within = d .inside;
         takes = (omega (arith, b, d .onward), b .0);
@@ -126,7 +126,7 @@ module _ {s : List ℕ} {at : ℕ} {t : TokenAt} (f : TokenFound s at t) where
       let b = token-onward f q empty-sound in record {
         is = nodes-empty s at _ _ (token-first f q empty-sound) _ _ (token-is f q empty-sound) ∙ rw (token-past f q empty-sound, nodes-none s (length s) (omega arith));
         named = f .named;
-        name-within = f .inside;
+        name-within = name-inside f q empty-sound;
         inside-within = omega arith;
         next-within = b .1;
         takes = (b .0, omega (arith, b));

@@ -16,15 +16,12 @@ use Rattle.source.specs.Source.{rest}
 use Rattle.xml.specs.Token.{token}
 use Rattle.xml.specs.Marks.{Mark, opens, closes, char, refers, fault}
 use Rattle.xml.specs.Nodes.{nodes, nodesBy, noNodes, endPlace, endPlaceBy}
-use Rattle.nodes.specs.NodesAt.{marksAt, mark-start, mark-empty, mark-end, mark-char, mark-reference, mark-fault, mark-none}
-use Rattle.nodes.specs.Standing.{TokenFound, tokenBy}
-use Rattle.nodes.specs.declared.token.TokenAt.{TokenAt}
-use Rattle.nodes.specs.declared.token.TokenKind.{TokenKind}
-use Rattle.nodes.specs.declared.token.TokenKind.the-variants.{Start, Empty, End, Char, Reference, Fault}
-
--- the name of a tag
-abbrev pub nameIn : List ℕ → TokenAt → List ℕ
-nameIn s t = rest 0 (take (t .«name_end») s) (t .name)
+use Rattle.xml.specs.NodesAt.{marksAt, mark-start, mark-empty, mark-end, mark-char, mark-reference, mark-fault, mark-none}
+use Rattle.tokens.specs.TokenAt.{Reads, tokenIn, tokenBy, nameIn}
+use Rattle.tokens.specs.TokenAt as found
+use Rattle.tokens.specs.declared.TokenAt.{TokenAt}
+use Rattle.tokens.specs.declared.TokenKind.{TokenKind}
+use Rattle.tokens.specs.declared.TokenKind.the-variants.{Start, Empty, End, Char, Reference, Fault}
 
 -- nothing is open any more, and nothing follows: the bytes end, or are no token
 abbrev pub Over : List Mark → Type 0
@@ -62,13 +59,16 @@ char-sound e = let z : _≡_ {A = ℕ} 0 1 = cc in absurd (omega arith)
 pub reference-sound : Reference ≡ Fault → ⊥
 reference-sound e = let z : _≡_ {A = ℕ} 0 1 = cc in absurd (omega arith)
 
-module _ {s : List ℕ} {at : ℕ} {t : TokenAt} (f : TokenFound s at t) where
+module _ {s : List ℕ} {at : ℕ} {t : TokenAt} (f : Reads tokenIn s at at t) where
   token-by : (k : TokenKind) → t .kind ≡ k → at < length s → token (getD s at 0) (drop (at + 1) s) ≡ tokenBy k s at t
-  token-by k q h = f .is (getD s at 0) (drop (at + 1) s) (drop-next s at h) ∙ ap (λ (x : TokenKind). tokenBy x s at t) q
+  token-by k q h = found.token-is f (getD s at 0) (drop (at + 1) s) (drop-next s at h) ∙ ap (λ (x : TokenKind). tokenBy x s at t) q
 
   module _ {k : TokenKind} (q : t .kind ≡ k) (n : k ≡ Fault → ⊥) where
     pub token-onward : (at < t .next) × (t .next ≤ length s)
-    token-onward = f .onward (λ e. n (sym q ∙ e))
+    token-onward = (found.token-onward f (λ e. n (sym q ∙ e)), found.token-inside f (λ e. n (sym q ∙ e)))
+
+    pub name-inside : t .«name_end» ≤ length s
+    name-inside = omega (arith, token-onward, f .ended)
 
     pub token-first : drop at s ≡ getD s at 0 ∷ drop (at + 1) s
     token-first = drop-next s at (omega (arith, token-onward))

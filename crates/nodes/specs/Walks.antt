@@ -17,7 +17,7 @@ use Rattle.source.specs.Facts.{rest-byte, rest-end, byte-small}
 use Rattle.source.specs.declared.Step.{Step}
 use Rattle.xml.specs.Nodes.{Nodes, hasElement}
 use Rattle.xcal.specs.Layout.{hasCapital, unexpected, innerElement}
-use Rattle.nodes.specs.NodesAt.{nodesAt}
+use Rattle.xml.specs.NodesAt.{nodesAt}
 use Rattle.nodes.specs.NodeFound.{NodeAt, node-none, node-element, node-literal, node-referred, literal-less, referred-less}
 use Rattle.nodes.specs.Judging.{judgedAs}
 use Rattle.nodes.specs.declared.Judged.the-variants.{Fine}

@@ -1,7 +1,7 @@
 // The end of an open element.
 use crate::Ended;
-use crate::token::TokenKind;
-use crate::token::token_at;
+use tokens::TokenKind;
+use tokens::token_at;
 ghost use Prim.Native.Nat.{_≤_};
 ghost use lib.ListN.{length};
 ghost use Rattle.nodes.specs.Closing.{EndedAt};

@@ -2,8 +2,8 @@
 use crate::Node;
 use crate::NodeKind;
 use crate::closing::element_end;
-use crate::token::TokenKind;
-use crate::token::token_at;
+use tokens::TokenKind;
+use tokens::token_at;
 ghost use mathlib.Core.Path.{_≡_};
 ghost use lib.ListN.{length};
 ghost use Rattle.nodes.specs.NodeFound.{noNode, characterNode, NodeAt};

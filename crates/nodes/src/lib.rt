@@ -2,7 +2,6 @@
 mod closing;
 mod content;
 mod readers;
-mod token;
 
 pub use content::next_node;
 pub use readers::has_capital;

@@ -9,7 +9,7 @@ ghost use lib.ListN.{take};
 ghost use Rattle.source.specs.Source.{rest};
 ghost use Rattle.xml.specs.Nodes.{hasElement};
 ghost use Rattle.xcal.specs.Layout.{hasCapital, innerElement, unexpected};
-ghost use Rattle.nodes.specs.NodesAt.{nodesAt};
+ghost use Rattle.xml.specs.NodesAt.{nodesAt};
 ghost use Rattle.nodes.specs.Judging.{judgedAs};
 
 // A capital stands from `at` on.

@@ -5,8 +5,6 @@ use markup::put_end_tag;
 use markup::put_start_tag;
 use names::is_word_any_case;
 use parameters::are_read;
-use xml::put_end_tag;
-use xml::put_start_tag;
 ghost use mathlib.Core.Path.{_≡_};
 ghost use mathlib.Core.List.{[]};
 ghost use lib.ListN.{take};
