@@ -3,7 +3,7 @@
 --     marked slots n fs       the same after one more name
 --     isShort fs              a slot that must be filled is not
 --     walked                  `sequence`, with these flags in the place of the names seen;   sequence-walked: it is the same
---     walked-none, walked-space, walked-text, walked-referred, walked-outside, walked-child     a walk, by the node at hand
+--     walked-none, walked-space, walked-text, walked-referred, walked-element, walked-outside, walked-child     a walk, by the node at hand
 --     slot-place              the slot of a name, by the name's place in a list of all names
 use mathlib.Core.Path.{_≡_, refl, sym, ap, _∙_}
 use mathlib.Core.Bool.{Bool, true, false, not}
@@ -122,6 +122,10 @@ module _ (slots : List Slot) (inside : ℕ → List ℕ → ℕ → Nodes → Ve
     walked-referred h = rw h
 
     module _ {p x : ℕ} {n : List ℕ} {own more : Nodes} (h : kids ≡ element p n x own more) where
+      pub walked-element : walked slots inside kids next fs e ≡ admitted (afterSlot (slotOf n slots 0) next) p n (inside p n x own) (λ k. walked slots inside more k (marked slots n fs) e)
+      unfolding walked
+      walked-element = rw h
+
       -- a child that has no place here, and one that has
       pub walked-outside : afterSlot (slotOf n slots 0) next ≡ none → walked slots inside kids next fs e ≡ unexpected p n
       unfolding walked
