@@ -1,7 +1,7 @@
 -- A value of a parameter, by the parameter's number.
 --     readBy         one value of the parameter that has a given row;   isValueBy: whether it is one
 --     value-place    it is `readParamValue` of a name, by the name's number
---     good-.., typed-.., chosen-.., by-..   for the code that reads one
+--     typed-.., chosen-.., by-..   for the code that reads one
 use mathlib.Core.Path.{_≡_, refl, sym, ap, _∙_}
 use mathlib.Core.Bool.{Bool, true, false, not, false≢true}
 use mathlib.Core.List.{List}
@@ -19,9 +19,6 @@ use Rattle.schema.specs.Parameters.{ParameterRow, parameterNames}
 use Rattle.schema.specs.Numbers.{typeAt, parameterAt, parameter-place}
 use Rattle.schema.specs.Sets.{isWordOf}
 use Rattle.values.specs.ReadValue.{readValue}
-use Rattle.values.specs.ValueAt.{isGood}
-use Rattle.values.specs.declared.ValueRead.{ValueRead}
-use Rattle.values.specs.declared.ValueRead.the-variants.{Good, Bad}
 use Rattle.lines.specs.ContentLine.{ParamValue}
 use Rattle.ical.specs.Parameters.{readTyped, readWord, readParamValue}
 
@@ -39,13 +36,6 @@ pub value-named : {r : Bool} (q : ℕ) (v : ParamValue) → r ≡ isRead (readBy
 value-named q v e w h = e ∙ rw (value-place w v, h)
 
 -- ---- for code
-
-module _ {b : Bool} {v : ValueRead} (e : b ≡ isGood v) where
-  pub good-yes : {n : ℕ} → v ≡ Good n → true ≡ b
-  good-yes h = sym (e ∙ rw h)
-
-  pub good-no : v ≡ Bad → false ≡ b
-  good-no h = sym (e ∙ rw h)
 
 -- 10 is TEXT
 module _ (t : ValueType) (l : List ℕ) {n : ℕ} (e : n ≡ typePlace t) where

@@ -4,6 +4,7 @@
 --     Left                                  the invariant of a loop over pieces;   items-.., place-.., parts-..: its ways
 --     value-none, value-after, listed-at, part-listed, part-single    one part
 --     rule-read                             whether there is a rule
+--     cons-read, rest-gone                  one more read; what stands past the end
 use mathlib.Core.Path.{_≡_, refl, sym, ap, _∙_}
 use mathlib.Core.Bool.{Bool, true, false, not, false≢true}
 use mathlib.Core.List.{List, [], _∷_, map}
@@ -140,11 +141,11 @@ module _ {k : ℕ} {s : List ℕ} {c e : ℕ} (p : Ends k s c e) where
     pieces-less h = let l = step-less q h in let o = p .onward in omega arith
 
 -- what F says of the pieces is the same from c₀ as from c
-pub record Left (F : List (List ℕ) → Bool) (k : ℕ) (s : List ℕ) (c₀ c : ℕ) : Type 0 where
+pub record Left {A : Type 0} (F : List (List ℕ) → A) (k : ℕ) (s : List ℕ) (c₀ c : ℕ) : Type 0 where
   pub left : F (cutAt k (rest 0 s c₀)) ≡ F (cutAt k (rest 0 s c))
   pub inside : c ≤ length s
 
-pub left-start : (F : List (List ℕ) → Bool) (k : ℕ) (s : List ℕ) (c : ℕ) → c ≤ length s → Left F k s c c
+pub left-start : {A : Type 0} (F : List (List ℕ) → A) (k : ℕ) (s : List ℕ) (c : ℕ) → c ≤ length s → Left F k s c c
 left-start F k s c h = record { left = refl; inside = h }
 
 -- ---- items
@@ -242,7 +243,7 @@ nth-inside (x ∷ l) (suc k) a h = omega (arith, nth-inside l k a h)
 part-place : (n : List ℕ) → partOf n ≡ partOf (getD partNames (placeOf n partNames) [])
 part-place n = row-place (λ (r : Part). r .name) n partTable ∙ nth-at partTable (placeOf n partNames) ∙ sym (part-at (placeOf n partNames))
 
-cons-read : {A : Type 0} (o : Option A) (q : Option (List A)) → isRead (andThen o (λ b. consRead b q)) ≡ (isRead o and isRead q)
+pub cons-read : {A : Type 0} (o : Option A) (q : Option (List A)) → isRead (andThen o (λ b. consRead b q)) ≡ (isRead o and isRead q)
 unfolding andThen consRead isRead _and_
 cons-read none q = refl
 cons-read (some a) none = refl
@@ -291,7 +292,7 @@ known w h = go (partOf (pieceName w)) refl (sym (part-read w) ∙ h)
     go (some r) e k = nth-inside partTable (placeOf (pieceName w) partNames) r (sym (row-place (λ (r : Part). r .name) (pieceName w) partTable) ∙ e)
 
 -- two names, one of a part, by their places
-same-place : (n x : List ℕ) → placeOf n partNames < 14 → eqb (placeOf x partNames) (placeOf n partNames) ≡ same n x
+pub same-place : (n x : List ℕ) → placeOf n partNames < 14 → eqb (placeOf x partNames) (placeOf n partNames) ≡ same n x
 same-place n x l = go (same n x) (eqb (placeOf x partNames) (placeOf n partNames)) refl refl
   where
     go : (a b : Bool) → same n x ≡ a → eqb (placeOf x partNames) (placeOf n partNames) ≡ b → b ≡ a
@@ -365,7 +366,7 @@ rule-read s = rw (each-part (cutAt 59 s)) (go (readEach readPart (cutAt 59 s)) r
         let h = names-kept (cutAt 59 s) ps e in
         provided-is (distinct (map nameOf ps) and isComplete ps) (inOrder partNames ps) ∙ rw (h, whole-is (cutAt 59 s) ps h)
 
-rest-gone : (s : List ℕ) (c : ℕ) → length s < c → rest 0 s c ≡ []
+pub rest-gone : (s : List ℕ) (c : ℕ) → length s < c → rest 0 s c ≡ []
 unfolding rest pick
 rest-gone s c h = let l : length s ≤ c = omega arith in drop-of-length-le s l
 

@@ -1,7 +1,9 @@
 -- Whether there is a value of a type, from a cursor on: what the readers of each type answer is what `readValue` says.
---     isGood       what the answer of `read_value` says
+--     valueRead    the answer of `read_value`: the type's number where there is a value
+--     isGood       whether it is a value;   good-value, good-yes, good-no: whether one was read
 --     fromBinary   the type of a number; fromDate, fromInteger, fromTime: the same without the types before DATE, INTEGER, TIME
 --     from-binary  it is the type at that place
+--     mapped       what was read, made into another thing
 --     timing, counting, keeping, choosing    the rules for types of dates and times, of numbers, of characters; for the choice of a type
 use mathlib.Core.Path.{_≡_, refl, sym, ap, _∙_}
 use mathlib.Core.Bool.{Bool, true, false}
@@ -70,6 +72,21 @@ abbrev pub isGood : ValueRead → Bool
 isGood (Good t) = true
 isGood Bad = false
 
+abbrev pub valueRead : ℕ → Bool → ValueRead
+valueRead t true = Good t
+valueRead t false = Bad
+
+pub good-value : (t : ℕ) (b : Bool) {r : ValueRead} → r ≡ valueRead t b → b ≡ isGood r
+good-value t true e = rw e
+good-value t false e = rw e
+
+module _ {b : Bool} {r : ValueRead} (t : ℕ) (e : r ≡ valueRead t b) where
+  pub good-yes : {n : ℕ} → r ≡ Good n → true ≡ b
+  good-yes h = sym (good-value t b e ∙ rw h)
+
+  pub good-no : r ≡ Bad → false ≡ b
+  good-no h = sym (good-value t b e ∙ rw h)
+
 -- ---- the type of a number
 
 abbrev pub fromTime : ℕ → ValueType
@@ -133,11 +150,11 @@ module _ {b : Bool} (f : Format) (l : List ℕ) (t k : ℕ) (x z : ValueType) wh
   type-no h e = rw (ne-eqb t k h) e
 
 module _ {b : Bool} (f : Format) (l : List ℕ) (t : ℕ) (e : b ≡ isRead (readValue f (fromBinary t) l)) where
-  pub value-yes : b ≡ true → isRead (readValue f (typeAt t) l) ≡ true
-  value-yes h = ap (λ (u : ValueType). isRead (readValue f u l)) (sym (from-binary t)) ∙ sym e ∙ h
+  pub value-yes : b ≡ true → Good t ≡ valueRead t (isRead (readValue f (typeAt t) l))
+  value-yes h = rw (← (from-binary t), ← e, h)
 
-  pub value-no : b ≡ false → isRead (readValue f (typeAt t) l) ≡ false
-  value-no h = ap (λ (u : ValueType). isRead (readValue f u l)) (sym (from-binary t)) ∙ sym e ∙ h
+  pub value-no : b ≡ false → Bad ≡ valueRead t (isRead (readValue f (typeAt t) l))
+  value-no h = rw (← (from-binary t), ← e, h)
 
 -- ---- dates and times
 
@@ -239,7 +256,7 @@ unfolding isRead pick
 tested g true a = refl
 tested g false a = refl
 
-mapped : {A B : Type 0} (g : A → B) (o : Option A) → isRead (Option·map g o) ≡ isRead o
+pub mapped : {A B : Type 0} (g : A → B) (o : Option A) → isRead (Option·map g o) ≡ isRead o
 unfolding isRead
 mapped g none = refl
 mapped g (some a) = refl

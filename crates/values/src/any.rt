@@ -5,7 +5,7 @@ ghost use Rattle.model.specs.Calendar.{formatOf};
 ghost use Rattle.source.specs.Source.{rest};
 ghost use Rattle.schema.specs.Numbers.{typeAt};
 ghost use Rattle.values.specs.ReadValue.{readValue};
-ghost use Rattle.values.specs.ValueAt.{fromTime, fromInteger, fromDate, fromBinary, isGood};
+ghost use Rattle.values.specs.ValueAt.{fromTime, fromInteger, fromDate, fromBinary, valueRead};
 use crate::ValueRead;
 use crate::number::is_boolean;
 use crate::number::is_float;
@@ -95,7 +95,7 @@ fn is_from_binary(xcal: bool, t: usize, mode: usize, s: &[u8], at: usize) -> boo
 
 // The value of the type at the place `t`, from the cursor to the end.
 pub fn read_value(xcal: bool, t: usize, mode: usize, s: &[u8], at: usize) -> ValueRead
-    ensures { λ r. ⌜ isRead (readValue (formatOf xcal) (typeAt t) (rest mode (now (s .entry)) at)) ≡ isGood r ⌝ }
+    ensures { λ r. ⌜ r ≡ valueRead t (isRead (readValue (formatOf xcal) (typeAt t) (rest mode (now (s .entry)) at))) ⌝ }
 {
     let ok = is_from_binary(xcal, t, mode, s, at);
     if ok {

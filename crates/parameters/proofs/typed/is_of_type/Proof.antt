@@ -1,5 +1,5 @@
 -- `parameters::is_of_type` meets its contract.
-use Rattle.parameters.specs.Typing.{good-yes, good-no}
+use Rattle.values.specs.ValueAt.{good-yes, good-no}
 use borrow.Author.Needs.{needs}
 use Rattle.parameters.proofs.typed.is_of_type.Statement.{statement}
 use Rattle.parameters.proofs.typed.is_of_type.Tie as tie

@@ -1,0 +1,13 @@
+-- `statement::list::are_values` meets its contract.
+use borrow.Author.Needs.{needs}
+use Rattle.statement.specs.Listed.{each-gone}
+use Rattle.statement.proofs.list.are_values.Statement.{statement}
+use Rattle.statement.proofs.list.are_values.Tie as tie
+
+pub are-values-spec : {M : Type 1} → statement M
+are-values-spec = tie.close (tie.spec
+    (λ c κs. search needs)  -- are-pieces-requires
+    (λ c. search needs)  -- returns
+    (λ c κs. search needs)  -- is-value-requires
+    (λ c. search (each-gone, needs))  -- returns-2
+    )

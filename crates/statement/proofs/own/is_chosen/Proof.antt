@@ -1,0 +1,14 @@
+-- `statement::own::is_chosen` meets its contract.
+use borrow.Author.Needs.{needs}
+use Rattle.statement.specs.ValuesAt.{chosen-word, chosen-value}
+use Rattle.statement.proofs.own.is_chosen.Statement.{statement}
+use Rattle.statement.proofs.own.is_chosen.Tie as tie
+
+pub is-chosen-spec : {M : Type 1} → statement M
+is-chosen-spec = tie.close (tie.spec
+    (λ c κs. search needs)  -- has-words-requires
+    (λ c κs. search needs)  -- is-word-of-requires
+    (λ c. chosen-word _ _ _ (c .before .before .has-words .ensures) (c .before .if1 .taken) (c .is-word-of .ensures))  -- returns
+    (λ c κs. search needs)  -- is-value-requires
+    (λ c. chosen-value _ _ _ (c .before .before .has-words .ensures) (c .before .if1 .left) (c .is-value .ensures))  -- returns-2
+    )

@@ -1,0 +1,69 @@
+-- The faults of a property's line, by their numbers: the type that it states, its parameters, its values.
+--     faultNumber     the number of a refusal, 0 where there is none
+--     fault-type, fault-parameters, fault-value, fault-none    each way of `property_fault`
+use mathlib.Core.Path.{_≡_, sym, ap, _∙_}
+use mathlib.Core.Bool.{Bool, true, false}
+use mathlib.Core.List.{List}
+use mathlib.Core.Option.{Option, none, some}
+use Prim.Native.Nat.{ℕ, _≤_}
+use Rattle.octets.specs.Pick.{pick}
+use Rattle.octets.specs.Class.{upper}
+use Rattle.octets.specs.Reading.{isRead}
+use Rattle.model.specs.Calendar.{ValueType}
+use Rattle.model.specs.Refusal.{Refusal, numberOf}
+use Rattle.names.specs.Table.{placeOf}
+use Rattle.schema.specs.Components.{componentNames}
+use Rattle.schema.specs.Properties.{propertyNames}
+use Rattle.schema.specs.Numbers.{typeAt}
+use Rattle.lines.specs.ContentLine.{ContentLine}
+use Rattle.lines.specs.Cursor.{paramsAt}
+use Rattle.ical.specs.Parameters.{statedType, parametersGood}
+use Rattle.ical.specs.Values.{readValues}
+use Rattle.ical.specs.Statement.{faultAs, propertyFault}
+use Rattle.parameters.specs.Stating.{typeRead, StatedAt}
+use Rattle.parameters.specs.declared.TypeRead.{TypeRead}
+use Rattle.parameters.specs.declared.TypeRead.the-variants.{«Type» as Known, Bad as NoType}
+use Rattle.statement.specs.ValuesAt.{valuesRead, areGood, good-values}
+use Rattle.statement.specs.declared.ValuesRead.{ValuesRead}
+use Rattle.statement.specs.declared.ValuesRead.the-variants.{Good, Bad}
+
+abbrev pub faultNumber : Option Refusal → ℕ
+faultNumber none = 0
+faultNumber (some r) = numberOf r
+
+-- the line l in a component c, by numbers and cursors: its parameters stand from e on, its value is `bytes`
+module _ {k p : ℕ} {s : List ℕ} {e : ℕ} {bytes : List ℕ} {x : TypeRead} (a : StatedAt p s e x) (c : List ℕ) (l : ContentLine)
+    (i : k ≡ placeOf c componentNames) (j : p ≡ placeOf (upper (l .name)) propertyNames) (f : l .parameters ≡ paramsAt 0 s e) (g : l .value ≡ bytes) where
+  stated : statedType (upper (l .name)) (l .parameters) ≡ typeRead x
+  stated = rw f (a .is (upper (l .name)) j)
+
+  fault-is : {y : TypeRead} → x ≡ y → propertyFault c l ≡ faultAs (typeRead y) c l
+  fault-is h = ap (λ (u : Option ValueType). faultAs u c l) (stated ∙ ap typeRead h)
+
+  pub fault-type : x ≡ NoType → 7 ≡ faultNumber (propertyFault c l)
+  unfolding faultAs
+  fault-type h = rw (fault-is h)
+
+  module _ {t : ℕ} {b : Bool} (h : x ≡ Known t) (q : (w : List ℕ) → p ≡ placeOf w propertyNames → t ≤ 14 → b ≡ parametersGood w (typeAt t) (paramsAt 0 s e)) where
+    small : t ≤ 14
+    small = a .known t h
+
+    good-is : parametersGood (upper (l .name)) (typeAt t) (l .parameters) ≡ b
+    good-is = rw f (sym (q (upper (l .name)) j small))
+
+    pub fault-parameters : b ≡ false → 7 ≡ faultNumber (propertyFault c l)
+    unfolding faultAs pick
+    fault-parameters z = rw (fault-is h, good-is, z)
+
+    module _ {y : ValuesRead} (z : b ≡ true)
+        (u : (d w : List ℕ) → k ≡ placeOf d componentNames → p ≡ placeOf w propertyNames → t ≤ 14 → y ≡ valuesRead t (isRead (readValues d w (typeAt t) bytes))) where
+      values-are : isRead (readValues c (upper (l .name)) (typeAt t) (l .value)) ≡ areGood y
+      values-are = rw g (good-values t _ (u c (upper (l .name)) i j small))
+
+      pub fault-value : y ≡ Bad → 8 ≡ faultNumber (propertyFault c l)
+      unfolding faultAs pick
+      fault-value n = rw (fault-is h, good-is, z, values-are, n)
+
+      pub fault-none : {m : ℕ} → y ≡ Good m → 0 ≡ faultNumber (propertyFault c l)
+      unfolding faultAs pick
+      fault-none n = rw (fault-is h, good-is, z, values-are, n)

@@ -1,0 +1,91 @@
+-- Lists of values: what the code finds piece by piece is what `readListed` says.
+--     eachValue t ws     each of the pieces ws is a value of the type t
+--     number-below       the number of the type of a number
+--     each-bad, each-last, each-more          the loop over pieces;   each-gone: past the end
+--     listed-text, listed-other               a list of TEXT, and of another type
+use mathlib.Core.Path.{_≡_, refl, sym, ap, _∙_}
+use mathlib.Core.Bool.{Bool, true, false}
+use mathlib.Core.List.{List, [], _∷_, map}
+use mathlib.Core.Option.{Option, none, some}
+use Prim.Native.Nat.{ℕ, _+_, _≤_, _<_}
+use native.Mathlib.Omega.{arith}
+use native.Mathlib.Decide.{decLe}
+use lib.ListN.{length, take, List·getD-eq-default}
+use borrow.Author.Tests.{ne-eqb}
+use Rattle.octets.specs.Pick.{pick, _and_}
+use Rattle.octets.specs.Words.{cutAt}
+use Rattle.octets.specs.Reading.{andThen, isRead, consRead, readEach}
+use Rattle.model.specs.Calendar.{ical, ValueType, TEXT, UNKNOWN, Value, text}
+use Rattle.source.specs.Source.{rest, Reads}
+use Rattle.source.specs.declared.Step.{Step}
+use Rattle.schema.specs.Types.{valueTypes, typePlace, sameType}
+use Rattle.schema.specs.Numbers.{typeAt}
+use Rattle.schema.specs.Cells.{tabled, tabled-at, column-at}
+use Rattle.recur.specs.Pieces.{Ends}
+use Rattle.recur.specs.PieceLaws.{Left, step-less, pieces-any, pieces-last, pieces-more, cons-read, rest-gone}
+use Rattle.texts.specs.TextList.{readTexts}
+use Rattle.values.specs.ReadValue.{readValue}
+use Rattle.values.specs.ValueAt.{mapped}
+use Rattle.ical.specs.Values.{readListed}
+
+abbrev pub eachValue : ValueType → List (List ℕ) → Bool
+eachValue t ws = isRead (readEach (readValue ical t) ws)
+
+-- ---- the pieces of a list
+
+each-first : (t : ValueType) (w : List ℕ) (ws : List (List ℕ)) → eachValue t (w ∷ ws) ≡ (isRead (readValue ical t w) and eachValue t ws)
+unfolding readEach
+each-first t w ws = cons-read (readValue ical t w) (readEach (readValue ical t) ws)
+
+each-none : (t : ValueType) → eachValue t [] ≡ true
+unfolding readEach isRead
+each-none t = refl
+
+module _ (t : ValueType) {s : List ℕ} {c₀ c e : ℕ} (l : Left (eachValue t) 44 s c₀ c) (d : Ends 44 s c e) where
+  pub each-bad : isRead (readValue ical t (rest 0 (take e s) c)) ≡ false → false ≡ eachValue t (cutAt 44 (rest 0 s c₀))
+  unfolding _and_
+  each-bad h = sym (l .left ∙ ap (eachValue t) (pieces-any d) ∙ each-first t _ _ ∙ rw h)
+
+  module _ {n : Step} (q : Reads 0 s e n) (h : isRead (readValue ical t (rest 0 (take e s) c)) ≡ true) where
+    pub each-last : n .u ≡ 256 → true ≡ eachValue t (cutAt 44 (rest 0 s c₀))
+    unfolding _and_
+    each-last z = sym (l .left ∙ ap (eachValue t) (pieces-last d q z) ∙ each-first t _ _ ∙ rw h (each-none t))
+
+    pub each-more : (n .u ≡ 256 → ⊥) → Left (eachValue t) 44 s c₀ (n .next)
+    unfolding _and_
+    each-more z = record { left = l .left ∙ ap (eachValue t) (pieces-more d q z) ∙ each-first t _ _ ∙ rw h; inside = step-less q z .1 }
+
+alone : (o : Option Value) → isRead (andThen o (λ v. consRead v (some []))) ≡ isRead o
+unfolding andThen consRead isRead
+alone none = refl
+alone (some v) = refl
+
+gone-is : {r : Bool} (t : ValueType) → r ≡ isRead (readValue ical t []) → r ≡ eachValue t (cutAt 44 [])
+unfolding cutAt readEach
+gone-is t e = e ∙ sym (alone (readValue ical t []))
+
+pub each-gone : {r : Bool} (t : ValueType) (s : List ℕ) (c : ℕ) → length s < c → r ≡ isRead (readValue ical t (rest 0 s c)) → r ≡ eachValue t (cutAt 44 (rest 0 s c))
+each-gone t s c h e = rw (rest-gone s c h) (gone-is t (rw (rest-gone s c h) at e))
+
+-- ---- a list
+
+pub number-below : (t : ℕ) → t < 14 → typePlace (typeAt t) ≡ t
+unfolding tabled
+number-below t k = let z : 0 + t ≡ t = omega arith in sym (column-at typePlace UNKNOWN valueTypes t k) ∙ tabled-at (λ x. x) 14 0 t k ∙ z
+
+not-text : (t : ℕ) → (t ≡ 10 → ⊥) → sameType (typeAt t) TEXT ≡ false
+unfolding sameType
+not-text t h = go (decLe 14 t)
+  where
+    go : Dec (14 ≤ t) → sameType (typeAt t) TEXT ≡ false
+    go (yes k) = rw (List·getD-eq-default valueTypes UNKNOWN k)
+    go (no k) = let z : t < 14 = omega (arith, k) in rw (number-below t z) (ne-eqb t 10 h)
+
+module _ {r : Bool} (t : ℕ) (l : List ℕ) where
+  pub listed-text : t ≡ 10 → r ≡ isRead (readTexts l) → r ≡ isRead (readListed (typeAt t) l)
+  unfolding pick sameType
+  listed-text h e = rw h (e ∙ sym (mapped (map text) (readTexts l)))
+
+  pub listed-other : (t ≡ 10 → ⊥) → r ≡ eachValue (typeAt t) (cutAt 44 l) → r ≡ isRead (readListed (typeAt t) l)
+  unfolding pick
+  listed-other h e = rw (not-text t h) e
