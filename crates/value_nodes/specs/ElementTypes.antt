@@ -2,33 +2,41 @@
 --     typeWords         the names, in the types' order, `unknown` last
 --     element-type-is   the type of a name, by the name's place among them
 --     TypeNamed         the contract of `element_type`;   type-there, type-nowhere: its answers
---     Typing            a walk to the first child that is named as a type
+--     firsts            the rules of a walk to the first child that is named as a type
+--     property-types    the rules for the type of a property's value
 use Prim.{Unit, tt}
-use mathlib.Core.Path.{_≡_, refl, sym, ap, _∙_}
+use mathlib.Core.Path.{_≡_, refl, sym, ap, subst, _∙_}
 use mathlib.Core.Bool.{Bool, true, false, false≢true}
 use mathlib.Core.List.{List, [], _∷_, map}
 use mathlib.Core.Option.{Option, none, some}
 use Prim.Native.Nat.{ℕ, zero, suc, _≤_, _<_}
 use native.Mathlib.Omega.{arith}
-use lib.Dec.{eqb, ltb}
-use lib.ListN.{length, getD, List·getD-eq-default}
+use lib.Dec.{eqb, leb}
+use lib.ListN.{length, getD, take}
+use lib.Seq.{take-all}
 use borrow.Author.Needs.{needs}
-use borrow.Author.Tests.{eq-eqb, ne-eqb, lt-ltb, le-ltb}
+use borrow.Author.Tests.{eq-eqb, ne-eqb, leb-true}
 use Rattle.octets.specs.Ascii.{ascii}
 use Rattle.octets.specs.Pick.{pick, _or_}
 use Rattle.octets.specs.Class.{upper, lower}
 use Rattle.octets.specs.Words.{same, isOneOf, same-self, same-true}
 use Rattle.octets.specs.Reading.{readOr}
 use Rattle.octets.specs.Computing.{octets-compute}
+use Rattle.source.specs.Source.{rest}
 use Rattle.names.specs.Table.{placeOf, namesIn}
 use Rattle.names.specs.Known.{by-place, unknown-word}
 use Rattle.model.specs.Calendar.{ValueType, UNKNOWN}
 use Rattle.schema.specs.Types.{typeName, valueTypes, typeNamed, typePlace, type-named-is, type-passes, place-type}
-use Rattle.schema.specs.Properties.{propertyNames, defaultType, propertyRow}
+use Rattle.schema.specs.Properties.{PropertyRow, propertyNames, defaultType}
 use Rattle.schema.specs.Numbers.{typeAt, propertyAt, property-place, same-place}
-use Rattle.xml.specs.Nodes.{Nodes, noNodes, element, literal, referred}
+use Rattle.xml.specs.Nodes.{Nodes}
 use Rattle.xcal.specs.ElementNames.{lower-upper, no-capital}
-use Rattle.xcal.specs.ValueNodes.{elementType, hasOwnChildren, firstType, typeOfNodes}
+use Rattle.xcal.specs.ValueNodes.{elementType, firstType, typeOfNodes}
+use Rattle.value_nodes.specs.NodesAt.{nodesAt}
+use Rattle.value_nodes.specs.NodeFound.{NodeAt, node-none, node-element, node-literal, node-referred, element-less, literal-less, referred-less}
+use Rattle.value_nodes.specs.Walks.{Passing, passing-start}
+use Rattle.value_nodes.specs.declared.nodes.Node.{Node}
+use Rattle.value_nodes.specs.declared.nodes.NodeKind.the-variants.{None, Element, Literal, Referred}
 use Rattle.value_nodes.specs.declared.Named.{Named}
 use Rattle.value_nodes.specs.declared.Named.the-variants.{«Type» as Typed, Bad}
 
@@ -112,3 +120,100 @@ module _ (n : List ℕ) {t : ℕ} (e : t ≡ placeOf n typeWords) where
 
   pub type-nowhere : 15 ≤ t → TypeNamed n Bad
   type-nowhere h = record { is = no-type n (rw (← e) h); small = tt }
+
+pub place-at : (t : ℕ) → t ≤ 14 → typePlace (typeAt t) ≡ t
+place-at zero h = refl
+place-at (suc zero) h = refl
+place-at (suc (suc zero)) h = refl
+place-at (suc (suc (suc zero))) h = refl
+place-at (suc (suc (suc (suc zero)))) h = refl
+place-at (suc (suc (suc (suc (suc zero))))) h = refl
+place-at (suc (suc (suc (suc (suc (suc zero)))))) h = refl
+place-at (suc (suc (suc (suc (suc (suc (suc zero))))))) h = refl
+place-at (suc (suc (suc (suc (suc (suc (suc (suc zero)))))))) h = refl
+place-at (suc (suc (suc (suc (suc (suc (suc (suc (suc zero))))))))) h = refl
+place-at (suc (suc (suc (suc (suc (suc (suc (suc (suc (suc zero)))))))))) h = refl
+place-at (suc (suc (suc (suc (suc (suc (suc (suc (suc (suc (suc zero))))))))))) h = refl
+place-at (suc (suc (suc (suc (suc (suc (suc (suc (suc (suc (suc (suc zero)))))))))))) h = refl
+place-at (suc (suc (suc (suc (suc (suc (suc (suc (suc (suc (suc (suc (suc zero))))))))))))) h = refl
+place-at (suc (suc (suc (suc (suc (suc (suc (suc (suc (suc (suc (suc (suc (suc zero)))))))))))))) h = refl
+place-at (suc (suc (suc (suc (suc (suc (suc (suc (suc (suc (suc (suc (suc (suc (suc t))))))))))))))) h = absurd (omega arith)
+
+place-known : (t : ValueType) → typePlace t ≤ 14
+unfolding octets-compute
+place-known t = leb-true _ _ (type-passes (λ u. leb (typePlace u) 14) refl t)
+
+-- a name that is cut behind the end of the bytes
+pub cut-whole : (ws : List (List ℕ)) (s : List ℕ) (a e : ℕ) {r : ℕ} → length s ≤ e → r ≡ placeOf (rest 0 s a) ws → r ≡ placeOf (rest 0 (take e s) a) ws
+cut-whole ws s a e h q = q ∙ ap (λ (x : List ℕ). placeOf (rest 0 x a) ws) (sym (take-all e s h))
+
+pub ruleset naming = (type-there, type-nowhere, cut-whole, needs)
+
+-- ---- the first child that is named as a type
+
+module _ {t : ℕ} {s : List ℕ} {from at : ℕ} {r : Node} (p : Passing (firstType (typeAt t)) s from at) (n : NodeAt s at r) where
+  pub first-none : r .kind ≡ None → t ≤ 14 → (typeAt t ≡ firstType (typeAt t) (nodesAt s from)) × (t ≤ 14)
+  unfolding firstType
+  first-none q h = (sym (p .is ∙ ap (firstType (typeAt t)) (node-none n q)), h)
+
+  pub first-literal : r .kind ≡ Literal → Passing (firstType (typeAt t)) s from (r .next)
+  unfolding firstType
+  first-literal q = record { is = p .is ∙ ap (firstType (typeAt t)) (node-literal n q) }
+
+  pub first-referred : r .kind ≡ Referred → Passing (firstType (typeAt t)) s from (r .next)
+  unfolding firstType
+  first-referred q = record { is = p .is ∙ ap (firstType (typeAt t)) (node-referred n q) }
+
+  module _ (q : r .kind ≡ Element) {m : Named} (d : TypeNamed (rest 0 (take (r .«name_end») s) (r .name)) m) where
+    pub first-here : {u : ℕ} → m ≡ Typed u → (typeAt u ≡ firstType (typeAt t) (nodesAt s from)) × (u ≤ 14)
+    unfolding firstType readOr
+    first-here {u} z =
+        let f : TypeNamed (rest 0 (take (r .«name_end») s) (r .name)) (Typed u) = subst (TypeNamed _) z d in
+        (sym (p .is ∙ ap (firstType (typeAt t)) (node-element n q) ∙ rw (f .is)), f .small)
+
+    pub first-other : m ≡ Bad → Passing (firstType (typeAt t)) s from (r .next)
+    unfolding firstType readOr
+    first-other z =
+        let f : TypeNamed (rest 0 (take (r .«name_end») s) (r .name)) Bad = subst (TypeNamed _) z d in
+        record { is = p .is ∙ ap (firstType (typeAt t)) (node-element n q) ∙ rw (f .is) }
+
+pub ruleset firsts = (passing-start, first-none, first-literal, first-referred, first-here, first-other, element-less, literal-less, referred-less, needs)
+
+-- ---- the type of a property's value
+
+pub geo-place : (w : List ℕ) → same w (ascii "GEO") ≡ eqb (placeOf w propertyNames) 9
+unfolding octets-compute placeOf
+geo-place w = same-place w (ascii "GEO") propertyNames refl
+
+pub request-status-place : (w : List ℕ) → same w (ascii "REQUEST-STATUS") ≡ eqb (placeOf w propertyNames) 45
+unfolding octets-compute placeOf
+request-status-place w = same-place w (ascii "REQUEST-STATUS") propertyNames refl
+
+module _ {p t : ℕ} (kids : Nodes) (e : t ≡ typePlace (propertyAt p .default)) where
+  default-as : (w : List ℕ) → p ≡ placeOf w propertyNames → typeAt t ≡ defaultType w
+  default-as w h = rw (e, place-type (propertyAt p .default), h) (ap (λ (r : PropertyRow). r .default) (sym (property-place w)))
+
+  default-known : t ≤ 14
+  default-known = rw e (place-known (propertyAt p .default))
+
+  pub of-geo : p ≡ 9 → ((w : List ℕ) → p ≡ placeOf w propertyNames → typeAt t ≡ typeOfNodes w kids) × (t ≤ 14)
+  unfolding typeOfNodes pick _or_
+  of-geo h = (λ w y. default-as w y ∙ rw (geo-place w, eq-eqb (placeOf w propertyNames) 9 (sym y ∙ h)), default-known)
+
+  pub of-status : p ≡ 45 → ((w : List ℕ) → p ≡ placeOf w propertyNames → typeAt t ≡ typeOfNodes w kids) × (t ≤ 14)
+  unfolding typeOfNodes pick _or_
+  of-status h = (λ w y. default-as w y ∙ rw (request-status-place w, eq-eqb (placeOf w propertyNames) 45 (sym y ∙ h)) (own (same w (ascii "GEO")) w), default-known)
+    where
+      own : (b : Bool) (w : List ℕ) → defaultType w ≡ pick (b or true) (defaultType w) (firstType (defaultType w) kids)
+      own true w = refl
+      own false w = refl
+
+  pub of-first : {r : ℕ} → (p ≡ 9 → ⊥) → (p ≡ 45 → ⊥) → (typeAt r ≡ firstType (typeAt t) kids) × (r ≤ 14) → ((w : List ℕ) → p ≡ placeOf w propertyNames → typeAt r ≡ typeOfNodes w kids) × (r ≤ 14)
+  unfolding typeOfNodes pick _or_
+  of-first g h q = (λ w y. q .0 ∙ rw (geo-place w, ne-eqb (placeOf w propertyNames) 9 (λ z. g (y ∙ z)), request-status-place w, ne-eqb (placeOf w propertyNames) 45 (λ z. h (y ∙ z)), default-as w y), q .1)
+
+-- a type has a number up to 14
+pub type-small : {t : ℕ} (u : ValueType) → t ≡ typePlace u → t ≤ 14
+type-small u e = rw e (place-known u)
+
+pub ruleset property-types = (type-small, of-geo, of-status, of-first, needs)

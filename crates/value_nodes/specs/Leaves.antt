@@ -4,34 +4,20 @@
 use mathlib.Core.Path.{_≡_, refl, sym, ap, _∙_}
 use mathlib.Core.Bool.{Bool, true, false}
 use mathlib.Core.List.{List}
-use mathlib.Core.Option.{Option, none, some, Option·map}
 use Prim.Native.Nat.{ℕ, _*_}
 use borrow.Author.Needs.{needs}
 use Rattle.octets.specs.Pick.{pick}
-use Rattle.octets.specs.Reading.{isRead}
-use Rattle.model.specs.Refusal.{VALUE, FRAME, Verdict, fine, refuse, _otherwise_}
+use Rattle.model.specs.Refusal.{VALUE, Verdict, fine, refuse, _otherwise_}
 use Rattle.source.specs.Source.{rest}
-use Rattle.values.specs.ValueAt.{isGood}
-use Rattle.values.specs.declared.ValueRead.{ValueRead}
-use Rattle.values.specs.declared.ValueRead.the-variants.{Good, Bad}
 use Rattle.xml.specs.Nodes.{Nodes}
 use Rattle.xcal.specs.Layout.{innerElement, leaf}
 use Rattle.value_nodes.specs.NodesAt.{nodesAt, characters-at}
-use Rattle.value_nodes.specs.Judging.{judgedAs, refusalAt}
+use Rattle.value_nodes.specs.Judging.{judgedAs, is-value}
 use Rattle.value_nodes.specs.declared.nodes.Judged.{Judged}
 use Rattle.value_nodes.specs.declared.nodes.Judged.the-variants.{Fine, Refused}
 
 abbrev pub leafBy : Bool → ℕ → Nodes → Verdict
 leafBy ok p kids = innerElement kids otherwise pick ok fine (refuse VALUE p)
-
--- 8 is VALUE, 6 is FRAME
-pub is-value : (p : ℕ) → judgedAs (Refused 8 p) ≡ refuse VALUE p
-unfolding refusalAt
-is-value p = refl
-
-pub is-frame : (p : ℕ) → judgedAs (Refused 6 p) ≡ refuse FRAME p
-unfolding refusalAt
-is-frame p = refl
 
 module _ {ok : Bool} (p : ℕ) where
   pub tested-yes : ok ≡ true → judgedAs Fine ≡ pick ok fine (refuse VALUE p)
@@ -54,19 +40,5 @@ module _ (ok : Bool) (p : ℕ) (kids : Nodes) {j : Judged} (e : innerElement kid
 -- the characters are those from the cursor on
 pub leaf-as : (good : List ℕ → Bool) (s : List ℕ) (p q : ℕ) {ok : Bool} {v : Verdict} → ok ≡ good (rest 1 s (4 * q)) → v ≡ leafBy ok p (nodesAt s q) → v ≡ leaf good p (nodesAt s q)
 leaf-as good s p q e h = h ∙ rw (e, characters-at s q)
-
--- an answer of read_value
-module _ {b : Bool} {v : ValueRead} (e : b ≡ isGood v) where
-  pub good-yes : {n : ℕ} → v ≡ Good n → true ≡ b
-  good-yes h = sym (e ∙ rw h)
-
-  pub good-no : v ≡ Bad → false ≡ b
-  good-no h = sym (e ∙ rw h)
-
--- what was read, made into another thing
-pub mapped : {A B : Type 0} (g : A → B) (o : Option A) → isRead (Option·map g o) ≡ isRead o
-unfolding isRead
-mapped g none = refl
-mapped g (some a) = refl
 
 pub ruleset leaves = (tested-yes, tested-no, leaf-fine, leaf-inner, needs)

@@ -9,6 +9,7 @@ pub mod Sequencing
 pub mod NodesAt
 pub mod NodeFound
 pub mod Judging
+pub mod Walks
 pub mod Leaves
 pub mod ElementTypes
 pub mod Parts

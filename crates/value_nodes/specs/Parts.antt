@@ -30,12 +30,12 @@ use Rattle.times.specs.Duration.{readDuration}
 use Rattle.recur.specs.Parts.{partNames}
 use Rattle.recur.specs.Item.{readItem}
 use Rattle.values.specs.ReadValue.{readValue}
+use Rattle.values.specs.ValueAt.{mapped}
 use Rattle.xml.specs.Nodes.{Nodes, charactersOf}
 use Rattle.xcal.specs.Layout.{Slot, slotOf, afterSlot, leaf}
 use Rattle.xcal.specs.ValueNodes.{periodSlots, periodInside, recurSlots, recurInside}
 use Rattle.value_nodes.specs.Sequencing.{fillings, filled, marked, isShort, slot-place}
-use Rattle.value_nodes.specs.Leaves.{mapped, is-frame}
-use Rattle.value_nodes.specs.Judging.{judgedAs}
+use Rattle.value_nodes.specs.Judging.{judgedAs, is-frame}
 use Rattle.value_nodes.specs.declared.nodes.Judged.the-variants.{Fine, Refused}
 use Rattle.value_nodes.specs.declared.parts.After.{After}
 use Rattle.value_nodes.specs.declared.parts.After.the-variants.{Slot as Then, Nowhere}
@@ -156,12 +156,9 @@ parts-upper : map upper recurNames ≡ partNames
 unfolding octets-compute
 parts-upper = refl
 
-none-upper : upper [] ≡ []
-unfolding upper
-none-upper = refl
-
 part-upper : (n : List ℕ) → placeOf n recurNames < 14 → upper n ≡ getD partNames (placeOf n recurNames) []
-part-upper n h = ?
+unfolding upper
+part-upper n h = ap upper (word-at n recurNames h) ∙ sym (List·getD-map upper recurNames (placeOf n recurNames) []) ∙ ap (λ (l : List (List ℕ)). getD l (placeOf n recurNames) []) parts-upper
 
 duration-place : (n : List ℕ) → same n (ascii "duration") ≡ eqb (placeOf n periodNames) 2
 unfolding octets-compute placeOf

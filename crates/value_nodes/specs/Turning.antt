@@ -22,9 +22,8 @@ use Rattle.xml.specs.Nodes.{Nodes}
 use Rattle.xcal.specs.Layout.{slotOf, afterSlot, admitted, unexpected, sequence}
 use Rattle.value_nodes.specs.Sequencing.{isShort, walked, walked-none, walked-space, walked-text, walked-referred, walked-element, sequence-walked, marked}
 use Rattle.value_nodes.specs.NodesAt.{nodesAt}
-use Rattle.value_nodes.specs.NodeFound.{NodeAt, node-none, node-element, node-literal, node-referred}
-use Rattle.value_nodes.specs.Judging.{judgedAs}
-use Rattle.value_nodes.specs.Leaves.{is-frame}
+use Rattle.value_nodes.specs.NodeFound.{NodeAt, node-none, node-element, node-literal, node-referred, element-onward, literal-onward}
+use Rattle.value_nodes.specs.Judging.{judgedAs, is-frame}
 use Rattle.value_nodes.specs.Parts.{namesOf, slotsOf, insideOf, afterAt, afterOf, after-is, after-known, insideAt, inside-is, flagsOf, flags-start, flags-more}
 use Rattle.value_nodes.specs.declared.nodes.Node.{Node}
 use Rattle.value_nodes.specs.declared.nodes.NodeKind.the-variants.{None, Element, Literal, Referred}
@@ -96,7 +95,7 @@ module _ (rule : Bool) {s : List ℕ} (e : ℕ) {c : ℕ} (next : ℕ) (f g : Bo
   turn-literal {t} h q = go (isSpace (r .unit)) refl q
     where
       go : (b : Bool) → isSpace (r .unit) ≡ b → t ≡ pick b (Goes (r .next) next f g) (Ends (Refused 6 c)) → Turns rule s e c next f g t
-      go true z k = rw k (record { is = walked-space (slotsOf rule) (insideOf rule) next (flagsOf rule f g) e (node-literal m h) z; onward = (m .onward (λ y. let w : _≡_ {A = ℕ} 0 1 = cc in omega arith), m .within) })
+      go true z k = rw k (record { is = walked-space (slotsOf rule) (insideOf rule) next (flagsOf rule f g) e (node-literal m h) z; onward = (literal-onward m h, m .next-within) })
       go false z k = rw k (record { is = walked-text (slotsOf rule) (insideOf rule) next (flagsOf rule f g) e (node-literal m h) z ∙ sym (is-frame c); onward = tt })
 
   module _ (h : r .kind ≡ Element) {i : ℕ} (at : i ≡ placeOf (rest 0 (take (r .«name_end») s) (r .name)) (namesOf rule))
@@ -108,7 +107,7 @@ module _ (rule : Bool) {s : List ℕ} (e : ℕ) {c : ℕ} (next : ℕ) (f g : Bo
     pub turn-good : {k : ℕ} {f′ g′ : Bool} → q ≡ Good k → f′ ≡ (eqb i 0 or f) → g′ ≡ (eqb i 1 or eqb i 2 or g) → Turns rule s e c next f g (Goes (r .next) k f′ g′)
     turn-good {k} z a b = record {
       is = at-child ∙ rw (z, flags-more rule (rest 0 (take (r .«name_end») s) (r .name)) f g, ← at, ← a, ← b);
-      onward = (m .onward (λ y. let w : _≡_ {A = ℕ} 0 1 = cc in omega arith), m .within);
+      onward = (element-onward m h .0, m .next-within);
     }
 
     pub turn-stops : {j : Judged} → q ≡ Stops j → Turns rule s e c next f g (Ends j)
