@@ -13,7 +13,7 @@ use Prim.Native.Nat.{ℕ, zero, suc, _≤_, _<_}
 use native.Mathlib.Omega.{arith}
 use lib.Dec.{eqb, leb}
 use lib.ListN.{length, getD, take}
-use lib.Seq.{take-all}
+use lib.Seq.{take-all, length-take-le}
 use borrow.Author.Needs.{needs}
 use borrow.Author.Tests.{eq-eqb, ne-eqb, leb-true}
 use Rattle.octets.specs.Ascii.{ascii}
@@ -144,38 +144,38 @@ unfolding octets-compute
 place-known t = leb-true _ _ (type-passes (λ u. leb (typePlace u) 14) refl t)
 
 -- a name that is cut behind the end of the bytes
-pub cut-whole : (ws : List (List ℕ)) (s : List ℕ) (a e : ℕ) {r : ℕ} → length s ≤ e → r ≡ placeOf (rest 0 s a) ws → r ≡ placeOf (rest 0 (take e s) a) ws
-cut-whole ws s a e h q = q ∙ ap (λ (x : List ℕ). placeOf (rest 0 x a) ws) (sym (take-all e s h))
+pub cut-whole : (ws : List (List ℕ)) (s : List ℕ) (a e : ℕ) {r : ℕ} → length s < e → r ≡ placeOf (rest 0 s a) ws → r ≡ placeOf (rest 0 (take e s) a) ws
+cut-whole ws s a e h q = q ∙ ap (λ (x : List ℕ). placeOf (rest 0 x a) ws) (sym (take-all e s (omega arith)))
 
-pub ruleset naming = (type-there, type-nowhere, cut-whole, needs)
+pub ruleset naming = (type-there, type-nowhere, cut-whole, length-take-le, needs)
 
 -- ---- the first child that is named as a type
 
-module _ {t : ℕ} {s : List ℕ} {from at : ℕ} {r : Node} (p : Passing (firstType (typeAt t)) s from at) (n : NodeAt s at r) where
-  pub first-none : r .kind ≡ None → t ≤ 14 → (typeAt t ≡ firstType (typeAt t) (nodesAt s from)) × (t ≤ 14)
+module _ (t : ValueType) {s : List ℕ} {from at : ℕ} {r : Node} (p : Passing (firstType t) s from at) (n : NodeAt s at r) where
+  pub first-none : r .kind ≡ None → t ≡ firstType t (nodesAt s from)
   unfolding firstType
-  first-none q h = (sym (p .is ∙ ap (firstType (typeAt t)) (node-none n q)), h)
+  first-none q = sym (p .is ∙ ap (firstType t) (node-none n q))
 
-  pub first-literal : r .kind ≡ Literal → Passing (firstType (typeAt t)) s from (r .next)
+  pub first-literal : r .kind ≡ Literal → Passing (firstType t) s from (r .next)
   unfolding firstType
-  first-literal q = record { is = p .is ∙ ap (firstType (typeAt t)) (node-literal n q) }
+  first-literal q = record { is = p .is ∙ ap (firstType t) (node-literal n q) }
 
-  pub first-referred : r .kind ≡ Referred → Passing (firstType (typeAt t)) s from (r .next)
+  pub first-referred : r .kind ≡ Referred → Passing (firstType t) s from (r .next)
   unfolding firstType
-  first-referred q = record { is = p .is ∙ ap (firstType (typeAt t)) (node-referred n q) }
+  first-referred q = record { is = p .is ∙ ap (firstType t) (node-referred n q) }
 
   module _ (q : r .kind ≡ Element) {m : Named} (d : TypeNamed (rest 0 (take (r .«name_end») s) (r .name)) m) where
-    pub first-here : {u : ℕ} → m ≡ Typed u → (typeAt u ≡ firstType (typeAt t) (nodesAt s from)) × (u ≤ 14)
+    pub first-here : {u : ℕ} → m ≡ Typed u → (typeAt u ≡ firstType t (nodesAt s from)) × (u ≤ 14)
     unfolding firstType readOr
     first-here {u} z =
         let f : TypeNamed (rest 0 (take (r .«name_end») s) (r .name)) (Typed u) = subst (TypeNamed _) z d in
-        (sym (p .is ∙ ap (firstType (typeAt t)) (node-element n q) ∙ rw (f .is)), f .small)
+        (sym (p .is ∙ ap (firstType t) (node-element n q) ∙ rw (f .is)), f .small)
 
-    pub first-other : m ≡ Bad → Passing (firstType (typeAt t)) s from (r .next)
+    pub first-other : m ≡ Bad → Passing (firstType t) s from (r .next)
     unfolding firstType readOr
     first-other z =
         let f : TypeNamed (rest 0 (take (r .«name_end») s) (r .name)) Bad = subst (TypeNamed _) z d in
-        record { is = p .is ∙ ap (firstType (typeAt t)) (node-element n q) ∙ rw (f .is) }
+        record { is = p .is ∙ ap (firstType t) (node-element n q) ∙ rw (f .is) }
 
 pub ruleset firsts = (passing-start, first-none, first-literal, first-referred, first-here, first-other, element-less, literal-less, referred-less, needs)
 
@@ -189,7 +189,7 @@ pub request-status-place : (w : List ℕ) → same w (ascii "REQUEST-STATUS") �
 unfolding octets-compute placeOf
 request-status-place w = same-place w (ascii "REQUEST-STATUS") propertyNames refl
 
-module _ {p t : ℕ} (kids : Nodes) (e : t ≡ typePlace (propertyAt p .default)) where
+module _ (p : ℕ) {t : ℕ} (kids : Nodes) (e : t ≡ typePlace (propertyAt p .default)) where
   default-as : (w : List ℕ) → p ≡ placeOf w propertyNames → typeAt t ≡ defaultType w
   default-as w h = rw (e, place-type (propertyAt p .default), h) (ap (λ (r : PropertyRow). r .default) (sym (property-place w)))
 

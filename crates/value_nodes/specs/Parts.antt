@@ -3,7 +3,7 @@
 --     afterAt, after-is             the slot after a child, by the number of its name
 --     insideAt, inside-is           the verdict on its content, by that number
 --     flagsOf, flags-start, flags-more    the slots that must be filled: the first, and of PERIOD the second
---     parting                       the rules of the code
+--     slots, parting                the rules of the code
 use mathlib.Core.Path.{_≡_, refl, sym, ap, _∙_}
 use mathlib.Core.Bool.{Bool, true, false}
 use mathlib.Core.List.{List, [], _∷_, map}
@@ -13,14 +13,14 @@ use native.Mathlib.Omega.{arith}
 use lib.Dec.{eqb, ltb}
 use lib.ListN.{length, getD, List·getD-map}
 use borrow.Author.Needs.{needs}
-use borrow.Author.Tests.{eq-eqb, ne-eqb, le-ltb, ltb-true}
+use borrow.Author.Tests.{eq-eqb, ne-eqb, lt-ltb, le-ltb, ltb-true}
 use Rattle.octets.specs.Ascii.{ascii}
 use Rattle.octets.specs.Pick.{pick, _and_, _or_, within}
 use Rattle.octets.specs.Class.{upper}
 use Rattle.octets.specs.Words.{same, isOneOf}
 use Rattle.octets.specs.Reading.{isRead}
 use Rattle.octets.specs.Computing.{octets-compute}
-use Rattle.names.specs.Table.{placeOf, namesIn}
+use Rattle.names.specs.Table.{placeOf, namesIn, by-table}
 use Rattle.names.specs.Known.{word-at}
 use Rattle.model.specs.Calendar.{xcal, DATE-TIME, DURATION, duration, dateTime}
 use Rattle.model.specs.Refusal.{FRAME, Verdict, fine, refuse}
@@ -64,13 +64,20 @@ abbrev pub countOf : Bool → ℕ
 countOf true = 14
 countOf false = 3
 
-pub recur-names-are : namesIn (ascii "freq\nuntil\ncount\ninterval\nbysecond\nbyminute\nbyhour\nbyday\nbymonthday\nbyyearday\nbyweekno\nbymonth\nbysetpos\nwkst\n") ≡ recurNames
+recur-names-are : namesIn (ascii "freq\nuntil\ncount\ninterval\nbysecond\nbyminute\nbyhour\nbyday\nbymonthday\nbyyearday\nbyweekno\nbymonth\nbysetpos\nwkst\n") ≡ recurNames
 unfolding namesIn pick
 recur-names-are = refl
 
-pub period-names-are : namesIn (ascii "start\nend\nduration\n") ≡ periodNames
+period-names-are : namesIn (ascii "start\nend\nduration\n") ≡ periodNames
 unfolding namesIn pick
 period-names-are = refl
+
+pub named-rule : (w : List ℕ) {r : ℕ} {rule : Bool} → rule ≡ true →
+    r ≡ placeOf w (namesIn (ascii "freq\nuntil\ncount\ninterval\nbysecond\nbyminute\nbyhour\nbyday\nbymonthday\nbyyearday\nbyweekno\nbymonth\nbysetpos\nwkst\n")) → r ≡ placeOf w (namesOf rule)
+named-rule w h e = rw h (by-table w recur-names-are e)
+
+pub named-period : (w : List ℕ) {r : ℕ} {rule : Bool} → rule ≡ false → r ≡ placeOf w (namesIn (ascii "start\nend\nduration\n")) → r ≡ placeOf w (namesOf rule)
+named-period w h e = rw h (by-table w period-names-are e)
 
 -- ---- the slot of a child
 
@@ -145,6 +152,33 @@ after-known rule i next k e = go (ltb i (countOf rule)) refl e
     go : (t : Bool) → ltb i (countOf rule) ≡ t → pick t (pick (ltb (slotNumber i) next) Nowhere (pick (within 4 12 i) (Then (slotNumber i)) (Then (slotNumber i + 1)))) Nowhere ≡ Then k → i < countOf rule
     go true h q = ltb-true i (countOf rule) h
     go false h q = let z : _≡_ {A = ℕ} 0 1 = cc in absurd (omega arith)
+
+pub slot-early : (i : ℕ) → i < 2 → (i ≡ slotNumber i) × (i ≤ i)
+unfolding pick
+slot-early i h = rw (lt-ltb i 2 h) (refl, omega arith)
+
+pub slot-late : (i : ℕ) → 2 ≤ i → (i - 1 ≡ slotNumber i) × (i - 1 ≤ i)
+unfolding pick
+slot-late i h = rw (le-ltb i 2 h) (refl, omega arith)
+
+module _ (rule : Bool) {i n : ℕ} (next : ℕ) (e : n ≡ countOf rule) where
+  pub after-out : n ≤ i → Nowhere ≡ afterAt rule i next
+  unfolding pick
+  after-out h = rw (← e, le-ltb i n h)
+
+  module _ {k : ℕ} (h : i < n) (q : k ≡ slotNumber i) where
+    pub after-passed : k < next → Nowhere ≡ afterAt rule i next
+    unfolding pick
+    after-passed l = rw (← e, lt-ltb i n h, ← q, lt-ltb k next l)
+
+    module _ {b : Bool} (l : next ≤ k) (t : b ≡ within 4 12 i) where
+      pub after-several : b ≡ true → Then k ≡ afterAt rule i next
+      unfolding pick
+      after-several f = rw (← e, lt-ltb i n h, ← q, le-ltb k next l, ← t, f)
+
+      pub after-one : b ≡ false → Then (k + 1) ≡ afterAt rule i next
+      unfolding pick
+      after-one f = rw (← e, lt-ltb i n h, ← q, le-ltb k next l, ← t, f)
 
 -- ---- what stands in a child
 
@@ -246,4 +280,6 @@ unfolding octets-compute isShort
 end-first e true second h = rw h (is-frame e)
 end-first e false second h = rw h (is-frame e)
 
-pub ruleset parting = (part-rule, part-duration, part-moment, end-rule, end-both, end-second, end-first, needs)
+pub ruleset slots = (slot-early, slot-late, after-out, after-passed, after-several, after-one, needs)
+
+pub ruleset parting = (named-rule, named-period, part-rule, part-duration, part-moment, end-rule, end-both, end-second, end-first, needs)

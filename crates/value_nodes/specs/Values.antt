@@ -9,7 +9,7 @@ use Prim.Native.Nat.{ℕ, _≤_}
 use lib.Dec.{eqb}
 use borrow.Author.Needs.{needs}
 use borrow.Author.Tests.{eq-eqb, ne-eqb}
-use Rattle.octets.specs.Pick.{pick, _and_}
+use Rattle.octets.specs.Pick.{pick, _and_, branching-joined}
 use Rattle.octets.specs.Reading.{isRead}
 use Rattle.names.specs.Table.{placeOf}
 use Rattle.model.specs.Calendar.{xcal, ValueType, FLOAT, float}
@@ -108,5 +108,7 @@ module _ {k p : ℕ} (t place : ℕ) (n : List ℕ) (e : ℕ) (kids : Nodes) whe
           sym (other-as c w place n e kids (λ i. g (y ∙ i)) (typeAt t) (λ i. h (y ∙ i)) ∙ rw (f .is) (sym (is-value place)))
 
 pub ruleset typing = (typed-word, typed-other, needs)
+
+pub ruleset verdicts = (is-value, branching-joined)
 
 pub ruleset valuing = (value-geo, value-status, value-typed, value-bad, needs)

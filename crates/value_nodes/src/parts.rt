@@ -65,7 +65,7 @@ fn part_word(rule: bool, s: &[u8], at: usize) -> usize
 fn part_place(rule: bool, s: &[u8], name: usize, name_end: usize) -> usize
     ensures { λ r. ⌜ r ≡ placeOf (rest 0 (take «name_end» (now (s .entry))) name) (namesOf rule) ⌝ }
 {
-    if name_end < s.len() {
+    if name_end <= s.len() {
         return part_word(rule, &s[..name_end], name);
     }
     part_word(rule, s, name)
@@ -73,7 +73,7 @@ fn part_place(rule: bool, s: &[u8], name: usize, name_end: usize) -> usize
 
 // The slot of the child of the number `i`.
 fn slot_number(i: usize) -> usize
-    ensures { λ r. ⌜ r ≡ slotNumber i ⌝ }
+    ensures { λ r. ⌜ (r ≡ slotNumber i) × (r ≤ i) ⌝ }
 {
     if i < 2 {
         return i;
