@@ -149,6 +149,9 @@ cut-whole ws s a e h q = q ∙ ap (λ (x : List ℕ). placeOf (rest 0 x a) ws) (
 
 pub ruleset naming = (type-there, type-nowhere, cut-whole, length-take-le, needs)
 
+pub named-small : {n : List ℕ} {m : Named} → TypeNamed n m → {u : ℕ} → m ≡ Typed u → u ≤ 14
+named-small {n} d z = subst (TypeNamed n) z d .small
+
 -- ---- the first child that is named as a type
 
 module _ (t : ValueType) {s : List ℕ} {from at : ℕ} {r : Node} (p : Passing (firstType t) s from at) (n : NodeAt s at r) where
@@ -165,11 +168,11 @@ module _ (t : ValueType) {s : List ℕ} {from at : ℕ} {r : Node} (p : Passing 
   first-referred q = record { is = p .is ∙ ap (firstType t) (node-referred n q) }
 
   module _ (q : r .kind ≡ Element) {m : Named} (d : TypeNamed (rest 0 (take (r .«name_end») s) (r .name)) m) where
-    pub first-here : {u : ℕ} → m ≡ Typed u → (typeAt u ≡ firstType t (nodesAt s from)) × (u ≤ 14)
+    pub first-here : {u : ℕ} → m ≡ Typed u → typeAt u ≡ firstType t (nodesAt s from)
     unfolding firstType readOr
     first-here {u} z =
         let f : TypeNamed (rest 0 (take (r .«name_end») s) (r .name)) (Typed u) = subst (TypeNamed _) z d in
-        (sym (p .is ∙ ap (firstType t) (node-element n q) ∙ rw (f .is)), f .small)
+        sym (p .is ∙ ap (firstType t) (node-element n q) ∙ rw (f .is))
 
     pub first-other : m ≡ Bad → Passing (firstType t) s from (r .next)
     unfolding firstType readOr
@@ -177,7 +180,7 @@ module _ (t : ValueType) {s : List ℕ} {from at : ℕ} {r : Node} (p : Passing 
         let f : TypeNamed (rest 0 (take (r .«name_end») s) (r .name)) Bad = subst (TypeNamed _) z d in
         record { is = p .is ∙ ap (firstType t) (node-element n q) ∙ rw (f .is) }
 
-pub ruleset firsts = (passing-start, first-none, first-literal, first-referred, first-here, first-other, element-less, literal-less, referred-less, needs)
+pub ruleset firsts = (passing-start, first-none, first-literal, first-referred, first-here, first-other, named-small, element-less, literal-less, referred-less, needs)
 
 -- ---- the type of a property's value
 
