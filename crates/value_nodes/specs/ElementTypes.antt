@@ -3,7 +3,7 @@
 --     element-type-is   the type of a name, by the name's place among them
 --     TypeNamed         the contract of `element_type`;   type-there, type-nowhere: its answers
 --     firsts            the rules of a walk to the first child that is named as a type
---     property-types    the rules for the type of a property's value
+--     of-geo, of-status, of-first    the type of a property's value
 use Prim.{Unit, tt}
 use mathlib.Core.Path.{_≡_, refl, sym, ap, subst, _∙_}
 use mathlib.Core.Bool.{Bool, true, false, false≢true}
@@ -219,4 +219,4 @@ module _ (p : ℕ) {t : ℕ} (kids : Nodes) (e : t ≡ typePlace (propertyAt p .
 pub type-small : {t : ℕ} (u : ValueType) → t ≡ typePlace u → t ≤ 14
 type-small u e = rw e (place-known u)
 
-pub ruleset property-types = (type-small, of-geo, of-status, of-first, needs)
+
