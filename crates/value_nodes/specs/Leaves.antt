@@ -45,17 +45,17 @@ module _ (ok : Bool) (p : ℕ) (kids : Nodes) {j : Judged} (e : innerElement kid
   leaf-inner h = rw (e, h)
 
 -- the characters are those from the cursor on
-leaf-as : (good : List ℕ → Bool) (s : List ℕ) (p q : ℕ) {ok : Bool} {v : Verdict} → ok ≡ good (rest 1 s (4 * q)) → v ≡ leafBy ok p (nodesAt s q) → v ≡ leaf good p (nodesAt s q)
+leaf-as : (good : List ℕ → Bool) (s : List ℕ) (p q : ℕ) {ok : Bool} {v : Verdict} → ok ≡ good (rest 1 s (2 * q)) → v ≡ leafBy ok p (nodesAt s q) → v ≡ leaf good p (nodesAt s q)
 leaf-as good s p q e h = h ∙ rw (e, characters-at s q)
 
 module _ (s : List ℕ) (p q : ℕ) {ok : Bool} {v : Verdict} where
-  pub leaf-value-as : (t : ValueType) → ok ≡ isRead (readValue xcal t (rest 1 s (4 * q))) → v ≡ leafBy ok p (nodesAt s q) → v ≡ leaf (λ l. isRead (readValue xcal t l)) p (nodesAt s q)
+  pub leaf-value-as : (t : ValueType) → ok ≡ isRead (readValue xcal t (rest 1 s (2 * q))) → v ≡ leafBy ok p (nodesAt s q) → v ≡ leaf (λ l. isRead (readValue xcal t l)) p (nodesAt s q)
   leaf-value-as t e h = leaf-as (λ l. isRead (readValue xcal t l)) s p q e h
 
-  pub leaf-word-as : (o : Option (List (List ℕ))) → ok ≡ isWordOf o (rest 1 s (4 * q)) → v ≡ leafBy ok p (nodesAt s q) → v ≡ leaf (λ l. isWordOf o l) p (nodesAt s q)
+  pub leaf-word-as : (o : Option (List (List ℕ))) → ok ≡ isWordOf o (rest 1 s (2 * q)) → v ≡ leafBy ok p (nodesAt s q) → v ≡ leaf (λ l. isWordOf o l) p (nodesAt s q)
   leaf-word-as o e h = leaf-as (λ l. isWordOf o l) s p q e h
 
-  pub leaf-item-as : (n : List ℕ) → ok ≡ isRead (readItem xcal n (rest 1 s (4 * q))) → v ≡ leafBy ok p (nodesAt s q) → v ≡ leaf (λ l. isRead (readItem xcal n l)) p (nodesAt s q)
+  pub leaf-item-as : (n : List ℕ) → ok ≡ isRead (readItem xcal n (rest 1 s (2 * q))) → v ≡ leafBy ok p (nodesAt s q) → v ≡ leaf (λ l. isRead (readItem xcal n l)) p (nodesAt s q)
   leaf-item-as n e h = leaf-as (λ l. isRead (readItem xcal n l)) s p q e h
 
 pub ruleset leaves = (tested-yes, tested-no, leaf-fine, leaf-inner, leaf-value-as, leaf-word-as, leaf-item-as, good-yes, good-no, needs)

@@ -10,5 +10,5 @@ use Rattle.xml.specs.Nodes.{Nodes, nodes, charactersOf}
 unfoldable pub nodesAt : List ℕ → ℕ → Nodes
 nodesAt s p = nodes (marks p (drop p s)) 0
 
-pub characters-at : (s : List ℕ) (p : ℕ) → rest 1 s (4 * p) ≡ charactersOf (nodesAt s p)
+pub characters-at : (s : List ℕ) (p : ℕ) → rest 1 s (2 * p) ≡ charactersOf (nodesAt s p)
 characters-at s p = ?

@@ -24,17 +24,18 @@ use Rattle.value_nodes.specs.Sequencing.{isShort, walked, walked-none, w
 use Rattle.value_nodes.specs.NodesAt.{nodesAt}
 use Rattle.value_nodes.specs.NodeFound.{NodeAt, node-none, node-element, node-literal, node-referred, element-onward, literal-onward}
 use Rattle.value_nodes.specs.Judging.{judgedAs, is-frame}
-use Rattle.value_nodes.specs.Parts.{namesOf, slotsOf, insideOf, afterAt, afterOf, after-is, after-known, insideAt, inside-is, flagsOf, flags-start, flags-more}
+use Rattle.value_nodes.specs.Parts.{namesOf, slotsOf, afterAt, afterOf, after-is, after-known}
+use Rattle.value_nodes.specs.PartContents.{insideOf, insideAt, inside-is, flagsOf, flags-start, flags-more}
 use Rattle.value_nodes.specs.declared.nodes.Node.{Node}
 use Rattle.value_nodes.specs.declared.nodes.NodeKind.the-variants.{None, Element, Literal, Referred}
 use Rattle.value_nodes.specs.declared.nodes.Judged.{Judged}
 use Rattle.value_nodes.specs.declared.nodes.Judged.the-variants.{Fine, Refused}
 use Rattle.value_nodes.specs.declared.parts.After.{After}
 use Rattle.value_nodes.specs.declared.parts.After.the-variants.{Slot as Then, Nowhere}
-use Rattle.value_nodes.specs.declared.parts.Tried.{Tried}
-use Rattle.value_nodes.specs.declared.parts.Tried.the-variants.{Good, Stops}
-use Rattle.value_nodes.specs.declared.parts.Next.{Next}
-use Rattle.value_nodes.specs.declared.parts.Next.the-variants.{Goes, Ends}
+use Rattle.value_nodes.specs.declared.turns.Tried.{Tried}
+use Rattle.value_nodes.specs.declared.turns.Tried.the-variants.{Good, Stops}
+use Rattle.value_nodes.specs.declared.turns.Next.{Next}
+use Rattle.value_nodes.specs.declared.turns.Next.the-variants.{Goes, Ends}
 
 -- ---- a child
 

@@ -48,9 +48,9 @@ pub fn leaf(ok: bool, s: &[u8], place: usize, inside: usize) -> Judged
 // The characters are a value of the type of the number `t`.
 fn is_value(t: usize, s: &[u8], inside: usize) -> bool
     requires { ⌜ (length (now s) ≤ 65535) × (inside ≤ length (now s)) ⌝ }
-    ensures { λ r. ⌜ r ≡ isRead (readValue xcal (typeAt t) (rest 1 (now (s .entry)) (4 * inside))) ⌝ }
+    ensures { λ r. ⌜ r ≡ isRead (readValue xcal (typeAt t) (rest 1 (now (s .entry)) (2 * inside))) ⌝ }
 {
-    let v = read_value(true, t, 1, s, 4 * inside);
+    let v = read_value(true, t, 1, s, 2 * inside);
     match v {
         ValueRead::Good(_) => true,
         ValueRead::Bad => false,
@@ -70,7 +70,7 @@ pub fn leaf_word(k: usize, p: usize, s: &[u8], place: usize, inside: usize) -> J
     requires { ⌜ (length (now s) ≤ 65535) × (inside ≤ length (now s)) ⌝ }
     ensures { λ r. ⌜ judgedAs r ≡ leaf (λ l. isWordOf (wordsAt k p) l) place (nodesAt (now (s .entry)) inside) ⌝ }
 {
-    let ok = is_word_of(k, p, true, 1, s, 4 * inside);
+    let ok = is_word_of(k, p, true, 1, s, 2 * inside);
     leaf(ok, s, place, inside)
 }
 
@@ -79,6 +79,6 @@ pub fn leaf_item(i: usize, s: &[u8], place: usize, inside: usize) -> Judged
     requires { ⌜ (length (now s) ≤ 65535) × (inside ≤ length (now s)) ⌝ }
     ensures { λ r. ⌜ judgedAs r ≡ leaf (λ l. isRead (readItem xcal (getD partNames i []) l)) place (nodesAt (now (s .entry)) inside) ⌝ }
 {
-    let ok = is_item(i, true, 1, s, 4 * inside);
+    let ok = is_item(i, true, 1, s, 2 * inside);
     leaf(ok, s, place, inside)
 }

@@ -2,6 +2,7 @@
 mod leaves;
 mod nodes;
 mod parts;
+mod turns;
 mod types;
 mod value;
 

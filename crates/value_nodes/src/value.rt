@@ -4,7 +4,7 @@ use crate::leaves::leaf;
 use crate::leaves::leaf_value;
 use crate::leaves::leaf_word;
 use crate::nodes::Judged;
-use crate::parts::parts_verdict;
+use crate::turns::parts_verdict;
 use crate::types::element_type;
 use schema::has_words;
 use schema::permits_type;

@@ -1,5 +1,5 @@
 -- `value_nodes::at_end` meets its contract.
-use Rattle.value_nodes.specs.Parts.{parting}
+use Rattle.value_nodes.specs.PartContents.{parting}
 use Rattle.value_nodes.proofs.parts.at_end.Statement.{statement}
 use Rattle.value_nodes.proofs.parts.at_end.Tie as tie
 

@@ -1,5 +1,5 @@
 -- `value_nodes::part_inside` meets its contract.
-use Rattle.value_nodes.specs.Parts.{parting}
+use Rattle.value_nodes.specs.PartContents.{parting}
 use Rattle.value_nodes.proofs.parts.part_inside.Statement.{statement}
 use Rattle.value_nodes.proofs.parts.part_inside.Tie as tie
 

@@ -1,7 +1,7 @@
 -- `value_nodes::child` meets its contract.
 use Rattle.value_nodes.specs.Turning.{turning}
-use Rattle.value_nodes.proofs.parts.child.Statement.{statement}
-use Rattle.value_nodes.proofs.parts.child.Tie as tie
+use Rattle.value_nodes.proofs.turns.child.Statement.{statement}
+use Rattle.value_nodes.proofs.turns.child.Tie as tie
 
 pub child-spec : {M : Type 1} → statement M
 child-spec = tie.close (tie.spec

@@ -2,8 +2,8 @@
 use Prim.Native.Nat.{_-_}
 use lib.ListN.{length}
 use Rattle.value_nodes.specs.Turning.{Walking, walking}
-use Rattle.value_nodes.proofs.parts.parts_verdict.Statement.{statement}
-use Rattle.value_nodes.proofs.parts.parts_verdict.Tie as tie
+use Rattle.value_nodes.proofs.turns.parts_verdict.Statement.{statement}
+use Rattle.value_nodes.proofs.turns.parts_verdict.Tie as tie
 
 abbrev Inv-loop : tie.InvT-loop
 Inv-loop rule s inside e c₀ slot₀ first₀ second₀ c slot first second = Walking rule s inside e c slot first second

@@ -1,7 +1,7 @@
 -- `value_nodes::turn` meets its contract.
 use Rattle.value_nodes.specs.Turning.{turning}
-use Rattle.value_nodes.proofs.parts.turn.Statement.{statement}
-use Rattle.value_nodes.proofs.parts.turn.Tie as tie
+use Rattle.value_nodes.proofs.turns.turn.Statement.{statement}
+use Rattle.value_nodes.proofs.turns.turn.Tie as tie
 
 pub turn-spec : {M : Type 1} → statement M
 turn-spec = tie.close (tie.spec
