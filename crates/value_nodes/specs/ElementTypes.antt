@@ -25,8 +25,8 @@ use Rattle.octets.specs.Computing.{octets-compute}
 use Rattle.source.specs.Source.{rest}
 use Rattle.names.specs.Table.{placeOf, namesIn}
 use Rattle.names.specs.Known.{by-place, unknown-word}
-use Rattle.model.specs.Calendar.{ValueType, UNKNOWN}
-use Rattle.schema.specs.Types.{typeName, valueTypes, typeNamed, typePlace, type-named-is, type-passes, place-type}
+use Rattle.model.specs.Calendar.{ValueType}
+use Rattle.schema.specs.Types.{typeName, typeNamed, typePlace, type-named-is, type-passes, place-type}
 use Rattle.schema.specs.Properties.{PropertyRow, propertyNames, defaultType}
 use Rattle.schema.specs.Numbers.{typeAt, propertyAt, property-place, same-place}
 use Rattle.xml.specs.Nodes.{Nodes}
@@ -218,5 +218,3 @@ module _ (p : ℕ) {t : ℕ} (kids : Nodes) (e : t ≡ typePlace (propertyAt p .
 -- a type has a number up to 14
 pub type-small : {t : ℕ} (u : ValueType) → t ≡ typePlace u → t ≤ 14
 type-small u e = rw e (place-known u)
-
-

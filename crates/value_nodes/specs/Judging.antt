@@ -52,4 +52,3 @@ module _ {v : Verdict} {j : Judged} (w : Verdict) (h : v ≡ judgedAs j) where
   pub after-refused : {n p : ℕ} → j ≡ Refused n p → (v otherwise w) ≡ judgedAs (Refused n p)
   unfolding _otherwise_
   after-refused e = rw (h, e)
-

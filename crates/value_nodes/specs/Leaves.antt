@@ -1,7 +1,7 @@
 -- An element of character data, as code judges it.
 --     leafBy ok p kids     the verdict, where it is known whether its characters pass their test
 --     tested-.., leaf-..   for code
-use mathlib.Core.Path.{_≡_, refl, sym, ap, _∙_}
+use mathlib.Core.Path.{_≡_, _∙_}
 use mathlib.Core.Bool.{Bool, true, false}
 use mathlib.Core.List.{List}
 use mathlib.Core.Option.{Option}

@@ -85,4 +85,3 @@ module _ {s : List ℕ} {at : ℕ} {r : Node} (n : NodeAt s at r) where
 
 -- the measure of a walk falls with each node
 pub ruleset node-less = (element-less, inside-less, literal-less, referred-less)
-

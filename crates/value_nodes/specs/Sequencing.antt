@@ -5,7 +5,7 @@
 --     walked                  `sequence`, with these flags in the place of the names seen;   sequence-walked: it is the same
 --     walked-none, walked-space, walked-text, walked-referred, walked-element, walked-outside, walked-child     a walk, by the node at hand
 --     slot-place              the slot of a name, by the name's place in a list of all names
-use mathlib.Core.Path.{_≡_, refl, sym, ap, _∙_}
+use mathlib.Core.Path.{_≡_, refl, ap, _∙_}
 use mathlib.Core.Bool.{Bool, true, false, not}
 use mathlib.Core.List.{List, [], _∷_, map}
 use mathlib.Core.Option.{Option, none, some}

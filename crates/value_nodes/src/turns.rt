@@ -41,7 +41,16 @@ pub enum Next {
 }
 
 // The child of the number `i` at `place`, where slots before `next` have passed.
-fn child(rule: bool, i: usize, next: usize, s: &[u8], place: usize, name: usize, name_end: usize, inside: usize) -> Tried
+fn child(
+    rule: bool,
+    i: usize,
+    next: usize,
+    s: &[u8],
+    place: usize,
+    name: usize,
+    name_end: usize,
+    inside: usize,
+) -> Tried
     requires { ⌜ (length (now s) ≤ 65535) × (inside ≤ length (now s)) ⌝ }
     ensures { λ r. ⌜ (i ≡ placeOf (rest 0 (take «name_end» (now (s .entry))) name) (namesOf rule) → ChildAt rule (rest 0 (take «name_end» (now (s .entry))) name) next place (nodesAt (now (s .entry)) inside) r) ⌝ }
 {

@@ -41,7 +41,15 @@ fn leaf_typed(k: usize, p: usize, t: usize, s: &[u8], place: usize, inside: usiz
 }
 
 // A value of the type `t`: 8 is PERIOD, 9 is RECUR.
-fn typed_verdict(k: usize, p: usize, t: usize, s: &[u8], place: usize, inside: usize, end: usize) -> Judged
+fn typed_verdict(
+    k: usize,
+    p: usize,
+    t: usize,
+    s: &[u8],
+    place: usize,
+    inside: usize,
+    end: usize,
+) -> Judged
     requires { ⌜ (length (now s) ≤ 65535) × (inside ≤ length (now s)) ⌝ }
     ensures { λ r. ⌜ judgedAs r ≡ typedAt k p t place end (nodesAt (now (s .entry)) inside) ⌝ }
 {
@@ -55,7 +63,16 @@ fn typed_verdict(k: usize, p: usize, t: usize, s: &[u8], place: usize, inside: u
 }
 
 // The same of an element that is named as the type `u`, where the property's first value has the type `t`.
-fn typed_as(k: usize, p: usize, t: usize, u: usize, s: &[u8], place: usize, inside: usize, end: usize) -> Judged
+fn typed_as(
+    k: usize,
+    p: usize,
+    t: usize,
+    u: usize,
+    s: &[u8],
+    place: usize,
+    inside: usize,
+    end: usize,
+) -> Judged
     requires { ⌜ (length (now s) ≤ 65535) × (inside ≤ length (now s)) ⌝ }
     ensures { λ r. ⌜ judgedAs r ≡ pick (permitsType p u and eqb u t) (typedAt k p u place end (nodesAt (now (s .entry)) inside)) (refuse VALUE place) ⌝ }
 {
@@ -71,7 +88,17 @@ fn typed_as(k: usize, p: usize, t: usize, u: usize, s: &[u8], place: usize, insi
 
 // An element of the value of the property of the number `p` in the component of the number `k`, where `t` is the type of the property's first value.
 // Its start tag is at `place`, its name from `name` to `name_end`, its content begins at `inside`, its end tag is at `end`. 9 is GEO, 45 is REQUEST-STATUS.
-pub fn value_verdict(k: usize, p: usize, t: usize, s: &[u8], place: usize, name: usize, name_end: usize, inside: usize, end: usize) -> Judged
+pub fn value_verdict(
+    k: usize,
+    p: usize,
+    t: usize,
+    s: &[u8],
+    place: usize,
+    name: usize,
+    name_end: usize,
+    inside: usize,
+    end: usize,
+) -> Judged
     requires { ⌜ (length (now s) ≤ 65535) × (inside ≤ length (now s)) ⌝ }
     ensures { λ r. ⌜ ((c w : List ℕ) → k ≡ placeOf c componentNames → p ≡ placeOf w propertyNames → t ≤ 14 → judgedAs r ≡ valueVerdict c w (typeAt t) place (rest 0 (take «name_end» (now (s .entry))) name) end (nodesAt (now (s .entry)) inside)) ⌝ }
 {
