@@ -1,0 +1,6 @@
+-- x
+pub mod Standing
+pub mod Children
+pub mod Rows
+pub mod Leaves
+pub mod Several
