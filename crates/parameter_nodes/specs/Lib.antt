@@ -4,3 +4,6 @@ pub mod Children
 pub mod Rows
 pub mod Leaves
 pub mod Several
+pub mod Seen
+pub mod Sound
+pub mod Told

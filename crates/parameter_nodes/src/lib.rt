@@ -3,8 +3,10 @@
 mod children;
 mod leaf;
 mod several;
+mod verdict;
 
 pub use children::has_encoding;
+pub use verdict::parameters_verdict;
 
 // An element of a content: whether there is one, the place of its start tag, its name, from `name` to `name_end`, where its content begins, the place of its
 // end tag, and the place of what follows it.

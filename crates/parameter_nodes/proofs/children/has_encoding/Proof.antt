@@ -19,7 +19,9 @@ has-encoding-spec = tie.close (tie.spec
     μ-loop
     (λ c. search encodings)  -- loop-holds
     (λ c κs. search encodings)  -- next-child-requires
-    (λ c. search encodings)  -- slice-aggregate-is-encoding
+    (λ c. search encodings)  -- sub-is-encoding
+    (λ c. search encodings)  -- part-is-encoding-start
+    (λ c. search encodings)  -- part-is-encoding-end
     (λ c κs. search encodings)  -- is-encoding-requires
     (λ c. search encodings)  -- returns
     (λ c. search encodings)  -- loop-less

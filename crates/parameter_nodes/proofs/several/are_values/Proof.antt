@@ -1,13 +1,17 @@
--- `parameter_nodes::are_values` meets its contract. Assumes nothing.
-use Rattle.parameter_nodes.specs.Several.{valued}
+-- `parameter_nodes::several::are_values` meets its contract.
+use Prim.Native.Nat.{_-_}
+use lib.ListN.{length}
+use Rattle.nodes.specs.Walks.{Passing}
+use Rattle.parameter_nodes.specs.Rows.{rowAt}
+use Rattle.parameter_nodes.specs.Several.{allValues, valued}
 use Rattle.parameter_nodes.proofs.several.are_values.Statement.{statement}
 use Rattle.parameter_nodes.proofs.several.are_values.Tie as tie
 
 abbrev Inv-loop : tie.InvT-loop
-Inv-loop q s at c₀ c = ?
+Inv-loop q s at c₀ c = Passing (allValues (rowAt q)) s at c
 
 abbrev μ-loop : tie.MeasureT-loop
-μ-loop q s at c₀ c = ?
+μ-loop q s at c₀ c = length s - c
 
 pub are-values-spec : {M : Type 1} → statement M
 are-values-spec = tie.close (tie.spec

@@ -1,0 +1,12 @@
+-- `parameter_nodes::is_encoded` meets its contract. Assumes nothing.
+use borrow.Author.Needs.{needs}
+use Rattle.parameter_nodes.proofs.verdict.is_encoded.Statement.{statement}
+use Rattle.parameter_nodes.proofs.verdict.is_encoded.Tie as tie
+
+pub is-encoded-spec : {M : Type 1} → statement M
+is-encoded-spec = tie.close (tie.spec
+    (λ c κs. search needs)  -- is-base64-requires
+    (λ c. search needs)  -- returns
+    (λ c. search needs)  -- returns-2
+    (λ c. search needs)  -- returns-3
+    )
