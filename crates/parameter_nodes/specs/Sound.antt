@@ -125,7 +125,10 @@ module _ (n : List ℕ) (kids : Nodes) where
   leaves-at = leaves-are n kids ∙ ap (λ (r : ParameterRow). readLeaves r kids) (row-named n)
 
   good-at : valuesGood (isListedParameter n) (readParamNodes n kids) ≡ goodBy (rowAt (placeOf n parameterNames)) kids
-  good-at = rw (leaves-at, row-named n) (good-is (rowAt (placeOf n parameterNames)) kids)
+  good-at =
+      ap (valuesGood (isListedParameter n)) (leaves-are n kids)
+      ∙ ap (λ (r : ParameterRow). valuesGood (r .listed) (readLeaves r kids)) (row-named n)
+      ∙ good-is (rowAt (placeOf n parameterNames)) kids
 
   module _ (t : ℕ) (k : t ≤ 14) (g : goodBy (rowAt (placeOf n parameterNames)) kids ≡ true) where
     base64 : placeOf n parameterNames ≡ 6 → firstIs (ascii "BASE64") kids ≡ isBase64 (readOr [] (readParamNodes n kids))

@@ -131,13 +131,13 @@ module _ {p t : ℕ} {s : List ℕ} {from at : ℕ} {n : Node} (i : Told p t s f
     unfolding parametersVerdict pick
     told-character z = λ w h k. is-frame at ∙ sym (i .is w h k ∙ ap (λ (x : Nodes). parametersVerdict w (typeAt t) x (i .seen)) (node-literal a q) ∙ rw (← e, z))
 
-  module _ {j : Judged} (q : n .kind ≡ Element) (e : verdictAt p t s from at (nameOf s (n .name) (n .«name_end»)) (n .end) (nodesAt s (n .inside)) ≡ judgedAs j) where
-    name : List ℕ
+  module _ (q : n .kind ≡ Element) where
+    abbrev name : List ℕ
     name = nameOf s (n .name) (n .«name_end»)
 
     -- the names before this element are those seen
     here : isBefore name at (nodesAt s from) ≡ isOneOf name (i .seen)
-    unfolding isBefore _and_
+    unfolding isBefore _and_ _or_
     here = i .known name at (omega arith) ∙ ap (λ (x : Nodes). isOneOf name (i .seen) or isBefore name at x) (node-named a q) ∙ rw (le-ltb at at (omega arith)) (end (isOneOf name (i .seen)))
       where
         end : (b : Bool) → (b or false) ≡ b
@@ -149,27 +149,29 @@ module _ {p t : ℕ} {s : List ℕ} {from at : ℕ} {n : Node} (i : Told p t s f
     unfolding parametersVerdict
     next w h k = i .is w h k ∙ ap (λ (x : Nodes). parametersVerdict w (typeAt t) x (i .seen)) (node-named a q)
 
-    own : (w : List ℕ) → p ≡ placeOf w propertyNames → t ≤ 14 → parameterVerdict w (typeAt t) (i .seen) at name (n .end) (nodesAt s (n .inside)) ≡ judgedAs j
-    own w h k = verdict-is w p t s from at name (n .end) (nodesAt s (n .inside)) (i .seen) h k here ∙ e
+    own : (w : List ℕ) → p ≡ placeOf w propertyNames → t ≤ 14 →
+        parameterVerdict w (typeAt t) (i .seen) at name (n .end) (nodesAt s (n .inside)) ≡ verdictAt p t s from at name (n .end) (nodesAt s (n .inside))
+    own w h k = verdict-is w p t s from at name (n .end) (nodesAt s (n .inside)) (i .seen) h k here
 
-    pub told-refused : {c d : ℕ} → j ≡ Refused c d → Judges p t s from (Refused c d)
-    told-refused z = λ w h k. sym (next w h k ∙ after-refused _ (own w h k) z)
+    module _ {j : Judged} (e : verdictAt p t s from at (nameOf s (n .name) (n .«name_end»)) (n .end) (nodesAt s (n .inside)) ≡ judgedAs j) where
+      pub told-refused : {c d : ℕ} → j ≡ Refused c d → Judges p t s from (Refused c d)
+      told-refused z = λ w h k. sym (next w h k ∙ after-refused _ (own w h k ∙ e) z)
 
-    pub told-next : j ≡ Fine → Told p t s from (n .next)
-    unfolding isBefore isOneOf _and_ _or_
-    told-next z = record {
-      seen = name ∷ i .seen;
-      known = λ m k h.
-          i .known m k (omega (arith, element-onward a q, h))
-          ∙ ap (λ (x : Nodes). isOneOf m (i .seen) or isBefore m k x) (node-named a q)
-          ∙ rw (lt-ltb at k (omega (arith, element-onward a q, h)), same-both name m) (turned (isOneOf m (i .seen)) (same m name) (isBefore m k (nodesAt s (n .next))));
-      is = λ w h k. next w h k ∙ after-fine _ (own w h k) z;
-    }
-      where
-        turned : (x y z : Bool) → (x or (y or z)) ≡ ((y or x) or z)
-        turned true true z = refl
-        turned true false z = refl
-        turned false true z = refl
-        turned false false z = refl
+      pub told-next : j ≡ Fine → Told p t s from (n .next)
+      unfolding isBefore isOneOf _and_ _or_
+      told-next z = record {
+        seen = name ∷ i .seen;
+        known = λ m k h.
+            i .known m k (omega (arith, element-onward a q, h))
+            ∙ ap (λ (x : Nodes). isOneOf m (i .seen) or isBefore m k x) (node-named a q)
+            ∙ rw (lt-ltb at k (omega (arith, element-onward a q, h)), same-both name m) (turned (isOneOf m (i .seen)) (same m name) (isBefore m k (nodesAt s (n .next))));
+        is = λ w h k. next w h k ∙ after-fine _ (own w h k ∙ e) z;
+      }
+        where
+          turned : (x y z : Bool) → (x or (y or z)) ≡ ((y or x) or z)
+          turned true true z = refl
+          turned true false z = refl
+          turned false true z = refl
+          turned false false z = refl
 
 pub ruleset telling = (told-start, told-none, told-referred, told-space, told-character, told-refused, told-next, element-less, literal-less, needs)

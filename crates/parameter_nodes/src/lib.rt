@@ -3,9 +3,11 @@
 mod children;
 mod leaf;
 mod several;
+mod text;
 mod verdict;
 
 pub use children::has_encoding;
+pub use text::put_parameters;
 pub use verdict::parameters_verdict;
 
 // An element of a content: whether there is one, the place of its start tag, its name, from `name` to `name_end`, where its content begins, the place of its

@@ -13,14 +13,18 @@ use octets::is_space;
 use schema::parameter_number;
 use schema::permits_parameter;
 ghost use mathlib.Core.Path.{_≡_};
-ghost use Prim.Native.Nat.{_≤_};
+ghost use mathlib.Core.List.{List, []};
+ghost use Prim.Native.Nat.{ℕ, _≤_};
 ghost use lib.ListN.{length};
-ghost use Rattle.xcal.specs.ParameterNodes.{badName};
+ghost use Rattle.names.specs.Table.{placeOf};
+ghost use Rattle.schema.specs.Properties.{propertyNames};
+ghost use Rattle.schema.specs.Numbers.{typeAt};
+ghost use Rattle.xcal.specs.ParameterNodes.{badName, parametersVerdict};
 ghost use Rattle.nodes.specs.NodesAt.{nodesAt};
 ghost use Rattle.nodes.specs.Judging.{judgedAs};
 ghost use Rattle.parameter_nodes.specs.Seen.{isBefore};
 ghost use Rattle.parameter_nodes.specs.Sound.{encodedBy, soundBy};
-ghost use Rattle.parameter_nodes.specs.Told.{againstBy, verdictAt, Judges};
+ghost use Rattle.parameter_nodes.specs.Told.{againstBy, verdictAt};
 
 // The name has capitals, begins with `xml`, a digit or a hyphen, or is `value`.
 fn is_bad_name(w: &[u8]) -> bool
@@ -152,7 +156,7 @@ fn judge(
 // The verdict on the parameters whose content begins at `inside`, of the property of the number `p` with a value of the type of the number `t`.
 pub fn parameters_verdict(p: usize, t: usize, s: &[u8], inside: usize) -> Judged
     requires { ⌜ length (now s) ≤ 65535 ⌝ }
-    ensures { λ r. ⌜ Judges p t (now (s .entry)) inside r ⌝ }
+    ensures { λ r. ⌜ ((w : List ℕ) → p ≡ placeOf w propertyNames → t ≤ 14 → judgedAs r ≡ parametersVerdict w (typeAt t) (nodesAt (now (s .entry)) inside) []) ⌝ }
 {
     let mut c = inside;
     loop {

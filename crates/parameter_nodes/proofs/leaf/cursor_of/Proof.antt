@@ -1,5 +1,4 @@
 -- `parameter_nodes::leaf::cursor_of` meets its contract.
-use native.Mathlib.Omega.{arith}
 use borrow.Author.Needs.{needs}
 use Rattle.parameter_nodes.specs.Standing.{characters-at}
 use Rattle.parameter_nodes.proofs.leaf.cursor_of.Statement.{statement}

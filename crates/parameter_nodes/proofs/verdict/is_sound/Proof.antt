@@ -1,4 +1,5 @@
--- `parameter_nodes::is_sound` meets its contract. Assumes nothing.
+-- `parameter_nodes::verdict::is_sound` meets its contract.
+use Rattle.parameter_nodes.specs.Sound.{sound-denied, sound-other, sound-encoded}
 use borrow.Author.Needs.{needs}
 use Rattle.parameter_nodes.proofs.verdict.is_sound.Statement.{statement}
 use Rattle.parameter_nodes.proofs.verdict.is_sound.Tie as tie
@@ -8,7 +9,7 @@ is-sound-spec = tie.close (tie.spec
     (λ c κs. search needs)  -- permits-parameter-requires
     (λ c κs. search needs)  -- are-good-requires
     (λ c κs. search needs)  -- is-encoded-requires
-    (λ c. search needs)  -- returns
-    (λ c. search needs)  -- returns-2
-    (λ c. search needs)  -- returns-3
+    (λ c. search (sound-encoded, needs))  -- returns
+    (λ c. search (sound-other, needs))  -- returns-2
+    (λ c. search (sound-denied, needs))  -- returns-3
     )
