@@ -19,7 +19,7 @@ use Rattle.schema.specs.Parameters.{ParameterRow, parameterRow, parameterNames}
 use Rattle.lines.specs.Write.{writeParamValue, writeParameter}
 use Rattle.lines.specs.Written.{opening}
 use Rattle.ical.specs.WriteText.{rawOf}
-use Rattle.xml.specs.Nodes.{Nodes, noNodes, element, literal, referred, charactersOf}
+use Rattle.xml.specs.Nodes.{Nodes, charactersOf}
 use Rattle.xcal.specs.ParameterNodes.{readParamNodes, readParameterNodes}
 use Rattle.nodes.specs.NodesAt.{nodesAt}
 use Rattle.nodes.specs.Walks.{passing-start}

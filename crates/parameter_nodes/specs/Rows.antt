@@ -60,7 +60,7 @@ module _ (r : ParameterRow) (vs : List Value) where
     where
       go : (t : Bool) → pick t (andThen (readLeaf r kids) (λ v. consRead v (readLeaves r more))) none ≡ some vs →
           (v : Value) × (readLeaf r kids ≡ some v) × (l : List Value) × (readLeaves r more ≡ some l) × (v ∷ l ≡ vs)
-      go true e = 
+      go true e =
           let a = andThen-some (readLeaf r kids) (λ v. consRead v (readLeaves r more)) vs e in
           let b = consRead-some (a .0) (readLeaves r more) vs (a .2) in
           (a .0, a .1, b .0, b .1, b .2)

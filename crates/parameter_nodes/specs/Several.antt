@@ -5,19 +5,17 @@
 --     firstIs, first-is         the first value's characters are a word
 --     all-.., single-.., good-.., first-..    for code
 use mathlib.Core.Path.{_≡_, refl, sym, ap, _∙_}
-use mathlib.Core.Bool.{Bool, true, false, not, false≢true}
-use mathlib.Core.List.{List, [], _∷_}
+use mathlib.Core.Bool.{Bool, true, false, not}
+use mathlib.Core.List.{List, []}
 use mathlib.Core.Option.{Option, none, some}
 use Prim.Native.Nat.{ℕ}
-use lib.ListN.{take, drop}
 use borrow.Author.Needs.{needs}
 use Rattle.octets.specs.Ascii.{ascii}
-use Rattle.octets.specs.Pick.{pick, _and_, _or_, or-take, or-skip}
+use Rattle.octets.specs.Pick.{pick, _and_, _or_}
 use Rattle.octets.specs.Class.{lower, isSpace}
 use Rattle.octets.specs.Words.{same, isOneOf, isEmpty, holds}
 use Rattle.octets.specs.Reading.{isRead, readOr, andThen, consRead, none-some, provided-some}
-use Rattle.model.specs.Calendar.{Value, text, textIn}
-use Rattle.source.specs.Source.{rest}
+use Rattle.model.specs.Calendar.{Value, text}
 use Rattle.schema.specs.Types.{typeName}
 use Rattle.schema.specs.Parameters.{ParameterRow}
 use Rattle.schema.specs.Numbers.{parameterAt}

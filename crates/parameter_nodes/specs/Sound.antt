@@ -10,21 +10,20 @@ use Prim.Native.Nat.{ℕ, _+_, _≤_, _<_}
 use native.Mathlib.Omega.{arith}
 use native.Mathlib.Decide.{decLe}
 use lib.Dec.{eqb}
-use lib.ListN.{length, take, getD, List·getD-eq-default}
+use lib.ListN.{length, take, List·getD-eq-default}
 use lib.Seq.{take-length}
 use borrow.Author.Tests.{eq-eqb, ne-eqb, eqb-true}
 use Rattle.octets.specs.Ascii.{ascii}
 use Rattle.octets.specs.Pick.{_and_, _or_, and-both}
-use Rattle.octets.specs.Class.{upper}
 use Rattle.octets.specs.Words.{same, isOneOf}
 use Rattle.octets.specs.Reading.{isRead, readOr}
 use Rattle.octets.specs.Computing.{octets-compute}
-use Rattle.model.specs.Calendar.{Value, ValueType, UNKNOWN}
+use Rattle.model.specs.Calendar.{Value, UNKNOWN}
 use Rattle.source.specs.Source.{rest}
 use Rattle.names.specs.Table.{placeOf}
 use Rattle.schema.specs.Types.{typePlace, valueTypes, sameType}
 use Rattle.schema.specs.Properties.{propertyNames, permitsParameter}
-use Rattle.schema.specs.Parameters.{ParameterRow, parameterNames, parameterRow, isListedParameter, encodings}
+use Rattle.schema.specs.Parameters.{ParameterRow, parameterNames, isListedParameter, encodings}
 use Rattle.schema.specs.Numbers.{typeAt, same-place}
 use Rattle.schema.specs.Cells.{tabled, tabled-at, column-at}
 use Rattle.schema.specs.Columns.{permitsAt, permits-place}

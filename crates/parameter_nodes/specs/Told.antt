@@ -6,10 +6,9 @@
 use mathlib.Core.Path.{_≡_, refl, sym, ap, _∙_}
 use mathlib.Core.Bool.{Bool, true, false, not}
 use mathlib.Core.List.{List, [], _∷_}
-use Prim.Native.Nat.{ℕ, _-_, _≤_, _<_}
+use Prim.Native.Nat.{ℕ, _-_, _≤_}
 use native.Mathlib.Omega.{arith}
-use lib.Dec.{eqb, ltb}
-use lib.ListN.{length}
+use lib.Dec.{eqb}
 use borrow.Author.Needs.{needs}
 use borrow.Author.Tests.{eq-eqb, ne-eqb, lt-ltb, le-ltb}
 use Rattle.octets.specs.Pick.{pick, _and_, _or_}
@@ -21,7 +20,7 @@ use Rattle.names.specs.Table.{placeOf}
 use Rattle.schema.specs.Properties.{propertyNames}
 use Rattle.schema.specs.Parameters.{parameterNames}
 use Rattle.schema.specs.Numbers.{typeAt}
-use Rattle.xml.specs.Nodes.{Nodes, noNodes, element, literal, referred, hasElement}
+use Rattle.xml.specs.Nodes.{Nodes, hasElement}
 use Rattle.xcal.specs.ParameterNodes.{badName, parameterVerdict, parametersVerdict}
 use Rattle.nodes.specs.NodesAt.{nodesAt}
 use Rattle.nodes.specs.NodeFound.{NodeAt, node-none, node-literal, node-referred, element-onward, literal-onward, element-less, literal-less}

@@ -3,19 +3,18 @@
 --     itemShown, listShown  a value with a comma before it where it is a later one; all values;   list-is: they are the text of the values that were read
 --     valuesShown           the same, or nothing where they can't be read
 --     quoted-.., truth-.., value-put-.., item-.., values-..    for code
-use mathlib.Core.Path.{_≡_, refl, sym, ap, _∙_}
+use mathlib.Core.Path.{_≡_, refl, sym, _∙_}
 use mathlib.Core.Bool.{Bool, true, false, not, false≢true}
 use mathlib.Core.List.{List, [], _∷_, map}
 use mathlib.Core.Option.{Option, none, some, Option·map}
 use Prim.Native.Nat.{ℕ, _*_, _^_, _<_}
-use lib.Dec.{eqb}
 use lib.ListN.{length}
 use borrow.Author.Tests.{eq-eqb, ne-eqb}
 use Rattle.octets.specs.Pick.{pick, _or_, or-take, or-skip}
 use Rattle.octets.specs.Append.{_⊕_, append-empty}
 use Rattle.octets.specs.Words.{holds, isOneOf, joinedBy, eachAfter}
 use Rattle.octets.specs.Lists.{every}
-use Rattle.octets.specs.Reading.{isRead, readOr, orNothing, none-some, provided-some}
+use Rattle.octets.specs.Reading.{isRead, readOr, orNothing, none-some}
 use Rattle.octets.specs.Computing.{octets-compute}
 use Rattle.model.specs.Calendar.{ical, xcal, ValueType, BINARY, BOOLEAN, CAL-ADDRESS, DATE, DATE-TIME, DURATION, FLOAT, INTEGER, PERIOD, RECUR, TEXT, TIME, URI, UTC-OFFSET, UNKNOWN, Value, boolean, calAddress, text, uri, unknown}
 use Rattle.sink.specs.Sink.{Put, put-none, put-yes, put-no, _▷_}

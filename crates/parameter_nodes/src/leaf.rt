@@ -27,7 +27,7 @@ pub fn cursor_of(s: &[u8], inside: usize) -> usize
     requires { ⌜ (length (now s) ≤ 65535) × (inside ≤ length (now s)) ⌝ }
     ensures { λ r. ⌜ rest 1 (now (s .entry)) r ≡ charactersOf (nodesAt (now (s .entry)) inside) ⌝ }
 {
-    4 * inside
+    2 * inside
 }
 
 // The byte `b` stands from the cursor on.

@@ -97,15 +97,7 @@ fn is_sound(p: usize, t: usize, q: usize, s: &[u8], inside: usize) -> bool
 }
 
 // The parameter of the name `w` at the place `at` stood before, or is not sound.
-fn is_against(
-    p: usize,
-    t: usize,
-    s: &[u8],
-    from: usize,
-    at: usize,
-    w: &[u8],
-    inside: usize,
-) -> bool
+fn is_against(p: usize, t: usize, s: &[u8], from: usize, at: usize, w: &[u8], inside: usize) -> bool
     requires { ⌜ length (now s) ≤ 65535 ⌝ }
     ensures { λ r. ⌜ r ≡ againstBy (isBefore (now (w .entry)) at (nodesAt (now (s .entry)) from)) p t (now (w .entry)) (nodesAt (now (s .entry)) inside) ⌝ }
 {
