@@ -1,0 +1,14 @@
+-- `parameter_nodes::leaf::is_of_type` meets its contract.
+use Rattle.values.specs.ValueAt.{good-yes, good-no}
+use borrow.Author.Needs.{needs}
+use Rattle.parameter_nodes.proofs.leaf.is_of_type.Statement.{statement}
+use Rattle.parameter_nodes.proofs.leaf.is_of_type.Tie as tie
+
+pub is-of-type-spec : {M : Type 1} → statement M
+is-of-type-spec = tie.close (tie.spec
+    (λ c κs. search needs)  -- read-value-requires
+    (λ c. search needs)  -- enum-told
+    (λ c. search needs)  -- enum-told-2
+    (λ c. search (good-yes, needs))  -- returns
+    (λ c. search (good-no, needs))  -- returns-2
+    )
