@@ -2,10 +2,12 @@
 --     Tokens       what a token that was found says of them
 --     Closing      the end tag of an open element
 --     NodeFound    the node at a place
+--     Characters   the characters of an element through the cursor
 --     Judging      what readers find, as a verdict
 --     Walks        walks over nodes
 pub mod Tokens
 pub mod Closing
 pub mod NodeFound
+pub mod Characters
 pub mod Judging
 pub mod Walks

@@ -19,7 +19,7 @@ use Rattle.source.specs.Source.{rest}
 use Rattle.source.specs.Facts.{rest-part}
 use Rattle.xml.specs.Nodes.{Nodes, noNodes, element, literal, referred}
 use Rattle.xcal.specs.ParameterNodes.{hasEncoding}
-use Rattle.nodes.specs.NodesAt.{nodesAt}
+use Rattle.xml.specs.NodesAt.{nodesAt}
 use Rattle.nodes.specs.NodeFound.{NodeAt, node-none, node-element, node-literal, node-referred, element-onward, literal-onward, referred-onward, literal-less, referred-less}
 use Rattle.nodes.specs.Walks.{Passing, passing-start}
 use Rattle.nodes.specs.declared.Node.{Node}

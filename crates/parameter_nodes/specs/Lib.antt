@@ -1,5 +1,4 @@
 -- The elements of a property's parameters: the laws of the code that judges them and writes them as text.
---     Standing      the cursor of an element's characters
 --     Children      the elements of a content, one by one
 --     Rows          a parameter's values by the parameter's row
 --     Leaves        one value: its characters, and its element's name
@@ -9,7 +8,6 @@
 --     Told          the verdict on the parameters of a property
 --     Written       one value, and all values of a parameter, as text
 --     Listed        the parameters of a property as text
-pub mod Standing
 pub mod Children
 pub mod Rows
 pub mod Leaves

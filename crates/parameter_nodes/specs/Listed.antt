@@ -21,7 +21,7 @@ use Rattle.lines.specs.Written.{opening}
 use Rattle.ical.specs.WriteText.{rawOf}
 use Rattle.xml.specs.Nodes.{Nodes, charactersOf}
 use Rattle.xcal.specs.ParameterNodes.{readParamNodes, readParameterNodes}
-use Rattle.nodes.specs.NodesAt.{nodesAt}
+use Rattle.xml.specs.NodesAt.{nodesAt}
 use Rattle.nodes.specs.Walks.{passing-start}
 use Rattle.parameter_nodes.specs.Children.{Skips, ChildAt, nameOf, whole, children-none, children-some}
 use Rattle.parameter_nodes.specs.Rows.{rowAt, row-named, readLeaves, leaves-are}

@@ -13,7 +13,7 @@ use Rattle.octets.specs.Pick.{_and_, _or_}
 use Rattle.octets.specs.Words.{same, same-true, same-self, same-swap}
 use Rattle.source.specs.Source.{rest}
 use Rattle.xml.specs.Nodes.{Nodes, noNodes, element, literal, referred}
-use Rattle.nodes.specs.NodesAt.{nodesAt}
+use Rattle.xml.specs.NodesAt.{nodesAt}
 use Rattle.nodes.specs.Walks.{Passing, passing-start}
 use Rattle.parameter_nodes.specs.Children.{Skips, ChildAt, nameOf, whole, children-none, children-some, child-less}
 use Rattle.parameter_nodes.specs.declared.Child.{Child}

@@ -21,7 +21,7 @@ use Rattle.schema.specs.Parameters.{ParameterRow}
 use Rattle.schema.specs.Numbers.{parameterAt}
 use Rattle.xml.specs.Nodes.{Nodes, noNodes, element, literal, referred, charactersOf, hasElement}
 use Rattle.xcal.specs.ParameterNodes.{readWordIn, asMany, valuesGood, isBase64}
-use Rattle.nodes.specs.NodesAt.{nodesAt}
+use Rattle.xml.specs.NodesAt.{nodesAt}
 use Rattle.nodes.specs.NodeFound.{NodeAt, node-none, node-literal, node-referred, element-less, literal-less}
 use Rattle.nodes.specs.Walks.{Passing, passing-start}
 use Rattle.nodes.specs.declared.Node.{Node}

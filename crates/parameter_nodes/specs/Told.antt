@@ -22,7 +22,7 @@ use Rattle.schema.specs.Parameters.{parameterNames}
 use Rattle.schema.specs.Numbers.{typeAt}
 use Rattle.xml.specs.Nodes.{Nodes, hasElement}
 use Rattle.xcal.specs.ParameterNodes.{badName, parameterVerdict, parametersVerdict}
-use Rattle.nodes.specs.NodesAt.{nodesAt}
+use Rattle.xml.specs.NodesAt.{nodesAt}
 use Rattle.nodes.specs.NodeFound.{NodeAt, node-none, node-literal, node-referred, element-onward, literal-onward, element-less, literal-less}
 use Rattle.nodes.specs.Judging.{judgedAs, is-name, is-frame, is-parameter, after-fine, after-refused}
 use Rattle.nodes.specs.declared.Judged.{Judged}

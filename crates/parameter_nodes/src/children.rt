@@ -7,7 +7,7 @@ ghost use mathlib.Core.Path.{_≡_};
 ghost use Rattle.octets.specs.Ascii.{ascii};
 ghost use Rattle.octets.specs.Words.{same};
 ghost use Rattle.xcal.specs.ParameterNodes.{hasEncoding};
-ghost use Rattle.nodes.specs.NodesAt.{nodesAt};
+ghost use Rattle.xml.specs.NodesAt.{nodesAt};
 ghost use Rattle.parameter_nodes.specs.Children.{ChildAt};
 
 // The first element from `at` on.

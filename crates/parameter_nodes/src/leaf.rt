@@ -18,7 +18,7 @@ ghost use Rattle.schema.specs.Numbers.{typeAt};
 ghost use Rattle.values.specs.ReadValue.{readValue};
 ghost use Rattle.xml.specs.Nodes.{charactersOf};
 ghost use Rattle.xcal.specs.ParameterNodes.{readWordIn};
-ghost use Rattle.nodes.specs.NodesAt.{nodesAt};
+ghost use Rattle.xml.specs.NodesAt.{nodesAt};
 ghost use Rattle.parameter_nodes.specs.Rows.{rowAt, readLeaf};
 ghost use Rattle.parameter_nodes.specs.Leaves.{isValue};
 

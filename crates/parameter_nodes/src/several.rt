@@ -12,7 +12,7 @@ ghost use mathlib.Core.Path.{_≡_};
 ghost use Prim.Native.Nat.{_≤_};
 ghost use lib.ListN.{length};
 ghost use Rattle.octets.specs.Ascii.{ascii};
-ghost use Rattle.nodes.specs.NodesAt.{nodesAt};
+ghost use Rattle.xml.specs.NodesAt.{nodesAt};
 ghost use Rattle.parameter_nodes.specs.Rows.{rowAt};
 ghost use Rattle.parameter_nodes.specs.Several.{allValues, isSingle, goodBy, firstIs};
 

@@ -24,7 +24,7 @@ ghost use Rattle.lines.specs.Write.{writeParameter};
 ghost use Rattle.ical.specs.WriteText.{rawOf};
 ghost use Rattle.xml.specs.Nodes.{charactersOf};
 ghost use Rattle.xcal.specs.ParameterNodes.{readParameterNodes};
-ghost use Rattle.nodes.specs.NodesAt.{nodesAt};
+ghost use Rattle.xml.specs.NodesAt.{nodesAt};
 ghost use Rattle.parameter_nodes.specs.Rows.{rowAt};
 ghost use Rattle.parameter_nodes.specs.Written.{truthShown, plainShown, valueShown, itemShown, listShown, valuesShown, quotedAt};
 ghost use Rattle.parameter_nodes.specs.Listed.{parameterShown};

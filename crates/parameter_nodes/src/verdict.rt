@@ -20,7 +20,7 @@ ghost use Rattle.names.specs.Table.{placeOf};
 ghost use Rattle.schema.specs.Properties.{propertyNames};
 ghost use Rattle.schema.specs.Numbers.{typeAt};
 ghost use Rattle.xcal.specs.ParameterNodes.{badName, parametersVerdict};
-ghost use Rattle.nodes.specs.NodesAt.{nodesAt};
+ghost use Rattle.xml.specs.NodesAt.{nodesAt};
 ghost use Rattle.nodes.specs.Judging.{judgedAs};
 ghost use Rattle.parameter_nodes.specs.Seen.{isBefore};
 ghost use Rattle.parameter_nodes.specs.Sound.{encodedBy, soundBy};

@@ -32,11 +32,11 @@ use Rattle.schema.specs.Numbers.{typeAt, propertyAt, property-place, same-place
 use Rattle.xml.specs.Nodes.{Nodes}
 use Rattle.xcal.specs.ElementNames.{lower-upper, no-capital}
 use Rattle.xcal.specs.ValueNodes.{elementType, firstType, typeOfNodes}
-use Rattle.value_nodes.specs.NodesAt.{nodesAt}
-use Rattle.value_nodes.specs.NodeFound.{NodeAt, node-none, node-element, node-literal, node-referred, element-less, literal-less, referred-less}
-use Rattle.value_nodes.specs.Walks.{Passing, passing-start}
-use Rattle.value_nodes.specs.declared.nodes.Node.{Node}
-use Rattle.value_nodes.specs.declared.nodes.NodeKind.the-variants.{None, Element, Literal, Referred}
+use Rattle.xml.specs.NodesAt.{nodesAt}
+use Rattle.nodes.specs.NodeFound.{NodeAt, node-none, node-element, node-literal, node-referred, element-less, literal-less, referred-less}
+use Rattle.nodes.specs.Walks.{Passing, passing-start}
+use Rattle.nodes.specs.declared.Node.{Node}
+use Rattle.nodes.specs.declared.NodeKind.the-variants.{None, Element, Literal, Referred}
 use Rattle.value_nodes.specs.declared.Named.{Named}
 use Rattle.value_nodes.specs.declared.Named.the-variants.{«Type» as Typed, Bad}
 

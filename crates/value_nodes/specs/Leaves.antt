@@ -18,10 +18,11 @@ use Rattle.values.specs.ReadValue.{readValue}
 use Rattle.values.specs.ValueAt.{good-yes, good-no}
 use Rattle.xml.specs.Nodes.{Nodes}
 use Rattle.xcal.specs.Layout.{innerElement, leaf}
-use Rattle.value_nodes.specs.NodesAt.{nodesAt, characters-at}
-use Rattle.value_nodes.specs.Judging.{judgedAs, is-value}
-use Rattle.value_nodes.specs.declared.nodes.Judged.{Judged}
-use Rattle.value_nodes.specs.declared.nodes.Judged.the-variants.{Fine, Refused}
+use Rattle.xml.specs.NodesAt.{nodesAt}
+use Rattle.nodes.specs.Characters.{characters-at}
+use Rattle.nodes.specs.Judging.{judgedAs, is-value}
+use Rattle.nodes.specs.declared.Judged.{Judged}
+use Rattle.nodes.specs.declared.Judged.the-variants.{Fine, Refused}
 
 abbrev pub leafBy : Bool → ℕ → Nodes → Verdict
 leafBy ok p kids = innerElement kids otherwise pick ok fine (refuse VALUE p)

@@ -7,10 +7,6 @@
 --     Turning         a walk over them
 --     Values          an element of a property's value, by numbers
 pub mod Sequencing
-pub mod NodesAt
-pub mod NodeFound
-pub mod Judging
-pub mod Walks
 pub mod Leaves
 pub mod ElementTypes
 pub mod Parts

@@ -32,8 +32,8 @@ use Rattle.xcal.specs.Layout.{leaf}
 use Rattle.xcal.specs.ValueNodes.{periodInside, recurInside}
 use Rattle.value_nodes.specs.Sequencing.{fillings, filled, marked, isShort}
 use Rattle.value_nodes.specs.Parts.{recurNames, periodNames, namesOf, slotsOf, countOf}
-use Rattle.value_nodes.specs.Judging.{judgedAs, is-frame}
-use Rattle.value_nodes.specs.declared.nodes.Judged.the-variants.{Fine, Refused}
+use Rattle.nodes.specs.Judging.{judgedAs, is-frame}
+use Rattle.nodes.specs.declared.Judged.the-variants.{Fine, Refused}
 
 abbrev pub insideOf : Bool → ℕ → List ℕ → ℕ → Nodes → Verdict
 insideOf true = recurInside

@@ -20,15 +20,15 @@ use Rattle.model.specs.Refusal.{FRAME, Verdict, fine, refuse, _otherwise_}
 use Rattle.xml.specs.Nodes.{Nodes}
 use Rattle.xcal.specs.Layout.{slotOf, afterSlot, admitted, unexpected, sequence}
 use Rattle.value_nodes.specs.Sequencing.{isShort, walked, walked-none, walked-space, walked-text, walked-referred, walked-element, sequence-walked, marked}
-use Rattle.value_nodes.specs.NodesAt.{nodesAt}
-use Rattle.value_nodes.specs.NodeFound.{NodeAt, node-none, node-element, node-literal, node-referred, element-onward, literal-onward}
-use Rattle.value_nodes.specs.Judging.{judgedAs, is-frame}
+use Rattle.xml.specs.NodesAt.{nodesAt}
+use Rattle.nodes.specs.NodeFound.{NodeAt, node-none, node-element, node-literal, node-referred, element-onward, literal-onward}
+use Rattle.nodes.specs.Judging.{judgedAs, is-frame}
 use Rattle.value_nodes.specs.Parts.{namesOf, slotsOf, afterAt, afterOf, after-is, after-known}
 use Rattle.value_nodes.specs.PartContents.{insideOf, insideAt, inside-is, flagsOf, flags-start, flags-more}
-use Rattle.value_nodes.specs.declared.nodes.Node.{Node}
-use Rattle.value_nodes.specs.declared.nodes.NodeKind.the-variants.{None, Element, Literal, Referred}
-use Rattle.value_nodes.specs.declared.nodes.Judged.{Judged}
-use Rattle.value_nodes.specs.declared.nodes.Judged.the-variants.{Fine, Refused}
+use Rattle.nodes.specs.declared.Node.{Node}
+use Rattle.nodes.specs.declared.NodeKind.the-variants.{None, Element, Literal, Referred}
+use Rattle.nodes.specs.declared.Judged.{Judged}
+use Rattle.nodes.specs.declared.Judged.the-variants.{Fine, Refused}
 use Rattle.value_nodes.specs.declared.parts.After.{After}
 use Rattle.value_nodes.specs.declared.parts.After.the-variants.{Slot as Then, Nowhere}
 use Rattle.value_nodes.specs.declared.turns.Tried.{Tried}

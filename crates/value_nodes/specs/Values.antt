@@ -27,11 +27,11 @@ use Rattle.xml.specs.Nodes.{Nodes, charactersOf}
 use Rattle.xcal.specs.Layout.{sequence, leaf}
 use Rattle.xcal.specs.ValueNodes.{periodSlots, periodInside, recurSlots, recurInside, readWordOf, typedVerdict, asTyped, valueVerdict, elementType}
 use Rattle.value_nodes.specs.Leaves.{leafBy}
-use Rattle.value_nodes.specs.Judging.{judgedAs, is-value}
+use Rattle.nodes.specs.Judging.{judgedAs, is-value}
 use Rattle.value_nodes.specs.ElementTypes.{TypeNamed, place-at, geo-place, request-status-place}
 use Rattle.value_nodes.specs.declared.Named.{Named}
 use Rattle.value_nodes.specs.declared.Named.the-variants.{«Type» as Typed, Bad}
-use Rattle.value_nodes.specs.declared.nodes.Judged.the-variants.{Refused}
+use Rattle.nodes.specs.declared.Judged.the-variants.{Refused}
 
 abbrev pub typedAt : ℕ → ℕ → ℕ → ℕ → ℕ → Nodes → Verdict
 typedAt k p t place e kids =

@@ -1,6 +1,6 @@
 // An element of character data. See crate xcal, specs/Layout.antt.
-use crate::nodes::Judged;
-use crate::nodes::inner_element;
+use nodes::Judged;
+use nodes::inner_element;
 use recur::item::is_item;
 use schema::is_word_of;
 use values::ValueRead;
@@ -20,8 +20,8 @@ ghost use Rattle.recur.specs.Parts.{partNames};
 ghost use Rattle.recur.specs.Item.{readItem};
 ghost use Rattle.values.specs.ReadValue.{readValue};
 ghost use Rattle.xcal.specs.Layout.{leaf};
-ghost use Rattle.value_nodes.specs.NodesAt.{nodesAt};
-ghost use Rattle.value_nodes.specs.Judging.{judgedAs};
+ghost use Rattle.xml.specs.NodesAt.{nodesAt};
+ghost use Rattle.nodes.specs.Judging.{judgedAs};
 ghost use Rattle.value_nodes.specs.Leaves.{leafBy};
 
 // A value that passed its test, or not.

@@ -1,6 +1,5 @@
 // The verdict on the elements of a property's value. Definitions are in crate xcal (specs/ValueNodes), laws in specs/.
 mod leaves;
-mod nodes;
 mod parts;
 mod turns;
 mod types;

@@ -1,7 +1,7 @@
 // The children of PERIOD and RECUR, by the numbers of their names. `rule` is true for RECUR. See specs/Parts.antt.
 use crate::leaves::leaf_item;
 use crate::leaves::leaf_value;
-use crate::nodes::Judged;
+use nodes::Judged;
 use names::find_word;
 use octets::is_within;
 ghost use mathlib.Core.Path.{_≡_};
@@ -12,8 +12,8 @@ ghost use Rattle.octets.specs.Pick.{pick, _or_};
 ghost use Rattle.model.specs.Refusal.{FRAME, fine, refuse};
 ghost use Rattle.source.specs.Source.{rest};
 ghost use Rattle.names.specs.Table.{placeOf};
-ghost use Rattle.value_nodes.specs.NodesAt.{nodesAt};
-ghost use Rattle.value_nodes.specs.Judging.{judgedAs};
+ghost use Rattle.xml.specs.NodesAt.{nodesAt};
+ghost use Rattle.nodes.specs.Judging.{judgedAs};
 ghost use Rattle.value_nodes.specs.Sequencing.{isShort};
 ghost use Rattle.value_nodes.specs.Parts.{namesOf, countOf, slotNumber, afterAt};
 ghost use Rattle.value_nodes.specs.PartContents.{insideAt, flagsOf};

@@ -1,8 +1,8 @@
 // PERIOD and RECUR, which are made of elements in a fixed order. `rule` is true for RECUR. See specs/Turning.antt.
-use crate::nodes::Judged;
-use crate::nodes::NodeKind;
-use crate::nodes::next_node;
-use crate::nodes::unexpected;
+use nodes::Judged;
+use nodes::NodeKind;
+use nodes::next_node;
+use nodes::unexpected;
 use crate::parts::After;
 use crate::parts::at_end;
 use crate::parts::fills_first;
@@ -20,12 +20,12 @@ ghost use Rattle.octets.specs.Class.{isSpace};
 ghost use Rattle.source.specs.Source.{rest};
 ghost use Rattle.names.specs.Table.{placeOf};
 ghost use Rattle.xcal.specs.Layout.{sequence};
-ghost use Rattle.value_nodes.specs.NodesAt.{nodesAt};
-ghost use Rattle.value_nodes.specs.Judging.{judgedAs};
+ghost use Rattle.xml.specs.NodesAt.{nodesAt};
+ghost use Rattle.nodes.specs.Judging.{judgedAs};
 ghost use Rattle.value_nodes.specs.Parts.{namesOf, slotsOf};
 ghost use Rattle.value_nodes.specs.PartContents.{insideOf};
 ghost use Rattle.value_nodes.specs.Turning.{ChildAt, Turns};
-ghost use Rattle.value_nodes.specs.declared.nodes.Judged.the-variants.{Refused};
+ghost use Rattle.nodes.specs.declared.Judged.the-variants.{Refused};
 ghost use Rattle.value_nodes.specs.declared.turns.Next.the-variants.{Goes, Ends};
 
 // A child with a place that is fine, and the slot after it; or the refusal.

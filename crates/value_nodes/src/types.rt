@@ -1,7 +1,7 @@
 // The types that elements are named as. See crate xcal, specs/ValueNodes.antt.
 use crate::Named;
-use crate::nodes::NodeKind;
-use crate::nodes::next_node;
+use nodes::NodeKind;
+use nodes::next_node;
 use names::find_word;
 use schema::default_type;
 ghost use mathlib.Core.Path.{_≡_};
@@ -13,7 +13,7 @@ ghost use Rattle.names.specs.Table.{placeOf};
 ghost use Rattle.schema.specs.Properties.{propertyNames};
 ghost use Rattle.schema.specs.Numbers.{typeAt};
 ghost use Rattle.xcal.specs.ValueNodes.{firstType, typeOfNodes};
-ghost use Rattle.value_nodes.specs.NodesAt.{nodesAt};
+ghost use Rattle.xml.specs.NodesAt.{nodesAt};
 ghost use Rattle.value_nodes.specs.ElementTypes.{typeWords, TypeNamed};
 
 // The number of the type that the word from `at` on names, 15 where it names none.

@@ -3,7 +3,7 @@ use crate::Named;
 use crate::leaves::leaf;
 use crate::leaves::leaf_value;
 use crate::leaves::leaf_word;
-use crate::nodes::Judged;
+use nodes::Judged;
 use crate::turns::parts_verdict;
 use crate::types::element_type;
 use schema::has_words;
@@ -24,8 +24,8 @@ ghost use Rattle.schema.specs.Columns.{permitsType};
 ghost use Rattle.schema.specs.Sets.{wordsAt};
 ghost use Rattle.xcal.specs.Layout.{leaf};
 ghost use Rattle.xcal.specs.ValueNodes.{readWordOf, valueVerdict};
-ghost use Rattle.value_nodes.specs.NodesAt.{nodesAt};
-ghost use Rattle.value_nodes.specs.Judging.{judgedAs};
+ghost use Rattle.xml.specs.NodesAt.{nodesAt};
+ghost use Rattle.nodes.specs.Judging.{judgedAs};
 ghost use Rattle.value_nodes.specs.Values.{typedAt};
 
 // Character data: a word of the closed set that the property has in the component, or a value of the type.

@@ -1,6 +1,6 @@
 -- `parameter_nodes::leaf::cursor_of` meets its contract.
 use borrow.Author.Needs.{needs}
-use Rattle.parameter_nodes.specs.Standing.{characters-at}
+use Rattle.nodes.specs.Characters.{characters-at}
 use Rattle.parameter_nodes.proofs.leaf.cursor_of.Statement.{statement}
 use Rattle.parameter_nodes.proofs.leaf.cursor_of.Tie as tie
 

@@ -1,4 +1,6 @@
 -- `parameter_nodes::leaf::is_of_type` meets its contract.
+use mathlib.Core.Path.{sym}
+use mathlib.Core.Bool.{false≢true}
 use Rattle.values.specs.ValueAt.{good-yes, good-no}
 use borrow.Author.Needs.{needs}
 use Rattle.parameter_nodes.proofs.leaf.is_of_type.Statement.{statement}
@@ -9,6 +11,6 @@ is-of-type-spec = tie.close (tie.spec
     (λ c κs. search needs)  -- read-value-requires
     (λ c. search needs)  -- enum-told
     (λ c. search needs)  -- enum-told-2
-    (λ c. search (good-yes, needs))  -- returns
-    (λ c. search (good-no, needs))  -- returns-2
+    (λ c. search (c .before .before .read-value .ensures (λ h. absurd (false≢true (sym h))), good-yes, needs))  -- returns
+    (λ c. search (c .before .before .read-value .ensures (λ h. absurd (false≢true (sym h))), good-no, needs))  -- returns-2
     )

@@ -2,7 +2,7 @@
 use Prim.Native.Nat.{_-_}
 use mathlib.Core.Bool.{false}
 use lib.ListN.{length}
-use Rattle.nodes.specs.NodesAt.{nodesAt}
+use Rattle.xml.specs.NodesAt.{nodesAt}
 use Rattle.parameter_nodes.specs.Children.{child-less}
 use Rattle.parameter_nodes.specs.Rows.{rowAt}
 use Rattle.parameter_nodes.specs.Written.{listShown}

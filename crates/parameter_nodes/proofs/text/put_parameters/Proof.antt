@@ -1,7 +1,7 @@
 -- `parameter_nodes::text::put_parameters` meets its contract.
 use Prim.Native.Nat.{_-_}
 use lib.ListN.{length}
-use Rattle.nodes.specs.NodesAt.{nodesAt}
+use Rattle.xml.specs.NodesAt.{nodesAt}
 use Rattle.parameter_nodes.specs.Children.{child-less}
 use Rattle.parameter_nodes.specs.Listed.{Emits, emits-start, parametersShown, parameter-more, parameters-over, parameters-put}
 use Rattle.sink.specs.Sink.{writing}

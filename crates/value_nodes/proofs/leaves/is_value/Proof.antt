@@ -1,4 +1,6 @@
 -- `value_nodes::is_value` meets its contract.
+use mathlib.Core.Path.{sym}
+use mathlib.Core.Bool.{false≢true}
 use Rattle.value_nodes.specs.Leaves.{leaves}
 use Rattle.value_nodes.proofs.leaves.is_value.Statement.{statement}
 use Rattle.value_nodes.proofs.leaves.is_value.Tie as tie
@@ -9,6 +11,6 @@ is-value-spec = tie.close (tie.spec
     (λ c κs. search leaves)  -- read-value-requires
     (λ c. search leaves)  -- enum-told
     (λ c. search leaves)  -- enum-told-2
-    (λ c. search leaves)  -- returns
-    (λ c. search leaves)  -- returns-2
+    (λ c. search (c .before .before .read-value .ensures (λ h. absurd (false≢true (sym h))), leaves))  -- returns
+    (λ c. search (c .before .before .read-value .ensures (λ h. absurd (false≢true (sym h))), leaves))  -- returns-2
     )

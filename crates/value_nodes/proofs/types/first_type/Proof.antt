@@ -3,7 +3,7 @@ use Prim.Native.Nat.{_-_}
 use lib.ListN.{length}
 use Rattle.schema.specs.Numbers.{typeAt}
 use Rattle.xcal.specs.ValueNodes.{firstType}
-use Rattle.value_nodes.specs.Walks.{Passing}
+use Rattle.nodes.specs.Walks.{Passing}
 use Rattle.value_nodes.specs.ElementTypes.{firsts}
 use Rattle.value_nodes.proofs.types.first_type.Statement.{statement}
 use Rattle.value_nodes.proofs.types.first_type.Tie as tie
