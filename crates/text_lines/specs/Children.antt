@@ -115,11 +115,11 @@ by-number false true w = refl
 by-number false false w = refl
 
 module _ (w : List ℕ) {p : ℕ} (e : p ≡ placeOf w propertyNames) where
-  geo-at : same w (ascii "GEO") ≡ eqb p 9
+  pub geo-at : same w (ascii "GEO") ≡ eqb p 9
   unfolding octets-compute placeOf
   geo-at = same-place w (ascii "GEO") propertyNames refl ∙ ap (λ (n : ℕ). eqb n 9) (sym e)
 
-  status-at : same w (ascii "REQUEST-STATUS") ≡ eqb p 45
+  pub status-at : same w (ascii "REQUEST-STATUS") ≡ eqb p 45
   unfolding octets-compute placeOf
   status-at = same-place w (ascii "REQUEST-STATUS") propertyNames refl ∙ ap (λ (n : ℕ). eqb n 45) (sym e)
 

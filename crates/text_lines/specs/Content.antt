@@ -9,7 +9,7 @@ use Prim.Native.Nat.{ℕ, _≤_}
 use lib.ListN.{length}
 use Rattle.octets.specs.Ascii.{ascii}
 use Rattle.octets.specs.Pick.{pick}
-use Rattle.octets.specs.Append.{_⊕_, joined, append-empty, append-regroup}
+use Rattle.octets.specs.Append.{_⊕_, joined, append-empty, append-none}
 use Rattle.octets.specs.Class.{upper}
 use Rattle.octets.specs.Words.{joinedBy, eachAfter}
 use Rattle.model.specs.Calendar.{ValueType, Property}
@@ -46,7 +46,7 @@ parametersText w kids = joined (map writeParameter (withValue w (typeOfAll (read
 
 value-written : (t : ValueType) → writeParameter (valueParameter t) ≡ ascii ";VALUE=" ⊕ typeName t
 unfolding writeParameter writeParamValue joinedBy eachAfter pick _⊕_
-value-written t = ?
+value-written t = ap (λ (l : List ℕ). ascii ";VALUE=" ⊕ l) (append-none (typeName t))
 
 with-value : (w : List ℕ) (t : ValueType) (ps : List RawParameter) → joined (map writeParameter (withValue w t ps)) ≡ valueOf w t ⊕ joined (map writeParameter ps)
 unfolding withValue pick joined
@@ -56,7 +56,7 @@ with-value w t ps = go (sameType t (defaultType w))
     go true = sym (append-empty _)
     go false = ap (λ (l : List ℕ). l ⊕ joined (map writeParameter ps)) (value-written t)
 
-module _ {s : List ℕ} {p inside : ℕ} where
+module _ (s : List ℕ) {p : ℕ} (inside : ℕ) where
   pub parameters-put : {d e f : List ℕ} {o a r t q : ℕ} →
       ((w : List ℕ) → p ≡ placeOf w propertyNames → typeAt t ≡ typeOfAll (readValueNodes w (nodesAt s inside))) × (t ≤ 14) → ParametersAt p s inside q →
       Put d e o a (valueAt p t) → Put e f a r (joined (map writeParameter (map rawOf (readParameterNodes (nodesAt s q))))) →

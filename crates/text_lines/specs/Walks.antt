@@ -66,6 +66,12 @@ property-parts : (p : ℕ) (m : List ℕ) (x : ℕ) (kids more : Nodes) → prop
 unfolding propertiesText readProperties propertyLines lineText
 property-parts p m x kids more = refl
 
+-- what was put before the components inside
+pub head-put : {s : List ℕ} {i from : ℕ} {d e f : List ℕ} {o a r : ℕ} (m : List ℕ) → InsideAt (ascii "properties") s i from →
+    Put d e o a (foldedLine (ascii "BEGIN:" ⊕ upper m)) → Put e f a r (propertyLines (readProperties (nodesAt s from))) → Put d f o r (headText m (nodesAt s i))
+unfolding headText
+head-put {e = e} {f} {a = a} {r} m i u v = u ▷ subst (λ (ns : Nodes). Put e f a r (propertyLines (readProperties ns))) (sym (i .is)) v
+
 -- ---- a walk that writes
 
 pub data Walk : Type 0 where
@@ -168,7 +174,7 @@ module _ {s : List ℕ} {from : ℕ} {d : List ℕ} {o : ℕ} {k e : List ℕ} {
   pub inner-put : {f g h : List ℕ} {a b c i : ℕ} {j : List ℕ} → r .kind ≡ Element → InsideAt (ascii "components") s (r .inside) i →
       Put e f p a (headText (rest 0 (take (r .«name_end») s) (r .name)) (nodesAt s (r .inside))) →
       Put f g a b (writeCalendar (readComponents (nodesAt s i))) →
-      Put g h b c (foldedLine (ascii "END:" ⊕ upper (rest 0 (take (r .«name_end») s) (r .name)))) →
+      Put g h b c (endLine (upper (rest 0 (take (r .«name_end») s) (r .name)))) →
       length j ≡ length l → Walking inner s from d o k h c j (r .next)
   unfolding calendarText
   inner-put {f} {g} {h} {a} {b} {c} {i} q y u v t z =

@@ -6,6 +6,7 @@ use nodes::next_node;
 ghost use mathlib.Core.Path.{_≡_};
 ghost use Prim.Native.Nat.{_≤_};
 ghost use lib.ListN.{length, take};
+ghost use Rattle.octets.specs.Ascii.{ascii};
 ghost use Rattle.octets.specs.Words.{same, isOneOf};
 ghost use Rattle.source.specs.Source.{rest};
 ghost use Rattle.text_lines.specs.Children.{InsideAt, valueNames, ParametersAt};
@@ -16,6 +17,14 @@ fn is_named(s: &[u8], name: usize, end: usize, w: &[u8]) -> bool
     ensures { λ r. ⌜ r ≡ same (rest 0 (take end (now (s .entry))) name) (now (w .entry)) ⌝ }
 {
     is_word(0, &s[..end], name, w)
+}
+
+// It is `parameters`.
+fn is_parameters(s: &[u8], name: usize, end: usize) -> bool
+    requires { ⌜ end ≤ length (now s) ⌝ }
+    ensures { λ r. ⌜ r ≡ same (rest 0 (take end (now (s .entry))) name) (ascii "parameters") ⌝ }
+{
+    is_named(s, name, end, b"parameters")
 }
 
 // Where the content of the first element named `w` from `from` on begins; the end of the bytes where there is none.
@@ -91,7 +100,7 @@ pub fn parameters_inside(p: usize, s: &[u8], from: usize) -> usize
                 return s.len();
             }
             NodeKind::Element => {
-                let here = is_named(s, n.name, n.name_end, b"parameters");
+                let here = is_parameters(s, n.name, n.name_end);
                 if here {
                     return n.inside;
                 }

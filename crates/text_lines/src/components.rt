@@ -9,14 +9,16 @@ use sink::put_all;
 ghost use mathlib.Core.Path.{_≡_};
 ghost use Prim.Native.Nat.{_+_, _≤_};
 ghost use lib.ListN.{length, take};
+ghost use Rattle.octets.specs.Ascii.{ascii};
 ghost use Rattle.octets.specs.Append.{_⊕_};
 ghost use Rattle.octets.specs.Class.{upper};
 ghost use Rattle.source.specs.Source.{rest};
 ghost use Rattle.sink.specs.Sink.{Put};
 ghost use Rattle.folding.specs.Fold.{foldedLine};
-ghost use Rattle.ical.specs.WriteText.{writeCalendar};
+ghost use Rattle.ical.specs.WriteText.{endLine, writeCalendar};
 ghost use Rattle.xcal.specs.ComponentNodes.{readComponents};
 ghost use Rattle.nodes.specs.NodesAt.{nodesAt};
+ghost use Rattle.text_lines.specs.Children.{InsideAt};
 ghost use Rattle.text_lines.specs.Walks.{headText};
 
 // The line of `word` and the name from `name` to `end` in capitals.
@@ -39,6 +41,21 @@ fn put_head(out: &mut [u8], o: usize, line: &mut [u8], s: &[u8], name: usize, en
     put_properties(out, a, line, s, from)
 }
 
+// What stands behind them: END.
+fn put_tail(out: &mut [u8], o: usize, line: &mut [u8], s: &[u8], name: usize, end: usize) -> usize
+    requires { ⌜ (length (now s) ≤ 65535) × (length (now line) ≡ 262144) × (end ≤ length (now s)) ⌝ }
+    ensures { λ r. ⌜ Put (now (out .entry)) (now (out .exit)) o r (endLine (upper (rest 0 (take end (now (s .entry))) name))) ⌝ }
+{
+    put_name_line(out, o, line, b"END:", s, name, end)
+}
+
+// Where the components inside begin.
+fn components_inside(s: &[u8], inside: usize) -> usize
+    ensures { λ r. ⌜ InsideAt (ascii "components") (now (s .entry)) inside r ⌝ }
+{
+    inside_of(s, inside, b"components")
+}
+
 // The lines of the components whose elements stand from `from` on. `line` is the room for a line.
 pub fn put_calendar(out: &mut [u8], o: usize, line: &mut [u8], s: &[u8], from: usize) -> usize
     requires { ⌜ (length (now s) ≤ 65535) × (length (now line) ≡ 262144) ⌝ }
@@ -55,9 +72,9 @@ pub fn put_calendar(out: &mut [u8], o: usize, line: &mut [u8], s: &[u8], from: u
             }
             NodeKind::Element => {
                 let a = put_head(out, p, line, s, n.name, n.name_end, n.inside);
-                let inner = inside_of(s, n.inside, b"components");
+                let inner = components_inside(s, n.inside);
                 let b = put_calendar(out, a, line, s, inner);
-                p = put_name_line(out, b, line, b"END:", s, n.name, n.name_end);
+                p = put_tail(out, b, line, s, n.name, n.name_end);
                 at = n.next;
             }
             NodeKind::Literal => {
