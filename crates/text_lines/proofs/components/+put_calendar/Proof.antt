@@ -1,7 +1,9 @@
 -- `text_lines::components::put_calendar`, which calls itself, meets its contract. The measure is what is left of the bytes.
+use mathlib.Core.Path.{_∙_}
 use Prim.Native.Nat.{ℕ, _-_, _<_}
+use native.Mathlib.Omega.{arith}
 use lib.ListN.{length}
-use Rattle.text_lines.specs.Walks.{Walking, inner, inners}
+use Rattle.text_lines.specs.Walks.{Walking, inner, inner-less, inner-put, inners}
 use borrow.Fn.Kinds.{In}
 use borrow.Fn.PlainCycle.{Measures, is, falls, and}
 use Rattle.text_lines.proofs.components.put_calendar.Reads as put-calendar
@@ -56,10 +58,10 @@ pub +put-calendar-spec : {M : Type 1} → statement M
     (λ c. search inners)  -- enum-told-2
     (λ c κs. search inners)  -- put-head-requires
     (λ c κs. search inners)  -- components-inside-requires
-    (λ c κs. search inners)  -- put-calendar-requires
+    (λ c κs. (omega (arith, inner-less (c .before .before .before .before .before .before .before .before .before .before .before .before .before .loop .inv) (c .before .before .before .before .before .before .before .before .before .before .before .before .next-node .ensures) (c .before .before .before .before .before .before .before .before .before .before .enum-told2 .given .1) (c .before .before .components-inside .ensures), c .before .before .before .before .before .before .before .before .before .before .before .before .before .before .before .before .before .pre .0), (c .before .before .before .before .before .before .before .before .before .before .before .before .before .before .before .before .before .pre .1 .0, omega (arith, c .before .before .before .before .before .before .before .before .before .before .before .before .before .before .before .before .before .pre .1 .1, c .before .before .before .before .before .before .before .before .before .before .before .before .before .loop .inv .room, c .before .before .before .before .before .before .before .put-head .kept .1 .1 .0))))  -- put-calendar-requires
     (λ c κs. search inners)  -- put-tail-requires
     (λ c. search inners)  -- loop-less
-    (λ c. search inners)  -- loop-again
+    (λ c. inner-put (c .before .before .before .before .before .before .before .before .before .before .before .before .before .before .before .before .before .before .before .before .before .before .before .before .before .loop .inv) (c .before .before .before .before .before .before .before .before .before .before .before .before .before .before .before .before .before .before .before .before .before .before .before .before .next-node .ensures) (c .before .before .before .before .before .before .before .before .before .before .before .before .before .before .before .before .before .before .before .before .before .before .enum-told2 .given .1) (c .before .before .before .before .before .before .before .before .before .before .before .before .before .before .components-inside .ensures) (c .before .before .before .before .before .before .before .before .before .before .before .before .before .before .before .before .before .before .before .put-head .ensures) (c .before .before .before .before .before .before .before .before .before .before .before .put-calendar .ensures) (c .before .before .before .before .put-tail .ensures) (c .before .before .before .before .put-tail .kept .1 .1 .0 ∙ c .before .before .before .before .before .before .before .before .before .before .before .put-calendar .kept .1 .1 .0 ∙ c .before .before .before .before .before .before .before .before .before .before .before .before .before .before .before .before .before .before .before .put-head .kept .1 .1 .0))  -- loop-again
     (λ c. search inners)  -- enum-told-3
     (λ c. search inners)  -- loop-less-2
     (λ c. search inners)  -- loop-again-2
