@@ -13,7 +13,7 @@ use Rattle.octets.specs.Ascii.{ascii}
 use Rattle.octets.specs.Pick.{pick}
 use Rattle.octets.specs.Append.{_⊕_, joined, append-empty, append-none}
 use Rattle.octets.specs.Class.{upper}
-use Rattle.octets.specs.Words.{same, isOneOf, joinedBy, eachAfter}
+use Rattle.octets.specs.Words.{isOneOf, joinedBy, eachAfter}
 use Rattle.octets.specs.Computing.{octets-compute}
 use Rattle.model.specs.Calendar.{ValueType, Value, Property}
 use Rattle.sink.specs.Sink.{Put, _▷_}
@@ -30,7 +30,7 @@ use Rattle.xcal.specs.ValueNodes.{readValueNodes}
 use Rattle.xcal.specs.ParameterNodes.{readParameterNodes}
 use Rattle.xcal.specs.PropertyNodes.{parametersIn}
 use Rattle.nodes.specs.NodesAt.{nodesAt}
-use Rattle.text_lines.specs.Children.{ParametersAt, geo-at, status-at}
+use Rattle.text_lines.specs.Parameters.{ParametersAt, geo-at, status-at}
 use Rattle.text_lines.specs.Typing.{valueAt, valueOf, value-at}
 
 abbrev pub propertyIn : List ℕ → Nodes → Property

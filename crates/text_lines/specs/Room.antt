@@ -2,18 +2,18 @@
 --     room-count, room-within    how many bytes it has
 --     folded-put                 what is folded from there is the line
 --     name-within, name-cut, name-folded    the same of a word and a name in capitals
-use mathlib.Core.Path.{_≡_, refl, sym, ap, subst, _∙_}
-use mathlib.Core.List.{List, [], _∷_, _++_}
-use Prim.Native.Nat.{ℕ, suc, _+_, _-_, _*_, _^_, max, min, _≤_, _<_}
+use mathlib.Core.Path.{_≡_, refl, sym, ap, subst}
+use mathlib.Core.List.{List, [], _∷_}
+use Prim.Native.Nat.{ℕ, suc, _+_, _-_, _≤_}
 use native.Mathlib.Omega.{arith}
 use lib.ListN.{length, take, drop, length-take, length-drop}
 use lib.Seq.{take-append-seam, length-take-le}
 use Rattle.octets.specs.Append.{_⊕_, length-both}
 use Rattle.octets.specs.Class.{upper}
-use Rattle.source.specs.Source.{rest}
 use Rattle.source.specs.Facts.{rest-part}
 use Rattle.sink.specs.Sink.{Put, far, put-length, overwrite-fits, _▷_}
 use Rattle.folding.specs.Fold.{foldedLine}
+use Rattle.text_lines.specs.Children.{nameIn}
 
 module _ {d e : List ℕ} {n : ℕ} {bs : List ℕ} (p : Put d e 0 n bs) (h : length bs ≤ length d) where
   pub room-count : n ≡ length bs
@@ -39,12 +39,13 @@ unfolding upper
 length-upper [] = refl
 length-upper (x ∷ l) = ap suc (length-upper l)
 
-name-short : (s : List ℕ) (c e : ℕ) → length (upper (rest 0 (take e s) c)) ≤ length s
-name-short s c e = omega (arith, length-upper (rest 0 (take e s) c), ap length (rest-part s c e), length-take (e - c) (drop c s), length-drop c s)
+name-short : (s : List ℕ) (c e : ℕ) → length (upper (nameIn s c e)) ≤ length s
+name-short s c e = omega (arith, length-upper (nameIn s c e), ap length (rest-part s c e), length-take (e - c) (drop c s), length-drop c s)
 
-module _ {d e f w : List ℕ} {a n : ℕ} (s : List ℕ) (c x : ℕ) (u : Put d e 0 a w) (v : Put e f a n (upper (rest 0 (take x s) c))) (h : length w + length s ≤ length d) where
-  name-fits : length (w ⊕ upper (rest 0 (take x s) c)) ≤ length d
-  name-fits = omega (arith, length-both w (upper (rest 0 (take x s) c)), name-short s c x)
+module _ {d e f w : List ℕ} {a n : ℕ} (s : List ℕ) (c x : ℕ)
+    (u : Put d e 0 a w) (v : Put e f a n (upper (nameIn s c x))) (h : length w + length s ≤ length d) where
+  name-fits : length (w ⊕ upper (nameIn s c x)) ≤ length d
+  name-fits = omega (arith, length-both w (upper (nameIn s c x)), name-short s c x)
 
   pub name-within : n ≤ length f
   name-within = room-within (u ▷ v) name-fits
@@ -52,5 +53,5 @@ module _ {d e f w : List ℕ} {a n : ℕ} (s : List ℕ) (c x : ℕ) (u : Put d 
   pub name-cut : n ≡ length (take n f)
   name-cut = room-cut (u ▷ v) name-fits
 
-  pub name-folded : {y z : List ℕ} {o r : ℕ} → Put y z o r (foldedLine (take n f)) → Put y z o r (foldedLine (w ⊕ upper (rest 0 (take x s) c)))
+  pub name-folded : {y z : List ℕ} {o r : ℕ} → Put y z o r (foldedLine (take n f)) → Put y z o r (foldedLine (w ⊕ upper (nameIn s c x)))
   name-folded q = folded-put (u ▷ v) name-fits q

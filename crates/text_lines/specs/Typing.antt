@@ -2,7 +2,7 @@
 --     valueAt p t    what is written of it for the property and the type of these numbers;   value-at: it is what the names have
 --     type-named     the name of a type, cut from all names
 use mathlib.Core.Path.{_≡_, refl, sym, ap, subst, _∙_}
-use mathlib.Core.Bool.{Bool, true}
+use mathlib.Core.Bool.{Bool}
 use mathlib.Core.List.{List, [], _∷_, map}
 use Prim.Native.Nat.{ℕ, zero, suc, _-_, _*_, _^_, _≤_, _<_}
 use native.Mathlib.Omega.{arith}

@@ -4,10 +4,10 @@
 --     Walking                         the invariant of a walk that writes: what is left to write from the node at hand on;   `search owns`, `search inners`
 use mathlib.Core.Path.{_≡_, refl, sym, ap, subst, _∙_}
 use mathlib.Core.Bool.{Bool, true, false}
-use mathlib.Core.List.{List, [], _∷_}
+use mathlib.Core.List.{List, []}
 use Prim.Native.Nat.{ℕ, _-_, _*_, _^_, _≤_, _<_}
 use native.Mathlib.Omega.{arith}
-use lib.ListN.{length, take}
+use lib.ListN.{length}
 use borrow.Author.Needs.{needs}
 use Rattle.octets.specs.Ascii.{ascii}
 use Rattle.octets.specs.Pick.{pick}
@@ -15,7 +15,6 @@ use Rattle.octets.specs.Append.{_⊕_, append-is, append-regroup}
 use Rattle.octets.specs.Class.{upper}
 use Rattle.octets.specs.Words.{same}
 use Rattle.sink.specs.Sink.{Put, put-length, _▷_, Todo, todo-all, todo-step, todo-done}
-use Rattle.source.specs.Source.{rest}
 use Rattle.folding.specs.Fold.{foldedLine}
 use Rattle.ical.specs.WriteText.{propertyLines, beginLine, endLine, writeCalendar}
 use Rattle.xml.specs.Nodes.{Nodes, noNodes, element, literal, referred}
@@ -25,7 +24,7 @@ use Rattle.nodes.specs.NodesAt.{nodesAt}
 use Rattle.nodes.specs.NodeFound.{NodeAt, node-none, node-element, node-literal, node-referred, element-less, inside-less, literal-less, referred-less}
 use Rattle.nodes.specs.declared.Node.{Node}
 use Rattle.nodes.specs.declared.NodeKind.the-variants.{None, Element, Literal, Referred}
-use Rattle.text_lines.specs.Children.{InsideAt}
+use Rattle.text_lines.specs.Children.{InsideAt, nameIn}
 use Rattle.text_lines.specs.Content.{lineText}
 use Rattle.text_lines.specs.Standing.{line-fits}
 
@@ -150,11 +149,11 @@ module _ {s : List ℕ} {from : ℕ} {d : List ℕ} {o : ℕ} {k e : List ℕ} {
   own-end q = walk-end m n q
 
   pub own-fits : r .kind ≡ Element → length s ≤ 65535 → length k ≡ 262144 →
-      length (lineText (rest 0 (take (r .«name_end») s) (r .name)) (nodesAt s (r .inside))) ≤ length l
+      length (lineText (nameIn s (r .name) (r .«name_end»)) (nodesAt s (r .inside))) ≤ length l
   own-fits q h z = omega (arith, line-fits n q h, m .room)
 
   pub own-put : {f : List ℕ} {a : ℕ} {j : List ℕ} → r .kind ≡ Element →
-      Put e f p a (foldedLine (lineText (rest 0 (take (r .«name_end») s) (r .name)) (nodesAt s (r .inside)))) → length j ≡ length l → Walking own s from d o k f a j (r .next)
+      Put e f p a (foldedLine (lineText (nameIn s (r .name) (r .«name_end»)) (nodesAt s (r .inside)))) → length j ≡ length l → Walking own s from d o k f a j (r .next)
   own-put q b c = walk-put m n _ _ q (node-element n q) (property-parts _ _ _ _ _) b c
 
 pub ruleset owns = (walk-start, walk-length, walk-room, walk-literal, walk-referred, own-end, own-fits, own-put, element-less, literal-less, referred-less, needs)
@@ -172,9 +171,9 @@ module _ {s : List ℕ} {from : ℕ} {d : List ℕ} {o : ℕ} {k e : List ℕ} {
 
   -- a component whose three parts were put
   pub inner-put : {f g h : List ℕ} {a b c i : ℕ} {j : List ℕ} → r .kind ≡ Element → InsideAt (ascii "components") s (r .inside) i →
-      Put e f p a (headText (rest 0 (take (r .«name_end») s) (r .name)) (nodesAt s (r .inside))) →
+      Put e f p a (headText (nameIn s (r .name) (r .«name_end»)) (nodesAt s (r .inside))) →
       Put f g a b (writeCalendar (readComponents (nodesAt s i))) →
-      Put g h b c (endLine (upper (rest 0 (take (r .«name_end») s) (r .name)))) →
+      Put g h b c (endLine (upper (nameIn s (r .name) (r .«name_end»)))) →
       length j ≡ length l → Walking inner s from d o k h c j (r .next)
   unfolding calendarText
   inner-put {f} {g} {h} {a} {b} {c} {i} q y u v t z =

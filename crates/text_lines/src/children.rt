@@ -1,20 +1,21 @@
-// Children by their names. See specs/Children.antt.
+// Children by their names. See specs/Children.antt, Parameters.antt.
 use names::find_word;
 use names::is_word;
 use nodes::NodeKind;
 use nodes::next_node;
 ghost use mathlib.Core.Path.{_≡_};
 ghost use Prim.Native.Nat.{_≤_};
-ghost use lib.ListN.{length, take};
+ghost use lib.ListN.{length};
 ghost use Rattle.octets.specs.Ascii.{ascii};
 ghost use Rattle.octets.specs.Words.{same, isOneOf};
 ghost use Rattle.source.specs.Source.{rest};
-ghost use Rattle.text_lines.specs.Children.{InsideAt, valueNames, ParametersAt};
+ghost use Rattle.text_lines.specs.Children.{InsideAt, nameIn};
+ghost use Rattle.text_lines.specs.Parameters.{valueNames, ParametersAt};
 
 // The name from `name` to `end` is `w`.
 fn is_named(s: &[u8], name: usize, end: usize, w: &[u8]) -> bool
     requires { ⌜ end ≤ length (now s) ⌝ }
-    ensures { λ r. ⌜ r ≡ same (rest 0 (take end (now (s .entry))) name) (now (w .entry)) ⌝ }
+    ensures { λ r. ⌜ r ≡ same (nameIn (now (s .entry)) name end) (now (w .entry)) ⌝ }
 {
     is_word(0, &s[..end], name, w)
 }
@@ -22,7 +23,7 @@ fn is_named(s: &[u8], name: usize, end: usize, w: &[u8]) -> bool
 // It is `parameters`.
 fn is_parameters(s: &[u8], name: usize, end: usize) -> bool
     requires { ⌜ end ≤ length (now s) ⌝ }
-    ensures { λ r. ⌜ r ≡ same (rest 0 (take end (now (s .entry))) name) (ascii "parameters") ⌝ }
+    ensures { λ r. ⌜ r ≡ same (nameIn (now (s .entry)) name end) (ascii "parameters") ⌝ }
 {
     is_named(s, name, end, b"parameters")
 }
@@ -81,7 +82,7 @@ fn is_value_name(p: usize, s: &[u8], at: usize) -> bool
 // The same of the name from `name` to `end`.
 fn is_value_named(p: usize, s: &[u8], name: usize, end: usize) -> bool
     requires { ⌜ end ≤ length (now s) ⌝ }
-    ensures { λ r. ⌜ r ≡ isOneOf (rest 0 (take end (now (s .entry))) name) (valueNames p) ⌝ }
+    ensures { λ r. ⌜ r ≡ isOneOf (nameIn (now (s .entry)) name end) (valueNames p) ⌝ }
 {
     is_value_name(p, &s[..end], name)
 }

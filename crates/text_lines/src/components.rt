@@ -8,23 +8,30 @@ use nodes::next_node;
 use sink::put_all;
 ghost use mathlib.Core.Path.{_≡_};
 ghost use Prim.Native.Nat.{_+_, _≤_};
-ghost use lib.ListN.{length, take};
+ghost use lib.ListN.{length};
 ghost use Rattle.octets.specs.Ascii.{ascii};
 ghost use Rattle.octets.specs.Append.{_⊕_};
 ghost use Rattle.octets.specs.Class.{upper};
-ghost use Rattle.source.specs.Source.{rest};
 ghost use Rattle.sink.specs.Sink.{Put};
 ghost use Rattle.folding.specs.Fold.{foldedLine};
 ghost use Rattle.ical.specs.WriteText.{endLine, writeCalendar};
 ghost use Rattle.xcal.specs.ComponentNodes.{readComponents};
 ghost use Rattle.nodes.specs.NodesAt.{nodesAt};
-ghost use Rattle.text_lines.specs.Children.{InsideAt};
+ghost use Rattle.text_lines.specs.Children.{InsideAt, nameIn};
 ghost use Rattle.text_lines.specs.Walks.{headText};
 
 // The line of `word` and the name from `name` to `end` in capitals.
-fn put_name_line(out: &mut [u8], o: usize, line: &mut [u8], word: &[u8], s: &[u8], name: usize, end: usize) -> usize
+fn put_name_line(
+    out: &mut [u8],
+    o: usize,
+    line: &mut [u8],
+    word: &[u8],
+    s: &[u8],
+    name: usize,
+    end: usize,
+) -> usize
     requires { ⌜ (end ≤ length (now s)) × (length (now word) + length (now s) ≤ length (now line)) ⌝ }
-    ensures { λ r. ⌜ Put (now (out .entry)) (now (out .exit)) o r (foldedLine (now (word .entry) ⊕ upper (rest 0 (take end (now (s .entry))) name))) ⌝ }
+    ensures { λ r. ⌜ Put (now (out .entry)) (now (out .exit)) o r (foldedLine (now (word .entry) ⊕ upper (nameIn (now (s .entry)) name end))) ⌝ }
 {
     let a = put_all(line, 0, word);
     let n = put_upper(line, a, 0, &s[..end], name);
@@ -32,9 +39,17 @@ fn put_name_line(out: &mut [u8], o: usize, line: &mut [u8], word: &[u8], s: &[u8
 }
 
 // What stands before the components inside: BEGIN and the properties.
-fn put_head(out: &mut [u8], o: usize, line: &mut [u8], s: &[u8], name: usize, end: usize, inside: usize) -> usize
+fn put_head(
+    out: &mut [u8],
+    o: usize,
+    line: &mut [u8],
+    s: &[u8],
+    name: usize,
+    end: usize,
+    inside: usize,
+) -> usize
     requires { ⌜ (length (now s) ≤ 65535) × (length (now line) ≡ 262144) × (end ≤ length (now s)) ⌝ }
-    ensures { λ r. ⌜ Put (now (out .entry)) (now (out .exit)) o r (headText (rest 0 (take end (now (s .entry))) name) (nodesAt (now (s .entry)) inside)) ⌝ }
+    ensures { λ r. ⌜ Put (now (out .entry)) (now (out .exit)) o r (headText (nameIn (now (s .entry)) name end) (nodesAt (now (s .entry)) inside)) ⌝ }
 {
     let a = put_name_line(out, o, line, b"BEGIN:", s, name, end);
     let from = inside_of(s, inside, b"properties");
@@ -44,7 +59,7 @@ fn put_head(out: &mut [u8], o: usize, line: &mut [u8], s: &[u8], name: usize, en
 // What stands behind them: END.
 fn put_tail(out: &mut [u8], o: usize, line: &mut [u8], s: &[u8], name: usize, end: usize) -> usize
     requires { ⌜ (length (now s) ≤ 65535) × (length (now line) ≡ 262144) × (end ≤ length (now s)) ⌝ }
-    ensures { λ r. ⌜ Put (now (out .entry)) (now (out .exit)) o r (endLine (upper (rest 0 (take end (now (s .entry))) name))) ⌝ }
+    ensures { λ r. ⌜ Put (now (out .entry)) (now (out .exit)) o r (endLine (upper (nameIn (now (s .entry)) name end))) ⌝ }
 {
     put_name_line(out, o, line, b"END:", s, name, end)
 }

@@ -10,14 +10,14 @@ use sink::put_all;
 ghost use mathlib.Core.Path.{_≡_};
 ghost use mathlib.Core.List.{List, _∷_};
 ghost use Prim.Native.Nat.{ℕ, _≤_};
-ghost use lib.ListN.{length, take};
-ghost use Rattle.source.specs.Source.{rest};
+ghost use lib.ListN.{length};
 ghost use Rattle.sink.specs.Sink.{Put};
 ghost use Rattle.names.specs.Table.{placeOf};
 ghost use Rattle.schema.specs.Properties.{propertyNames};
 ghost use Rattle.values.specs.WriteValue.{writeValues};
 ghost use Rattle.xcal.specs.ValueNodes.{readValueNodes};
 ghost use Rattle.nodes.specs.NodesAt.{nodesAt};
+ghost use Rattle.text_lines.specs.Children.{nameIn};
 ghost use Rattle.text_lines.specs.Content.{parametersText, lineText};
 
 // VALUE and the parameters of the property of the number `p` whose content begins at `inside`.
@@ -41,9 +41,16 @@ fn put_all_values(out: &mut [u8], o: usize, p: usize, s: &[u8], inside: usize) -
 }
 
 // The content line of the property whose name is from `name` to `name_end` and whose content begins at `inside`.
-pub fn put_content_line(out: &mut [u8], o: usize, s: &[u8], name: usize, name_end: usize, inside: usize) -> usize
+pub fn put_content_line(
+    out: &mut [u8],
+    o: usize,
+    s: &[u8],
+    name: usize,
+    name_end: usize,
+    inside: usize,
+) -> usize
     requires { ⌜ (length (now s) ≤ 65535) × («name_end» ≤ length (now s)) × (inside ≤ length (now s)) ⌝ }
-    ensures { λ r. ⌜ Put (now (out .entry)) (now (out .exit)) o r (lineText (rest 0 (take «name_end» (now (s .entry))) name) (nodesAt (now (s .entry)) inside)) ⌝ }
+    ensures { λ r. ⌜ Put (now (out .entry)) (now (out .exit)) o r (lineText (nameIn (now (s .entry)) name «name_end») (nodesAt (now (s .entry)) inside)) ⌝ }
 {
     let p = property_number(0, &s[..name_end], name);
     let a = put_upper(out, o, 0, &s[..name_end], name);

@@ -5,19 +5,27 @@ use nodes::NodeKind;
 use nodes::next_node;
 ghost use mathlib.Core.Path.{_≡_};
 ghost use Prim.Native.Nat.{_≤_};
-ghost use lib.ListN.{length, take};
-ghost use Rattle.source.specs.Source.{rest};
+ghost use lib.ListN.{length};
 ghost use Rattle.sink.specs.Sink.{Put};
 ghost use Rattle.folding.specs.Fold.{foldedLine};
 ghost use Rattle.ical.specs.WriteText.{propertyLines};
 ghost use Rattle.xcal.specs.PropertyNodes.{readProperties};
 ghost use Rattle.nodes.specs.NodesAt.{nodesAt};
+ghost use Rattle.text_lines.specs.Children.{nameIn};
 ghost use Rattle.text_lines.specs.Content.{lineText};
 
 // The line of the property whose name is from `name` to `name_end` and whose content begins at `inside`.
-fn put_property_line(out: &mut [u8], o: usize, line: &mut [u8], s: &[u8], name: usize, name_end: usize, inside: usize) -> usize
-    requires { ⌜ (length (now s) ≤ 65535) × («name_end» ≤ length (now s)) × (inside ≤ length (now s)) × (length (lineText (rest 0 (take «name_end» (now s)) name) (nodesAt (now s) inside)) ≤ length (now line)) ⌝ }
-    ensures { λ r. ⌜ Put (now (out .entry)) (now (out .exit)) o r (foldedLine (lineText (rest 0 (take «name_end» (now (s .entry))) name) (nodesAt (now (s .entry)) inside))) ⌝ }
+fn put_property_line(
+    out: &mut [u8],
+    o: usize,
+    line: &mut [u8],
+    s: &[u8],
+    name: usize,
+    name_end: usize,
+    inside: usize,
+) -> usize
+    requires { ⌜ (length (now s) ≤ 65535) × («name_end» ≤ length (now s)) × (inside ≤ length (now s)) × (length (lineText (nameIn (now s) name «name_end») (nodesAt (now s) inside)) ≤ length (now line)) ⌝ }
+    ensures { λ r. ⌜ Put (now (out .entry)) (now (out .exit)) o r (foldedLine (lineText (nameIn (now (s .entry)) name «name_end») (nodesAt (now (s .entry)) inside))) ⌝ }
 {
     let n = put_content_line(line, 0, s, name, name_end, inside);
     put_folded(out, o, &line[..n])

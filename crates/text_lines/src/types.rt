@@ -3,9 +3,7 @@ use names::put_rest;
 use octets::wide;
 use schema::default_type;
 use sink::put_all;
-ghost use mathlib.Core.List.{List};
-ghost use mathlib.Core.Path.{_≡_};
-ghost use Prim.Native.Nat.{ℕ, _≤_};
+ghost use Prim.Native.Nat.{_≤_};
 ghost use lib.ListN.{length, take};
 ghost use Rattle.source.specs.Source.{rest};
 ghost use Rattle.sink.specs.Sink.{Put};
@@ -15,6 +13,7 @@ ghost use Rattle.text_lines.specs.Typing.{valueAt};
 
 // Where the name of each of the fourteen types begins among the names, and where it ends.
 const BEGINS: [u8; 14] = [0, 6, 13, 24, 28, 37, 45, 50, 57, 63, 68, 72, 76, 79];
+
 const ENDS: [u8; 14] = [6, 13, 24, 28, 37, 45, 50, 57, 63, 68, 72, 76, 79, 89];
 
 // The bytes from `a` to `b`.

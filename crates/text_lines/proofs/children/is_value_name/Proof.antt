@@ -1,6 +1,6 @@
 -- `text_lines::children::is_value_name` meets its contract.
 use borrow.Author.Needs.{needs}
-use Rattle.text_lines.specs.Children.{geo-found, status-found, type-found}
+use Rattle.text_lines.specs.Parameters.{geo-found, status-found, type-found}
 use Rattle.text_lines.proofs.children.is_value_name.Statement.{statement}
 use Rattle.text_lines.proofs.children.is_value_name.Tie as tie
 

@@ -1,7 +1,7 @@
 -- `text_lines::children::parameters_inside` meets its contract.
 use Prim.Native.Nat.{_-_}
 use lib.ListN.{length}
-use Rattle.text_lines.specs.Children.{Sought, sought}
+use Rattle.text_lines.specs.Parameters.{Sought, sought}
 use Rattle.text_lines.proofs.children.parameters_inside.Statement.{statement}
 use Rattle.text_lines.proofs.children.parameters_inside.Tie as tie
 
