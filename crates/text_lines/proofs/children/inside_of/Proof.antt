@@ -1,0 +1,33 @@
+-- `text_lines::children::inside_of` meets its contract.
+use Prim.Native.Nat.{_-_}
+use lib.ListN.{length}
+use Rattle.text_lines.specs.Children.{Seeking, seeking}
+use Rattle.text_lines.proofs.children.inside_of.Statement.{statement}
+use Rattle.text_lines.proofs.children.inside_of.Tie as tie
+
+abbrev Inv-loop : tie.InvT-loop
+Inv-loop s from w at₀ at = Seeking w s from at
+
+abbrev μ-loop : tie.MeasureT-loop
+μ-loop s from w at₀ at = length s - at
+
+pub inside-of-spec : {M : Type 1} → statement M
+inside-of-spec = tie.close (tie.spec
+    Inv-loop
+    μ-loop
+    (λ c. search seeking)  -- loop-holds
+    (λ c κs. search seeking)  -- next-node-requires
+    (λ c. search seeking)  -- enum-told
+    (λ c. search seeking)  -- returns
+    (λ c. search seeking)  -- enum-told-2
+    (λ c κs. search seeking)  -- is-named-requires
+    (λ c. search seeking)  -- returns-2
+    (λ c. search seeking)  -- loop-less
+    (λ c. search seeking)  -- loop-again
+    (λ c. search seeking)  -- enum-told-3
+    (λ c. search seeking)  -- loop-less-2
+    (λ c. search seeking)  -- loop-again-2
+    (λ c. search seeking)  -- enum-told-4
+    (λ c. search seeking)  -- loop-less-3
+    (λ c. search seeking)  -- loop-again-3
+    )

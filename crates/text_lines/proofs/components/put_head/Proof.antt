@@ -1,0 +1,17 @@
+-- `text_lines::components::put_head` meets its contract.
+use borrow.Author.Needs.{needs}
+use Rattle.text_lines.specs.Walks.{head-put}
+use Rattle.text_lines.proofs.components.put_head.Statement.{statement}
+use Rattle.text_lines.proofs.components.put_head.Tie as tie
+
+pub put-head-spec : {M : Type 1} → statement M
+put-head-spec = tie.close (tie.spec
+    (λ c. search needs)  -- slice-aggregate-put-name-line
+    (λ c κs. search needs)  -- put-name-line-requires
+    (λ c. search needs)  -- slice-aggregate-inside-of
+    (λ c κs. search needs)  -- inside-of-requires
+    (λ c κs. search needs)  -- put-properties-requires
+    (λ c. search needs)  -- same-length
+    (λ c. search needs)  -- same-length-2
+    (λ c. search (head-put, needs))  -- returns
+    )

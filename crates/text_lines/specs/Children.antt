@@ -1,0 +1,64 @@
+-- The first child of a name.
+--     nameIn      a name between two cursors
+--     InsideAt    its content: the contract of `inside_of`
+--     Seeking     the invariant of the loop over the children;   `search seeking`
+use mathlib.Core.Path.{_≡_, refl, sym, ap, _∙_}
+use mathlib.Core.Bool.{Bool, true, false}
+use mathlib.Core.List.{List}
+use Prim.Native.Nat.{ℕ, _-_, _≤_}
+use native.Mathlib.Omega.{arith}
+use lib.ListN.{length, take}
+use borrow.Author.Needs.{needs}
+use Rattle.octets.specs.Pick.{pick}
+use Rattle.octets.specs.Words.{same}
+use Rattle.source.specs.Source.{rest}
+use Rattle.xcal.specs.ComponentNodes.{insideOf}
+use Rattle.nodes.specs.NodesAt.{nodesAt, nodes-none}
+use Rattle.nodes.specs.NodeFound.{NodeAt, node-none, node-element, node-literal, node-referred, element-onward, element-less, literal-less, referred-less}
+use Rattle.nodes.specs.declared.Node.{Node}
+use Rattle.nodes.specs.declared.NodeKind.the-variants.{None, Element, Literal, Referred}
+
+-- the name from the cursor c to e
+abbrev pub nameIn : List ℕ → ℕ → ℕ → List ℕ
+nameIn s c e = rest 0 (take e s) c
+
+pub record InsideAt (w s : List ℕ) (from r : ℕ) : Type 0 where
+  pub is : insideOf w (nodesAt s from) ≡ nodesAt s r
+  pub within : r ≤ length s
+  pub onward : length s - r ≤ length s - from
+
+-- it is the same from here on
+pub record Seeking (w s : List ℕ) (from at : ℕ) : Type 0 where
+  pub is : insideOf w (nodesAt s from) ≡ insideOf w (nodesAt s at)
+  pub onward : length s - at ≤ length s - from
+
+pub seeking-start : (w s : List ℕ) (from : ℕ) → Seeking w s from from
+seeking-start w s from = record { is = refl; onward = omega arith }
+
+module _ {w s : List ℕ} {from at : ℕ} {r : Node} (p : Seeking w s from at) (n : NodeAt s at r) where
+  pub seeking-none : r .kind ≡ None → InsideAt w s from (length s)
+  unfolding insideOf
+  seeking-none q = record { is = p .is ∙ ap (insideOf w) (node-none n q) ∙ sym (nodes-none s (length s) (omega arith)); within = omega arith; onward = omega arith }
+
+  module _ {b : Bool} (q : r .kind ≡ Element) (e : b ≡ same (nameIn s (r .name) (r .«name_end»)) w) where
+    pub seeking-here : b ≡ true → InsideAt w s from (r .inside)
+    unfolding insideOf pick
+    seeking-here h = record {
+      is = p .is ∙ ap (insideOf w) (node-element n q) ∙ rw (← e, h);
+      within = n .inside-within;
+      onward = omega (arith, p .onward, element-onward n q);
+    }
+
+    pub seeking-pass : b ≡ false → Seeking w s from (r .next)
+    unfolding insideOf pick
+    seeking-pass h = record { is = p .is ∙ ap (insideOf w) (node-element n q) ∙ rw (← e, h); onward = omega (arith, p .onward, element-onward n q) }
+
+  pub seeking-literal : r .kind ≡ Literal → Seeking w s from (r .next)
+  unfolding insideOf
+  seeking-literal q = record { is = p .is ∙ ap (insideOf w) (node-literal n q); onward = omega (arith, p .onward, literal-less n q) }
+
+  pub seeking-referred : r .kind ≡ Referred → Seeking w s from (r .next)
+  unfolding insideOf
+  seeking-referred q = record { is = p .is ∙ ap (insideOf w) (node-referred n q); onward = omega (arith, p .onward, referred-less n q) }
+
+pub ruleset seeking = (seeking-start, seeking-none, seeking-here, seeking-pass, seeking-literal, seeking-referred, element-less, literal-less, referred-less, needs)
