@@ -13,7 +13,7 @@ use Rattle.octets.specs.Pick.{pick}
 use Rattle.octets.specs.Words.{same}
 use Rattle.source.specs.Source.{rest}
 use Rattle.xcal.specs.ComponentNodes.{insideOf}
-use Rattle.nodes.specs.NodesAt.{nodesAt, nodes-none}
+use Rattle.xml.specs.NodesAt.{nodesAt, nodes-none}
 use Rattle.nodes.specs.NodeFound.{NodeAt, node-none, node-element, node-literal, node-referred, element-onward, element-less, literal-less, referred-less}
 use Rattle.nodes.specs.declared.Node.{Node}
 use Rattle.nodes.specs.declared.NodeKind.the-variants.{None, Element, Literal, Referred}

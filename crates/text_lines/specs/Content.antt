@@ -29,7 +29,7 @@ use Rattle.xml.specs.Nodes.{Nodes}
 use Rattle.xcal.specs.ValueNodes.{readValueNodes}
 use Rattle.xcal.specs.ParameterNodes.{readParameterNodes}
 use Rattle.xcal.specs.PropertyNodes.{parametersIn}
-use Rattle.nodes.specs.NodesAt.{nodesAt}
+use Rattle.xml.specs.NodesAt.{nodesAt}
 use Rattle.text_lines.specs.Parameters.{ParametersAt, geo-at, status-at}
 use Rattle.text_lines.specs.Typing.{valueAt, valueOf, value-at}
 

@@ -4,12 +4,12 @@
 --     Typing       VALUE, where it must stand
 --     Content      the content line of a property's element
 --     Room         a line that was written into the room for one
---     Standing     how long a content line is
+--     Fitting      how long a content line is
 --     Walks        what is written of the elements of properties and of components, one by one
 pub mod Children
 pub mod Parameters
 pub mod Typing
 pub mod Content
 pub mod Room
-pub mod Standing
+pub mod Fitting
 pub mod Walks

@@ -23,7 +23,7 @@ use Rattle.schema.specs.Numbers.{same-place}
 use Rattle.xcal.specs.Layout.{Slot, slotOf}
 use Rattle.xcal.specs.ValueNodes.{must, may, typeElements, valueSlots}
 use Rattle.xcal.specs.PropertyNodes.{stillBefore, parametersIn}
-use Rattle.nodes.specs.NodesAt.{nodesAt, nodes-none}
+use Rattle.xml.specs.NodesAt.{nodesAt, nodes-none}
 use Rattle.nodes.specs.NodeFound.{NodeAt, node-none, node-element, node-literal, node-referred, element-less, literal-less, referred-less}
 use Rattle.nodes.specs.declared.Node.{Node}
 use Rattle.nodes.specs.declared.NodeKind.the-variants.{None, Element, Literal, Referred}

@@ -20,13 +20,13 @@ use Rattle.ical.specs.WriteText.{propertyLines, beginLine, endLine, writeCalend
 use Rattle.xml.specs.Nodes.{Nodes, noNodes, element, literal, referred}
 use Rattle.xcal.specs.PropertyNodes.{readProperties}
 use Rattle.xcal.specs.ComponentNodes.{insideOf, readComponents, readInner}
-use Rattle.nodes.specs.NodesAt.{nodesAt}
+use Rattle.xml.specs.NodesAt.{nodesAt}
 use Rattle.nodes.specs.NodeFound.{NodeAt, node-none, node-element, node-literal, node-referred, element-less, inside-less, literal-less, referred-less}
 use Rattle.nodes.specs.declared.Node.{Node}
 use Rattle.nodes.specs.declared.NodeKind.the-variants.{None, Element, Literal, Referred}
 use Rattle.text_lines.specs.Children.{InsideAt, nameIn}
 use Rattle.text_lines.specs.Content.{lineText}
-use Rattle.text_lines.specs.Standing.{line-fits}
+use Rattle.text_lines.specs.Fitting.{line-fits}
 
 unfoldable pub propertiesText : Nodes → List ℕ
 propertiesText ns = propertyLines (readProperties ns)

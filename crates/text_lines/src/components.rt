@@ -16,7 +16,7 @@ ghost use Rattle.sink.specs.Sink.{Put};
 ghost use Rattle.folding.specs.Fold.{foldedLine};
 ghost use Rattle.ical.specs.WriteText.{endLine, writeCalendar};
 ghost use Rattle.xcal.specs.ComponentNodes.{readComponents};
-ghost use Rattle.nodes.specs.NodesAt.{nodesAt};
+ghost use Rattle.xml.specs.NodesAt.{nodesAt};
 ghost use Rattle.text_lines.specs.Children.{InsideAt, nameIn};
 ghost use Rattle.text_lines.specs.Walks.{headText};
 

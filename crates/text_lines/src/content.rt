@@ -1,8 +1,8 @@
 // The content line of a property's element: its name in capitals, VALUE, its parameters, a colon, its values. See specs/Content.antt.
 use crate::children::parameters_inside;
-use crate::standing::put_parameters;
-use crate::standing::put_values;
-use crate::standing::type_of_values;
+use parameter_nodes::put_parameters;
+use value_lines::put_values;
+use value_lines::type_of_values;
 use crate::types::put_value_parameter;
 use names::put_upper;
 use schema::property_number;
@@ -16,7 +16,7 @@ ghost use Rattle.names.specs.Table.{placeOf};
 ghost use Rattle.schema.specs.Properties.{propertyNames};
 ghost use Rattle.values.specs.WriteValue.{writeValues};
 ghost use Rattle.xcal.specs.ValueNodes.{readValueNodes};
-ghost use Rattle.nodes.specs.NodesAt.{nodesAt};
+ghost use Rattle.xml.specs.NodesAt.{nodesAt};
 ghost use Rattle.text_lines.specs.Children.{nameIn};
 ghost use Rattle.text_lines.specs.Content.{parametersText, lineText};
 

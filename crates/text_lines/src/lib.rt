@@ -3,7 +3,6 @@ mod children;
 mod components;
 mod content;
 mod properties;
-mod standing;
 mod types;
 
 pub use children::inside_of;

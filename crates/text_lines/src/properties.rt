@@ -10,7 +10,7 @@ ghost use Rattle.sink.specs.Sink.{Put};
 ghost use Rattle.folding.specs.Fold.{foldedLine};
 ghost use Rattle.ical.specs.WriteText.{propertyLines};
 ghost use Rattle.xcal.specs.PropertyNodes.{readProperties};
-ghost use Rattle.nodes.specs.NodesAt.{nodesAt};
+ghost use Rattle.xml.specs.NodesAt.{nodesAt};
 ghost use Rattle.text_lines.specs.Children.{nameIn};
 ghost use Rattle.text_lines.specs.Content.{lineText};
 
