@@ -10,6 +10,6 @@ is-value-spec = tie.close (tie.spec
     (λ c κs. search needs)  -- read-value-requires
     (λ c. search needs)  -- enum-known-n
     (λ c. search needs)  -- enum-told
-    (λ c. search (c .before .before .read-value .ensures (λ h. refl), good-yes, needs))  -- returns
+    (λ c. search (c .before .before .before .read-value .ensures (λ h. refl), good-yes, needs))  -- returns
     (λ c. search (c .before .before .read-value .ensures (λ h. refl), good-no, needs))  -- returns-2
     )
