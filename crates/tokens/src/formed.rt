@@ -35,14 +35,14 @@ fn has_room(depth: usize) -> bool
     depth < 16
 }
 
-// What stands from `from` on, inside `open` elements, whose names stand from `starts[i]` to `ends[i]`.
-fn content_formed(s: &[u8], from: usize, starts: [usize; 16], ends: [usize; 16], open: usize) -> Xml
-    requires { ⌜ (from ≤ length (now s)) × (open ≤ 16) ⌝ }
-    ensures { λ r. ⌜ Formed (verdictAt (now (s .entry)) starts ends open from) (length (now (s .entry))) r ⌝ }
+// What stands from `from` on, inside as many elements as `inside` says, whose names stand from `starts[i]` to `ends[i]`.
+fn content_formed(s: &[u8], from: usize, starts: [usize; 16], ends: [usize; 16], inside: usize) -> Xml
+    requires { ⌜ (from ≤ length (now s)) × (inside ≤ 16) ⌝ }
+    ensures { λ r. ⌜ Formed (verdictAt (now (s .entry)) starts ends inside from) (length (now (s .entry))) r ⌝ }
 {
     let mut a = starts;
     let mut e = ends;
-    let mut depth = open;
+    let mut depth = inside;
     let mut at = from;
     loop {
         let t = token_at(s, at);
