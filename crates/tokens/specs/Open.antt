@@ -1,6 +1,6 @@
 -- The open elements of a document, as the places of their names in the input.
 --     opened s a e d    the names of d open elements, the innermost first: name i stands from a[i] to e[i]
---     opened-push, opened-pop, opened-empty    one more, one less, none
+--     opened-push, opened-pop, opened-one, opened-none    one more, one less, one, none
 --     roomAt d          an element may start inside d open ones, after the root's start;   room-is, room-low: its laws
 use mathlib.Core.Path.{_≡_, refl, sym, ap, _∙_}
 use mathlib.Core.Bool.{Bool, true, false, not, false≢true}
@@ -43,6 +43,10 @@ opened-pop s a e d h = go d (d - 1) (omega (arith, h))
   where
     go : (d i : ℕ) → d ≡ suc i → opened s a e d ≡ rest 0 (take (getD e i 0) s) (getD a i 0) ∷ opened s a e i
     go d i q = rw q
+
+pub opened-one : (s : List ℕ) (v w : ℕ) (a e : List ℕ) → opened s (v ∷ a) (w ∷ e) 1 ≡ rest 0 (take w s) v ∷ []
+unfolding opened
+opened-one s v w a e = refl
 
 pub opened-none : (s a e : List ℕ) (d : ℕ) → d ≡ 0 → opened s a e d ≡ []
 unfolding opened
