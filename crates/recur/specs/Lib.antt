@@ -5,7 +5,10 @@
 --     Rule         a whole rule in text, read and written
 --     Numeral      numbers as the code reads them through the cursor
 --     Fits         whether there is an item, as tests
+--     Shown        what is written of an item, from its characters
+--     PutShown     the rules of the code that writes it
 --     Pieces       a rule as the code reads it, piece by piece
+--     Found        the piece that has the name of a part
 --     NumberLaws, WordLaws, EnddateLaws    numbers, words and weekdays, dates are read back
 --     ItemLaws     an item is read back from what is written of it, and what is read is an item
 --     OrderLaws    the order of a rule's parts
@@ -20,6 +23,8 @@ pub mod Item
 pub mod Rule
 pub mod Numeral
 pub mod Fits
+pub mod Shown
+pub mod PutShown
 pub mod Pieces
 pub mod NumberLaws
 pub mod WordLaws
@@ -30,4 +35,5 @@ pub mod PartLaws
 pub mod RuleLaws
 pub mod Computing
 pub mod PieceLaws
+pub mod Found
 pub mod Examples

@@ -141,11 +141,11 @@ module _ {k : ℕ} {s : List ℕ} {c e : ℕ} (p : Ends k s c e) where
     pieces-less h = let l = step-less q h in let o = p .onward in omega arith
 
 -- what F says of the pieces is the same from c₀ as from c
-pub record Left (F : List (List ℕ) → Bool) (k : ℕ) (s : List ℕ) (c₀ c : ℕ) : Type 0 where
+pub record Left {A : Type 0} (F : List (List ℕ) → A) (k : ℕ) (s : List ℕ) (c₀ c : ℕ) : Type 0 where
   pub left : F (cutAt k (rest 0 s c₀)) ≡ F (cutAt k (rest 0 s c))
   pub inside : c ≤ length s
 
-pub left-start : (F : List (List ℕ) → Bool) (k : ℕ) (s : List ℕ) (c : ℕ) → c ≤ length s → Left F k s c c
+pub left-start : {A : Type 0} (F : List (List ℕ) → A) (k : ℕ) (s : List ℕ) (c : ℕ) → c ≤ length s → Left F k s c c
 left-start F k s c h = record { left = refl; inside = h }
 
 -- ---- items
@@ -292,7 +292,7 @@ known w h = go (partOf (pieceName w)) refl (sym (part-read w) ∙ h)
     go (some r) e k = nth-inside partTable (placeOf (pieceName w) partNames) r (sym (row-place (λ (r : Part). r .name) (pieceName w) partTable) ∙ e)
 
 -- two names, one of a part, by their places
-same-place : (n x : List ℕ) → placeOf n partNames < 14 → eqb (placeOf x partNames) (placeOf n partNames) ≡ same n x
+pub same-place : (n x : List ℕ) → placeOf n partNames < 14 → eqb (placeOf x partNames) (placeOf n partNames) ≡ same n x
 same-place n x l = go (same n x) (eqb (placeOf x partNames) (placeOf n partNames)) refl refl
   where
     go : (a b : Bool) → same n x ≡ a → eqb (placeOf x partNames) (placeOf n partNames) ≡ b → b ≡ a

@@ -23,7 +23,7 @@ use Rattle.recur.specs.Rule.{readPart, writePart, isPart, nameOf, isComp
 use Rattle.recur.specs.OrderLaws.{once-ordered, order-back, ordered-order, every-order, named-order}
 use Rattle.recur.specs.PartLaws.{part-read-back, part-accepted, part-characters}
 
-names-once : distinct partNames ≡ true
+pub names-once : distinct partNames ≡ true
 unfolding distinct octets-compute
 names-once = refl
 

@@ -3,3 +3,4 @@ pub mod item;
 mod number;
 pub mod rule;
 mod word;
+pub mod written;

@@ -1,15 +1,16 @@
 // A whole rule in text, over bytes as they stand. See specs/Pieces.antt.
 ghost use mathlib.Core.Path.{_≡_};
 ghost use mathlib.Core.List.{[]};
-ghost use Prim.Native.Nat.{_≤_};
+ghost use Prim.Native.Nat.{_≤_, _<_};
 ghost use lib.ListN.{length, getD};
-ghost use Rattle.octets.specs.Words.{cutAt};
+ghost use Rattle.octets.specs.Words.{cutAt, rowOf};
 ghost use Rattle.octets.specs.Reading.{isRead};
 ghost use Rattle.source.specs.Source.{rest};
 ghost use Rattle.recur.specs.Front.{past};
 ghost use Rattle.recur.specs.Parts.{partNames, partOf, isListed};
 ghost use Rattle.recur.specs.Rule.{isEquals, readPart, readRule};
-ghost use Rattle.recur.specs.Pieces.{Ends, placeAt, areItems, hasPlace, eachPart, isWhole, good};
+ghost use Rattle.recur.specs.Pieces.{Ends, pieceName, placeAt, areItems, hasPlace, eachPart, isWhole, good};
+ghost use Rattle.recur.specs.Found.{Finds};
 use crate::item::is_item;
 use names::find_name;
 use source::unit;
@@ -18,6 +19,12 @@ use source::unit;
 pub enum RuleRead {
     Rule,
     Bad,
+}
+
+// A piece stands from one cursor to another; or there is none.
+pub enum PieceFound {
+    Piece(usize, usize),
+    Missing,
 }
 
 const LISTED: [u8; 14] = [0, 0, 0, 0, 1, 1, 1, 1, 1, 1, 1, 1, 1, 0];
@@ -56,7 +63,7 @@ fn part_place(s: &[u8], at: usize) -> usize
 }
 
 // The cursor after a piece's name and =.
-fn value_at(s: &[u8], at: usize) -> usize
+pub fn value_at(s: &[u8], at: usize) -> usize
     requires { ⌜ at ≤ length (now s) ⌝ }
     ensures { λ r. ⌜ (past isEquals (rest 0 (now (s .entry)) at) ≡ rest 0 (now (s .entry)) r) × (r ≤ length (now (s .entry))) ⌝ }
 {
@@ -69,7 +76,7 @@ fn value_at(s: &[u8], at: usize) -> usize
 }
 
 // The part at the place `p` has a list of items.
-fn is_list_part(p: usize) -> bool
+pub fn is_list_part(p: usize) -> bool
     ensures { λ r. ⌜ r ≡ isListed (partOf (getD partNames p [])) ⌝ }
 {
     if p < 14 {
@@ -130,6 +137,27 @@ fn has_part(p: usize, s: &[u8], at: usize) -> bool
         let u = n.u;
         if u == 256 {
             return false;
+        }
+        c = n.next;
+    }
+}
+
+// The first piece that has the name at the place `p`.
+pub fn find_part(p: usize, s: &[u8], at: usize) -> PieceFound
+    requires { ⌜ (p < 14) × (at ≤ length (now s)) ⌝ }
+    ensures { λ r. ⌜ Finds (rowOf pieceName (getD partNames p []) (cutAt 59 (rest 0 (now (s .entry)) at))) (now (s .entry)) r ⌝ }
+{
+    let mut c = at;
+    loop {
+        let e = byte_end(59, s, c);
+        let q = part_place(&s[..e], c);
+        if q == p {
+            return PieceFound::Piece(c, e);
+        }
+        let n = unit(0, s, e);
+        let u = n.u;
+        if u == 256 {
+            return PieceFound::Missing;
         }
         c = n.next;
     }

@@ -1,7 +1,7 @@
 -- Laws of a step: what stands at a cursor, by the byte that was found there.
 --     rest-byte, rest-end       what the bytes from the cursor on are, where a byte was found, and where none was
 --     byte-small                a unit that is not the end's is a byte
---     plain-byte, plain-end     the step over bytes as they stand
+--     plain-byte, plain-end     the step over bytes as they stand;   none-end: over an encoding that there is not
 --     rest-part                 what a slice that is cut at e has from c on
 --     rest-cut, cut-is          bytes as they stand, cut in two at a later cursor
 use mathlib.Core.Path.{_≡_, refl, sym, ap, _∙_}
@@ -54,9 +54,9 @@ pub plain-end : (s : List ℕ) (c : ℕ) → length s ≤ c → c < 2 ^ 64 → R
 unfolding rest spell pick
 plain-end s c h f = record { is = drop-of-length-le s h; small = omega arith; moved = omega arith; inside = omega arith; plain = λ z b. absurd (b refl) }
 
-pub none-end : (m : ℕ) (s : List ℕ) (c : ℕ) → (m ≡ 0 → ⊥) → c < 2 ^ 64 → Reads m s c (record { u = 256; next = c })
+pub none-end : (m : ℕ) (s : List ℕ) (c : ℕ) → (m ≡ 0 → ⊥) → (m ≡ 1 → ⊥) → c < 2 ^ 64 → Reads m s c (record { u = 256; next = c })
 unfolding rest spell pick
-none-end m s c h f = record { is = rw (ne-eqb m 0 h); small = omega arith; moved = omega arith; inside = omega arith; plain = λ z b. absurd (h z) }
+none-end m s c h g f = record { is = rw (ne-eqb m 0 h, ne-eqb m 1 g); small = omega arith; moved = omega arith; inside = omega arith; plain = λ z b. absurd (h z) }
 
 -- the encoding's number was tested
 pub reads-as : {m k : ℕ} {s : List ℕ} {c : ℕ} {r : Step} → m ≡ k → Reads k s c r → Reads m s c r

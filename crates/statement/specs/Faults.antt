@@ -20,9 +20,9 @@ use Rattle.lines.specs.Cursor.{paramsAt}
 use Rattle.ical.specs.Parameters.{statedType, parametersGood}
 use Rattle.ical.specs.Values.{readValues}
 use Rattle.ical.specs.Statement.{faultAs, propertyFault}
-use Rattle.statement.specs.Stating.{typeRead, StatedAt}
-use Rattle.statement.specs.declared.TypeRead.{TypeRead}
-use Rattle.statement.specs.declared.TypeRead.the-variants.{«Type» as Known, Bad as NoType}
+use Rattle.parameters.specs.Stating.{typeRead, StatedAt}
+use Rattle.parameters.specs.declared.TypeRead.{TypeRead}
+use Rattle.parameters.specs.declared.TypeRead.the-variants.{«Type» as Known, Bad as NoType}
 use Rattle.statement.specs.ValuesAt.{valuesRead, areGood, good-values}
 use Rattle.statement.specs.declared.ValuesRead.{ValuesRead}
 use Rattle.statement.specs.declared.ValuesRead.the-variants.{Good, Bad}

@@ -4,5 +4,4 @@
 --     Faults       the faults of a property's line
 pub mod Listed
 pub mod ValuesAt
-pub mod Stating
 pub mod Faults

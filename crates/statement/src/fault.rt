@@ -11,11 +11,11 @@ ghost use Rattle.lines.specs.ContentLine.{ContentLine};
 ghost use Rattle.lines.specs.Cursor.{paramsAt};
 ghost use Rattle.ical.specs.Statement.{propertyFault};
 ghost use Rattle.statement.specs.Faults.{faultNumber};
-use crate::TypeRead;
 use crate::ValuesRead;
 use crate::own::read_values;
-use crate::parameters::are_good;
-use crate::parameters::stated_type;
+use parameters::TypeRead;
+use parameters::are_good;
+use parameters::stated_type;
 
 // The lowest fault of a line of the property `p` in the component `k`, 7 PARAMETER or 8 VALUE, or 0: its parameters stand from `e` on, its value from `v` on.
 pub fn property_fault(k: usize, p: usize, s: &[u8], e: usize, v: usize) -> u8

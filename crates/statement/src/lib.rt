@@ -2,7 +2,6 @@
 mod fault;
 mod list;
 mod own;
-mod parameters;
 
 pub use fault::property_fault;
 pub use own::read_values;
@@ -10,10 +9,5 @@ pub use own::read_values;
 // The values are good, of the type of this number; or not.
 pub enum ValuesRead {
     Good(usize),
-    Bad,
-}
-
-pub enum TypeRead {
-    Type(usize),
     Bad,
 }

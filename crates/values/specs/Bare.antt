@@ -1,6 +1,6 @@
 -- Values whose characters stand in XML as they are: dates and times, numbers, BINARY. None of them has `&`, `<` or `>`.
 --     isBare                 a character that stands as it is
---     bare-escaped           such characters have no entities
+--     bare-escaped           such characters have no entities;   chars-bare: nor have those of dates and times
 --     date-bare, time-bare, date-time-bare, duration-bare, offset-bare, integer-bare, float-bare, boolean-bare, binary-bare    what each type writes
 use mathlib.Core.Path.{_≡_, refl, sym, ap, _∙_}
 use mathlib.Core.Bool.{Bool, true, false, false≢true}
@@ -59,7 +59,7 @@ digit-bare : (b : ℕ) → isDigit b ≡ true → isBare b ≡ true
 unfolding _and_
 digit-bare b h = bare-of isDigit refl refl refl b h
 
-chars-bare : (s : List ℕ) → allOf isTimeChar s ≡ true → allOf isBare s ≡ true
+pub chars-bare : (s : List ℕ) → allOf isTimeChar s ≡ true → allOf isBare s ≡ true
 unfolding isTimeChar _or_ _and_
 chars-bare s h = all-weaker isTimeChar isBare (bare-of isTimeChar refl refl refl) s h
 

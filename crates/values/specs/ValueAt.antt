@@ -61,7 +61,6 @@ use Rattle.texts.specs.Binary.{binaryChars, isBinary}
 use Rattle.texts.specs.Unknown.{isUnknown}
 use Rattle.recur.specs.Rule.{readRule}
 use Rattle.recur.specs.Pieces.{good}
-use Rattle.recur.specs.Computing.{recur-compute}
 use Rattle.recur.specs.declared.rule.RuleRead.{RuleRead}
 use Rattle.recur.specs.declared.rule.RuleRead.the-variants.{Rule, Bad as NoRule}
 use Rattle.values.specs.ReadValue.{readValue}
@@ -305,10 +304,9 @@ module _ {x : Bool} (m : ℕ) (s : List ℕ) (c : ℕ) (e : x ≡ false) where
   unfolding readValue
   recur-is h q = rw (e, h) (q ∙ sym (mapped _ (readRule (rest 0 s c))))
 
-  -- other encodings have no bytes
-  pub recur-no : (m ≡ 0 → ⊥) → false ≡ isRead (readValue (formatOf x) RECUR (rest m s c))
-  unfolding readValue rest pick isRead recur-compute
-  recur-no h = rw (e, ne-eqb m 0 h)
+  -- the text format is read from bytes as they stand
+  pub recur-no : {b : Bool} → (m ≡ 0 → ⊥) → (x ≡ false → m ≡ 0) → b ≡ isRead (readValue (formatOf x) RECUR (rest m s c))
+  recur-no h g = absurd (h (g e))
 
 pub ruleset timing = (date-yes, date-no, date-time-yes, date-time-no, time-yes, time-no, offset-yes, offset-no, duration-yes, duration-no, period-xml, period-yes, period-no, needs)
 

@@ -1,5 +1,6 @@
 // BINARY, CAL-ADDRESS, RECUR, TEXT, URI and values of no known type: whether there is a value from the cursor to the end.
 ghost use mathlib.Core.Path.{_≡_};
+ghost use mathlib.Core.Bool.{false};
 ghost use Rattle.octets.specs.Reading.{isRead};
 ghost use Rattle.model.specs.Calendar.{formatOf, BINARY, CAL-ADDRESS, RECUR, TEXT, URI, UNKNOWN};
 ghost use Rattle.source.specs.Source.{rest};
@@ -39,7 +40,7 @@ fn is_rule(s: &[u8], at: usize) -> bool
 
 // RECUR is made of elements in XML, and in text it stands in bytes as they are.
 pub fn is_recur(xcal: bool, mode: usize, s: &[u8], at: usize) -> bool
-    ensures { λ r. ⌜ r ≡ isRead (readValue (formatOf xcal) RECUR (rest mode (now (s .entry)) at)) ⌝ }
+    ensures { λ r. ⌜ ((xcal ≡ false → mode ≡ 0) → r ≡ isRead (readValue (formatOf xcal) RECUR (rest mode (now (s .entry)) at))) ⌝ }
 {
     if xcal {
         return false;

@@ -10,6 +10,7 @@
 --     Starting      given bytes at a place
 --     Digits        the digits of a character reference, read from the left
 --     References    the readings of references and literal bytes
+--     ReferenceBytes the first bytes of a reference beyond ASCII
 --     Escape        writing: character data, tags, elements, the document
 --     Reads         tags and character data that are written are read back as marks
 --     Content       the content of an element as it is written
@@ -28,6 +29,7 @@ pub mod CharAt
 pub mod Starting
 pub mod Digits
 pub mod References
+pub mod ReferenceBytes
 pub mod Escape
 pub mod Reads
 pub mod Content

@@ -6,11 +6,11 @@ use Rattle.statement.proofs.fault.property_fault.Tie as tie
 
 pub property-fault-spec : {M : Type 1} → statement M
 property-fault-spec = tie.close (tie.spec
-    (λ c κs. ?)  -- stated-type-requires
+    (λ c κs. search needs)  -- stated-type-requires
     (λ c. search needs)  -- enum-known-t
     (λ c. search needs)  -- enum-told
     (λ c d l i j f g. fault-type (c .before .before .stated-type .ensures) d l i j f g (c .enum-told .given .1))  -- returns
-    (λ c κs. ?)  -- are-good-requires
+    (λ c κs. search needs)  -- are-good-requires
     (λ c κs. search needs)  -- read-values-requires
     (λ c. search needs)  -- enum-known-n
     (λ c. search needs)  -- enum-told-2

@@ -1,0 +1,9 @@
+-- The canonical XML of a text.
+--     Entries    what the lines of a text are, as code finds them
+--     Walks      what is written of the entries of a component, one by one
+--     Parts      the parts of a component's element around its subcomponents
+--     Written    the document of a text
+pub mod Entries
+pub mod Walks
+pub mod Parts
+pub mod Written

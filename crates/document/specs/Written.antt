@@ -1,0 +1,28 @@
+-- The document of a text.
+--     document-put    what stands before the components, the components, what stands behind them
+use mathlib.Core.Path.{_≡_, ap, subst, _∙_}
+use mathlib.Core.List.{List, [], _∷_}
+use Prim.Native.Nat.{ℕ}
+use Rattle.octets.specs.Append.{_⊕_, append-regroup}
+use Rattle.sink.specs.Sink.{Put, _▷_}
+use Rattle.folding.specs.Lines.{lines}
+use Rattle.folding.specs.First.{lines-start}
+use Rattle.model.specs.Calendar.{Components}
+use Rattle.ical.specs.Tree.{innerOf, calendarOf}
+use Rattle.xcal.specs.WriteXml.{componentsXml, declaration, rootStart, rootEnd, writeDocument}
+use Rattle.document.specs.Entries.{entriesAt, entries-start}
+use Rattle.document.specs.Walks.{innerXml}
+
+regroup : (a b c x : List ℕ) → (a ⊕ b ⊕ c) ⊕ x ≡ a ⊕ b ⊕ c ⊕ x
+regroup a b c x = append-regroup a (b ⊕ c) x ∙ ap (λ (y : List ℕ). a ⊕ y) (append-regroup b c x)
+
+written-is : (c : Components) → (declaration ⊕ (10 ∷ []) ⊕ rootStart) ⊕ componentsXml c ⊕ rootEnd ⊕ (10 ∷ []) ≡ writeDocument c
+unfolding writeDocument
+written-is c = regroup declaration (10 ∷ []) rootStart (componentsXml c ⊕ rootEnd ⊕ (10 ∷ []))
+
+calendar-at : (s : List ℕ) → innerOf (entriesAt s 0) 0 ≡ calendarOf (lines s)
+calendar-at s = entries-start s ∙ ap calendarOf (lines-start s)
+
+pub document-put : (s : List ℕ) {d e f g : List ℕ} {o a b r : ℕ} → Put d e o a (declaration ⊕ (10 ∷ []) ⊕ rootStart) → Put e f a b (innerXml (entriesAt s 0) 0) →
+    Put f g b r (rootEnd ⊕ (10 ∷ [])) → Put d g o r (writeDocument (calendarOf (lines s)))
+document-put s {d} {g = g} {o} {r = r} u v w = subst (Put d g o r) (written-is (innerOf (entriesAt s 0) 0) ∙ ap writeDocument (calendar-at s)) (u ▷ v ▷ w)

@@ -1,0 +1,72 @@
+// What a line of a text is. See specs/Entries.antt.
+use folding::lines::Ending;
+use folding::lines::line_end;
+use lines::LineRead;
+use lines::line_at;
+use names::is_word_any_case;
+ghost use mathlib.Core.Path.{_≡_};
+ghost use Prim.Native.Nat.{_<_};
+ghost use lib.ListN.{length};
+ghost use Rattle.octets.specs.Class.{upper};
+ghost use Rattle.source.specs.Source.{rest};
+ghost use Rattle.document.specs.Entries.{kindNamed, FoundAt};
+
+// The beginning of a component, the end of one, a property, or none of these.
+pub enum Kind {
+    Begin,
+    End,
+    Property,
+    Nothing,
+}
+
+// A line: what it is, the cursor of its value, the index where it ends, and that of the next line.
+pub struct Found {
+    pub kind: Kind,
+    pub value: usize,
+    pub end: usize,
+    pub next: usize,
+}
+
+// What a content line is, by its name.
+fn kind_of(name: &[u8], at: usize) -> Kind
+    ensures { λ r. ⌜ r ≡ kindNamed (upper (rest 0 (now (name .entry)) at)) ⌝ }
+{
+    let begin = is_word_any_case(0, name, at, b"BEGIN");
+    if begin {
+        return Kind::Begin;
+    }
+    let end = is_word_any_case(0, name, at, b"END");
+    if end {
+        return Kind::End;
+    }
+    Kind::Property
+}
+
+// The line at `at`.
+pub fn entry_at(s: &[u8], at: usize) -> Found
+    requires { ⌜ at < length (now s) ⌝ }
+    ensures { λ r. ⌜ FoundAt (now (s .entry)) at r ⌝ }
+{
+    match line_end(s, at) {
+        Ending::Loose => Found {
+            kind: Kind::Nothing,
+            value: at,
+            end: at,
+            next: s.len(),
+        },
+        Ending::Whole(e) => match line_at(0, &s[..e], at) {
+            LineRead::Bad => Found {
+                kind: Kind::Nothing,
+                value: e,
+                end: e,
+                next: e + 2,
+            },
+            LineRead::Line(n, v) => Found {
+                kind: kind_of(&s[..n], at),
+                value: v,
+                end: e,
+                next: e + 2,
+            },
+        },
+    }
+}

@@ -1,0 +1,11 @@
+// A value of iCalendar text, written as its XML element. Definitions and their laws are in specs/.
+mod period;
+mod rule;
+mod tag;
+mod value;
+mod word;
+
+pub use rule::put_rule_xml;
+pub use value::put_value_element;
+pub use word::put_raw_element;
+pub use word::put_word_element;

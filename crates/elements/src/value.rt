@@ -1,0 +1,76 @@
+// A value of any type as its element. See specs/PutElement.antt.
+use crate::period::put_period_element;
+use crate::rule::put_rule_xml;
+use crate::tag::put_type_end;
+use crate::tag::put_type_start;
+use markup::put_end_tag;
+use markup::put_start_tag;
+use recur::rule::RuleRead;
+use recur::rule::read_rule;
+use values::ValueRead;
+use values::put_value_xml;
+use values::read_value;
+ghost use mathlib.Core.Path.{_≡_};
+ghost use Rattle.octets.specs.Ascii.{ascii};
+ghost use Rattle.octets.specs.Reading.{orNothing};
+ghost use Rattle.model.specs.Calendar.{ical, RECUR};
+ghost use Rattle.sink.specs.Sink.{Put};
+ghost use Rattle.source.specs.Source.{rest};
+ghost use Rattle.schema.specs.Numbers.{typeAt};
+ghost use Rattle.recur.specs.Rule.{readRule};
+ghost use Rattle.values.specs.ReadValue.{readValue};
+ghost use Rattle.values.specs.WriteValue.{characters};
+ghost use Rattle.xml.specs.Escape.{escaped, elementOf};
+ghost use Rattle.xcal.specs.WriteXml.{partsXml, valueXml};
+ghost use Rattle.elements.specs.Tags.{typeLabel};
+
+fn put_recur_xml(out: &mut [u8], o: usize, s: &[u8], at: usize) -> usize
+    ensures { λ r. ⌜ Put (now (out .entry)) (now (out .exit)) o r (elementOf (ascii "recur") (orNothing partsXml (readRule (rest 0 (now (s .entry)) at)))) ⌝ }
+{
+    let p = put_start_tag(out, o, b"recur");
+    let q = put_rule_xml(out, p, s, at);
+    put_end_tag(out, q, b"recur")
+}
+
+fn put_recur_element(out: &mut [u8], o: usize, s: &[u8], at: usize) -> usize
+    ensures { λ r. ⌜ Put (now (out .entry)) (now (out .exit)) o r (orNothing valueXml (readValue ical RECUR (rest 0 (now (s .entry)) at))) ⌝ }
+{
+    let r = read_rule(s, at);
+    match r {
+        RuleRead::Rule => put_recur_xml(out, o, s, at),
+        RuleRead::Bad => o,
+    }
+}
+
+fn put_plain_xml(out: &mut [u8], o: usize, t: usize, s: &[u8], at: usize) -> usize
+    ensures { λ r. ⌜ Put (now (out .entry)) (now (out .exit)) o r (elementOf (typeLabel t) (orNothing (λ v. escaped (characters v)) (readValue ical (typeAt t) (rest 0 (now (s .entry)) at)))) ⌝ }
+{
+    let p = put_type_start(out, o, t);
+    let q = put_value_xml(out, p, t, 0, s, at);
+    put_type_end(out, q, t)
+}
+
+// A value of a type that has character data: not PERIOD, not RECUR.
+fn put_plain_element(out: &mut [u8], o: usize, t: usize, s: &[u8], at: usize) -> usize
+    requires { ⌜ (t ≡ 8 → ⊥) × (t ≡ 9 → ⊥) ⌝ }
+    ensures { λ r. ⌜ Put (now (out .entry)) (now (out .exit)) o r (orNothing valueXml (readValue ical (typeAt t) (rest 0 (now (s .entry)) at))) ⌝ }
+{
+    let r = read_value(false, t, 0, s, at);
+    match r {
+        ValueRead::Good(k) => put_plain_xml(out, o, t, s, at),
+        ValueRead::Bad => o,
+    }
+}
+
+// The value of the type at the place `t`, from the cursor `at` to the end; nothing where it is none.
+pub fn put_value_element(out: &mut [u8], o: usize, t: usize, s: &[u8], at: usize) -> usize
+    ensures { λ r. ⌜ Put (now (out .entry)) (now (out .exit)) o r (orNothing valueXml (readValue ical (typeAt t) (rest 0 (now (s .entry)) at))) ⌝ }
+{
+    if t == 8 {
+        return put_period_element(out, o, s, at);
+    }
+    if t == 9 {
+        return put_recur_element(out, o, s, at);
+    }
+    put_plain_element(out, o, t, s, at)
+}

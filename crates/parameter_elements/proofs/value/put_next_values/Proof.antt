@@ -1,0 +1,34 @@
+-- `parameter_elements::value::put_next_values` meets its contract.
+use Prim.Native.Nat.{_*_, _-_}
+use lib.ListN.{length}
+use Rattle.source.specs.Source.{rest}
+use Rattle.lines.specs.ContentLine.{nextValue}
+use Rattle.lines.specs.Items.{items}
+use Rattle.lines.specs.Values.{value-less}
+use Rattle.parameter_elements.specs.Shown.{charsShown}
+use Rattle.parameter_elements.specs.Parts.{rowAt}
+use Rattle.parameter_elements.specs.Walk.{Writing, writing-start, value-written, values-over, values-fault}
+use Rattle.sink.specs.Sink.{writing}
+use Rattle.parameter_elements.proofs.value.put_next_values.Statement.{statement}
+use Rattle.parameter_elements.proofs.value.put_next_values.Tie as tie
+
+abbrev Inv-loop : tie.InvT-loop
+Inv-loop out₀ o q s at p₀ c₀ out p c = Writing (charsShown (rowAt q)) out₀ o (items nextValue (rest 0 s at)) out p (items nextValue (rest 0 s c))
+
+abbrev μ-loop : tie.MeasureT-loop
+μ-loop out₀ o q s at p₀ c₀ out p c = 4 * length s - c
+
+pub put-next-values-spec : {M : Type 1} → statement M
+put-next-values-spec = tie.close (tie.spec
+    Inv-loop
+    μ-loop
+    (λ c. search (writing-start, writing))  -- loop-holds
+    (λ c κs. search writing)  -- next-value-requires
+    (λ c κs. search writing)  -- put-cut-value-requires
+    (λ c. value-less (c .before .before .before .before .before .before .next-value .ensures) (c .before .before .before .before .before .if1 .taken) (c .before .before .before .before .if2 .taken))  -- loop-less
+    (λ c. value-written _ (c .before .before .before .before .before .before .before .loop .inv) (c .before .before .before .before .before .before .next-value .ensures) (c .before .before .before .before .before .if1 .taken) (c .before .before .before .before .if2 .taken) (c .before .before .put-cut-value .ensures))  -- loop-again
+    (λ c. c .before .before .before .loop .inv .kept)  -- same-length
+    (λ c. values-fault _ (c .before .before .before .loop .inv) (c .before .before .next-value .ensures) (c .before .if1 .taken) (c .if2 .left))  -- returns
+    (λ c. c .before .before .loop .inv .kept)  -- same-length-2
+    (λ c. values-over _ (c .before .before .loop .inv) (c .before .next-value .ensures) (c .if1 .left))  -- returns-2
+    )

@@ -1,0 +1,140 @@
+-- A value, a parameter and all parameters of a line, each written by its parts.
+--     rowAt                             the row of a parameter's number
+--     put-word, put-raw, put-typed      a value, by what its parameter takes
+--     put-first, put-no-first           the values of a parameter, from the first on
+--     put-parameter, put-value-name, put-other-name     a parameter
+--     past-same, past-value, past-own   a slice whose cut is past its end
+--     put-unread, put-only, put-shown   the element `parameters`, or nothing
+use mathlib.Core.Path.{_≡_, refl, sym, _∙_, subst}
+use mathlib.Core.Bool.{Bool, true, false, false≢true}
+use mathlib.Core.List.{List, [], _∷_, map}
+use mathlib.Core.Option.{Option, none, some}
+use Prim.Native.Nat.{ℕ, _*_, _^_, _<_}
+use native.Mathlib.Omega.{arith}
+use lib.ListN.{length, take}
+use lib.Seq.{take-all}
+use borrow.Author.Tests.{eq-eqb, ne-eqb}
+use Rattle.octets.specs.Ascii.{ascii}
+use Rattle.octets.specs.Append.{joined}
+use Rattle.octets.specs.Class.{upper, lower}
+use Rattle.octets.specs.Words.{same, isEmpty}
+use Rattle.octets.specs.Reading.{isRead, readOr, orNothing, each-empty}
+use Rattle.model.specs.Calendar.{ical, text, Parameter}
+use Rattle.sink.specs.Sink.{Put, put-none, put-yes, put-no, _▷_}
+use Rattle.source.specs.Source.{rest}
+use Rattle.names.specs.Table.{placeOf}
+use Rattle.schema.specs.Types.{sameType, typePlace, place-type}
+use Rattle.schema.specs.Parameters.{ParameterRow, parameterNames}
+use Rattle.schema.specs.Numbers.{typeAt, parameterAt, parameter-place}
+use Rattle.schema.specs.Sets.{parameterWordsAt}
+use Rattle.values.specs.ReadValue.{readValue}
+use Rattle.lines.specs.ContentLine.{ParamValue, RawParameter, paramValue, nextValue}
+use Rattle.lines.specs.Items.{items}
+use Rattle.lines.specs.Cursor.{valuesOf, valuesAt}
+use Rattle.lines.specs.Repeating.{item-bad}
+use Rattle.lines.specs.Values.{ValueAt, value-there, value-first, value-chars}
+use Rattle.lines.specs.declared.ParamAt.{ParamAt}
+use Rattle.xml.specs.Escape.{startTag, endTag, elementOf}
+use Rattle.ical.specs.Parameters.{readParameter, ownParameters, readParameters}
+use Rattle.xcal.specs.WriteXml.{valueXml, parametersXml, parametersElement}
+use Rattle.parameter_elements.specs.Shown.{valueShown, charsShown, shown, ownShown, parametersShown, shown-is}
+use Rattle.parameter_elements.specs.Walk.{cutParam}
+
+unfoldable pub rowAt : ℕ → ParameterRow
+rowAt q = parameterAt q
+
+-- ---- a value
+
+module _ {d e : List ℕ} {o r : ℕ} (q : ℕ) (l : List ℕ) {t : Bool} (h : t ≡ isRead (parameterWordsAt q)) where
+  pub put-word : t ≡ true → Put d e o r (valueXml (text (upper l))) → Put d e o r (valueShown (rowAt q) l)
+  unfolding rowAt valueShown
+  put-word k p = put-yes _ _ _ (sym h ∙ k) p
+
+  module _ {n : ℕ} (i : n ≡ typePlace (parameterAt q .type)) (k : t ≡ false) where
+    pub put-raw : n ≡ 10 → Put d e o r (valueXml (text l)) → Put d e o r (valueShown (rowAt q) l)
+    unfolding rowAt valueShown sameType
+    put-raw z p = put-no _ _ _ (sym h ∙ k) (put-yes _ _ _ (eq-eqb _ _ (sym i ∙ z)) p)
+
+    pub put-typed : (n ≡ 10 → ⊥) → Put d e o r (orNothing valueXml (readValue ical (typeAt n) l)) → Put d e o r (valueShown (rowAt q) l)
+    unfolding rowAt valueShown sameType
+    put-typed z p = put-no _ _ _ (sym h ∙ k) (put-no _ _ _ (ne-eqb _ _ (λ y. z (i ∙ y))) (rw (← (place-type (parameterAt q .type)), ← i) p))
+
+-- ---- the values of a parameter
+
+module _ (p : ParameterRow) {s : List ℕ} {c : ℕ} {r : ParamAt} (v : ValueAt paramValue 0 s c r) {d : List ℕ} {o : ℕ} where
+  pub put-first : {e f : List ℕ} {a n : ℕ} → r .ok ≡ true → Put d e o a (valueShown p (rest 0 (take (r .to) s) (r .from))) →
+      Put e f a n (joined (map (charsShown p) (items nextValue (rest 0 s (r .next))))) → Put d f o n (joined (map (charsShown p) (valuesAt 0 s c)))
+  unfolding joined
+  put-first {e} {f} {a} {n} h x y = rw (value-first v h) (subst (λ (l : List ℕ). Put d e o a (valueShown p l)) (value-chars v (value-there v)) x ▷ y)
+
+  pub put-no-first : r .ok ≡ false → length d * 1 < 2 ^ 63 → Put d d o o (joined (map (charsShown p) (valuesAt 0 s c)))
+  unfolding joined valuesOf
+  put-no-first h z = rw (item-bad (v .item) (value-there v) h) (put-none d o z)
+
+-- ---- a parameter
+
+pub put-parameter : {d e f g : List ℕ} {o a b r q : ℕ} (n : List ℕ) (vs : List ParamValue) → q ≡ placeOf (upper n) parameterNames →
+    Put d e o a (startTag (lower n)) → Put e f a b (joined (map (charsShown (rowAt q)) vs)) → Put f g b r (endTag (lower n)) →
+    Put d g o r (shown (record { name = n; values = vs }))
+unfolding rowAt
+put-parameter n vs h x y z = x ▷ rw (parameter-place (upper n), ← h) y ▷ z
+
+module _ {d : List ℕ} {o : ℕ} (n : List ℕ) (vs : List ParamValue) {t : Bool} (h : t ≡ same (upper n) (ascii "VALUE")) where
+  pub put-value-name : t ≡ true → length d * 1 < 2 ^ 63 → Put d d o o (ownShown (record { name = n; values = vs }))
+  put-value-name k z = put-yes _ _ _ (sym h ∙ k) (put-none d o z)
+
+  pub put-other-name : {e : List ℕ} {r : ℕ} → t ≡ false → Put d e o r (shown (record { name = n; values = vs })) → Put d e o r (ownShown (record { name = n; values = vs }))
+  put-other-name k p = put-no _ _ _ (sym h ∙ k) p
+
+-- ---- a slice whose cut is past its end
+
+uncut : (s : List ℕ) (e : ℕ) → length s < e → take e s ≡ s
+uncut s e h = take-all e s (omega arith)
+
+module _ (s : List ℕ) (e c : ℕ) (h : length s < e) where
+  pub past-same : {t : Bool} (w : List ℕ) → t ≡ same (upper (rest 0 s c)) w → t ≡ same (upper (rest 0 (take e s) c)) w
+  past-same w q = rw (uncut s e h) q
+
+  module _ {d f : List ℕ} {o r : ℕ} where
+    pub past-value : (p : ParameterRow) → Put d f o r (valueShown p (rest 0 s c)) → Put d f o r (valueShown p (rest 0 (take e s) c))
+    past-value p w = rw (uncut s e h) w
+
+    pub past-own : (first : ℕ) → Put d f o r (ownShown (record { name = rest 0 s c; values = valuesAt 0 s first })) → Put d f o r (ownShown (cutParam s c e first))
+    past-own first w = rw (uncut s e h) w
+
+-- ---- all parameters
+
+module _ {d : List ℕ} {o : ℕ} (rs : List RawParameter) {t : Bool} (h : t ≡ isRead (readParameters rs)) where
+  pub put-unread : t ≡ false → length d * 1 < 2 ^ 63 → Put d d o o (parametersElement (readOr [] (readParameters rs)))
+  unfolding isRead readOr
+  put-unread k z = go (readParameters rs) (sym h ∙ k)
+    where
+      go : (q : Option (List Parameter)) → isRead q ≡ false → Put d d o o (parametersElement (readOr [] q))
+      go none e = put-none d o z
+      go (some ps) e = absurd (false≢true (sym e))
+
+  module _ {u : Bool} (i : u ≡ isEmpty (ownParameters rs)) (k : t ≡ true) where
+    pub put-only : u ≡ true → length d * 1 < 2 ^ 63 → Put d d o o (parametersElement (readOr [] (readParameters rs)))
+    unfolding readOr
+    put-only w z = go (readParameters rs) refl
+      where
+        all : (ps : List Parameter) → isEmpty ps ≡ true → Put d d o o (parametersElement ps)
+        all [] e = put-none d o z
+        all (p ∷ ps) e = absurd (false≢true e)
+
+        go : (q : Option (List Parameter)) → readParameters rs ≡ q → Put d d o o (parametersElement (readOr [] q))
+        go none e = put-none d o z
+        go (some ps) e = all ps (each-empty readParameter (ownParameters rs) ps e ∙ sym i ∙ w)
+
+    pub put-shown : {e : List ℕ} {r : ℕ} → u ≡ false → Put d e o r (elementOf (ascii "parameters") (parametersShown rs)) →
+        Put d e o r (parametersElement (readOr [] (readParameters rs)))
+    unfolding isRead readOr
+    put-shown {e} {r} w p = go (readParameters rs) refl (sym h ∙ k)
+      where
+        all : (ps : List Parameter) → isEmpty ps ≡ false → parametersShown rs ≡ parametersXml ps → Put d e o r (parametersElement ps)
+        all [] x y = absurd (false≢true (sym x))
+        all (q ∷ ps) x y = rw (← y) p
+
+        go : (q : Option (List Parameter)) → readParameters rs ≡ q → isRead q ≡ true → Put d e o r (parametersElement (readOr [] q))
+        go none x y = absurd (false≢true y)
+        go (some ps) x y = all ps (each-empty readParameter (ownParameters rs) ps x ∙ sym i ∙ w) (shown-is rs ps x)

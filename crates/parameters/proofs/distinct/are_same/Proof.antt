@@ -1,0 +1,32 @@
+-- `parameters::are_same` meets its contract.
+use Rattle.parameters.specs.Comparing.{same-apart, same-end, same-more, same-less}
+use Rattle.source.specs.Source.{rest}
+use Rattle.octets.specs.Words.{same}
+use Rattle.octets.specs.Class.{upper}
+use lib.ListN.{length}
+use Prim.Native.Nat.{_*_, _-_}
+use mathlib.Core.Path.{_≡_, refl, sym, _∙_}
+use borrow.Author.Needs.{needs}
+use Rattle.parameters.proofs.distinct.are_same.Statement.{statement}
+use Rattle.parameters.proofs.distinct.are_same.Tie as tie
+
+abbrev Inv-loop : tie.InvT-loop
+Inv-loop s a t b c₀ d₀ c d = same (upper (rest 0 s a)) (upper (rest 0 t b)) ≡ same (upper (rest 0 s c)) (upper (rest 0 t d))
+
+abbrev μ-loop : tie.MeasureT-loop
+μ-loop s a t b c₀ d₀ c d = 4 * length s - c
+
+pub are-same-spec : {M : Type 1} → statement M
+are-same-spec = tie.close (tie.spec
+    Inv-loop
+    μ-loop
+    (λ c. refl)  -- loop-holds
+    (λ c κs. search needs)  -- unit-requires
+    (λ c κs. search needs)  -- unit-requires-2
+    (λ c κs. search needs)  -- upper-unit-requires
+    (λ c κs. search needs)  -- upper-unit-requires-2
+    (λ c. same-end (c .before .before .before .before .before .before .unit .ensures) (c .before .before .before .before .before .unit2 .ensures) (c .before .before .before .before .upper-unit .ensures) (c .before .before .before .upper-unit2 .ensures) (c .before .before .if1 .taken) (c .if2 .taken) ∙ sym (c .before .before .before .before .before .before .before .loop .inv))  -- returns
+    (λ c. same-less (c .before .before .before .before .before .before .unit .ensures) (c .if2 .left))  -- loop-less
+    (λ c. c .before .before .before .before .before .before .before .loop .inv ∙ same-more (c .before .before .before .before .before .before .unit .ensures) (c .before .before .before .before .before .unit2 .ensures) (c .before .before .before .before .upper-unit .ensures) (c .before .before .before .upper-unit2 .ensures) (c .before .before .if1 .taken) (c .if2 .left))  -- loop-again
+    (λ c. same-apart (c .before .before .before .before .unit .ensures) (c .before .before .before .unit2 .ensures) (c .before .before .upper-unit .ensures) (c .before .upper-unit2 .ensures) (c .if1 .left) ∙ sym (c .before .before .before .before .before .loop .inv))  -- returns-2
+    )

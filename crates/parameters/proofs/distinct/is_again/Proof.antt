@@ -1,0 +1,35 @@
+-- `parameters::distinct::is_again` meets its contract.
+use Rattle.parameters.specs.Steps.{one-nil, one-go, one-halt}
+use Rattle.parameters.specs.Comparing.{namesOf}
+use Rattle.parameters.specs.Cutting.{nameCut, params-step, params-over, params-fault}
+use Rattle.lines.specs.Params.{param-less}
+use Rattle.lines.specs.Cursor.{paramsAt}
+use Rattle.lines.specs.ContentLine.{RawParameter}
+use Rattle.octets.specs.Words.{isOneOf}
+use lib.ListN.{length}
+use Prim.Native.Nat.{_*_, _-_}
+use mathlib.Core.List.{List}
+use mathlib.Core.Path.{_≡_, refl, sym, _∙_}
+use borrow.Author.Needs.{needs}
+use Rattle.parameters.proofs.distinct.is_again.Statement.{statement}
+use Rattle.parameters.proofs.distinct.is_again.Tie as tie
+
+abbrev Inv-loop : tie.InvT-loop
+Inv-loop s name end at c₀ c = isOneOf (nameCut s name end) (namesOf (paramsAt 0 s at)) ≡ isOneOf (nameCut s name end) (namesOf (paramsAt 0 s c))
+
+abbrev μ-loop : tie.MeasureT-loop
+μ-loop s name end at c₀ c = 4 * length s - c
+
+pub is-again-spec : {M : Type 1} → statement M
+is-again-spec = tie.close (tie.spec
+    Inv-loop
+    μ-loop
+    (λ c. refl)  -- loop-holds
+    (λ c κs. search needs)  -- next-param-requires
+    (λ c κs. search needs)  -- same-names-requires
+    (λ c. let w = nameCut (c .before .before .before .before .before .before .before .args .s .now) (c .before .before .before .before .before .before .before .args .name) (c .before .before .before .before .before .before .before .args .end) in sym (params-step (λ (rs : List RawParameter). isOneOf w (namesOf rs)) (c .before .before .before .before .before .loop .inv) (c .before .before .before .before .next-param .ensures) (c .before .before .before .if1 .taken) (c .before .before .if2 .taken) ∙ one-halt w _ _ (c .before .same-names .ensures) (c .if3 .taken)))  -- returns
+    (λ c. param-less (c .before .before .before .before .next-param .ensures) (c .before .before .before .if1 .taken) (c .before .before .if2 .taken))  -- loop-less
+    (λ c. let w = nameCut (c .before .before .before .before .before .before .before .args .s .now) (c .before .before .before .before .before .before .before .args .name) (c .before .before .before .before .before .before .before .args .end) in params-step (λ (rs : List RawParameter). isOneOf w (namesOf rs)) (c .before .before .before .before .before .loop .inv) (c .before .before .before .before .next-param .ensures) (c .before .before .before .if1 .taken) (c .before .before .if2 .taken) ∙ one-go w _ _ (c .before .same-names .ensures) (c .if3 .left))  -- loop-again
+    (λ c. let w = nameCut (c .before .before .before .before .before .args .s .now) (c .before .before .before .before .before .args .name) (c .before .before .before .before .before .args .end) in sym (params-fault (λ (rs : List RawParameter). isOneOf w (namesOf rs)) (c .before .before .before .loop .inv) (c .before .before .next-param .ensures) (c .before .if1 .taken) (c .if2 .left) ∙ one-nil w))  -- returns-2
+    (λ c. let w = nameCut (c .before .before .before .before .args .s .now) (c .before .before .before .before .args .name) (c .before .before .before .before .args .end) in sym (params-over (λ (rs : List RawParameter). isOneOf w (namesOf rs)) (c .before .before .loop .inv) (c .before .next-param .ensures) (c .if1 .left) ∙ one-nil w))  -- returns-3
+    )

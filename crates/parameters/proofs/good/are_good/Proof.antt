@@ -1,0 +1,12 @@
+-- `parameters::good::are_good` meets its contract.
+use Rattle.parameters.specs.Permitted.{good-place}
+use Rattle.lines.specs.Cursor.{paramsAt}
+use borrow.Author.Needs.{needs}
+use Rattle.parameters.proofs.good.are_good.Statement.{statement}
+use Rattle.parameters.proofs.good.are_good.Tie as tie
+
+pub are-good-spec : {M : Type 1} → statement M
+are-good-spec = tie.close (tie.spec
+    (λ c κs. search needs)  -- are-good-at-requires
+    (λ c. good-place (c .before .before .args .p) (c .before .before .args .t) (paramsAt 0 (c .before .before .args .s .now) (c .before .before .args .e)) (c .are-good-at .ensures))  -- returns
+    )

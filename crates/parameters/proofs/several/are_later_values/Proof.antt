@@ -1,0 +1,37 @@
+-- `parameters::are_later_values` meets its contract.
+use Rattle.parameters.specs.Readable.{later-go, later-halt}
+use Rattle.parameters.specs.Steps.{every-nil}
+use Rattle.parameters.specs.Typing.{isValueBy}
+use Rattle.parameters.specs.Cutting.{values-over, values-fault}
+use Rattle.lines.specs.Values.{value-less}
+use Rattle.lines.specs.Items.{items}
+use Rattle.lines.specs.ContentLine.{nextValue}
+use Rattle.schema.specs.Numbers.{parameterAt}
+use Rattle.source.specs.Source.{rest}
+use Rattle.octets.specs.Lists.{every}
+use lib.ListN.{length}
+use Prim.Native.Nat.{_*_, _-_}
+use mathlib.Core.Path.{_≡_, refl, sym, _∙_}
+use borrow.Author.Needs.{needs}
+use Rattle.parameters.proofs.several.are_later_values.Statement.{statement}
+use Rattle.parameters.proofs.several.are_later_values.Tie as tie
+
+abbrev Inv-loop : tie.InvT-loop
+Inv-loop q s at c₀ c = every (isValueBy (parameterAt q)) (items nextValue (rest 0 s at)) ≡ every (isValueBy (parameterAt q)) (items nextValue (rest 0 s c))
+
+abbrev μ-loop : tie.MeasureT-loop
+μ-loop q s at c₀ c = 4 * length s - c
+
+pub are-later-values-spec : {M : Type 1} → statement M
+are-later-values-spec = tie.close (tie.spec
+    Inv-loop
+    μ-loop
+    (λ c. refl)  -- loop-holds
+    (λ c κs. search needs)  -- next-value-requires
+    (λ c κs. search needs)  -- is-cut-value-requires
+    (λ c. value-less (c .before .before .before .before .next-value .ensures) (c .before .before .before .if1 .taken) (c .before .before .if2 .taken))  -- loop-less
+    (λ c. later-go (isValueBy (parameterAt (c .before .before .before .before .before .before .before .args .q))) (c .before .is-cut-value .ensures) (c .before .before .before .before .before .loop .inv) (c .before .before .before .before .next-value .ensures) (c .before .before .before .if1 .taken) (c .before .before .if2 .taken) (c .if3 .taken))  -- loop-again
+    (λ c. later-halt (isValueBy (parameterAt (c .before .before .before .before .before .before .before .args .q))) (c .before .is-cut-value .ensures) (c .before .before .before .before .before .loop .inv) (c .before .before .before .before .next-value .ensures) (c .before .before .before .if1 .taken) (c .before .before .if2 .taken) (c .if3 .left))  -- returns
+    (λ c. let p = isValueBy (parameterAt (c .before .before .before .before .before .args .q)) in sym (values-fault (every p) (c .before .before .before .loop .inv) (c .before .before .next-value .ensures) (c .before .if1 .taken) (c .if2 .left) ∙ every-nil p))  -- returns-2
+    (λ c. let p = isValueBy (parameterAt (c .before .before .before .before .args .q)) in sym (values-over (every p) (c .before .before .loop .inv) (c .before .next-value .ensures) (c .if1 .left) ∙ every-nil p))  -- returns-3
+    )

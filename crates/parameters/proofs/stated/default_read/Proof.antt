@@ -1,0 +1,11 @@
+-- `parameters::default_read` meets its contract.
+use Rattle.parameters.specs.Stating.{type-at}
+use borrow.Author.Needs.{needs}
+use Rattle.parameters.proofs.stated.default_read.Statement.{statement}
+use Rattle.parameters.proofs.stated.default_read.Tie as tie
+
+pub default-read-spec : {M : Type 1} → statement M
+default-read-spec = tie.close (tie.spec
+    (λ c κs. search needs)  -- default-type-requires
+    (λ c. type-at _ (c .default-type .ensures))  -- returns
+    )

@@ -1,0 +1,87 @@
+-- Parameters and values cut out of a line, in bytes as they stand.
+--     cut-least                 a slice cut at its length where the cut is to be past it
+--     paramCut, valueCut        a parameter, a value, by cursors;   nameCut: a name in capitals
+--     params-step, params-over, params-fault      a walk over parameters: what F says of those from a cursor on, by the one that is there
+--     values-first, values-none, values-step ..   the same of the values of a parameter
+--     last-more, last-over, last-fault            whether a value follows
+use mathlib.Core.Path.{_≡_, refl, sym, ap, _∙_}
+use mathlib.Core.Bool.{Bool, true, false}
+use mathlib.Core.List.{List, [], _∷_}
+use Prim.Native.Nat.{ℕ, min, _≤_}
+use native.Mathlib.Omega.{arith}
+use native.Mathlib.Decide.{decLe}
+use lib.ListN.{length, take}
+use lib.Seq.{take-all, take-length}
+use Rattle.octets.specs.Class.{upper}
+use Rattle.octets.specs.Words.{isEmpty}
+use Rattle.source.specs.Source.{rest}
+use Rattle.lines.specs.ContentLine.{ParamValue, RawParameter, paramValue, nextValue, nextParam}
+use Rattle.lines.specs.Items.{items}
+use Rattle.lines.specs.Cursor.{valuesOf, valuesAt, paramsAt}
+use Rattle.lines.specs.Repeating.{item-bad}
+use Rattle.lines.specs.Values.{ValueAt, value-there, value-first, value-more, value-over, value-fault, value-chars}
+use Rattle.lines.specs.Params.{ParamOf, name-chars, param-more, param-over, param-fault}
+use Rattle.lines.specs.declared.ParamAt.{ParamAt}
+use Rattle.lines.specs.declared.ParamRead.{ParamRead}
+
+cut-least : (s : List ℕ) (e : ℕ) → take (min e (length s)) s ≡ take e s
+cut-least s e = go (decLe e (length s))
+  where
+    go : Dec (e ≤ length s) → take (min e (length s)) s ≡ take e s
+    go (yes h) = let k : min e (length s) ≡ e = omega arith in rw k
+    go (no h) = let k : min e (length s) ≡ length s = omega arith in rw k (take-length s ∙ sym (take-all e s (omega arith)))
+
+pub cut-at : {A : Type 0} (f : List ℕ → A) {r : A} {e : ℕ} (s : List ℕ) (c to : ℕ) → e ≡ min to (length s) → r ≡ f (rest 0 (take e s) c) → r ≡ f (rest 0 (take to s) c)
+cut-at f s c to h p = p ∙ ap (λ (l : List ℕ). f (rest 0 l c)) (rw h (cut-least s to))
+
+-- ---- parameters
+
+abbrev pub nameCut : List ℕ → ℕ → ℕ → List ℕ
+nameCut s name end = upper (rest 0 (take end s) name)
+
+abbrev pub paramCut : List ℕ → ℕ → ℕ → ℕ → RawParameter
+paramCut s name end first = record { name = rest 0 (take end s) name; values = valuesAt 0 s first }
+
+module _ {A : Type 0} (F : List RawParameter → A) {v : A} {s : List ℕ} {c : ℕ} {r : ParamRead} (e : v ≡ F (paramsAt 0 s c)) (a : ParamOf nextParam 0 s c r) where
+  pub params-step : r .there ≡ true → r .ok ≡ true → v ≡ F (paramCut s (r .name) (r .end) (r .first) ∷ paramsAt 0 s (r .next))
+  params-step h k = e ∙ ap F (param-more a h k) ∙ rw (name-chars (a .named h k))
+
+  pub params-over : r .there ≡ false → v ≡ F []
+  params-over h = e ∙ ap F (param-over a h)
+
+  pub params-fault : r .there ≡ true → r .ok ≡ false → v ≡ F []
+  params-fault h k = e ∙ ap F (param-fault a h k)
+
+-- ---- values
+
+abbrev pub valueCut : List ℕ → Bool → ℕ → ℕ → ParamValue
+valueCut s quoted from to = record { quoted = quoted; chars = rest 0 (take to s) from }
+
+module _ {s : List ℕ} {c : ℕ} {r : ParamAt} (v : ValueAt paramValue 0 s c r) where
+  pub values-first : r .ok ≡ true → valuesAt 0 s c ≡ valueCut s (r .quoted) (r .from) (r .to) ∷ items nextValue (rest 0 s (r .next))
+  values-first h = value-first v h ∙ rw (value-chars v (value-there v))
+
+  pub values-none : r .ok ≡ false → valuesAt 0 s c ≡ []
+  unfolding valuesOf
+  values-none h = rw (item-bad (v .item) (value-there v) h)
+
+module _ {A : Type 0} (F : List ParamValue → A) {x : A} {s : List ℕ} {c : ℕ} {r : ParamAt} (e : x ≡ F (items nextValue (rest 0 s c))) (v : ValueAt nextValue 0 s c r) where
+  pub values-step : r .there ≡ true → r .ok ≡ true → x ≡ F (valueCut s (r .quoted) (r .from) (r .to) ∷ items nextValue (rest 0 s (r .next)))
+  values-step h k = e ∙ ap F (value-more v h k) ∙ rw (value-chars v h)
+
+  pub values-over : r .there ≡ false → x ≡ F []
+  values-over h = e ∙ ap F (value-over v h)
+
+  pub values-fault : r .there ≡ true → r .ok ≡ false → x ≡ F []
+  values-fault h k = e ∙ ap F (value-fault v h k)
+
+-- whether a value follows
+module _ {s : List ℕ} {c : ℕ} {r : ParamAt} (v : ValueAt nextValue 0 s c r) where
+  pub last-more : r .there ≡ true → r .ok ≡ true → false ≡ isEmpty (items nextValue (rest 0 s c))
+  last-more h k = sym (values-step isEmpty refl v h k)
+
+  pub last-fault : r .there ≡ true → r .ok ≡ false → true ≡ isEmpty (items nextValue (rest 0 s c))
+  last-fault h k = sym (values-fault isEmpty refl v h k)
+
+  pub last-over : r .there ≡ false → true ≡ isEmpty (items nextValue (rest 0 s c))
+  last-over h = sym (values-over isEmpty refl v h)

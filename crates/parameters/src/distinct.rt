@@ -1,0 +1,91 @@
+// No parameter twice. See specs/Comparing.antt.
+use crate::cut::smaller;
+use lines::next_param;
+use octets::upper_unit;
+use source::unit;
+ghost use mathlib.Core.Path.{_≡_};
+ghost use Rattle.octets.specs.Class.{upper};
+ghost use Rattle.octets.specs.Words.{same, isOneOf};
+ghost use Rattle.octets.specs.Lists.{distinct};
+ghost use Rattle.source.specs.Source.{rest};
+ghost use Rattle.lines.specs.Cursor.{paramsAt};
+ghost use Rattle.parameters.specs.Cutting.{nameCut};
+ghost use Rattle.parameters.specs.Comparing.{namesOf};
+
+// The words from two cursors on are the same, in any case.
+fn are_same(s: &[u8], a: usize, t: &[u8], b: usize) -> bool
+    ensures { λ r. ⌜ r ≡ same (upper (rest 0 (now (s .entry)) a)) (upper (rest 0 (now (t .entry)) b)) ⌝ }
+{
+    let mut c = a;
+    let mut d = b;
+    loop {
+        let x = unit(0, s, c);
+        let y = unit(0, t, d);
+        let xu = upper_unit(x.u);
+        let yu = upper_unit(y.u);
+        if xu == yu {
+            if x.u == 256 {
+                return true;
+            }
+            c = x.next;
+            d = y.next;
+        } else {
+            return false;
+        }
+    }
+}
+
+// The names from `a` to `e` and from `b` to `f` are the same, in any case.
+fn same_names(s: &[u8], a: usize, e: usize, b: usize, f: usize) -> bool
+    ensures { λ r. ⌜ r ≡ same (nameCut (now (s .entry)) a e) (nameCut (now (s .entry)) b f) ⌝ }
+{
+    let x = smaller(e, s.len());
+    let y = smaller(f, s.len());
+    are_same(&s[..x], a, &s[..y], b)
+}
+
+// A parameter from the cursor `at` on has the name.
+fn is_again(s: &[u8], name: usize, end: usize, at: usize) -> bool
+    ensures { λ r. ⌜ r ≡ isOneOf (nameCut (now (s .entry)) name end) (namesOf (paramsAt 0 (now (s .entry)) at)) ⌝ }
+{
+    let mut c = at;
+    loop {
+        let a = next_param(0, s, c);
+        if a.there {
+            if a.ok {
+                let again = same_names(s, name, end, a.name, a.end);
+                if again {
+                    return true;
+                }
+                c = a.next;
+            } else {
+                return false;
+            }
+        } else {
+            return false;
+        }
+    }
+}
+
+// No two parameters from the cursor `e` on have the same name.
+pub fn are_distinct(s: &[u8], e: usize) -> bool
+    ensures { λ r. ⌜ r ≡ distinct (namesOf (paramsAt 0 (now (s .entry)) e)) ⌝ }
+{
+    let mut c = e;
+    loop {
+        let a = next_param(0, s, c);
+        if a.there {
+            if a.ok {
+                let again = is_again(s, a.name, a.end, a.next);
+                if again {
+                    return false;
+                }
+                c = a.next;
+            } else {
+                return true;
+            }
+        } else {
+            return true;
+        }
+    }
+}

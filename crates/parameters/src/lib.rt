@@ -1,0 +1,21 @@
+// The parameters of a property's line: whether they are readable, permitted and none twice, and the type that VALUE names.
+// A line is cut at its end by the caller. Definitions are in crate ical (specs/Parameters), laws in specs/.
+mod base64;
+mod cut;
+mod distinct;
+mod good;
+mod read;
+mod several;
+mod stated;
+mod typed;
+
+pub use good::are_good;
+pub use read::are_read;
+pub use stated::stated_type;
+pub use typed::is_value;
+
+// The type that a line states, by its number; or VALUE that names none.
+pub enum TypeRead {
+    Type(usize),
+    Bad,
+}

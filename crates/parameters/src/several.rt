@@ -1,0 +1,88 @@
+// The values of a parameter, from the cursor of its first on. See specs/Readable.antt.
+use crate::cut::smaller;
+use crate::typed::is_value_at;
+use lines::next_value;
+use lines::param_value;
+ghost use mathlib.Core.Path.{_≡_};
+ghost use Rattle.octets.specs.Lists.{every};
+ghost use Rattle.octets.specs.Words.{isEmpty};
+ghost use Rattle.source.specs.Source.{rest};
+ghost use Rattle.schema.specs.Numbers.{parameterAt};
+ghost use Rattle.lines.specs.ContentLine.{nextValue};
+ghost use Rattle.lines.specs.Items.{items};
+ghost use Rattle.lines.specs.Cursor.{valuesAt};
+ghost use Rattle.ical.specs.Parameters.{isSingle};
+ghost use Rattle.parameters.specs.Cutting.{valueCut};
+ghost use Rattle.parameters.specs.Typing.{isValueBy};
+
+// No value follows.
+pub fn is_last(s: &[u8], at: usize) -> bool
+    ensures { λ r. ⌜ r ≡ isEmpty (items nextValue (rest 0 (now (s .entry)) at)) ⌝ }
+{
+    let v = next_value(0, s, at);
+    if v.there {
+        if v.ok {
+            return false;
+        }
+        return true;
+    }
+    true
+}
+
+// There is one value.
+pub fn is_single(s: &[u8], at: usize) -> bool
+    ensures { λ r. ⌜ r ≡ isSingle (valuesAt 0 (now (s .entry)) at) ⌝ }
+{
+    let v = param_value(0, s, at);
+    if v.ok {
+        return is_last(s, v.next);
+    }
+    false
+}
+
+// The characters between two cursors are a value of the parameter of the number `q`.
+fn is_cut_value(q: usize, quoted: bool, s: &[u8], from: usize, to: usize) -> bool
+    ensures { λ r. ⌜ r ≡ isValueBy (parameterAt q) (valueCut (now (s .entry)) quoted from to) ⌝ }
+{
+    let e = smaller(to, s.len());
+    is_value_at(q, quoted, &s[..e], from)
+}
+
+// Those that follow another value are values of the parameter.
+fn are_later_values(q: usize, s: &[u8], at: usize) -> bool
+    ensures { λ r. ⌜ r ≡ every (isValueBy (parameterAt q)) (items nextValue (rest 0 (now (s .entry)) at)) ⌝ }
+{
+    let mut c = at;
+    loop {
+        let v = next_value(0, s, c);
+        if v.there {
+            if v.ok {
+                let good = is_cut_value(q, v.quoted, s, v.from, v.to);
+                if good {
+                    c = v.next;
+                } else {
+                    return false;
+                }
+            } else {
+                return true;
+            }
+        } else {
+            return true;
+        }
+    }
+}
+
+// All are values of the parameter.
+pub fn are_values(q: usize, s: &[u8], at: usize) -> bool
+    ensures { λ r. ⌜ r ≡ every (isValueBy (parameterAt q)) (valuesAt 0 (now (s .entry)) at) ⌝ }
+{
+    let v = param_value(0, s, at);
+    if v.ok {
+        let good = is_cut_value(q, v.quoted, s, v.from, v.to);
+        if good {
+            return are_later_values(q, s, v.next);
+        }
+        return false;
+    }
+    true
+}

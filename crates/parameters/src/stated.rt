@@ -1,0 +1,76 @@
+// The type that a line states. See specs/Stating.antt.
+use crate::TypeRead;
+use crate::cut::is_value_name;
+use crate::cut::smaller;
+use crate::several::is_last;
+use lines::next_param;
+use lines::param_value;
+use schema::default_type;
+use schema::type_number;
+ghost use mathlib.Core.Option.{some};
+ghost use lib.ListN.{take};
+ghost use Rattle.octets.specs.Class.{upper};
+ghost use Rattle.source.specs.Source.{rest};
+ghost use Rattle.schema.specs.Types.{typeNamed};
+ghost use Rattle.schema.specs.Numbers.{propertyAt};
+ghost use Rattle.lines.specs.Cursor.{valuesAt};
+ghost use Rattle.ical.specs.Parameters.{typeIn};
+ghost use Rattle.parameters.specs.Stating.{TypeOf, StatedAt};
+
+// The type of a name.
+fn named_type(s: &[u8], from: usize, to: usize) -> TypeRead
+    ensures { λ r. ⌜ TypeOf (typeNamed (upper (rest 0 (take to (now (s .entry))) from))) r ⌝ }
+{
+    let e = smaller(to, s.len());
+    let t = type_number(0, &s[..e], from);
+    if t < 14 {
+        return TypeRead::Type(t);
+    }
+    TypeRead::Bad
+}
+
+// The type that VALUE's one value names.
+fn type_in(s: &[u8], at: usize) -> TypeRead
+    ensures { λ r. ⌜ TypeOf (typeIn (valuesAt 0 (now (s .entry)) at)) r ⌝ }
+{
+    let v = param_value(0, s, at);
+    if v.ok {
+        let last = is_last(s, v.next);
+        if last {
+            return named_type(s, v.from, v.to);
+        }
+        return TypeRead::Bad;
+    }
+    TypeRead::Bad
+}
+
+// The property's default.
+fn default_read(p: usize) -> TypeRead
+    ensures { λ r. ⌜ TypeOf (some (propertyAt p .default)) r ⌝ }
+{
+    let t = default_type(p);
+    TypeRead::Type(t)
+}
+
+// The type that VALUE names, of the parameters from the cursor `e` on, or the default of the property of the number `p`.
+pub fn stated_type(p: usize, s: &[u8], e: usize) -> TypeRead
+    ensures { λ r. ⌜ StatedAt p (now (s .entry)) e r ⌝ }
+{
+    let mut c = e;
+    loop {
+        let a = next_param(0, s, c);
+        if a.there {
+            if a.ok {
+                let value = is_value_name(s, a.name, a.end);
+                if value {
+                    return type_in(s, a.first);
+                }
+                c = a.next;
+            } else {
+                return default_read(p);
+            }
+        } else {
+            return default_read(p);
+        }
+    }
+}

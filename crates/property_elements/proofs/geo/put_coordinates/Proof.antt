@@ -1,0 +1,12 @@
+-- `property_elements::put_coordinates` meets its contract.
+use Rattle.sink.specs.Sink.{writing}
+use Rattle.property_elements.proofs.geo.put_coordinates.Statement.{statement}
+use Rattle.property_elements.proofs.geo.put_coordinates.Tie as tie
+
+pub put-coordinates-spec : {M : Type 1} → statement M
+put-coordinates-spec = tie.close (tie.spec
+    (λ c κs. search writing)  -- put-latitude-requires
+    (λ c κs. search writing)  -- put-longitude-requires
+    (λ c. search writing)  -- same-length
+    (λ c. search writing)  -- returns
+    )

@@ -1,0 +1,17 @@
+-- `property_elements::put_parts` meets its contract.
+use lib.Seq.{length-take-le}
+use borrow.Author.Needs.{needs}
+use Rattle.sink.specs.Sink.{writing}
+use Rattle.property_elements.proofs.property.put_parts.Statement.{statement}
+use Rattle.property_elements.proofs.property.put_parts.Tie as tie
+
+pub put-parts-spec : {M : Type 1} → statement M
+put-parts-spec = tie.close (tie.spec
+    (λ c. search (length-take-le, needs))  -- slice-aggregate-put-small-start
+    (λ c κs. search writing)  -- put-small-start-requires
+    (λ c κs. search writing)  -- put-content-requires
+    (λ c. search (length-take-le, needs))  -- slice-aggregate-put-small-end
+    (λ c κs. search writing)  -- put-small-end-requires
+    (λ c. search writing)  -- same-length
+    (λ c. search writing)  -- returns
+    )

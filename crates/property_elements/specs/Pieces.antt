@@ -1,0 +1,86 @@
+-- A list of values of iCalendar text written as elements of XML.
+--     piecesXml      an element for each piece that is a value of a type
+--     listedXml      the same of a list of values, of TEXT or of another type
+--     Piecing        the invariant of the loop that writes them;   `search piecing`
+use mathlib.Core.Path.{_≡_, refl, sym, ap, _∙_}
+use mathlib.Core.List.{List, [], _∷_}
+use Prim.Native.Nat.{ℕ, _*_, _^_, _≤_, _<_}
+use native.Mathlib.Omega.{arith}
+use lib.Dec.{eqb}
+use lib.ListN.{length, take, drop-of-length-le}
+use borrow.Author.Tests.{eq-eqb, ne-eqb}
+use Rattle.octets.specs.Pick.{pick}
+use Rattle.octets.specs.Append.{_⊕_}
+use Rattle.octets.specs.Words.{cutAt}
+use Rattle.octets.specs.Reading.{orNothing}
+use Rattle.model.specs.Calendar.{ical, ValueType}
+use Rattle.sink.specs.Sink.{Put, put-length, Todo, todo-all, todo-step, todo-done, writing}
+use Rattle.source.specs.Source.{rest, Reads}
+use Rattle.source.specs.declared.Step.{Step}
+use Rattle.schema.specs.Numbers.{typeAt}
+use Rattle.texts.specs.TextList.{readTexts}
+use Rattle.texts.specs.Elements.{textsXml}
+use Rattle.recur.specs.Pieces.{Ends}
+use Rattle.recur.specs.PieceLaws.{pieces-last, pieces-more, pieces-less, step-less}
+use Rattle.values.specs.ReadValue.{readValue}
+use Rattle.xcal.specs.WriteXml.{valueXml}
+
+unfoldable pub piecesXml : ValueType → List (List ℕ) → List ℕ
+piecesXml t [] = []
+piecesXml t (p ∷ ps) = orNothing valueXml (readValue ical t p) ⊕ piecesXml t ps
+
+-- 10 is TEXT, 44 the comma
+abbrev pub listedXml : ℕ → List ℕ → List ℕ
+listedXml t l = pick (eqb t 10) (orNothing textsXml (readTexts l)) (piecesXml (typeAt t) (cutAt 44 l))
+
+-- ---- the loop over the pieces
+
+abbrev pub fromPiece : ℕ → List ℕ → ℕ → List ℕ
+fromPiece t s c = piecesXml (typeAt t) (cutAt 44 (rest 0 s c))
+
+pub record Piecing (t : ℕ) (d₀ : List ℕ) (at₀ : ℕ) (s : List ℕ) (c₀ : ℕ) (d : List ℕ) (at c : ℕ) : Type 0 where
+  pub todo : Todo d₀ at₀ (fromPiece t s c₀) d at (fromPiece t s c)
+  pub inside : c ≤ length s
+  pub kept : length d ≡ length d₀
+
+pub piecing-start : (t : ℕ) (d : List ℕ) (at : ℕ) (s : List ℕ) (c : ℕ) → length d * 1 < 2 ^ 63 → c ≤ length s → Piecing t d at s c d at c
+piecing-start t d at s c z h = record { todo = todo-all d at (fromPiece t s c) z; inside = h; kept = refl }
+
+module _ {t : ℕ} {d₀ : List ℕ} {at₀ : ℕ} {s : List ℕ} {c₀ : ℕ} {d : List ℕ} {at c e : ℕ} {n : Step} {d′ : List ℕ} {o : ℕ} (i : Piecing t d₀ at₀ s c₀ d at c) (p : Ends 44 s c e)
+    (w : Put d d′ at o (orNothing valueXml (readValue ical (typeAt t) (rest 0 (take e s) c)))) (q : Reads 0 s e n) where
+  pub piecing-more : (n .u ≡ 256 → ⊥) → Piecing t d₀ at₀ s c₀ d′ o (n .next)
+  unfolding piecesXml _⊕_
+  piecing-more h = record {
+    todo = todo-step (i .todo) w (ap (piecesXml (typeAt t)) (pieces-more p q h));
+    inside = step-less q h .1;
+    kept = put-length w ∙ i .kept;
+  }
+
+  pub piecing-end : n .u ≡ 256 → Put d₀ d′ at₀ o (fromPiece t s c₀)
+  unfolding piecesXml _⊕_
+  piecing-end h = todo-done (todo-step (i .todo) w (ap (piecesXml (typeAt t)) (pieces-last p q h))) refl
+
+pub ruleset piecing = (piecing-start, piecing-more, piecing-end, pieces-less, writing)
+
+-- ---- a list, by its type
+
+-- past the end of a slice stands what stands at its end
+rest-past : (s : List ℕ) (c : ℕ) → length s < c → rest 0 s (length s) ≡ rest 0 s c
+unfolding rest pick
+rest-past s c h =
+    let a : length s ≤ length s = omega arith in
+    let b : length s ≤ c = omega arith in
+    drop-of-length-le s a ∙ sym (drop-of-length-le s b)
+
+module _ {d e : List ℕ} {at o t : ℕ} (s : List ℕ) (c : ℕ) where
+  pub put-list-texts : t ≡ 10 → Put d e at o (orNothing textsXml (readTexts (rest 0 s c))) → Put d e at o (listedXml t (rest 0 s c))
+  unfolding pick
+  put-list-texts h p = rw (eq-eqb t 10 h) p
+
+  pub put-list-pieces : (t ≡ 10 → ⊥) → Put d e at o (fromPiece t s c) → Put d e at o (listedXml t (rest 0 s c))
+  unfolding pick
+  put-list-pieces h p = rw (ne-eqb t 10 h) p
+
+  pub put-list-past : (t ≡ 10 → ⊥) → length s < c → Put d e at o (fromPiece t s (length s)) → Put d e at o (listedXml t (rest 0 s c))
+  unfolding pick
+  put-list-past h l p = rw (ne-eqb t 10 h, ← (rest-past s c l)) p

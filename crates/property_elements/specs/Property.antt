@@ -1,0 +1,122 @@
+-- The element of the property that a content line states: its name ends at the cursor e, and its value stands from the cursor v on.
+--     nameIn         the name
+--     statedXml      the elements of its values, of the type that it states
+--     contentXml     those of its parameters and its values
+--     partsXml       the whole element;   property-xml: what is written of the line
+use mathlib.Core.Path.{_≡_, refl, sym, ap, _∙_}
+use mathlib.Core.List.{List, [], _∷_}
+use mathlib.Core.Option.{none}
+use Prim.Native.Nat.{ℕ, _+_, _-_, _*_, _^_, _≤_, _<_}
+use native.Mathlib.Omega.{arith}
+use native.Mathlib.Decide.{decLe}
+use lib.Dec.{leb}
+use lib.ListN.{length, take, drop-of-length-le}
+use borrow.Author.Tests.{le-leb, lt-leb}
+use Rattle.octets.specs.Pick.{pick, within-yes, and-no-right}
+use Rattle.octets.specs.Append.{_⊕_}
+use Rattle.octets.specs.Class.{isNameChar, upperByte, lowerByte, upper, lower}
+use Rattle.octets.specs.Letters.{upper-by-cases}
+use Rattle.octets.specs.Runs.{runOf}
+use Rattle.octets.specs.Scan.{spanLen}
+use Rattle.octets.specs.Reading.{readOr, orNothing, none-some}
+use Rattle.names.specs.Table.{placeOf}
+use Rattle.model.specs.Calendar.{TEXT}
+use Rattle.sink.specs.Sink.{Put, put-none}
+use Rattle.source.specs.Source.{rest}
+use Rattle.schema.specs.Properties.{propertyNames}
+use Rattle.schema.specs.Numbers.{typeAt, componentName, propertyName}
+use Rattle.xml.specs.Escape.{elementOf}
+use Rattle.lines.specs.ContentLine.{contentLine}
+use Rattle.lines.specs.Cursor.{paramsAt}
+use Rattle.lines.specs.Params.{name-chars}
+use Rattle.lines.specs.Line.{LineAt}
+use Rattle.lines.specs.declared.LineRead.{LineRead}
+use Rattle.lines.specs.declared.LineRead.the-variants.{Line, Bad}
+use Rattle.ical.specs.Parameters.{statedType, readParameters}
+use Rattle.ical.specs.Values.{readValues}
+use Rattle.ical.specs.Statement.{propertyOf}
+use Rattle.xcal.specs.WriteXml.{valuesXml, parametersElement, propertyXml}
+use Rattle.property_elements.specs.Placed.{values-named}
+use Rattle.parameters.specs.Stating.{StatedAt}
+use Rattle.parameters.specs.declared.TypeRead.{TypeRead}
+use Rattle.parameters.specs.declared.TypeRead.the-variants.{«Type» as Typed, Bad as NoType}
+
+abbrev pub nameIn : List ℕ → ℕ → ℕ → List ℕ
+nameIn s c e = rest 0 (take e s) c
+
+abbrev pub statedXml : ℕ → List ℕ → ℕ → ℕ → ℕ → List ℕ
+statedXml k s c e v =
+    valuesXml (readOr [] (readValues (componentName k) (upper (nameIn s c e)) (readOr TEXT (statedType (upper (nameIn s c e)) (paramsAt 0 s e))) (rest 0 s v)))
+
+abbrev pub contentXml : ℕ → List ℕ → ℕ → ℕ → ℕ → List ℕ
+contentXml k s c e v = parametersElement (readOr [] (readParameters (paramsAt 0 s e))) ⊕ statedXml k s c e v
+
+abbrev pub partsXml : ℕ → List ℕ → ℕ → ℕ → ℕ → List ℕ
+partsXml k s c e v = elementOf (lower (nameIn s c e)) (contentXml k s c e v)
+
+-- ---- laws
+
+lower-byte : (b : ℕ) → lowerByte (upperByte b) ≡ lowerByte b
+unfolding pick
+lower-byte b = upper-by-cases (λ x. lowerByte x ≡ lowerByte b) b small (λ e. refl)
+  where
+    small : 97 ≤ b → b ≤ 122 → lowerByte (b - 32) ≡ lowerByte b
+    small l h =
+        let k : b - 32 + 32 ≡ b = omega arith in
+        rw (within-yes 65 90 (b - 32) (le-leb 65 (b - 32) (omega arith)) (le-leb (b - 32) 90 (omega arith)), and-no-right (leb 65 b) (leb b 90) (lt-leb b 90 (omega arith))) k
+
+pub lower-upper : (s : List ℕ) → lower (upper s) ≡ lower s
+unfolding lower upper
+lower-upper [] = refl
+lower-upper (b ∷ s) = rw (lower-byte b, lower-upper s)
+
+no-line : contentLine [] ≡ none
+unfolding contentLine runOf spanLen pick
+no-line = refl
+
+module _ {s : List ℕ} {c e v : ℕ} (a : LineAt 0 s c (Line e v)) where
+  pub name-inside : e ≤ length s
+  unfolding rest pick
+  name-inside = go (decLe c (length s))
+    where
+      go : Dec (c ≤ length s) → e ≤ length s
+      go (yes h) = a .parts .name .plain refl h
+      go (no h) =
+          let l : length s ≤ c = omega arith in
+          let z : rest 0 s c ≡ [] = drop-of-length-le s l in
+          none-some (sym (ap contentLine z ∙ no-line) ∙ a .is)
+
+  pub property-xml : (k : ℕ) → orNothing (λ l. propertyXml (propertyOf (componentName k) l)) (contentLine (rest 0 s c)) ≡ partsXml k s c e v
+  unfolding propertyXml propertyOf
+  property-xml k =
+      ap (orNothing (λ l. propertyXml (propertyOf (componentName k) l))) (a .is)
+      ∙ rw (name-chars (a .parts .name), lower-upper (runOf isNameChar (rest 0 s c)))
+
+-- ---- for the code
+
+module _ {s : List ℕ} {c : ℕ} {r : LineRead} (a : LineAt 0 s c r) where
+  pub parts-inside : (e v : ℕ) → r ≡ Line e v → e ≤ length s
+  parts-inside e v h = let b : LineAt 0 s c (Line e v) = rw h at a in name-inside b
+
+  pub put-parts : {d f : List ℕ} {at o : ℕ} (k e v : ℕ) → r ≡ Line e v → Put d f at o (partsXml k s c e v) →
+      Put d f at o (orNothing (λ l. propertyXml (propertyOf (componentName k) l)) (contentLine (rest 0 s c)))
+  put-parts k e v h w = let b : LineAt 0 s c (Line e v) = rw h at a in rw (property-xml b k) w
+
+  pub put-no-line : {d : List ℕ} {at : ℕ} (k : ℕ) → r ≡ Bad → length d * 1 < 2 ^ 63 → Put d d at at (orNothing (λ l. propertyXml (propertyOf (componentName k) l)) (contentLine (rest 0 s c)))
+  put-no-line {d} {at} k h z = let b : LineAt 0 s c Bad = rw h at a in rw (b .is) (put-none d at z)
+
+-- the values, by the number of the line's name and by the type that was found
+module _ {d f : List ℕ} {at o : ℕ} (k : ℕ) {p : ℕ} {s : List ℕ} (c : ℕ) {e : ℕ} (v : ℕ) {r : TypeRead} (h : p ≡ placeOf (upper (nameIn s c e)) propertyNames) (a : StatedAt p s e r) where
+  pub put-typed : (t : ℕ) → r ≡ Typed t → Put d f at o (valuesXml (readOr [] (readValues (componentName k) (propertyName p) (typeAt t) (rest 0 s v)))) →
+      Put d f at o (statedXml k s c e v)
+  unfolding readOr
+  put-typed t z w =
+      let b : StatedAt p s e (Typed t) = rw z at a in
+      rw (b .is (upper (nameIn s c e)) h, ← (values-named (componentName k) (upper (nameIn s c e)) p (typeAt t) (rest 0 s v) h)) w
+
+  pub put-untyped : r ≡ NoType → Put d f at o (valuesXml (readOr [] (readValues (componentName k) (propertyName p) (typeAt 10) (rest 0 s v)))) →
+      Put d f at o (statedXml k s c e v)
+  unfolding readOr
+  put-untyped z w =
+      let b : StatedAt p s e NoType = rw z at a in
+      rw (b .is (upper (nameIn s c e)) h, ← (values-named (componentName k) (upper (nameIn s c e)) p TEXT (rest 0 s v) h)) w
