@@ -4,26 +4,26 @@
 --     Ongoing            the invariant of the pass: at the place `at`, with d open elements, the verdict v is that on the rest
 --     start-turn .. fault-stop    a turn for each kind of token, and its ends
 --     formed-start, formed-empty, formed-fault    from the root's tag
-use mathlib.Core.Path.{_≡_, refl, sym, ap, _∙_}
-use mathlib.Core.Bool.{Bool, true, false, not}
+use mathlib.Core.Path.{_≡_, refl, ap, _∙_}
+use mathlib.Core.Bool.{Bool, true, false}
 use mathlib.Core.List.{List, [], _∷_}
-use Prim.Native.Nat.{ℕ, zero, suc, _+_, _-_, _≤_, _<_}
+use Prim.Native.Nat.{ℕ, _+_, _-_, _≤_, _<_}
 use native.Mathlib.Omega.{arith}
-use lib.Dec.{eqb, ltb}
+use lib.Dec.{ltb}
 use lib.ListN.{length, getD, set, take, length-set}
 use borrow.Author.Tests.{eq-eqb, ne-eqb, ltb-true, ltb-false}
 use Rattle.octets.specs.Pick.{pick, _and_}
 use Rattle.octets.specs.Class.{isSpace}
-use Rattle.octets.specs.Words.{same, isEmpty, same-self}
+use Rattle.octets.specs.Words.{same, same-self}
 use Rattle.model.specs.Refusal.{XML, Verdict, fine, refuse}
 use Rattle.source.specs.Source.{rest}
 use Rattle.xml.specs.Prolog.{prolog}
-use Rattle.xml.specs.Marks.{Mark, opens, closes, char, refers, fault, documentMarks}
+use Rattle.xml.specs.Marks.{documentMarks}
 use Rattle.xml.specs.WellFormed.{hasRoom, closesTop, move, followed, check, xmlVerdict}
 use Rattle.xml.specs.NodesAt.{marksAt, mark-none}
-use Rattle.tokens.specs.TokenAt.{Reads, tokenIn, nameIn, token-there, token-inside}
+use Rattle.tokens.specs.TokenAt.{Reads, tokenIn, nameIn, token-inside}
 use Rattle.tokens.specs.MarksAt.{a-token, marks-start, marks-empty, marks-end, marks-char, marks-reference, marks-fault, RootAt, root-start, root-empty, root-fault, root-none, root-place}
-use Rattle.tokens.specs.Open.{opened, opened-length, opened-push, opened-pop, opened-none, opened-empty, roomAt, room-is, room-low}
+use Rattle.tokens.specs.Open.{opened, opened-push, opened-pop, opened-none, opened-empty, roomAt, room-is, room-low}
 use Rattle.tokens.specs.declared.Xml.{Xml}
 use Rattle.tokens.specs.declared.Xml.the-variants.{Fine, Refused}
 use Rattle.tokens.specs.declared.TokenAt.{TokenAt}

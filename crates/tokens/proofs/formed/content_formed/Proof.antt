@@ -1,14 +1,14 @@
--- `tokens::content_formed` meets its contract. Assumes nothing.
+-- `tokens::formed::content_formed` meets its contract.
+use mathlib.Core.Path.{refl, sym, _∙_}
+use Prim.Native.Nat.{_-_}
+use native.Mathlib.Omega.{arith}
+use lib.ListN.{length}
+use borrow.Author.Needs.{needs}
 use Rattle.tokens.specs.declared.TokenKind.the-variants.{Start, Empty, End, Char, Reference as Refer}
 use Rattle.tokens.specs.Formed.{verdictAt, Ongoing, ongoing-start, start-turn, start-stop, empty-turn, empty-stop, end-none, end-turn, end-stop, char-turn, space-turn, char-stop, reference-turn, reference-stop, fault-stop, over-fine, over-open}
 use Rattle.tokens.specs.Open.{room-low}
 use Rattle.tokens.specs.MarksAt.{a-token}
 use Rattle.tokens.specs.TokenAt.{token-less, token-named}
-use lib.ListN.{length}
-use native.Mathlib.Omega.{arith}
-use Prim.Native.Nat.{_-_}
-use mathlib.Core.Path.{_≡_, refl, sym, _∙_}
-use borrow.Author.Needs.{needs}
 use Rattle.tokens.proofs.formed.content_formed.Statement.{statement}
 use Rattle.tokens.proofs.formed.content_formed.Tie as tie
 

@@ -1,4 +1,4 @@
--- `tokens::has_room` meets its contract. Assumes nothing.
+-- `tokens::formed::has_room` meets its contract.
 use Rattle.octets.specs.Pick.{branching}
 use Rattle.tokens.proofs.formed.has_room.Statement.{statement}
 use Rattle.tokens.proofs.formed.has_room.Tie as tie

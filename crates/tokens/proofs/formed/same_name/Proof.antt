@@ -1,10 +1,9 @@
--- `tokens::same_name` meets its contract. Assumes nothing.
-use lib.Seq.{length-take-le}
-use Rattle.source.specs.Facts.{rest-part}
+-- `tokens::formed::same_name` meets its contract.
 use native.Mathlib.Omega.{arith}
-use lib.Seq.{take-all}
 use denote.Ref.{now}
+use lib.Seq.{length-take-le, take-all}
 use borrow.Author.Needs.{needs}
+use Rattle.source.specs.Facts.{rest-part}
 use Rattle.tokens.proofs.formed.same_name.Statement.{statement}
 use Rattle.tokens.proofs.formed.same_name.Tie as tie
 

@@ -1,11 +1,11 @@
--- `tokens::well_formed` meets its contract. Assumes nothing.
+-- `tokens::formed::well_formed` meets its contract.
+use mathlib.Core.Path.{refl}
+use native.Mathlib.Omega.{arith}
+use borrow.Author.Needs.{needs}
 use Rattle.tokens.specs.declared.TokenKind.the-variants.{Start, Empty, End, Char, Reference as Refer}
 use Rattle.tokens.specs.Formed.{formed-start, formed-empty, formed-fault}
 use Rattle.tokens.specs.Open.{opened-one, opened-none}
 use Rattle.tokens.specs.MarksAt.{root-onward, root-other}
-use native.Mathlib.Omega.{arith}
-use mathlib.Core.Path.{_≡_, refl}
-use borrow.Author.Needs.{needs}
 use Rattle.tokens.proofs.formed.well_formed.Statement.{statement}
 use Rattle.tokens.proofs.formed.well_formed.Tie as tie
 
