@@ -12,7 +12,7 @@ use native.Mathlib.Omega.{arith}
 use lib.Dec.{ltb}
 use lib.ListN.{length, getD, drop}
 use borrow.Author.Tests.{ltb-true, ltb-false}
-use Rattle.octets.specs.Pick.{pick, pick-either}
+use Rattle.octets.specs.Pick.{pick-either}
 use Rattle.octets.specs.Scan.{drop-next}
 use Rattle.utf8.specs.Spell.{spell}
 use Rattle.xml.specs.Pieces.{from}

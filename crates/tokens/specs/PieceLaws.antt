@@ -5,7 +5,7 @@
 use mathlib.Core.Path.{_≡_, refl, sym, ap, _∙_}
 use mathlib.Core.Bool.{Bool, true, false}
 use mathlib.Core.List.{List, [], _∷_}
-use mathlib.Core.Option.{none, some}
+use mathlib.Core.Option.{some}
 use Prim.Native.Nat.{ℕ, zero, suc, _+_, _-_, max, _≤_, _<_}
 use native.Mathlib.Omega.{arith}
 use lib.Dec.{eqb, ltb}
@@ -14,16 +14,16 @@ use lib.Seq.{take-nil}
 use borrow.Author.Needs.{needs}
 use borrow.Author.Tests.{eq-eqb, ne-eqb, lt-ltb, ltb-true, ltb-false}
 use Rattle.octets.specs.Pick.{pick, _and_, _or_, flag-yes, flag-no}
-use Rattle.octets.specs.Scan.{spanLen, spanEnd, drop-next}
+use Rattle.octets.specs.Scan.{spanLen, drop-next}
 use Rattle.octets.specs.Class.{isAlpha, isNameChar, isSpace, lower, lowerByte}
 use Rattle.octets.specs.Words.{same, starts, same-true}
-use Rattle.octets.specs.Runs.{runOf, afterRun}
+use Rattle.octets.specs.Runs.{afterRun}
 use Rattle.octets.specs.Reading.{none-some}
 use Rattle.source.specs.Source.{rest}
 use Rattle.names.specs.Runs.{RunEnds}
 use Rattle.xml.specs.Starting.{starts-inside}
-use Rattle.xml.specs.Pieces.{from, first, exactly, inAnyCase, S, S?, Name, nameOf}
-use Rattle.tokens.specs.Ends.{Ends, ends-stuck, ends-found, ends-missing}
+use Rattle.xml.specs.Pieces.{from, first, exactly, inAnyCase, S, S?, Name}
+use Rattle.tokens.specs.Ends.{Ends, ends-found, ends-missing}
 
 pub from-next : (s : List ℕ) (i : ℕ) → i < length s → from i s ≡ getD s i 0 ∷ from (i + 1) s
 unfolding from

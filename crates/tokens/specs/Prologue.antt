@@ -1,17 +1,16 @@
 -- The prolog at the front of the input.
 --     eq-is, declaration-is    Eq and XMLDecl, as their parts one after another
 --     prolog-found, prolog-none    the prolog, from where it ends
-use mathlib.Core.Path.{_≡_, refl, sym, ap, _∙_}
+use mathlib.Core.Path.{_≡_, sym}
 use mathlib.Core.List.{List}
-use mathlib.Core.Option.{none, some}
-use Prim.Native.Nat.{ℕ, _+_, _-_, _≤_, _<_}
+use Prim.Native.Nat.{ℕ, _-_, _≤_, _<_}
 use native.Mathlib.Omega.{arith}
 use lib.ListN.{length}
 use Rattle.octets.specs.Ascii.{ascii}
 use Rattle.octets.specs.Reading.{readOr}
 use Rattle.xml.specs.Pieces.{from, Piece, exactly, inAnyCase, S, S?, _then_, Eq, quoted}
 use Rattle.xml.specs.Prolog.{VersionInfo, EncodingDecl, XMLDecl, prolog}
-use Rattle.tokens.specs.Ends.{Ends, ends-then, ends-as}
+use Rattle.tokens.specs.Ends.{Ends, ends-then}
 
 -- an attribute with a given name, and the piece v as its value, between quotes
 abbrev pub attribute : List ℕ → Piece → Piece

@@ -4,7 +4,7 @@
 --     tokenIn, rootIn    the token at the front of bytes, in the content or where the root's tag has to stand; none at their end
 --     Reads f s at i t   t is what f finds at the place i, for a token that begins at `at`;  the contract of token_at is  Reads tokenIn s at at t
 --     token-is           the same as an equation of `token`
---     token-there, token-inside, token-onward    where a token stands, and where it ends;   token-byte, token-small: how large its unit is
+--     token-there, token-inside, token-named, token-onward, token-less    where a token stands, and where it ends;   token-byte, token-small: how large its unit is
 use mathlib.Core.Path.{_≡_, refl, sym, ap, subst, _∙_}
 use mathlib.Core.Bool.{Bool, true, false}
 use mathlib.Core.List.{List, [], _∷_}
@@ -120,6 +120,13 @@ module _ {s : List ℕ} {at : ℕ} {t : TokenAt} (x : Reads tokenIn s at at t) w
 
   pub token-inside : (t .kind ≡ None → ⊥) → t .next ≤ length s
   token-inside h = omega (arith, token-there h, x .inside)
+
+  pub token-named : (t .kind ≡ None → ⊥) → t .«name_end» ≤ length s
+  token-named h = omega (arith, token-inside h, x .ended)
+
+  -- what is left falls
+  pub token-less : (t .kind ≡ None → ⊥) → length s - t .next < length s - at
+  token-less h = omega (arith, token-there h, token-onward h)
 
   pub token-byte : t .kind ≡ Char → t .unit < 256
   token-byte e = subst (λ (k : TokenKind). UnitOf k at (t .unit)) e (x .united)

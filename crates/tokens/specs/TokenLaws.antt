@@ -3,17 +3,16 @@
 --     byte-read, reference-read, char-fault    a character
 --     tag-read, past-read    a tag; the end of the input
 use mathlib.Core.Path.{_≡_, refl, sym, ap, _∙_}
-use mathlib.Core.List.{List, [], _∷_}
-use Prim.Native.Nat.{ℕ, _+_, _-_, min, max, _≤_, _<_}
+use mathlib.Core.List.{List}
+use Prim.Native.Nat.{ℕ, _+_, _-_, _≤_, _<_}
 use native.Mathlib.Omega.{arith}
 use lib.ListN.{length, getD, take, drop}
 use Rattle.octets.specs.Ascii.{ascii}
-use Rattle.octets.specs.Pick.{pick}
 use Rattle.octets.specs.Scan.{drop-next}
 use Rattle.source.specs.Source.{rest}
 use Rattle.xml.specs.Pieces.{from, Piece, exactly, S?, Name}
-use Rattle.xml.specs.Token.{Token, STag, EmptyElemTag, ETag, CharByte, Reference, Fault, token, tag}
-use Rattle.xml.specs.CharAt.{charIn, charToken, Character, read-none, read-byte, read-reference, token-char, token-tag}
+use Rattle.xml.specs.Token.{STag, EmptyElemTag, ETag, tag}
+use Rattle.xml.specs.CharAt.{charIn, Character, read-none, read-byte, read-reference, token-char, token-tag}
 use Rattle.xml.specs.declared.CharRead.{CharRead}
 use Rattle.tokens.specs.Ends.{Ends}
 use Rattle.tokens.specs.PieceLaws.{from-next, from-past}

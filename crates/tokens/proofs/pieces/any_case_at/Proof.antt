@@ -1,10 +1,10 @@
--- `tokens::any_case_at` meets its contract. Assumes nothing.
-use denote.Ref.{now}
+-- `tokens::pieces::any_case_at` meets its contract.
+use mathlib.Core.Path.{sym, _∙_}
 use native.Mathlib.Omega.{arith}
-use mathlib.Core.Path.{_≡_, sym, _∙_}
+use denote.Ref.{now}
+use borrow.Author.Needs.{needs}
 use Rattle.tokens.specs.PieceLaws.{any-case-room, any-case-yes, any-case-no}
 use Rattle.tokens.specs.Ends.{ends-stuck}
-use borrow.Author.Needs.{needs}
 use Rattle.tokens.proofs.pieces.any_case_at.Statement.{statement}
 use Rattle.tokens.proofs.pieces.any_case_at.Tie as tie
 

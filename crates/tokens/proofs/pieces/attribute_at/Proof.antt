@@ -1,6 +1,6 @@
--- `tokens::attribute_at` meets its contract. Assumes nothing.
-use Rattle.tokens.specs.Ends.{ends-then}
+-- `tokens::pieces::attribute_at` meets its contract.
 use borrow.Author.Needs.{needs}
+use Rattle.tokens.specs.Ends.{ends-then}
 use Rattle.tokens.proofs.pieces.attribute_at.Statement.{statement}
 use Rattle.tokens.proofs.pieces.attribute_at.Tie as tie
 

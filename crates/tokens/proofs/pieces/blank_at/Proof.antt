@@ -1,9 +1,8 @@
--- `tokens::blank_at` meets its contract. Assumes nothing.
-use mathlib.Core.Path.{_≡_, sym, _∙_}
-use Rattle.tokens.specs.PieceLaws.{blank-more, blank-stop}
-use Rattle.tokens.specs.PieceLaws.{Blank, passing}
-use lib.ListN.{length}
+-- `tokens::pieces::blank_at` meets its contract.
+use mathlib.Core.Path.{sym, _∙_}
 use Prim.Native.Nat.{_-_}
+use lib.ListN.{length}
+use Rattle.tokens.specs.PieceLaws.{blank-more, blank-stop, Blank, passing}
 use Rattle.tokens.proofs.pieces.blank_at.Statement.{statement}
 use Rattle.tokens.proofs.pieces.blank_at.Tie as tie
 

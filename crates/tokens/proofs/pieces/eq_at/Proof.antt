@@ -1,6 +1,6 @@
--- `tokens::eq_at` meets its contract. Assumes nothing.
-use Rattle.tokens.specs.Prologue.{ends-eq}
+-- `tokens::pieces::eq_at` meets its contract.
 use borrow.Author.Needs.{needs}
+use Rattle.tokens.specs.Prologue.{ends-eq}
 use Rattle.tokens.proofs.pieces.eq_at.Statement.{statement}
 use Rattle.tokens.proofs.pieces.eq_at.Tie as tie
 

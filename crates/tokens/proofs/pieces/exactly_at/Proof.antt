@@ -1,11 +1,11 @@
--- `tokens::exactly_at` meets its contract. Assumes nothing.
-use denote.Ref.{now}
+-- `tokens::pieces::exactly_at` meets its contract.
+use mathlib.Core.Path.{sym, _∙_}
 use native.Mathlib.Omega.{arith}
-use mathlib.Core.Path.{_≡_, sym, _∙_}
-use Rattle.tokens.specs.PieceLaws.{exact-yes, exact-no}
-use Rattle.xml.specs.Starting.{starts-inside}
-use Rattle.tokens.specs.Ends.{ends-stuck}
+use denote.Ref.{now}
 use borrow.Author.Needs.{needs}
+use Rattle.xml.specs.Starting.{starts-inside}
+use Rattle.tokens.specs.PieceLaws.{exact-yes, exact-no}
+use Rattle.tokens.specs.Ends.{ends-stuck}
 use Rattle.tokens.proofs.pieces.exactly_at.Statement.{statement}
 use Rattle.tokens.proofs.pieces.exactly_at.Tie as tie
 

@@ -1,8 +1,7 @@
--- `tokens::lowered_at` meets its contract. Assumes nothing.
-use Rattle.tokens.specs.PieceLaws.{lowering-stop}
-use Rattle.tokens.specs.PieceLaws.{Lowering, lowering}
-use lib.ListN.{length}
+-- `tokens::pieces::lowered_at` meets its contract.
 use Prim.Native.Nat.{_-_}
+use lib.ListN.{length}
+use Rattle.tokens.specs.PieceLaws.{lowering-stop, Lowering, lowering}
 use Rattle.tokens.proofs.pieces.lowered_at.Statement.{statement}
 use Rattle.tokens.proofs.pieces.lowered_at.Tie as tie
 

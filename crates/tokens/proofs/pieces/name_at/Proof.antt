@@ -1,9 +1,8 @@
--- `tokens::name_at` meets its contract. Assumes nothing.
+-- `tokens::pieces::name_at` meets its contract.
 use native.Mathlib.Omega.{arith}
-use mathlib.Core.Path.{_≡_, sym, _∙_}
+use borrow.Author.Needs.{needs}
 use Rattle.tokens.specs.PieceLaws.{name-some, name-none, name-over}
 use Rattle.tokens.specs.Ends.{ends-stuck}
-use borrow.Author.Needs.{needs}
 use Rattle.tokens.proofs.pieces.name_at.Statement.{statement}
 use Rattle.tokens.proofs.pieces.name_at.Tie as tie
 

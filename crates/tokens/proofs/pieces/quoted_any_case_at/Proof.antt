@@ -1,6 +1,6 @@
--- `tokens::quoted_any_case_at` meets its contract. Assumes nothing.
-use Rattle.tokens.specs.Ends.{ends-quoted, ends-apostrophe}
+-- `tokens::pieces::quoted_any_case_at` meets its contract.
 use borrow.Author.Needs.{needs}
+use Rattle.tokens.specs.Ends.{ends-quoted, ends-apostrophe}
 use Rattle.tokens.proofs.pieces.quoted_any_case_at.Statement.{statement}
 use Rattle.tokens.proofs.pieces.quoted_any_case_at.Tie as tie
 

@@ -1,8 +1,7 @@
--- `tokens::space_at` meets its contract. Assumes nothing.
-use native.Mathlib.Omega.{arith}
+-- `tokens::pieces::space_at` meets its contract.
+use borrow.Author.Needs.{needs}
 use Rattle.tokens.specs.PieceLaws.{space-none, space-some}
 use Rattle.tokens.specs.Ends.{ends-stuck}
-use borrow.Author.Needs.{needs}
 use Rattle.tokens.proofs.pieces.space_at.Statement.{statement}
 use Rattle.tokens.proofs.pieces.space_at.Tie as tie
 

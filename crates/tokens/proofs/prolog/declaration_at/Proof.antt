@@ -1,6 +1,6 @@
--- `tokens::declaration_at` meets its contract. Assumes nothing.
-use Rattle.tokens.specs.Prologue.{ends-declaration}
+-- `tokens::prolog::declaration_at` meets its contract.
 use borrow.Author.Needs.{needs}
+use Rattle.tokens.specs.Prologue.{ends-declaration}
 use Rattle.tokens.proofs.prolog.declaration_at.Statement.{statement}
 use Rattle.tokens.proofs.prolog.declaration_at.Tie as tie
 

@@ -1,7 +1,7 @@
--- `tokens::prolog_end` meets its contract. Assumes nothing.
+-- `tokens::prolog::prolog_end` meets its contract.
 use native.Mathlib.Omega.{arith}
-use Rattle.tokens.specs.Prologue.{prolog-found, prolog-none}
 use borrow.Author.Needs.{needs}
+use Rattle.tokens.specs.Prologue.{prolog-found, prolog-none}
 use Rattle.tokens.proofs.prolog.prolog_end.Statement.{statement}
 use Rattle.tokens.proofs.prolog.prolog_end.Tie as tie
 

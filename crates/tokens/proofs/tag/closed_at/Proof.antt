@@ -1,6 +1,6 @@
--- `tokens::closed_at` meets its contract. Assumes nothing.
-use Rattle.tokens.specs.TokenLaws.{end-read, end-fault}
+-- `tokens::tag::closed_at` meets its contract.
 use borrow.Author.Needs.{needs}
+use Rattle.tokens.specs.TokenLaws.{end-read, end-fault}
 use Rattle.tokens.proofs.tag.closed_at.Statement.{statement}
 use Rattle.tokens.proofs.tag.closed_at.Tie as tie
 

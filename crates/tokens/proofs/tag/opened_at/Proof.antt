@@ -1,6 +1,6 @@
--- `tokens::opened_at` meets its contract. Assumes nothing.
-use Rattle.tokens.specs.TokenLaws.{start-read, empty-read, start-fault}
+-- `tokens::tag::opened_at` meets its contract.
 use borrow.Author.Needs.{needs}
+use Rattle.tokens.specs.TokenLaws.{start-read, empty-read, start-fault}
 use Rattle.tokens.proofs.tag.opened_at.Statement.{statement}
 use Rattle.tokens.proofs.tag.opened_at.Tie as tie
 

@@ -1,8 +1,8 @@
--- `tokens::root_at` meets its contract. Assumes nothing.
+-- `tokens::tag::root_at` meets its contract.
+use borrow.Author.Needs.{needs}
 use Rattle.octets.specs.Ascii.{ascii}
 use Rattle.tokens.specs.Tags.{root-tagged, rootPiece, root-there, root-missing}
 use Rattle.tokens.specs.Ends.{exact-stands}
-use borrow.Author.Needs.{needs}
 use Rattle.tokens.proofs.tag.root_at.Statement.{statement}
 use Rattle.tokens.proofs.tag.root_at.Tie as tie
 

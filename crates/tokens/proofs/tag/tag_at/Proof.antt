@@ -1,10 +1,10 @@
--- `tokens::tag_at` meets its contract. Assumes nothing.
+-- `tokens::tag::tag_at` meets its contract.
+use mathlib.Core.Path.{refl}
 use native.Mathlib.Omega.{arith}
-use mathlib.Core.Path.{_≡_, refl}
+use borrow.Author.Needs.{needs}
 use Rattle.octets.specs.Ascii.{ascii}
 use Rattle.tokens.specs.Tags.{tagged, plainTag, tag-closed, tag-opened}
 use Rattle.tokens.specs.Ends.{exact-stands}
-use borrow.Author.Needs.{needs}
 use Rattle.tokens.proofs.tag.tag_at.Statement.{statement}
 use Rattle.tokens.proofs.tag.tag_at.Tie as tie
 

@@ -1,7 +1,7 @@
--- `tokens::char_token_at` meets its contract. Assumes nothing.
+-- `tokens::token::char_token_at` meets its contract.
 use native.Mathlib.Omega.{arith}
-use Rattle.tokens.specs.TokenLaws.{char-fault, byte-read, reference-read}
 use borrow.Author.Needs.{needs}
+use Rattle.tokens.specs.TokenLaws.{char-fault, byte-read, reference-read}
 use Rattle.tokens.proofs.token.char_token_at.Statement.{statement}
 use Rattle.tokens.proofs.token.char_token_at.Tie as tie
 

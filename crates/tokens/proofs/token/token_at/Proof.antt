@@ -1,6 +1,6 @@
--- `tokens::token_at` meets its contract. Assumes nothing.
-use Rattle.tokens.specs.TokenLaws.{tag-read, past-read}
+-- `tokens::token::token_at` meets its contract.
 use borrow.Author.Needs.{needs}
+use Rattle.tokens.specs.TokenLaws.{tag-read, past-read}
 use Rattle.tokens.proofs.token.token_at.Statement.{statement}
 use Rattle.tokens.proofs.token.token_at.Tie as tie
 

@@ -1,0 +1,165 @@
+-- Whether a document is within the XML profile, found by code in one pass.
+--     verdictOf          what the code's answer says
+--     Formed v l r       r is the verdict v, its place not behind the end of an input of l bytes
+--     Ongoing            the invariant of the pass: at the place `at`, with d open elements, the verdict v is that on the rest
+--     start-turn .. fault-stop    a turn for each kind of token, and its ends
+--     formed-start, formed-empty, formed-fault    from the root's tag
+use mathlib.Core.Path.{_≡_, refl, ap, _∙_}
+use mathlib.Core.Bool.{Bool, true, false}
+use mathlib.Core.List.{List, [], _∷_}
+use Prim.Native.Nat.{ℕ, _+_, _-_, _≤_, _<_}
+use native.Mathlib.Omega.{arith}
+use lib.Dec.{ltb}
+use lib.ListN.{length, getD, set, take, length-set}
+use borrow.Author.Tests.{eq-eqb, ne-eqb, ltb-true, ltb-false}
+use Rattle.octets.specs.Pick.{pick, _and_}
+use Rattle.octets.specs.Class.{isSpace}
+use Rattle.octets.specs.Words.{same, same-self}
+use Rattle.model.specs.Refusal.{XML, Verdict, fine, refuse}
+use Rattle.source.specs.Source.{rest}
+use Rattle.xml.specs.Prolog.{prolog}
+use Rattle.xml.specs.Marks.{documentMarks}
+use Rattle.xml.specs.WellFormed.{hasRoom, closesTop, move, followed, check, xmlVerdict}
+use Rattle.xml.specs.NodesAt.{marksAt, mark-none}
+use Rattle.tokens.specs.TokenAt.{Reads, tokenIn, nameIn, token-inside}
+use Rattle.tokens.specs.MarksAt.{a-token, marks-start, marks-empty, marks-end, marks-char, marks-reference, marks-fault, RootAt, root-start, root-empty, root-fault, root-none, root-place}
+use Rattle.tokens.specs.Open.{opened, opened-push, opened-pop, opened-none, opened-empty, roomAt, room-is, room-low}
+use Rattle.tokens.specs.declared.Xml.{Xml}
+use Rattle.tokens.specs.declared.Xml.the-variants.{Fine, Refused}
+use Rattle.tokens.specs.declared.TokenAt.{TokenAt}
+use Rattle.tokens.specs.declared.TokenKind.the-variants.{Start, Empty, End, Char, Reference as Refer, Fault as None}
+
+abbrev pub verdictOf : Xml → Verdict
+verdictOf Fine = fine
+verdictOf (Refused p) = refuse XML p
+
+abbrev pub PlaceIn : ℕ → Xml → Type 0
+PlaceIn l Fine = Unit {0}
+PlaceIn l (Refused p) = p ≤ l
+
+pub record Formed (v : Verdict) (l : ℕ) (r : Xml) : Type 0 where
+  pub is : v ≡ verdictOf r
+  pub inside : PlaceIn l r
+
+-- the verdict on what stands from a place on, inside the elements that are open there
+abbrev pub verdictAt : List ℕ → List ℕ → List ℕ → ℕ → ℕ → Verdict
+verdictAt s a e d at = check (marksAt s at) (length s) true (opened s a e d)
+
+pub record Ongoing (v : Verdict) (s a e : List ℕ) (d at : ℕ) : Type 0 where
+  pub deep : d ≤ 16
+  pub begun : length a ≡ 16
+  pub ended : length e ≡ 16
+  pub inside : at ≤ length s
+  pub left : v ≡ verdictAt s a e d at
+
+pub ongoing-start : (s a e : List ℕ) (d at : ℕ) → d ≤ 16 → length a ≡ 16 → length e ≡ 16 → at ≤ length s → Ongoing (verdictAt s a e d at) s a e d at
+ongoing-start s a e d at h i j k = record { deep = h; begun = i; ended = j; inside = k; left = refl }
+
+module _ {v : Verdict} {s a e : List ℕ} {d at : ℕ} {t : TokenAt} (o : Ongoing v s a e d at) (x : Reads tokenIn s at at t) where
+  -- the elements that are open stay so
+  stay : (t .kind ≡ None → ⊥) → verdictAt s a e d at ≡ verdictAt s a e d (t .next) → Ongoing v s a e d (t .next)
+  stay n q = record { deep = o .deep; begun = o .begun; ended = o .ended; inside = token-inside x n; left = o .left ∙ q }
+
+  stopped : verdictAt s a e d at ≡ refuse XML at → Formed v (length s) (Refused at)
+  stopped q = record { is = o .left ∙ q; inside = o .inside }
+
+  pub start-turn : t .kind ≡ Start → roomAt d ≡ true → Ongoing v s (set a d (t .name)) (set e d (t .«name_end»)) (d + 1) (t .next)
+  unfolding check move followed pick
+  start-turn k h =
+      let l = room-low d h in record {
+        deep = omega arith;
+        begun = length-set a d (t .name) ∙ o .begun;
+        ended = length-set e d (t .«name_end») ∙ o .ended;
+        inside = token-inside x (a-token Start refl k);
+        left = o .left ∙ rw (marks-start x k, room-is s a e d, h, opened-push s a e d (t .name) (t .«name_end») (omega (arith, o .begun)) (omega (arith, o .ended)));
+      }
+
+  pub start-stop : t .kind ≡ Start → roomAt d ≡ false → Formed v (length s) (Refused at)
+  unfolding check move followed pick
+  start-stop k h = stopped (rw (marks-start x k, room-is s a e d, h))
+
+  pub empty-turn : t .kind ≡ Empty → roomAt d ≡ true → Ongoing v s a e d (t .next)
+  unfolding check move followed pick closesTop
+  empty-turn k h = stay (a-token Empty refl k) (rw (marks-empty x k, room-is s a e d, h, same-self (nameIn s t)))
+
+  pub empty-stop : t .kind ≡ Empty → roomAt d ≡ false → Formed v (length s) (Refused at)
+  unfolding check move followed pick
+  empty-stop k h = stopped (rw (marks-empty x k, room-is s a e d, h))
+
+  pub end-none : t .kind ≡ End → d ≡ 0 → Formed v (length s) (Refused at)
+  unfolding check move followed closesTop
+  end-none k h = stopped (rw (marks-end x k, opened-none s a e d h))
+
+  module _ (k : t .kind ≡ End) (h : d ≡ 0 → ⊥) where
+    pub end-turn : same (rest 0 (take (getD e (d - 1) 0) s) (getD a (d - 1) 0)) (nameIn s t) ≡ true → Ongoing v s a e (d - 1) (t .next)
+    unfolding check move followed closesTop pick
+    end-turn q = record {
+      deep = omega (arith, o .deep);
+      begun = o .begun;
+      ended = o .ended;
+      inside = token-inside x (a-token End refl k);
+      left = o .left ∙ rw (marks-end x k, opened-pop s a e d h, q);
+    }
+
+    pub end-stop : same (rest 0 (take (getD e (d - 1) 0) s) (getD a (d - 1) 0)) (nameIn s t) ≡ false → Formed v (length s) (Refused at)
+    unfolding check move followed closesTop pick
+    end-stop q = stopped (rw (marks-end x k, opened-pop s a e d h, q))
+
+  pub char-turn : t .kind ≡ Char → (d ≡ 0 → ⊥) → Ongoing v s a e d (t .next)
+  unfolding check move followed pick
+  char-turn k h = stay (a-token Char refl k) (rw (marks-char x k, opened-empty s a e d, ne-eqb d 0 h))
+
+  pub space-turn : t .kind ≡ Char → d ≡ 0 → isSpace (t .unit) ≡ true → Ongoing v s a e d (t .next)
+  unfolding check move followed pick
+  space-turn k h q = stay (a-token Char refl k) (rw (marks-char x k, opened-empty s a e d, eq-eqb d 0 h, q))
+
+  pub char-stop : t .kind ≡ Char → d ≡ 0 → isSpace (t .unit) ≡ false → Formed v (length s) (Refused at)
+  unfolding check move followed pick
+  char-stop k h q = stopped (rw (marks-char x k, opened-empty s a e d, eq-eqb d 0 h, q))
+
+  pub reference-turn : t .kind ≡ Refer → (d ≡ 0 → ⊥) → Ongoing v s a e d (t .next)
+  unfolding check move followed pick
+  reference-turn k h = stay (a-token Refer refl k) (rw (marks-reference x k, opened-empty s a e d, ne-eqb d 0 h))
+
+  pub reference-stop : t .kind ≡ Refer → d ≡ 0 → Formed v (length s) (Refused at)
+  unfolding check move followed pick
+  reference-stop k h = stopped (rw (marks-reference x k, opened-empty s a e d, eq-eqb d 0 h))
+
+  pub fault-stop : t .kind ≡ None → at < length s → Formed v (length s) (Refused at)
+  unfolding check move followed
+  fault-stop k h = stopped (rw (marks-fault x k h))
+
+-- the end of the input
+module _ {v : Verdict} {s a e : List ℕ} {d at : ℕ} (o : Ongoing v s a e d at) (h : length s ≤ at) where
+  pub over-fine : d ≡ 0 → Formed v (length s) Fine
+  unfolding check pick _and_
+  over-fine k = record { is = o .left ∙ rw (mark-none s at h, opened-empty s a e d, eq-eqb d 0 k); inside = tt }
+
+  pub over-open : (d ≡ 0 → ⊥) → Formed v (length s) (Refused at)
+  unfolding check pick _and_
+  over-open k =
+      let q : at ≡ length s = omega (arith, o .inside) in
+      record { is = o .left ∙ rw (mark-none s at h, opened-empty s a e d, ne-eqb d 0 k, q); inside = o .inside }
+
+-- ---- from the root's tag
+
+module _ {s : List ℕ} {t : TokenAt} (x : RootAt s t) where
+  module _ (a e : List ℕ) (d : ℕ) {r : Xml} (y : Formed (verdictAt s a e d (t .next)) (length s) r) where
+    pub formed-start : t .kind ≡ Start → opened s a e d ≡ nameIn s t ∷ [] → Formed (xmlVerdict s) (length s) r
+    unfolding xmlVerdict check move hasRoom followed pick
+    formed-start k h = record { is = rw (root-start x k, ← h) (y .is); inside = y .inside }
+
+    pub formed-empty : t .kind ≡ Empty → opened s a e d ≡ [] → Formed (xmlVerdict s) (length s) r
+    unfolding xmlVerdict check move hasRoom followed closesTop pick
+    formed-empty k h = record { is = rw (root-empty x k, same-self (nameIn s t), ← h) (y .is); inside = y .inside }
+
+  pub formed-fault : t .kind ≡ None → Formed (xmlVerdict s) (length s) (Refused (t .unit))
+  unfolding xmlVerdict check move followed pick _and_
+  formed-fault k = record { is = rw (root-place x) (go (ltb (prolog s) (length s)) refl); inside = rw (root-place x) (x .inside) }
+    where
+      go : (b : Bool) → ltb (prolog s) (length s) ≡ b → check (documentMarks s) (length s) false [] ≡ refuse XML (prolog s)
+      go true q = rw (root-fault x k (ltb-true (prolog s) (length s) q))
+      go false q =
+          let h = ltb-false (prolog s) (length s) q in
+          let i : length s ≡ prolog s = omega (arith, x .inside) in
+          rw (root-none x h) (ap (refuse XML) i)
