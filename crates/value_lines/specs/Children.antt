@@ -1,7 +1,7 @@
 -- The first child of a name.
 --     ChildAt     the contract of `find_child`;   TextAt: that of `child_inside`
---     child-..    the ways of the walk;   `search children`
---     put-there   what is written of the characters of a child
+--     Naming      the walk to it;   child-..: its ways, `search children`
+--     put-chars, put-there   what is written of the characters of an element, of a child
 use mathlib.Core.Path.{_≡_, refl, sym, ap, subst, _∙_}
 use mathlib.Core.Bool.{Bool, true, false}
 use mathlib.Core.List.{List, []}
@@ -34,8 +34,8 @@ abbrev pub begin : Child → ℕ
 begin (Found i) = i
 begin Missing = 0
 
-pub record ChildAt (o : Option (List ℕ)) (s : List ℕ) (r : Child) : Type 0 where
-  pub is : o ≡ childOf s r
+pub record ChildAt (n s : List ℕ) (from : ℕ) (r : Child) : Type 0 where
+  pub is : childNamed n (nodesAt s from) ≡ childOf s r
   pub within : begin r ≤ length s
 
 pub record TextAt (n s : List ℕ) (from r : ℕ) : Type 0 where
@@ -51,41 +51,44 @@ same-flip a b = go (same b a) refl
     go true e = rw (same-true b a e) (same-self a)
     go false e = same-swap b a e
 
-pub child-skips : (n : List ℕ) → Skips (childNamed n)
+child-skips : (n : List ℕ) → Skips (childNamed n)
 unfolding childNamed
 child-skips n = record { over-literal = λ p b m. refl; over-referred = λ p bs m. refl }
 
-pub child-start : (n s : List ℕ) (from : ℕ) → Seeking (childNamed n) s from from
-child-start n s from = seek-start (childNamed n) s from
+pub record Naming (n s : List ℕ) (from at : ℕ) : Type 0 where
+  pub walk : Seeking (childNamed n) s from at
 
-module _ {n s : List ℕ} {from at : ℕ} {r : Node} (w : Seeking (childNamed n) s from at) (d : NodeAt s at r) where
-  pub child-none : r .kind ≡ None → ChildAt (childNamed n (nodesAt s from)) s Missing
+pub child-start : (n s : List ℕ) (from : ℕ) → Naming n s from from
+child-start n s from = record { walk = seek-start (childNamed n) s from }
+
+module _ {n s : List ℕ} {from at : ℕ} {r : Node} (w : Naming n s from at) (d : NodeAt s at r) where
+  pub child-none : r .kind ≡ None → ChildAt n s from Missing
   unfolding childNamed
-  child-none q = record { is = seek-none w d q; within = omega arith }
+  child-none q = record { is = seek-none (w .walk) d q; within = omega arith }
 
   module _ {b : Bool} (q : r .kind ≡ Element) (e : b ≡ same (rest 0 (take (r .«name_end») s) (r .name)) n) where
     named : same n (rest 0 (take (r .«name_end») s) (r .name)) ≡ b
     named = same-flip n _ ∙ sym e
 
-    pub child-here : b ≡ true → ChildAt (childNamed n (nodesAt s from)) s (Found (r .inside))
+    pub child-here : b ≡ true → ChildAt n s from (Found (r .inside))
     unfolding childNamed pick
-    child-here h = record { is = seek-element w d q ∙ rw (named, h); within = d .inside-within }
+    child-here h = record { is = seek-element (w .walk) d q ∙ rw (named, h); within = d .inside-within }
 
-    pub child-other : b ≡ false → Seeking (childNamed n) s from (r .next)
+    pub child-other : b ≡ false → Naming n s from (r .next)
     unfolding childNamed pick
-    child-other h = seek-past w d q (rw (named, h))
+    child-other h = record { walk = seek-past (w .walk) d q (rw (named, h)) }
 
-  pub child-literal : r .kind ≡ Literal → Seeking (childNamed n) s from (r .next)
-  child-literal q = seek-literal w d (child-skips n) q
+  pub child-literal : r .kind ≡ Literal → Naming n s from (r .next)
+  child-literal q = record { walk = seek-literal (w .walk) d (child-skips n) q }
 
-  pub child-referred : r .kind ≡ Referred → Seeking (childNamed n) s from (r .next)
-  child-referred q = seek-referred w d (child-skips n) q
+  pub child-referred : r .kind ≡ Referred → Naming n s from (r .next)
+  child-referred q = record { walk = seek-referred (w .walk) d (child-skips n) q }
 
 pub ruleset children = (child-start, child-none, child-here, child-other, child-literal, child-referred, node-less, needs)
 
 -- ---- its characters
 
-module _ {n s : List ℕ} {from : ℕ} {c : Child} (d : ChildAt (childNamed n (nodesAt s from)) s c) where
+module _ {n s : List ℕ} {from : ℕ} {c : Child} (d : ChildAt n s from c) where
   pub text-found : {i : ℕ} → c ≡ Found i → TextAt n s from i
   unfolding readOr
   text-found h = record { is = rw (d .is, h); within = rw h at (d .within) }

@@ -41,18 +41,18 @@ dataText (some s) = ascii ";" ⊕ writeText s
 
 -- ---- GEO
 
-module _ {d e : List ℕ} {o q : ℕ} {n s : List ℕ} {from i : ℕ} (t : TextAt n s from i) {r : FloatRead} (f : readFloat (rest 1 s (4 * i)) ≡ readAs 256 1 s r) where
-  -- the characters of the child are those that were read
-  same-chars : rest 1 s (4 * i) ≡ textOf n (nodesAt s from)
-  same-chars = chars-at s i ∙ sym (t .is)
+-- the characters of the child are those that were read
+same-chars : {n s : List ℕ} {from i : ℕ} → TextAt n s from i → rest 1 s (4 * i) ≡ textOf n (nodesAt s from)
+same-chars {n} {s} {from} {i} t = chars-at s i ∙ sym (t .is)
 
+module _ {d e : List ℕ} {o q : ℕ} {n s : List ℕ} {from i : ℕ} (t : TextAt n s from i) {r : FloatRead} (f : readFloat (rest 1 s (4 * i)) ≡ readAs 256 1 s r) where
   pub put-read : {m : Bool} {a b : ℕ} → r ≡ Good m a b → Put d e o q (orNothing writeFloat (readFloat (rest 1 s (4 * i)))) → Put d e o q (writeFloat (floatOf n (nodesAt s from)))
   unfolding readOr
-  put-read h p = rw (← same-chars, f, h) (rw (f, h) at p)
+  put-read h p = rw (← (same-chars t), f, h) (rw (f, h) at p)
 
   pub put-zero : r ≡ Bad → Put d e o q (ascii "0") → Put d e o q (writeFloat (floatOf n (nodesAt s from)))
   unfolding readOr orZero afterPoint pick _⊕_
-  put-zero h p = rw (← same-chars, f, h) p
+  put-zero h p = rw (← (same-chars t), f, h) p
 
 module _ {d e : List ℕ} {o r : ℕ} (kids : Nodes) where
   pub put-geo : Put d e o r (writeFloat (floatOf (ascii "latitude") kids) ⊕ ascii ";" ⊕ writeFloat (floatOf (ascii "longitude") kids)) → Put d e o r (writeValue (geoOf kids))
@@ -71,7 +71,7 @@ module _ {d e : List ℕ} {o r : ℕ} (kids : Nodes) where
       go none p = p
       go (some s) p = rw (append-none (writeText s)) p
 
-module _ {d e : List ℕ} {o r : ℕ} {n s : List ℕ} {from : ℕ} {c : Child} (a : ChildAt (childNamed n (nodesAt s from)) s c) where
+module _ {d e : List ℕ} {o r : ℕ} {n s : List ℕ} {from : ℕ} {c : Child} (a : ChildAt n s from c) where
   pub put-data : {i : ℕ} → c ≡ Found i → Put d e o r (ascii ";" ⊕ writeText (charactersOf (nodesAt s i))) → Put d e o r (dataText (childNamed n (nodesAt s from)))
   put-data h p = rw (a .is, h) p
 

@@ -40,7 +40,7 @@ module _ {d e : List ℕ} {o r : ℕ} where
   pub put-moment : {n s : List ℕ} {from i : ℕ} → TextAt n s from i → Put d e o r (orNothing (writeDateTime ical) (readDateTime xcal (rest 1 s (4 * i)))) → Put d e o r (momentOf n (nodesAt s from))
   put-moment {n} {s} {from} {i} t p = subst (Put d e o r) (moment-text (readDateTime xcal (textOf n (nodesAt s from)))) (put-there (λ l. orNothing (writeDateTime ical) (readDateTime xcal l)) t p)
 
-  module _ {s : List ℕ} {from : ℕ} {c : Child} (a : ChildAt (childNamed (ascii "duration") (nodesAt s from)) s c) where
+  module _ {s : List ℕ} {from : ℕ} {c : Child} (a : ChildAt (ascii "duration") s from c) where
     pub put-span : {i : ℕ} → c ≡ Found i → Put d e o r (orNothing (writeDuration ical) (readDuration xcal (rest 1 s (4 * i)))) →
         Put d e o r (endOf (childNamed (ascii "duration") (nodesAt s from)) (nodesAt s from))
     put-span {i} h p =

@@ -119,7 +119,9 @@ module _ {s : List ℕ} {at : ℕ} {d₀ : List ℕ} {o₀ : ℕ} {d : List ℕ}
         let v = subst (Within p s at) h (f .within) in
         let m : upper (rest 0 (take e s) n) ≡ partName p = part-capitals p (rest 0 (take e s) n) k (v .4) in
         let l : itemsOf (partName p) (nodesAt s at) ≡ itemAt p s i ∷ itemsOf (partName p) (nodesAt s x) = f .is ∙ ap (itemsFrom p s) h in
-        let u : Put d d′ o q (pick b (59 ∷ []) [] ⊕ writePart (record { part = partName p; items = itemAt p s i ∷ itemsOf (partName p) (nodesAt s x) })) = rw (← l, ← m) w in
+        let y : upper (rest 0 (take e s) n) ⊕ ascii "=" ⊕ joinedBy 44 (textsOf p s at) ≡ writePart (record { part = partName p; items = itemAt p s i ∷ itemsOf (partName p) (nodesAt s x) }) =
+        ap (λ (z : List ℕ). z ⊕ ascii "=" ⊕ joinedBy 44 (textsOf p s at)) m ∙ ap (λ (z : List RuleItem). partName p ⊕ ascii "=" ⊕ joinedBy 44 (map (writeItem ical) z)) l in
+        let u = subst (λ (z : List ℕ). Put d d′ o q (pick b (59 ∷ []) [] ⊕ z)) y w in
         record { todo = todo-step (t .todo) u (left (ap (itemsFrom p s) h) ∙ following-more b 59 _ _); kept = put-length w ∙ t .kept }
 
     pub parts-none : r ≡ Last → Parting s at d₀ o₀ d o b (p + 1)

@@ -1,7 +1,7 @@
 -- The items of a part of a RECUR from its elements.
 --     partWords      the names of the parts' elements;   words-are: as the table of the code
 --     part-named     an element is one of the part's, by its name's place;   part-capitals: the part's name from it
---     ItemAt         the contract of `find_item`;   `search items`
+--     ItemAt         the contract of `find_item`;   Listing: its walk, `search items`
 use Prim.{Unit, tt}
 use mathlib.Core.Path.{_≡_, refl, sym, ap, _∙_}
 use mathlib.Core.Bool.{true}
@@ -95,13 +95,16 @@ item-skips : (n : List ℕ) → Skips (itemsOf n)
 unfolding itemsOf
 item-skips n = record { over-literal = λ p b m. refl; over-referred = λ p bs m. refl }
 
-pub item-start : (p : ℕ) (s : List ℕ) (from : ℕ) → Seeking (itemsOf (partName p)) s from from
-item-start p s from = seek-start (itemsOf (partName p)) s from
+pub record Listing (p : ℕ) (s : List ℕ) (from at : ℕ) : Type 0 where
+  pub walk : Seeking (itemsOf (partName p)) s from at
 
-module _ (p : ℕ) {s : List ℕ} {from at : ℕ} {r : Node} (w : Seeking (itemsOf (partName p)) s from at) (d : NodeAt s at r) where
+pub item-start : (p : ℕ) (s : List ℕ) (from : ℕ) → Listing p s from from
+item-start p s from = record { walk = seek-start (itemsOf (partName p)) s from }
+
+module _ {p : ℕ} {s : List ℕ} {from at : ℕ} {r : Node} (w : Listing p s from at) (d : NodeAt s at r) where
   pub item-none : r .kind ≡ None → ItemAt p s from Last
   unfolding itemsOf
-  item-none q = record { is = seek-none w d q; within = tt }
+  item-none q = record { is = seek-none (w .walk) d q; within = tt }
 
   module _ {k : ℕ} (h : p < 14) (q : r .kind ≡ Element) (e : k ≡ placeOf (rest 0 (take (r .«name_end») s) (r .name)) partWords) where
     named : same (rest 0 (take (r .«name_end») s) (r .name)) (lower (partName p)) ≡ eqb k p
@@ -110,24 +113,24 @@ module _ (p : ℕ) {s : List ℕ} {from at : ℕ} {r : Node} (w : Seeking (items
     pub item-here : k ≡ p → ItemAt p s from (Item (r .inside) (r .next) (r .name) (r .«name_end»))
     unfolding itemsOf pick
     item-here z = record {
-      is = seek-element w d q ∙ rw (named, eq-eqb k p z);
+      is = seek-element (w .walk) d q ∙ rw (named, eq-eqb k p z);
       within = (
         d .inside-within,
         d .next-within,
-        omega (arith, w .onward, element-onward d q),
+        omega (arith, w .walk .onward, element-onward d q),
         d .name-within,
         same-true _ _ (named ∙ eq-eqb k p z),
       );
     }
 
-    pub item-other : (k ≡ p → ⊥) → Seeking (itemsOf (partName p)) s from (r .next)
+    pub item-other : (k ≡ p → ⊥) → Listing p s from (r .next)
     unfolding itemsOf pick
-    item-other z = seek-past w d q (rw (named, ne-eqb k p z))
+    item-other z = record { walk = seek-past (w .walk) d q (rw (named, ne-eqb k p z)) }
 
-  pub item-literal : r .kind ≡ Literal → Seeking (itemsOf (partName p)) s from (r .next)
-  item-literal q = seek-literal w d (item-skips (partName p)) q
+  pub item-literal : r .kind ≡ Literal → Listing p s from (r .next)
+  item-literal q = record { walk = seek-literal (w .walk) d (item-skips (partName p)) q }
 
-  pub item-referred : r .kind ≡ Referred → Seeking (itemsOf (partName p)) s from (r .next)
-  item-referred q = seek-referred w d (item-skips (partName p)) q
+  pub item-referred : r .kind ≡ Referred → Listing p s from (r .next)
+  item-referred q = record { walk = seek-referred (w .walk) d (item-skips (partName p)) q }
 
 pub ruleset items = (item-start, item-none, item-here, item-other, item-literal, item-referred, node-less, needs)

@@ -2,8 +2,6 @@
 use names::is_word;
 use nodes::NodeKind;
 use nodes::next_node;
-ghost use Rattle.xcal.specs.ValueNodes.{childNamed};
-ghost use Rattle.nodes.specs.NodesAt.{nodesAt};
 ghost use Rattle.value_lines.specs.Children.{ChildAt, TextAt};
 
 // Where the content of a child begins; or there is none.
@@ -14,7 +12,7 @@ pub enum Child {
 
 // The first child that has this name, in the content that begins at `inside`.
 pub fn find_child(s: &[u8], inside: usize, name: &[u8]) -> Child
-    ensures { λ r. ⌜ ChildAt (childNamed (now (name .entry)) (nodesAt (now (s .entry)) inside)) (now (s .entry)) r ⌝ }
+    ensures { λ r. ⌜ ChildAt (now (name .entry)) (now (s .entry)) inside r ⌝ }
 {
     let mut c = inside;
     loop {
