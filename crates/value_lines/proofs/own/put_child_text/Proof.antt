@@ -1,0 +1,13 @@
+-- `value_lines::put_child_text` meets its contract. Assumes nothing.
+use Rattle.sink.specs.Sink.{writing}
+use Rattle.value_lines.proofs.own.put_child_text.Statement.{statement}
+use Rattle.value_lines.proofs.own.put_child_text.Tie as tie
+
+pub put-child-text-spec : {M : Type 1} → statement M
+put-child-text-spec = tie.close (tie.spec
+    (λ c κs. search writing)  -- child-inside-requires
+    (λ c. search writing)  -- mul-put-text-escaped
+    (λ c κs. search writing)  -- put-text-escaped-requires
+    (λ c. search writing)  -- same-length
+    (λ c. search writing)  -- returns
+    )

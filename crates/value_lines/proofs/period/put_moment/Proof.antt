@@ -1,0 +1,13 @@
+-- `value_lines::put_moment` meets its contract. Assumes nothing.
+use Rattle.sink.specs.Sink.{writing}
+use Rattle.value_lines.proofs.period.put_moment.Statement.{statement}
+use Rattle.value_lines.proofs.period.put_moment.Tie as tie
+
+pub put-moment-spec : {M : Type 1} → statement M
+put-moment-spec = tie.close (tie.spec
+    (λ c κs. search writing)  -- child-inside-requires
+    (λ c. search writing)  -- mul-put-date-time
+    (λ c κs. search writing)  -- put-date-time-requires
+    (λ c. search writing)  -- same-length
+    (λ c. search writing)  -- returns
+    )

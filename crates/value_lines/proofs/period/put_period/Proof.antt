@@ -1,0 +1,15 @@
+-- `value_lines::put_period` meets its contract. Assumes nothing.
+use Rattle.sink.specs.Sink.{writing}
+use Rattle.value_lines.proofs.period.put_period.Statement.{statement}
+use Rattle.value_lines.proofs.period.put_period.Tie as tie
+
+pub put-period-spec : {M : Type 1} → statement M
+put-period-spec = tie.close (tie.spec
+    (λ c. search writing)  -- slice-aggregate-put-moment
+    (λ c κs. search writing)  -- put-moment-requires
+    (λ c. search writing)  -- slice-aggregate-put-all
+    (λ c κs. search writing)  -- put-all-requires
+    (λ c κs. search writing)  -- put-end-requires
+    (λ c. search writing)  -- same-length
+    (λ c. search writing)  -- returns
+    )

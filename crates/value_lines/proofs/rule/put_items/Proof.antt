@@ -1,0 +1,25 @@
+-- `value_lines::put_items` meets its contract. Assumes nothing.
+use Rattle.sink.specs.Sink.{writing}
+use Rattle.value_lines.proofs.rule.put_items.Statement.{statement}
+use Rattle.value_lines.proofs.rule.put_items.Tie as tie
+
+abbrev Inv-loop : tie.InvT-loop
+Inv-loop out₀ o p s inside q₀ c₀ started₀ out q c started = ?
+
+abbrev μ-loop : tie.MeasureT-loop
+μ-loop out₀ o p s inside q₀ c₀ started₀ out q c started = ?
+
+pub put-items-spec : {M : Type 1} → statement M
+put-items-spec = tie.close (tie.spec
+    Inv-loop
+    μ-loop
+    (λ c. search writing)  -- loop-holds
+    (λ c κs. search writing)  -- find-item-requires
+    (λ c. search writing)  -- enum-known-f
+    (λ c κs. search writing)  -- put-one-item-requires
+    (λ c. search writing)  -- loop-less
+    (λ c. search writing)  -- loop-again
+    (λ c. search writing)  -- enum-told
+    (λ c. search writing)  -- same-length
+    (λ c. search writing)  -- returns
+    )

@@ -1,0 +1,13 @@
+-- `value_lines::put_one_item` meets its contract. Assumes nothing.
+use Rattle.sink.specs.Sink.{writing}
+use Rattle.value_lines.proofs.rule.put_one_item.Statement.{statement}
+use Rattle.value_lines.proofs.rule.put_one_item.Tie as tie
+
+pub put-one-item-spec : {M : Type 1} → statement M
+put-one-item-spec = tie.close (tie.spec
+    (λ c κs. search writing)  -- put-between-requires
+    (λ c. search writing)  -- mul-put-item
+    (λ c κs. search writing)  -- put-item-requires
+    (λ c. search writing)  -- same-length
+    (λ c. search writing)  -- returns
+    )

@@ -1,0 +1,29 @@
+-- `value_lines::put_rule` meets its contract. Assumes nothing.
+use Rattle.sink.specs.Sink.{writing}
+use Rattle.value_lines.proofs.rule.put_rule.Statement.{statement}
+use Rattle.value_lines.proofs.rule.put_rule.Tie as tie
+
+abbrev Inv-loop : tie.InvT-loop
+Inv-loop out₀ o s inside q₀ started₀ p₀ out q started p = ?
+
+abbrev μ-loop : tie.MeasureT-loop
+μ-loop out₀ o s inside q₀ started₀ p₀ out q started p = ?
+
+pub put-rule-spec : {M : Type 1} → statement M
+put-rule-spec = tie.close (tie.spec
+    Inv-loop
+    μ-loop
+    (λ c. search writing)  -- loop-holds
+    (λ c κs. search writing)  -- find-item-requires
+    (λ c. search writing)  -- enum-known-f
+    (λ c κs. search writing)  -- put-part-requires
+    (λ c. search writing)  -- add-p
+    (λ c. search writing)  -- loop-less
+    (λ c. search writing)  -- loop-again
+    (λ c. search writing)  -- enum-told
+    (λ c. search writing)  -- add-p-2
+    (λ c. search writing)  -- loop-less-2
+    (λ c. search writing)  -- loop-again-2
+    (λ c. search writing)  -- same-length
+    (λ c. search writing)  -- returns
+    )
