@@ -1,5 +1,6 @@
--- `value_lines::put_boolean_text` meets its contract. Assumes nothing.
+-- `value_lines::leaf::put_boolean_text` meets its contract.
 use Rattle.sink.specs.Sink.{writing}
+use Rattle.value_lines.specs.Leaves.{put-no-truth, put-truth}
 use Rattle.value_lines.proofs.leaf.put_boolean_text.Statement.{statement}
 use Rattle.value_lines.proofs.leaf.put_boolean_text.Tie as tie
 
@@ -10,6 +11,6 @@ put-boolean-text-spec = tie.close (tie.spec
     (λ c κs. search writing)  -- put-boolean-requires
     (λ c. search writing)  -- enum-told
     (λ c. search writing)  -- same-length
-    (λ c. search writing)  -- returns
-    (λ c. search writing)  -- returns-2
+    (λ c. search (put-truth, writing))  -- returns
+    (λ c. search (put-no-truth, writing))  -- returns-2
     )

@@ -1,4 +1,6 @@
 -- `value_lines::put_data` meets its contract. Assumes nothing.
+use Rattle.value_lines.specs.Children.{found-within}
+use Rattle.value_lines.specs.Own.{put-data, put-no-data}
 use Rattle.sink.specs.Sink.{writing}
 use Rattle.value_lines.proofs.own.put_data.Statement.{statement}
 use Rattle.value_lines.proofs.own.put_data.Tie as tie
@@ -8,9 +10,9 @@ put-data-spec = tie.close (tie.spec
     (λ c. search writing)  -- slice-aggregate-find-child
     (λ c κs. search writing)  -- find-child-requires
     (λ c. search writing)  -- enum-known-f
-    (λ c κs. search writing)  -- put-data-text-requires
+    (λ c κs. (c .before .before .before .before .before .before .before .before .pre, found-within (c .before .before .before .before .find-child .ensures) (c .before .before .f .given .1)))  -- put-data-text-requires
     (λ c. search writing)  -- enum-told
     (λ c. search writing)  -- same-length
-    (λ c. search writing)  -- returns
-    (λ c. search writing)  -- returns-2
+    (λ c. put-data (c .before .before .before .before .before .before .before .find-child .ensures) (c .before .before .before .before .before .f .given .1) (c .before .before .put-data-text .ensures))  -- returns
+    (λ c. put-no-data (c .before .before .find-child .ensures) (c .enum-told .given .1) (search writing))  -- returns-2
     )

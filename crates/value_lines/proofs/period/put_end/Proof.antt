@@ -1,4 +1,7 @@
 -- `value_lines::put_end` meets its contract. Assumes nothing.
+use native.Mathlib.Omega.{arith}
+use Rattle.value_lines.specs.Children.{found-within}
+use Rattle.value_lines.specs.Periods.{put-span, put-last}
 use Rattle.sink.specs.Sink.{writing}
 use Rattle.value_lines.proofs.period.put_end.Statement.{statement}
 use Rattle.value_lines.proofs.period.put_end.Tie as tie
@@ -8,13 +11,13 @@ put-end-spec = tie.close (tie.spec
     (λ c. search writing)  -- slice-aggregate-find-child
     (λ c κs. search writing)  -- find-child-requires
     (λ c. search writing)  -- enum-known-f
-    (λ c. search writing)  -- mul-put-duration
+    (λ c. omega (arith, found-within (c .before .before .before .before .find-child .ensures) (c .before .before .f .given .1), c .before .before .before .before .before .before .before .before .pre))  -- mul-put-duration
     (λ c κs. search writing)  -- put-duration-requires
     (λ c. search writing)  -- enum-told
     (λ c. search writing)  -- slice-aggregate-put-moment
-    (λ c κs. search writing)  -- put-moment-requires
+    (λ c κs. c .before .before .before .before .before .before .before .before .pre)  -- put-moment-requires
     (λ c. search writing)  -- same-length
-    (λ c. search writing)  -- returns
+    (λ c. put-span (c .before .before .before .before .before .before .before .find-child .ensures) (c .before .before .before .before .before .f .given .1) (c .before .before .put-duration .ensures))  -- returns
     (λ c. search writing)  -- same-length-2
-    (λ c. search writing)  -- returns-2
+    (λ c. put-last (c .before .before .before .before .before .before .before .find-child .ensures) (c .before .before .before .before .before .enum-told .given .1) (c .before .before .put-moment .ensures))  -- returns-2
     )

@@ -1,4 +1,5 @@
 -- `value_lines::put_one_value` meets its contract. Assumes nothing.
+use Rattle.sink.specs.Sink.{_▷_}
 use Rattle.sink.specs.Sink.{writing}
 use Rattle.value_lines.proofs.typed.put_one_value.Statement.{statement}
 use Rattle.value_lines.proofs.typed.put_one_value.Tie as tie
@@ -6,7 +7,7 @@ use Rattle.value_lines.proofs.typed.put_one_value.Tie as tie
 pub put-one-value-spec : {M : Type 1} → statement M
 put-one-value-spec = tie.close (tie.spec
     (λ c κs. search writing)  -- put-between-requires
-    (λ c κs. search writing)  -- put-value-requires
+    (λ c κs. c .before .before .before .before .before .before .before .pre)  -- put-value-requires
     (λ c. search writing)  -- same-length
-    (λ c. search writing)  -- returns
+    (λ c. c .before .before .before .before .before .before .put-between .ensures ▷ c .before .before .put-value .ensures)  -- returns
     )

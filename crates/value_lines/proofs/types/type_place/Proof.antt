@@ -1,13 +1,15 @@
 -- `value_lines::type_place` meets its contract. Assumes nothing.
-use Rattle.sink.specs.Sink.{writing}
+use lib.Seq.{take-length-lt}
+use Rattle.value_lines.specs.ElementTypes.{place-whole}
+use borrow.Author.Needs.{needs}
 use Rattle.value_lines.proofs.types.type_place.Statement.{statement}
 use Rattle.value_lines.proofs.types.type_place.Tie as tie
 
 pub type-place-spec : {M : Type 1} → statement M
 type-place-spec = tie.close (tie.spec
-    (λ c. search writing)  -- slice-aggregate-type-word
-    (λ c κs. search writing)  -- type-word-requires
-    (λ c. search writing)  -- returns
-    (λ c κs. search writing)  -- type-word-requires-2
-    (λ c. search writing)  -- returns-2
+    (λ c. search (take-length-lt, needs))  -- slice-aggregate-type-word
+    (λ c κs. search needs)  -- type-word-requires
+    (λ c. search needs)  -- returns
+    (λ c κs. search needs)  -- type-word-requires-2
+    (λ c. place-whole _ _ _ (c .before .if1 .left) (c .type-word2 .ensures))  -- returns-2
     )
