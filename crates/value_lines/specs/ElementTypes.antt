@@ -108,5 +108,5 @@ module _ (n : List ℕ) {t : ℕ} (e : t ≡ placeOf n typeWords) where
   pub type-nowhere : 15 ≤ t → TypeNamed n Bad
   type-nowhere h = record { is = no-type n (rw (← e) h); small = tt }
 
-pub place-whole : (s : List ℕ) (a e : ℕ) {t : ℕ} → length s ≤ e → t ≡ placeOf (rest 0 s a) typeWords → t ≡ placeOf (rest 0 (take e s) a) typeWords
-place-whole s a e h q = q ∙ ap (λ (x : List ℕ). placeOf (rest 0 x a) typeWords) (sym (take-all e s h))
+pub place-whole : (s : List ℕ) (a e : ℕ) {t : ℕ} → length s < e → t ≡ placeOf (rest 0 s a) typeWords → t ≡ placeOf (rest 0 (take e s) a) typeWords
+place-whole s a e h q = q ∙ ap (λ (x : List ℕ). placeOf (rest 0 x a) typeWords) (sym (take-all e s (omega arith)))

@@ -29,7 +29,7 @@ fn type_word(s: &[u8], at: usize) -> usize
 fn type_place(s: &[u8], name: usize, name_end: usize) -> usize
     ensures { λ r. ⌜ r ≡ placeOf (rest 0 (take «name_end» (now (s .entry))) name) typeWords ⌝ }
 {
-    if name_end < s.len() {
+    if name_end <= s.len() {
         return type_word(&s[..name_end], name);
     }
     type_word(s, name)

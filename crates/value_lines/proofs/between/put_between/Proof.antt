@@ -1,4 +1,4 @@
--- `value_lines::put_between` meets its contract. Assumes nothing.
+-- `value_lines::between::put_between` meets its contract.
 use Rattle.sink.specs.Sink.{writing}
 use Rattle.value_lines.proofs.between.put_between.Statement.{statement}
 use Rattle.value_lines.proofs.between.put_between.Tie as tie

@@ -1,4 +1,4 @@
--- `value_lines::child_inside` meets its contract. Assumes nothing.
+-- `value_lines::child::child_inside` meets its contract.
 use Rattle.value_lines.specs.Children.{text-found, text-missing}
 use borrow.Author.Needs.{needs}
 use Rattle.value_lines.proofs.child.child_inside.Statement.{statement}

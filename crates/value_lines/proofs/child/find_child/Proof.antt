@@ -1,4 +1,4 @@
--- `value_lines::find_child` meets its contract. Assumes nothing.
+-- `value_lines::child::find_child` meets its contract.
 use Prim.Native.Nat.{_-_}
 use lib.ListN.{length}
 use lib.Seq.{length-take-le}

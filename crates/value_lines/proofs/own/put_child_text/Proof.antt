@@ -1,4 +1,4 @@
--- `value_lines::put_child_text` meets its contract. Assumes nothing.
+-- `value_lines::own::put_child_text` meets its contract.
 use native.Mathlib.Omega.{arith}
 use Rattle.texts.specs.Text.{writeText}
 use Rattle.value_lines.specs.Children.{put-there}

@@ -1,4 +1,4 @@
--- `value_lines::put_coordinate` meets its contract. Assumes nothing.
+-- `value_lines::own::put_coordinate` meets its contract.
 use native.Mathlib.Omega.{arith}
 use Rattle.value_lines.specs.Own.{put-read, put-zero}
 use Rattle.sink.specs.Sink.{writing}

@@ -1,4 +1,4 @@
--- `value_lines::put_data` meets its contract. Assumes nothing.
+-- `value_lines::own::put_data` meets its contract.
 use Rattle.value_lines.specs.Children.{found-within}
 use Rattle.value_lines.specs.Own.{put-data, put-no-data}
 use Rattle.sink.specs.Sink.{writing}

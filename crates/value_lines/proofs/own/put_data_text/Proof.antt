@@ -1,10 +1,9 @@
--- `value_lines::put_data_text` meets its contract. Assumes nothing.
+-- `value_lines::own::put_data_text` meets its contract.
 use native.Mathlib.Omega.{arith}
 use denote.Ref.{now}
 use Rattle.texts.specs.Text.{writeText}
 use Rattle.value_lines.specs.Children.{put-chars}
-use Rattle.sink.specs.Sink.{_▷_}
-use Rattle.sink.specs.Sink.{writing}
+use Rattle.sink.specs.Sink.{_▷_, writing}
 use Rattle.value_lines.proofs.own.put_data_text.Statement.{statement}
 use Rattle.value_lines.proofs.own.put_data_text.Tie as tie
 

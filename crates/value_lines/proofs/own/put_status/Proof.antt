@@ -1,9 +1,8 @@
--- `value_lines::put_status` meets its contract. Assumes nothing.
+-- `value_lines::own::put_status` meets its contract.
 use denote.Ref.{now}
 use Rattle.nodes.specs.NodesAt.{nodesAt}
 use Rattle.value_lines.specs.Own.{put-status}
-use Rattle.sink.specs.Sink.{_▷_}
-use Rattle.sink.specs.Sink.{writing}
+use Rattle.sink.specs.Sink.{_▷_, writing}
 use Rattle.value_lines.proofs.own.put_status.Statement.{statement}
 use Rattle.value_lines.proofs.own.put_status.Tie as tie
 

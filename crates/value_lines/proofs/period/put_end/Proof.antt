@@ -1,4 +1,4 @@
--- `value_lines::put_end` meets its contract. Assumes nothing.
+-- `value_lines::period::put_end` meets its contract.
 use native.Mathlib.Omega.{arith}
 use Rattle.value_lines.specs.Children.{found-within}
 use Rattle.value_lines.specs.Periods.{put-span, put-last}

@@ -1,4 +1,4 @@
--- `value_lines::put_moment` meets its contract. Assumes nothing.
+-- `value_lines::period::put_moment` meets its contract.
 use native.Mathlib.Omega.{arith}
 use Rattle.value_lines.specs.Periods.{put-moment}
 use Rattle.sink.specs.Sink.{writing}

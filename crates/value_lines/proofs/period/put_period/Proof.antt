@@ -1,11 +1,10 @@
--- `value_lines::put_period` meets its contract. Assumes nothing.
+-- `value_lines::period::put_period` meets its contract.
 use denote.Ref.{now}
 use Rattle.nodes.specs.NodesAt.{nodesAt}
 use Rattle.octets.specs.Ascii.{ascii}
 use Rattle.xcal.specs.ValueNodes.{childNamed}
 use Rattle.value_lines.specs.Periods.{put-period}
-use Rattle.sink.specs.Sink.{_▷_}
-use Rattle.sink.specs.Sink.{writing}
+use Rattle.sink.specs.Sink.{_▷_, writing}
 use Rattle.value_lines.proofs.period.put_period.Statement.{statement}
 use Rattle.value_lines.proofs.period.put_period.Tie as tie
 

@@ -1,4 +1,4 @@
--- `value_lines::type_of_values` meets its contract. Assumes nothing.
+-- `value_lines::property::type_of_values` meets its contract.
 use denote.Ref.{now}
 use Rattle.nodes.specs.NodesAt.{nodesAt}
 use Rattle.value_lines.specs.ValuesAt.{type-geo, type-status, type-typed}

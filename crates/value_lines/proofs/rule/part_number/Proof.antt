@@ -1,4 +1,4 @@
--- `value_lines::part_number` meets its contract. Assumes nothing.
+-- `value_lines::rule::part_number` meets its contract.
 use lib.Seq.{length-take-le}
 use Rattle.names.specs.Table.{by-table}
 use Rattle.value_lines.specs.Rules.{words-are}

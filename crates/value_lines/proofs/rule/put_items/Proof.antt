@@ -1,4 +1,4 @@
--- `value_lines::put_items` meets its contract. Assumes nothing.
+-- `value_lines::rule::put_items` meets its contract.
 use Prim.Native.Nat.{_-_}
 use lib.ListN.{length}
 use Rattle.value_lines.specs.PutRule.{Itemizing, items-start, items-more, items-end, item-inside, item-less}

@@ -1,9 +1,8 @@
--- `value_lines::put_one_item` meets its contract. Assumes nothing.
+-- `value_lines::rule::put_one_item` meets its contract.
 use native.Mathlib.Omega.{arith}
 use denote.Ref.{now}
 use Rattle.value_lines.specs.PutRule.{put-item-text}
-use Rattle.sink.specs.Sink.{_▷_}
-use Rattle.sink.specs.Sink.{writing}
+use Rattle.sink.specs.Sink.{_▷_, writing}
 use Rattle.value_lines.proofs.rule.put_one_item.Statement.{statement}
 use Rattle.value_lines.proofs.rule.put_one_item.Tie as tie
 

@@ -1,8 +1,7 @@
--- `value_lines::put_part` meets its contract. Assumes nothing.
+-- `value_lines::rule::put_part` meets its contract.
 use lib.Seq.{length-take-le}
-use Rattle.sink.specs.Sink.{_▷_}
+use Rattle.sink.specs.Sink.{_▷_, writing}
 use borrow.Author.Needs.{needs}
-use Rattle.sink.specs.Sink.{writing}
 use Rattle.value_lines.proofs.rule.put_part.Statement.{statement}
 use Rattle.value_lines.proofs.rule.put_part.Tie as tie
 

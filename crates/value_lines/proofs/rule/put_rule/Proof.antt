@@ -1,4 +1,4 @@
--- `value_lines::put_rule` meets its contract. Assumes nothing.
+-- `value_lines::rule::put_rule` meets its contract.
 use Prim.Native.Nat.{_-_}
 use Rattle.value_lines.specs.PutRule.{Parting, parts-start, parts-more, parts-none, parts-end, item-name}
 use Rattle.sink.specs.Sink.{writing}

@@ -1,4 +1,4 @@
--- `value_lines::find_typed` meets its contract. Assumes nothing.
+-- `value_lines::typed::find_typed` meets its contract.
 use Prim.Native.Nat.{_-_}
 use lib.ListN.{length}
 use Rattle.nodes.specs.NodeFound.{element-less, literal-less, referred-less}

@@ -1,6 +1,5 @@
--- `value_lines::put_one_value` meets its contract. Assumes nothing.
-use Rattle.sink.specs.Sink.{_▷_}
-use Rattle.sink.specs.Sink.{writing}
+-- `value_lines::typed::put_one_value` meets its contract.
+use Rattle.sink.specs.Sink.{_▷_, writing}
 use Rattle.value_lines.proofs.typed.put_one_value.Statement.{statement}
 use Rattle.value_lines.proofs.typed.put_one_value.Tie as tie
 

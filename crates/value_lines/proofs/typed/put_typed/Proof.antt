@@ -1,4 +1,4 @@
--- `value_lines::put_typed` meets its contract. Assumes nothing.
+-- `value_lines::typed::put_typed` meets its contract.
 use Prim.Native.Nat.{_-_}
 use lib.ListN.{length}
 use Rattle.value_lines.specs.Typed.{Valuing, values-start, values-more, values-end, typed-bounds, typed-less}

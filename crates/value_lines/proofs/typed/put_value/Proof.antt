@@ -1,4 +1,4 @@
--- `value_lines::put_value` meets its contract. Assumes nothing.
+-- `value_lines::typed::put_value` meets its contract.
 use native.Mathlib.Omega.{arith}
 use denote.Ref.{now}
 use Rattle.value_lines.specs.Typed.{put-period, put-recur, put-chars-of}

@@ -1,4 +1,4 @@
--- `value_lines::type_of_typed` meets its contract. Assumes nothing.
+-- `value_lines::typed::type_of_typed` meets its contract.
 use Rattle.value_lines.specs.Typed.{typed-bounds}
 use Rattle.value_lines.specs.Types.{type-of-first, type-of-none}
 use borrow.Author.Needs.{needs}

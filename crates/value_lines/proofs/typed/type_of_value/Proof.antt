@@ -1,4 +1,4 @@
--- `value_lines::type_of_value` meets its contract. Assumes nothing.
+-- `value_lines::typed::type_of_value` meets its contract.
 use native.Mathlib.Omega.{arith}
 use denote.Ref.{now}
 use Rattle.value_lines.specs.Types.{type-is-period, type-is-recur, type-is-read, type-is-text}

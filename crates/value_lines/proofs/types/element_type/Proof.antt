@@ -1,4 +1,4 @@
--- `value_lines::element_type` meets its contract. Assumes nothing.
+-- `value_lines::types::element_type` meets its contract.
 use Rattle.value_lines.specs.ElementTypes.{type-there, type-nowhere}
 use borrow.Author.Needs.{needs}
 use Rattle.value_lines.proofs.types.element_type.Statement.{statement}

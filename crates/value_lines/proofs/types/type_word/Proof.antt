@@ -1,4 +1,4 @@
--- `value_lines::type_word` meets its contract. Assumes nothing.
+-- `value_lines::types::type_word` meets its contract.
 use Rattle.names.specs.Table.{by-table}
 use Rattle.value_lines.specs.ElementTypes.{words-are}
 use borrow.Author.Needs.{needs}
