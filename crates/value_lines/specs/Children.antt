@@ -2,9 +2,9 @@
 --     ChildAt     the contract of `find_child`;   TextAt: that of `child_inside`
 --     Naming      the walk to it;   child-..: its ways, `search children`
 --     put-chars, put-there   what is written of the characters of an element, of a child
-use mathlib.Core.Path.{_≡_, refl, sym, ap, subst, _∙_}
+use mathlib.Core.Path.{_≡_, refl, sym, subst, _∙_}
 use mathlib.Core.Bool.{Bool, true, false}
-use mathlib.Core.List.{List, []}
+use mathlib.Core.List.{List}
 use mathlib.Core.Option.{Option, none, some}
 use Prim.Native.Nat.{ℕ, _*_, _≤_}
 use native.Mathlib.Omega.{arith}
@@ -15,7 +15,7 @@ use Rattle.octets.specs.Words.{same, same-true, same-self, same-swap}
 use Rattle.octets.specs.Reading.{readOr}
 use Rattle.sink.specs.Sink.{Put}
 use Rattle.source.specs.Source.{rest}
-use Rattle.xml.specs.Nodes.{Nodes, noNodes, element, literal, referred, charactersOf}
+use Rattle.xml.specs.Nodes.{charactersOf}
 use Rattle.xcal.specs.ValueNodes.{childNamed, textOf}
 use Rattle.nodes.specs.NodesAt.{nodesAt, nodes-none}
 use Rattle.nodes.specs.NodeFound.{NodeAt, node-less}
@@ -101,8 +101,8 @@ module _ {n s : List ℕ} {from : ℕ} {c : Child} (d : ChildAt n s from c) wher
   found-within h = rw h at (d .within)
 
 -- what is written of the characters that are read there
-pub put-chars : {d e : List ℕ} {o r : ℕ} (f : List ℕ → List ℕ) (s : List ℕ) (i : ℕ) → Put d e o r (f (rest 1 s (4 * i))) → Put d e o r (f (charactersOf (nodesAt s i)))
+pub put-chars : {d e : List ℕ} {o r : ℕ} (f : List ℕ → List ℕ) (s : List ℕ) (i : ℕ) → Put d e o r (f (rest 1 s (2 * i))) → Put d e o r (f (charactersOf (nodesAt s i)))
 put-chars {d} {e} {o} {r} f s i p = subst (λ l. Put d e o r (f l)) (chars-at s i) p
 
-pub put-there : {d e : List ℕ} {o r : ℕ} (f : List ℕ → List ℕ) {n s : List ℕ} {from i : ℕ} → TextAt n s from i → Put d e o r (f (rest 1 s (4 * i))) → Put d e o r (f (textOf n (nodesAt s from)))
+pub put-there : {d e : List ℕ} {o r : ℕ} (f : List ℕ → List ℕ) {n s : List ℕ} {from i : ℕ} → TextAt n s from i → Put d e o r (f (rest 1 s (2 * i))) → Put d e o r (f (textOf n (nodesAt s from)))
 put-there {d} {e} {o} {r} f {n} {s} {from} {i} t p = subst (λ l. Put d e o r (f l)) (chars-at s i ∙ sym (t .is)) p

@@ -1,9 +1,9 @@
 -- A value that is character data in XML, written as iCalendar text: the rules for each type.
 --     valueText      the text of what was read; nothing where nothing was read
 --     put-..         what the writer of each type puts is that;   placing: the choice of a type
-use mathlib.Core.Path.{_≡_, refl, sym, subst, _∙_}
-use mathlib.Core.Bool.{Bool, true, false}
-use mathlib.Core.List.{List, [], _∷_}
+use mathlib.Core.Path.{_≡_, refl, sym, subst}
+use mathlib.Core.Bool.{Bool}
+use mathlib.Core.List.{List, []}
 use mathlib.Core.Option.{Option, none, some, Option·map}
 use Prim.Native.Nat.{ℕ}
 use lib.Dec.{eqb}
@@ -12,7 +12,7 @@ use borrow.Author.Tests.{eq-eqb, ne-eqb}
 use Rattle.octets.specs.Pick.{pick}
 use Rattle.octets.specs.Reading.{readOr, orNothing}
 use Rattle.model.specs.Calendar.{ical, xcal, ValueType, BINARY, BOOLEAN, CAL-ADDRESS, DATE, DATE-TIME, DURATION, FLOAT, INTEGER, PERIOD, RECUR, TEXT, TIME, URI, UTC-OFFSET, UNKNOWN}
-use Rattle.model.specs.Calendar.{Value, binary, boolean, calAddress, date, dateTime, duration, float, integer, text, time, uri, utcOffset, unknown}
+use Rattle.model.specs.Calendar.{Value, binary, calAddress, date, dateTime, duration, float, integer, text, time, uri, utcOffset, unknown}
 use Rattle.sink.specs.Sink.{Put}
 use Rattle.schema.specs.Numbers.{typeAt}
 use Rattle.times.specs.Date.{readDate, writeDate}

@@ -2,9 +2,9 @@
 --     geoOf, statusOf    the value
 --     dataText           REQUEST-STATUS's data behind its semicolon
 --     put-..             the ways of the code
-use mathlib.Core.Path.{_≡_, refl, sym, ap, subst, _∙_}
+use mathlib.Core.Path.{_≡_, sym, _∙_}
 use mathlib.Core.Bool.{Bool}
-use mathlib.Core.List.{List, [], _∷_, map}
+use mathlib.Core.List.{List, []}
 use mathlib.Core.Option.{Option, none, some}
 use Prim.Native.Nat.{ℕ, _*_}
 use Rattle.octets.specs.Ascii.{ascii}
@@ -22,7 +22,7 @@ use Rattle.numbers.specs.declared.float.FloatRead.the-variants.{Good, Bad}
 use Rattle.texts.specs.Text.{writeText}
 use Rattle.values.specs.WriteValue.{writeValue}
 use Rattle.xml.specs.Nodes.{Nodes, charactersOf}
-use Rattle.xcal.specs.ValueNodes.{childNamed, textOf, floatOf, zero′}
+use Rattle.xcal.specs.ValueNodes.{childNamed, textOf, floatOf}
 use Rattle.nodes.specs.NodesAt.{nodesAt}
 use Rattle.value_lines.specs.Standing.{chars-at}
 use Rattle.value_lines.specs.Children.{ChildAt, TextAt}
@@ -42,11 +42,11 @@ dataText (some s) = ascii ";" ⊕ writeText s
 -- ---- GEO
 
 -- the characters of the child are those that were read
-same-chars : {n s : List ℕ} {from i : ℕ} → TextAt n s from i → rest 1 s (4 * i) ≡ textOf n (nodesAt s from)
+same-chars : {n s : List ℕ} {from i : ℕ} → TextAt n s from i → rest 1 s (2 * i) ≡ textOf n (nodesAt s from)
 same-chars {n} {s} {from} {i} t = chars-at s i ∙ sym (t .is)
 
-module _ {d e : List ℕ} {o q : ℕ} {n s : List ℕ} {from i : ℕ} (t : TextAt n s from i) {r : FloatRead} (f : readFloat (rest 1 s (4 * i)) ≡ readAs 256 1 s r) where
-  pub put-read : {m : Bool} {a b : ℕ} → r ≡ Good m a b → Put d e o q (orNothing writeFloat (readFloat (rest 1 s (4 * i)))) → Put d e o q (writeFloat (floatOf n (nodesAt s from)))
+module _ {d e : List ℕ} {o q : ℕ} {n s : List ℕ} {from i : ℕ} (t : TextAt n s from i) {r : FloatRead} (f : readFloat (rest 1 s (2 * i)) ≡ readAs 256 1 s r) where
+  pub put-read : {m : Bool} {a b : ℕ} → r ≡ Good m a b → Put d e o q (orNothing writeFloat (readFloat (rest 1 s (2 * i)))) → Put d e o q (writeFloat (floatOf n (nodesAt s from)))
   unfolding readOr
   put-read h p = rw (← (same-chars t), f, h) (rw (f, h) at p)
 

@@ -2,7 +2,7 @@
 --     endOf          the duration, or the end
 --     put-moment     a date-time;   put-span, put-last: the end;   put-period: the whole
 use mathlib.Core.Path.{_≡_, refl, subst}
-use mathlib.Core.List.{List, [], _∷_}
+use mathlib.Core.List.{List, []}
 use mathlib.Core.Option.{Option, none, some}
 use Prim.Native.Nat.{ℕ, _*_}
 use Rattle.octets.specs.Ascii.{ascii}
@@ -37,11 +37,11 @@ span-text none = refl
 span-text (some v) = refl
 
 module _ {d e : List ℕ} {o r : ℕ} where
-  pub put-moment : {n s : List ℕ} {from i : ℕ} → TextAt n s from i → Put d e o r (orNothing (writeDateTime ical) (readDateTime xcal (rest 1 s (4 * i)))) → Put d e o r (momentOf n (nodesAt s from))
+  pub put-moment : {n s : List ℕ} {from i : ℕ} → TextAt n s from i → Put d e o r (orNothing (writeDateTime ical) (readDateTime xcal (rest 1 s (2 * i)))) → Put d e o r (momentOf n (nodesAt s from))
   put-moment {n} {s} {from} {i} t p = subst (Put d e o r) (moment-text (readDateTime xcal (textOf n (nodesAt s from)))) (put-there (λ l. orNothing (writeDateTime ical) (readDateTime xcal l)) t p)
 
   module _ {s : List ℕ} {from : ℕ} {c : Child} (a : ChildAt (ascii "duration") s from c) where
-    pub put-span : {i : ℕ} → c ≡ Found i → Put d e o r (orNothing (writeDuration ical) (readDuration xcal (rest 1 s (4 * i)))) →
+    pub put-span : {i : ℕ} → c ≡ Found i → Put d e o r (orNothing (writeDuration ical) (readDuration xcal (rest 1 s (2 * i)))) →
         Put d e o r (endOf (childNamed (ascii "duration") (nodesAt s from)) (nodesAt s from))
     put-span {i} h p =
         rw (a .is, h) (subst (Put d e o r) (span-text (readDuration xcal (charactersOf (nodesAt s i)))) (put-chars (λ l. orNothing (writeDuration ical) (readDuration xcal l)) s i p))

@@ -2,19 +2,19 @@
 --     itemText        an item as text
 --     Itemizing       the invariant of the loop over the items of a part
 --     Parting         that of the loop over the parts
-use mathlib.Core.Path.{_≡_, refl, sym, ap, subst, _∙_}
+use mathlib.Core.Path.{_≡_, refl, ap, subst, _∙_}
 use mathlib.Core.Bool.{Bool, true, false}
 use mathlib.Core.List.{List, [], _∷_, map}
 use mathlib.Core.Option.{Option, none, some}
 use Prim.Native.Nat.{ℕ, _+_, _-_, _*_, _^_, _≤_, _<_}
 use native.Mathlib.Omega.{arith}
 use native.Mathlib.Numerals.{add-one}
-use lib.ListN.{length, take, drop, getD, drop-of-length-le}
+use lib.ListN.{length, take, drop, drop-of-length-le}
 use lib.Seq.{drop-cons}
 use Rattle.octets.specs.Ascii.{ascii}
 use Rattle.octets.specs.Pick.{pick}
 use Rattle.octets.specs.Append.{_⊕_}
-use Rattle.octets.specs.Class.{upper, lower}
+use Rattle.octets.specs.Class.{upper}
 use Rattle.octets.specs.Words.{joinedBy}
 use Rattle.octets.specs.Reading.{readOr, orNothing}
 use Rattle.model.specs.Calendar.{ical, xcal, RuleItem, word, RulePart}
@@ -42,7 +42,7 @@ unfolding readOr
 item-text none = refl
 item-text (some i) = refl
 
-pub put-item-text : {d e : List ℕ} {o r : ℕ} (p : ℕ) (s : List ℕ) (i : ℕ) → Put d e o r (orNothing (writeItem ical) (readItem xcal (partName p) (rest 1 s (4 * i)))) → Put d e o r (itemText p s i)
+pub put-item-text : {d e : List ℕ} {o r : ℕ} (p : ℕ) (s : List ℕ) (i : ℕ) → Put d e o r (orNothing (writeItem ical) (readItem xcal (partName p) (rest 1 s (2 * i)))) → Put d e o r (itemText p s i)
 put-item-text {d} {e} {o} {r} p s i w =
     subst (Put d e o r) (item-text (readItem xcal (partName p) (charactersOf (nodesAt s i)))) (put-chars (λ l. orNothing (writeItem ical) (readItem xcal (partName p) l)) s i w)
 

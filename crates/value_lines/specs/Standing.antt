@@ -6,5 +6,5 @@ use Rattle.source.specs.Source.{rest}
 use Rattle.xml.specs.Nodes.{charactersOf}
 use Rattle.nodes.specs.NodesAt.{nodesAt}
 
-pub chars-at : (s : List ℕ) (p : ℕ) → rest 1 s (4 * p) ≡ charactersOf (nodesAt s p)
+pub chars-at : (s : List ℕ) (p : ℕ) → rest 1 s (2 * p) ≡ charactersOf (nodesAt s p)
 chars-at s p = ?

@@ -7,7 +7,6 @@ use Prim.{Unit, tt}
 use mathlib.Core.Path.{_≡_, refl, sym, ap, subst, _∙_}
 use mathlib.Core.Bool.{Bool, true, false}
 use mathlib.Core.List.{List, [], _∷_, map}
-use mathlib.Core.Option.{Option, none, some}
 use Prim.Native.Nat.{ℕ, _-_, _*_, _^_, _≤_, _<_}
 use native.Mathlib.Omega.{arith}
 use native.Mathlib.Decide.{decLe}
@@ -20,7 +19,7 @@ use Rattle.octets.specs.Pick.{pick}
 use Rattle.octets.specs.Append.{_⊕_}
 use Rattle.octets.specs.Words.{joinedBy}
 use Rattle.octets.specs.Reading.{readOr}
-use Rattle.model.specs.Calendar.{xcal, ValueType, PERIOD, RECUR, UNKNOWN, Value, text, recur, typeOf}
+use Rattle.model.specs.Calendar.{xcal, PERIOD, RECUR, UNKNOWN, Value, text, recur}
 use Rattle.sink.specs.Sink.{Put, put-length, Todo, todo-all, todo-step, todo-done}
 use Rattle.source.specs.Source.{rest}
 use Rattle.schema.specs.Types.{valueTypes, typePlace, sameType}
@@ -31,12 +30,12 @@ use Rattle.recur.specs.Rule.{writeRule}
 use Rattle.values.specs.ReadValue.{readValue}
 use Rattle.values.specs.WriteValue.{writeValue, writeValues}
 use Rattle.xml.specs.Nodes.{Nodes, charactersOf}
-use Rattle.xcal.specs.ValueNodes.{childNamed, periodOf, partsOf, valueOf, oneOf, typedValues}
+use Rattle.xcal.specs.ValueNodes.{childNamed, periodOf, partsOf, valueOf, typedValues}
 use Rattle.nodes.specs.NodesAt.{nodesAt}
 use Rattle.nodes.specs.NodeFound.{NodeAt, node-less, element-onward}
 use Rattle.nodes.specs.declared.Node.{Node}
 use Rattle.nodes.specs.declared.NodeKind.the-variants.{None, Element, Literal, Referred}
-use Rattle.value_lines.specs.ElementTypes.{TypeNamed, namedAs, smallType}
+use Rattle.value_lines.specs.ElementTypes.{TypeNamed, smallType}
 use Rattle.value_lines.specs.Walking.{Skips, Seeking, seek-start, seek-none, seek-element, seek-past, seek-literal, seek-referred}
 use Rattle.value_lines.specs.Children.{put-chars}
 use Rattle.value_lines.specs.Leaves.{valueText, value-or}
@@ -161,7 +160,7 @@ module _ {d e : List ℕ} {o r : ℕ} (t : ℕ) (s : List ℕ) (i : ℕ) (h : t 
     unfolding writeValue
     put-recur q p = rw (value-recur t (nodesAt s i) h n q) p
 
-    pub put-chars-of : (t ≡ 9 → ⊥) → Put d e o r (valueText (readValue xcal (typeAt t) (rest 1 s (4 * i)))) → Put d e o r (writeValue (valueOf (typeAt t) (nodesAt s i)))
+    pub put-chars-of : (t ≡ 9 → ⊥) → Put d e o r (valueText (readValue xcal (typeAt t) (rest 1 s (2 * i)))) → Put d e o r (writeValue (valueOf (typeAt t) (nodesAt s i)))
     put-chars-of q p =
         rw (value-leaf t (nodesAt s i) h n q) (subst (Put d e o r) (value-or (readValue xcal (typeAt t) (charactersOf (nodesAt s i)))) (put-chars (λ l. valueText (readValue xcal (typeAt t) l)) s i p))
 

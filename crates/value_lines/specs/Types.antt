@@ -1,7 +1,7 @@
 -- The type of a property's values, by its number.
 --     type-of-read     what is read as a type has that type
 --     type-..          the ways of `type_of_value` and `type_of_typed`
-use mathlib.Core.Path.{_≡_, refl, sym, ap, subst, _∙_}
+use mathlib.Core.Path.{_≡_, refl, sym, ap, _∙_}
 use mathlib.Core.Bool.{Bool, true, false, false≢true}
 use mathlib.Core.List.{List, []}
 use mathlib.Core.Option.{Option, none, some, Option·map}
@@ -80,8 +80,8 @@ module _ (t : ℕ) (s : List ℕ) (i : ℕ) (h : t ≤ 14) where
     pub type-is-recur : t ≡ 9 → (typeAt 9 ≡ typeOf (valueOf (typeAt t) (nodesAt s i))) × (9 ≤ 14)
     type-is-recur e = (sym (ap typeOf (value-recur t (nodesAt s i) h n e)), omega arith)
 
-    module _ (m : t ≡ 9 → ⊥) {v : ValueRead} (q : v ≡ valueRead t (isRead (readValue xcal (typeAt t) (rest 1 s (4 * i))))) where
-      leaf : {b : Bool} → b ≡ isRead (readValue xcal (typeAt t) (rest 1 s (4 * i))) → isRead (readValue xcal (typeAt t) (charactersOf (nodesAt s i))) ≡ b
+    module _ (m : t ≡ 9 → ⊥) {v : ValueRead} (q : v ≡ valueRead t (isRead (readValue xcal (typeAt t) (rest 1 s (2 * i))))) where
+      leaf : {b : Bool} → b ≡ isRead (readValue xcal (typeAt t) (rest 1 s (2 * i))) → isRead (readValue xcal (typeAt t) (charactersOf (nodesAt s i))) ≡ b
       leaf e = sym (e ∙ ap (λ (l : List ℕ). isRead (readValue xcal (typeAt t) l)) (chars-at s i))
 
       pub type-is-read : {u : ℕ} → v ≡ Good u → (typeAt t ≡ typeOf (valueOf (typeAt t) (nodesAt s i))) × (t ≤ 14)

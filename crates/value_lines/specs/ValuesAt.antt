@@ -2,22 +2,22 @@
 --     valuesAt         they, by the number;   values-at: those of a name are those of its number
 --     values-named     those of a name are those of its number's name
 --     put-..           the ways of `put_values`;   type-..: of `type_of_values`
-use mathlib.Core.Path.{_≡_, refl, sym, ap, subst, _∙_}
-use mathlib.Core.List.{List, [], _∷_, map}
-use Prim.Native.Nat.{ℕ, _≤_, _<_}
+use mathlib.Core.Path.{_≡_, refl, sym, ap, _∙_}
+use mathlib.Core.List.{List, [], _∷_}
+use Prim.Native.Nat.{ℕ, _≤_}
 use native.Mathlib.Omega.{arith}
 use native.Mathlib.Decide.{decLe}
 use lib.Dec.{eqb}
-use lib.ListN.{getD, List·getD-eq-default}
+use lib.ListN.{List·getD-eq-default}
 use borrow.Author.Tests.{eq-eqb, ne-eqb}
 use Rattle.octets.specs.Ascii.{ascii}
 use Rattle.octets.specs.Pick.{pick}
-use Rattle.octets.specs.Append.{_⊕_, append-none}
+use Rattle.octets.specs.Append.{append-none}
 use Rattle.octets.specs.Words.{same, eachAfter, joinedBy}
 use Rattle.octets.specs.Computing.{octets-compute}
 use Rattle.model.specs.Calendar.{Value}
 use Rattle.sink.specs.Sink.{Put}
-use Rattle.names.specs.Table.{placeOf, place-within}
+use Rattle.names.specs.Table.{placeOf}
 use Rattle.schema.specs.Properties.{propertyNames}
 use Rattle.schema.specs.Numbers.{typeAt, propertyName, same-place}
 use Rattle.schema.specs.Arrays.{place-at}

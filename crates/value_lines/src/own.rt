@@ -26,9 +26,9 @@ fn put_coordinate(out: &mut [u8], o: usize, s: &[u8], inside: usize, name: &[u8]
     ensures { λ r. ⌜ Put (now (out .entry)) (now (out .exit)) o r (writeFloat (floatOf (now (name .entry)) (nodesAt (now (s .entry)) inside))) ⌝ }
 {
     let i = child_inside(s, inside, name);
-    let f = read_float(1, s, 4 * i);
+    let f = read_float(1, s, 2 * i);
     match f {
-        FloatRead::Good(neg, c, d) => put_float(out, o, 1, s, 4 * i),
+        FloatRead::Good(neg, c, d) => put_float(out, o, 1, s, 2 * i),
         FloatRead::Bad => put_all(out, o, b"0"),
     }
 }
@@ -48,7 +48,7 @@ fn put_child_text(out: &mut [u8], o: usize, s: &[u8], inside: usize, name: &[u8]
     ensures { λ r. ⌜ Put (now (out .entry)) (now (out .exit)) o r (writeText (textOf (now (name .entry)) (nodesAt (now (s .entry)) inside))) ⌝ }
 {
     let i = child_inside(s, inside, name);
-    put_text_escaped(out, o, 1, s, 4 * i)
+    put_text_escaped(out, o, 1, s, 2 * i)
 }
 
 // The data behind its semicolon, content of a child that begins at `i`.
@@ -57,7 +57,7 @@ fn put_data_text(out: &mut [u8], o: usize, s: &[u8], i: usize) -> usize
     ensures { λ r. ⌜ Put (now (out .entry)) (now (out .exit)) o r (ascii ";" ⊕ writeText (charactersOf (nodesAt (now (s .entry)) i))) ⌝ }
 {
     let a = put_all(out, o, b";");
-    put_text_escaped(out, a, 1, s, 4 * i)
+    put_text_escaped(out, a, 1, s, 2 * i)
 }
 
 // The data, if it is there.

@@ -20,7 +20,7 @@ fn put_moment(out: &mut [u8], o: usize, s: &[u8], inside: usize, name: &[u8]) ->
     ensures { λ r. ⌜ Put (now (out .entry)) (now (out .exit)) o r (momentOf (now (name .entry)) (nodesAt (now (s .entry)) inside)) ⌝ }
 {
     let i = child_inside(s, inside, name);
-    put_date_time(out, o, true, false, 1, s, 4 * i)
+    put_date_time(out, o, true, false, 1, s, 2 * i)
 }
 
 // The duration, or the end.
@@ -30,7 +30,7 @@ fn put_end(out: &mut [u8], o: usize, s: &[u8], inside: usize) -> usize
 {
     let f = find_child(s, inside, b"duration");
     match f {
-        Child::Found(i) => put_duration(out, o, true, false, 1, s, 4 * i),
+        Child::Found(i) => put_duration(out, o, true, false, 1, s, 2 * i),
         Child::Missing => put_moment(out, o, s, inside, b"end"),
     }
 }

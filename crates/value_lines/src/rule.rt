@@ -83,7 +83,7 @@ fn put_one_item(out: &mut [u8], o: usize, started: bool, p: usize, s: &[u8], i: 
     ensures { λ r. ⌜ Put (now (out .entry)) (now (out .exit)) o r (pick started (44 ∷ []) [] ⊕ itemText p (now (s .entry)) i) ⌝ }
 {
     let a = put_between(out, o, started, 44);
-    put_item(out, a, p, true, false, 1, s, 4 * i)
+    put_item(out, a, p, true, false, 1, s, 2 * i)
 }
 
 // The items of the part of the number `p`.

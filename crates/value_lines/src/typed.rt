@@ -73,7 +73,7 @@ fn put_value(out: &mut [u8], o: usize, t: usize, s: &[u8], i: usize) -> usize
     if t == 9 {
         return put_rule(out, o, s, i);
     }
-    put_leaf(out, o, t, 1, s, 4 * i)
+    put_leaf(out, o, t, 1, s, 2 * i)
 }
 
 // A value, behind a comma where it is not the first.
@@ -119,7 +119,7 @@ fn type_of_value(t: usize, s: &[u8], i: usize) -> usize
     if t == 9 {
         return 9;
     }
-    let v = read_value(true, t, 1, s, 4 * i);
+    let v = read_value(true, t, 1, s, 2 * i);
     match v {
         ValueRead::Good(u) => t,
         ValueRead::Bad => 10,
