@@ -1,0 +1,12 @@
+-- `value_lines::between::put_between` meets its contract.
+use Rattle.sink.specs.Sink.{writing}
+use Rattle.value_lines.proofs.between.put_between.Statement.{statement}
+use Rattle.value_lines.proofs.between.put_between.Tie as tie
+
+pub put-between-spec : {M : Type 1} → statement M
+put-between-spec = tie.close (tie.spec
+    (λ c κs. search writing)  -- put-requires
+    (λ c. search writing)  -- same-length
+    (λ c. search writing)  -- returns
+    (λ c. search writing)  -- returns-2
+    )

@@ -1,0 +1,39 @@
+-- `value_lines::typed::find_typed` meets its contract.
+use Prim.Native.Nat.{_-_}
+use lib.ListN.{length}
+use Rattle.nodes.specs.NodeFound.{element-less, literal-less, referred-less}
+use Rattle.xcal.specs.ValueNodes.{typedValues}
+use Rattle.value_lines.specs.Walking.{Seeking}
+use Rattle.value_lines.specs.Typed.{typings, typed-none, typed-here, typed-other, typed-literal, typed-referred}
+use borrow.Author.Needs.{needs}
+use Rattle.value_lines.proofs.typed.find_typed.Statement.{statement}
+use Rattle.value_lines.proofs.typed.find_typed.Tie as tie
+
+abbrev Inv-loop : tie.InvT-loop
+Inv-loop s at c₀ c = Seeking typedValues s at c
+
+abbrev μ-loop : tie.MeasureT-loop
+μ-loop s at c₀ c = length s - c
+
+pub find-typed-spec : {M : Type 1} → statement M
+find-typed-spec = tie.close (tie.spec
+    Inv-loop
+    μ-loop
+    (λ c. search typings)  -- loop-holds
+    (λ c κs. search needs)  -- next-node-requires
+    (λ c. search needs)  -- enum-told
+    (λ c. typed-none (c .before .before .before .loop .inv) (c .before .before .next-node .ensures) (c .enum-told .given .1))  -- returns
+    (λ c. search needs)  -- enum-told-2
+    (λ c κs. search needs)  -- element-type-requires
+    (λ c. search needs)  -- enum-known-m
+    (λ c. typed-here (c .before .before .before .before .before .before .before .loop .inv) (c .before .before .before .before .before .before .next-node .ensures) (c .before .before .before .before .enum-told2 .given .1) (c .before .before .before .element-type .ensures) (c .before .m .given .1))  -- returns-2
+    (λ c. search needs)  -- enum-told-3
+    (λ c. element-less (c .before .before .before .before .before .next-node .ensures) (c .before .before .before .enum-told2 .given .1))  -- loop-less
+    (λ c. typed-other (c .before .before .before .before .before .before .loop .inv) (c .before .before .before .before .before .next-node .ensures) (c .before .before .before .enum-told2 .given .1) (c .before .before .element-type .ensures) (c .enum-told3 .given .1))  -- loop-again
+    (λ c. search needs)  -- enum-told-4
+    (λ c. literal-less (c .before .before .next-node .ensures) (c .enum-told4 .given .1))  -- loop-less-2
+    (λ c. typed-literal (c .before .before .before .loop .inv) (c .before .before .next-node .ensures) (c .enum-told4 .given .1))  -- loop-again-2
+    (λ c. search needs)  -- enum-told-5
+    (λ c. referred-less (c .before .before .next-node .ensures) (c .enum-told5 .given .1))  -- loop-less-3
+    (λ c. typed-referred (c .before .before .before .loop .inv) (c .before .before .next-node .ensures) (c .enum-told5 .given .1))  -- loop-again-3
+    )

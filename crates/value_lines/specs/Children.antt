@@ -1,0 +1,108 @@
+-- The first child of a name.
+--     ChildAt     the contract of `find_child`;   TextAt: that of `child_inside`
+--     Naming      the walk to it;   child-..: its ways, `search children`
+--     put-chars, put-there   what is written of the characters of an element, of a child
+use mathlib.Core.Path.{_≡_, refl, sym, subst, _∙_}
+use mathlib.Core.Bool.{Bool, true, false}
+use mathlib.Core.List.{List}
+use mathlib.Core.Option.{Option, none, some}
+use Prim.Native.Nat.{ℕ, _*_, _≤_}
+use native.Mathlib.Omega.{arith}
+use lib.ListN.{length, take}
+use borrow.Author.Needs.{needs}
+use Rattle.octets.specs.Pick.{pick}
+use Rattle.octets.specs.Words.{same, same-true, same-self, same-swap}
+use Rattle.octets.specs.Reading.{readOr}
+use Rattle.sink.specs.Sink.{Put}
+use Rattle.source.specs.Source.{rest}
+use Rattle.xml.specs.Nodes.{charactersOf}
+use Rattle.xcal.specs.ValueNodes.{childNamed, textOf}
+use Rattle.nodes.specs.NodesAt.{nodesAt, nodes-none}
+use Rattle.nodes.specs.NodeFound.{NodeAt, node-less}
+use Rattle.nodes.specs.declared.Node.{Node}
+use Rattle.nodes.specs.declared.NodeKind.the-variants.{None, Element, Literal, Referred}
+use Rattle.value_lines.specs.Standing.{chars-at}
+use Rattle.value_lines.specs.Walking.{Skips, Seeking, seek-start, seek-none, seek-element, seek-past, seek-literal, seek-referred}
+use Rattle.value_lines.specs.declared.child.Child.{Child}
+use Rattle.value_lines.specs.declared.child.Child.the-variants.{Found, Missing}
+
+abbrev pub childOf : List ℕ → Child → Option (List ℕ)
+childOf s (Found i) = some (charactersOf (nodesAt s i))
+childOf s Missing = none
+
+abbrev pub begin : Child → ℕ
+begin (Found i) = i
+begin Missing = 0
+
+pub record ChildAt (n s : List ℕ) (from : ℕ) (r : Child) : Type 0 where
+  pub is : childNamed n (nodesAt s from) ≡ childOf s r
+  pub within : begin r ≤ length s
+
+pub record TextAt (n s : List ℕ) (from r : ℕ) : Type 0 where
+  pub is : textOf n (nodesAt s from) ≡ charactersOf (nodesAt s r)
+  pub within : r ≤ length s
+
+-- ---- the walk
+
+same-flip : (a b : List ℕ) → same a b ≡ same b a
+same-flip a b = go (same b a) refl
+  where
+    go : (t : Bool) → same b a ≡ t → same a b ≡ t
+    go true e = rw (same-true b a e) (same-self a)
+    go false e = same-swap b a e
+
+child-skips : (n : List ℕ) → Skips (childNamed n)
+unfolding childNamed
+child-skips n = record { over-literal = λ p b m. refl; over-referred = λ p bs m. refl }
+
+pub record Naming (n s : List ℕ) (from at : ℕ) : Type 0 where
+  pub walk : Seeking (childNamed n) s from at
+
+pub child-start : (n s : List ℕ) (from : ℕ) → Naming n s from from
+child-start n s from = record { walk = seek-start (childNamed n) s from }
+
+module _ {n s : List ℕ} {from at : ℕ} {r : Node} (w : Naming n s from at) (d : NodeAt s at r) where
+  pub child-none : r .kind ≡ None → ChildAt n s from Missing
+  unfolding childNamed
+  child-none q = record { is = seek-none (w .walk) d q; within = omega arith }
+
+  module _ {b : Bool} (q : r .kind ≡ Element) (e : b ≡ same (rest 0 (take (r .«name_end») s) (r .name)) n) where
+    named : same n (rest 0 (take (r .«name_end») s) (r .name)) ≡ b
+    named = same-flip n _ ∙ sym e
+
+    pub child-here : b ≡ true → ChildAt n s from (Found (r .inside))
+    unfolding childNamed pick
+    child-here h = record { is = seek-element (w .walk) d q ∙ rw (named, h); within = d .inside-within }
+
+    pub child-other : b ≡ false → Naming n s from (r .next)
+    unfolding childNamed pick
+    child-other h = record { walk = seek-past (w .walk) d q (rw (named, h)) }
+
+  pub child-literal : r .kind ≡ Literal → Naming n s from (r .next)
+  child-literal q = record { walk = seek-literal (w .walk) d (child-skips n) q }
+
+  pub child-referred : r .kind ≡ Referred → Naming n s from (r .next)
+  child-referred q = record { walk = seek-referred (w .walk) d (child-skips n) q }
+
+pub ruleset children = (child-start, child-none, child-here, child-other, child-literal, child-referred, node-less, needs)
+
+-- ---- its characters
+
+module _ {n s : List ℕ} {from : ℕ} {c : Child} (d : ChildAt n s from c) where
+  pub text-found : {i : ℕ} → c ≡ Found i → TextAt n s from i
+  unfolding readOr
+  text-found h = record { is = rw (d .is, h); within = rw h at (d .within) }
+
+  pub text-missing : c ≡ Missing → TextAt n s from (length s)
+  unfolding readOr charactersOf
+  text-missing h = record { is = rw (d .is, h, nodes-none s (length s) (omega arith)); within = omega arith }
+
+  pub found-within : {i : ℕ} → c ≡ Found i → i ≤ length s
+  found-within h = rw h at (d .within)
+
+-- what is written of the characters that are read there
+pub put-chars : {d e : List ℕ} {o r : ℕ} (f : List ℕ → List ℕ) (s : List ℕ) (i : ℕ) → Put d e o r (f (rest 1 s (2 * i))) → Put d e o r (f (charactersOf (nodesAt s i)))
+put-chars {d} {e} {o} {r} f s i p = subst (λ l. Put d e o r (f l)) (chars-at s i) p
+
+pub put-there : {d e : List ℕ} {o r : ℕ} (f : List ℕ → List ℕ) {n s : List ℕ} {from i : ℕ} → TextAt n s from i → Put d e o r (f (rest 1 s (2 * i))) → Put d e o r (f (textOf n (nodesAt s from)))
+put-there {d} {e} {o} {r} f {n} {s} {from} {i} t p = subst (λ l. Put d e o r (f l)) (chars-at s i ∙ sym (t .is)) p

@@ -1,0 +1,136 @@
+-- The items of a part of a RECUR from its elements.
+--     partWords      the names of the parts' elements;   words-are: as the table of the code
+--     part-named     an element is one of the part's, by its name's place;   part-capitals: the part's name from it
+--     ItemAt         the contract of `find_item`;   Listing: its walk, `search items`
+use Prim.{Unit, tt}
+use mathlib.Core.Path.{_≡_, refl, sym, ap, _∙_}
+use mathlib.Core.Bool.{true}
+use mathlib.Core.List.{List, [], _∷_, map}
+use Prim.Native.Nat.{ℕ, _≤_, _<_}
+use native.Mathlib.Omega.{arith}
+use lib.Dec.{eqb}
+use lib.ListN.{length, take, getD}
+use borrow.Author.Needs.{needs}
+use borrow.Author.Tests.{eq-eqb, ne-eqb}
+use Rattle.octets.specs.Ascii.{ascii}
+use Rattle.octets.specs.Pick.{pick}
+use Rattle.octets.specs.Class.{upper, lower}
+use Rattle.octets.specs.Words.{same, same-true, isOneOf}
+use Rattle.octets.specs.Lists.{every}
+use Rattle.octets.specs.Reading.{readOr}
+use Rattle.octets.specs.Computing.{octets-compute}
+use Rattle.model.specs.Calendar.{xcal, RuleItem, word}
+use Rattle.source.specs.Source.{rest}
+use Rattle.names.specs.Table.{placeOf, namesIn}
+use Rattle.schema.specs.Numbers.{same-place}
+use Rattle.schema.specs.Cells.{tabled, tabled-at, column-at, row-at-passes}
+use Rattle.recur.specs.Parts.{partNames}
+use Rattle.recur.specs.Item.{readItem}
+use Rattle.xml.specs.Nodes.{charactersOf}
+use Rattle.xcal.specs.ValueNodes.{itemsOf}
+use Rattle.nodes.specs.NodesAt.{nodesAt}
+use Rattle.nodes.specs.NodeFound.{NodeAt, node-less, element-onward}
+use Rattle.nodes.specs.declared.Node.{Node}
+use Rattle.nodes.specs.declared.NodeKind.the-variants.{None, Element, Literal, Referred}
+use Rattle.value_lines.specs.Walking.{Skips, Seeking, seek-start, seek-none, seek-element, seek-past, seek-literal, seek-referred}
+use Rattle.value_lines.specs.declared.rule.ItemFound.{ItemFound}
+use Rattle.value_lines.specs.declared.rule.ItemFound.the-variants.{Item, Last}
+
+abbrev pub partWords : List (List ℕ)
+partWords =
+    ascii "freq" ∷ ascii "until" ∷ ascii "count" ∷ ascii "interval" ∷ ascii "bysecond" ∷ ascii "byminute" ∷ ascii "byhour" ∷ ascii "byday"
+    ∷ ascii "bymonthday" ∷ ascii "byyearday" ∷ ascii "byweekno" ∷ ascii "bymonth" ∷ ascii "bysetpos" ∷ ascii "wkst" ∷ []
+
+abbrev pub partName : ℕ → List ℕ
+partName p = getD partNames p []
+
+pub words-are : namesIn (ascii "freq\nuntil\ncount\ninterval\nbysecond\nbyminute\nbyhour\nbyday\nbymonthday\nbyyearday\nbyweekno\nbymonth\nbysetpos\nwkst\n") ≡ partWords
+unfolding namesIn pick
+words-are = refl
+
+-- ---- the part of an element
+
+words-known : every (λ w. isOneOf (lower w) partWords) partNames ≡ true
+unfolding octets-compute
+words-known = refl
+
+words-placed : map (λ w. placeOf (lower w) partWords) partNames ≡ tabled (λ i. i) 0 14
+unfolding octets-compute placeOf tabled
+words-placed = refl
+
+names-capital : every (λ w. same (upper (lower w)) w) partNames ≡ true
+unfolding octets-compute
+names-capital = refl
+
+place-again : (p : ℕ) → p < 14 → placeOf (lower (partName p)) partWords ≡ p
+place-again p h =
+    sym (column-at (λ w. placeOf (lower w) partWords) [] partNames p h) ∙ ap (λ (l : List ℕ). getD l p 0) words-placed ∙ tabled-at (λ i. i) 14 0 p h ∙ omega arith
+
+pub part-named : (p : ℕ) (m : List ℕ) → p < 14 → same m (lower (partName p)) ≡ eqb (placeOf m partWords) p
+part-named p m h =
+    same-place m (lower (partName p)) partWords (row-at-passes (λ w. isOneOf (lower w) partWords) [] partNames p words-known h)
+    ∙ ap (eqb (placeOf m partWords)) (place-again p h)
+
+pub part-capitals : (p : ℕ) (m : List ℕ) → p < 14 → m ≡ lower (partName p) → upper m ≡ partName p
+part-capitals p m h e = ap upper e ∙ same-true (upper (lower (partName p))) (partName p) (row-at-passes (λ w. same (upper (lower w)) w) [] partNames p names-capital h)
+
+-- ---- the walk to an item
+
+abbrev pub itemAt : ℕ → List ℕ → ℕ → RuleItem
+itemAt p s i = readOr (word []) (readItem xcal (partName p) (charactersOf (nodesAt s i)))
+
+abbrev pub itemsFrom : ℕ → List ℕ → ItemFound → List RuleItem
+itemsFrom p s (Item i x n e) = itemAt p s i ∷ itemsOf (partName p) (nodesAt s x)
+itemsFrom p s Last = []
+
+abbrev pub Within : ℕ → List ℕ → ℕ → ItemFound → Type 0
+Within p s at (Item i x n e) = (i ≤ length s) × (x ≤ length s) × (at < x) × (e ≤ length s) × (rest 0 (take e s) n ≡ lower (partName p))
+Within p s at Last = Unit {0}
+
+pub record ItemAt (p : ℕ) (s : List ℕ) (at : ℕ) (r : ItemFound) : Type 0 where
+  pub is : itemsOf (partName p) (nodesAt s at) ≡ itemsFrom p s r
+  pub within : Within p s at r
+
+item-skips : (n : List ℕ) → Skips (itemsOf n)
+unfolding itemsOf
+item-skips n = record { over-literal = λ p b m. refl; over-referred = λ p bs m. refl }
+
+pub record Listing (p : ℕ) (s : List ℕ) (from at : ℕ) : Type 0 where
+  pub walk : Seeking (itemsOf (partName p)) s from at
+
+pub item-start : (p : ℕ) (s : List ℕ) (from : ℕ) → Listing p s from from
+item-start p s from = record { walk = seek-start (itemsOf (partName p)) s from }
+
+module _ {p : ℕ} {s : List ℕ} {from at : ℕ} {r : Node} (w : Listing p s from at) (d : NodeAt s at r) where
+  pub item-none : r .kind ≡ None → ItemAt p s from Last
+  unfolding itemsOf
+  item-none q = record { is = seek-none (w .walk) d q; within = tt }
+
+  module _ {k : ℕ} (h : p < 14) (q : r .kind ≡ Element) (e : k ≡ placeOf (rest 0 (take (r .«name_end») s) (r .name)) partWords) where
+    named : same (rest 0 (take (r .«name_end») s) (r .name)) (lower (partName p)) ≡ eqb k p
+    named = part-named p (rest 0 (take (r .«name_end») s) (r .name)) h ∙ ap (λ (j : ℕ). eqb j p) (sym e)
+
+    pub item-here : k ≡ p → ItemAt p s from (Item (r .inside) (r .next) (r .name) (r .«name_end»))
+    unfolding itemsOf pick
+    item-here z = record {
+      is = seek-element (w .walk) d q ∙ rw (named, eq-eqb k p z);
+      within = (
+        d .inside-within,
+        d .next-within,
+        omega (arith, w .walk .onward, element-onward d q),
+        d .name-within,
+        same-true _ _ (named ∙ eq-eqb k p z),
+      );
+    }
+
+    pub item-other : (k ≡ p → ⊥) → Listing p s from (r .next)
+    unfolding itemsOf pick
+    item-other z = record { walk = seek-past (w .walk) d q (rw (named, ne-eqb k p z)) }
+
+  pub item-literal : r .kind ≡ Literal → Listing p s from (r .next)
+  item-literal q = record { walk = seek-literal (w .walk) d (item-skips (partName p)) q }
+
+  pub item-referred : r .kind ≡ Referred → Listing p s from (r .next)
+  item-referred q = record { walk = seek-referred (w .walk) d (item-skips (partName p)) q }
+
+pub ruleset items = (item-start, item-none, item-here, item-other, item-literal, item-referred, node-less, needs)

@@ -1,0 +1,189 @@
+-- Values in elements that are named as their type.
+--     TypedAt         the contract of `find_typed`;   `search typings`
+--     put-..          the ways of `put_value`
+--     Valuing         the invariant of the loop over the values
+--     type-..         the type of a value
+use Prim.{Unit, tt}
+use mathlib.Core.Path.{_≡_, refl, sym, ap, subst, _∙_}
+use mathlib.Core.Bool.{Bool, true, false}
+use mathlib.Core.List.{List, [], _∷_, map}
+use Prim.Native.Nat.{ℕ, _-_, _*_, _^_, _≤_, _<_}
+use native.Mathlib.Omega.{arith}
+use native.Mathlib.Decide.{decLe}
+use lib.Dec.{eqb}
+use lib.ListN.{length, take, getD}
+use borrow.Author.Needs.{needs}
+use borrow.Author.Tests.{eq-eqb, ne-eqb}
+use Rattle.octets.specs.Ascii.{ascii}
+use Rattle.octets.specs.Pick.{pick}
+use Rattle.octets.specs.Append.{_⊕_}
+use Rattle.octets.specs.Words.{joinedBy}
+use Rattle.octets.specs.Reading.{readOr}
+use Rattle.model.specs.Calendar.{xcal, PERIOD, RECUR, UNKNOWN, Value, text, recur}
+use Rattle.sink.specs.Sink.{Put, put-length, Todo, todo-all, todo-step, todo-done}
+use Rattle.source.specs.Source.{rest}
+use Rattle.schema.specs.Types.{valueTypes, typePlace, sameType}
+use Rattle.schema.specs.Numbers.{typeAt}
+use Rattle.schema.specs.Cells.{tabled, tabled-at, column-at}
+use Rattle.recur.specs.Parts.{partNames}
+use Rattle.recur.specs.Rule.{writeRule}
+use Rattle.values.specs.ReadValue.{readValue}
+use Rattle.values.specs.WriteValue.{writeValue, writeValues}
+use Rattle.xml.specs.Nodes.{Nodes, charactersOf}
+use Rattle.xcal.specs.ValueNodes.{childNamed, periodOf, partsOf, valueOf, typedValues}
+use Rattle.nodes.specs.NodesAt.{nodesAt}
+use Rattle.nodes.specs.NodeFound.{NodeAt, node-less, element-onward}
+use Rattle.nodes.specs.declared.Node.{Node}
+use Rattle.nodes.specs.declared.NodeKind.the-variants.{None, Element, Literal, Referred}
+use Rattle.value_lines.specs.ElementTypes.{TypeNamed, smallType}
+use Rattle.value_lines.specs.Walking.{Skips, Seeking, seek-start, seek-none, seek-element, seek-past, seek-literal, seek-referred}
+use Rattle.value_lines.specs.Children.{put-chars}
+use Rattle.value_lines.specs.Leaves.{valueText, value-or}
+use Rattle.value_lines.specs.Joining.{following, following-first, following-none, following-more}
+use Rattle.value_lines.specs.declared.types.Named.{Named}
+use Rattle.value_lines.specs.declared.types.Named.the-variants.{«Type» as Known, Bad}
+use Rattle.value_lines.specs.declared.typed.TypedFound.{TypedFound}
+use Rattle.value_lines.specs.declared.typed.TypedFound.the-variants.{Value as Found, Last}
+
+-- ---- the walk to a value
+
+abbrev pub valuesFrom : List ℕ → TypedFound → List Value
+valuesFrom s (Found t i x) = valueOf (typeAt t) (nodesAt s i) ∷ typedValues (nodesAt s x)
+valuesFrom s Last = []
+
+abbrev pub Within : List ℕ → ℕ → TypedFound → Type 0
+Within s at (Found t i x) = (t ≤ 14) × (i ≤ length s) × (x ≤ length s) × (at < x)
+Within s at Last = Unit {0}
+
+pub record TypedAt (s : List ℕ) (at : ℕ) (r : TypedFound) : Type 0 where
+  pub is : typedValues (nodesAt s at) ≡ valuesFrom s r
+  pub within : Within s at r
+
+typed-skips : Skips typedValues
+unfolding typedValues
+typed-skips = record { over-literal = λ p b m. refl; over-referred = λ p bs m. refl }
+
+pub typed-start : (s : List ℕ) (from : ℕ) → Seeking typedValues s from from
+typed-start s from = seek-start typedValues s from
+
+module _ {s : List ℕ} {from at : ℕ} {r : Node} (w : Seeking typedValues s from at) (d : NodeAt s at r) where
+  pub typed-none : r .kind ≡ None → TypedAt s from Last
+  unfolding typedValues
+  typed-none q = record { is = seek-none w d q; within = tt }
+
+  module _ {m : Named} (q : r .kind ≡ Element) (e : TypeNamed (rest 0 (take (r .«name_end») s) (r .name)) m) where
+    pub typed-here : {t : ℕ} → m ≡ Known t → TypedAt s from (Found t (r .inside) (r .next))
+    unfolding typedValues
+    typed-here {t} h = record {
+      is = seek-element w d q ∙ rw (e .is, h);
+      within = (subst smallType h (e .small), d .inside-within, d .next-within, omega (arith, w .onward, element-onward d q));
+    }
+
+    pub typed-other : m ≡ Bad → Seeking typedValues s from (r .next)
+    unfolding typedValues
+    typed-other h = seek-past w d q (rw (e .is, h))
+
+  pub typed-literal : r .kind ≡ Literal → Seeking typedValues s from (r .next)
+  typed-literal q = seek-literal w d typed-skips q
+
+  pub typed-referred : r .kind ≡ Referred → Seeking typedValues s from (r .next)
+  typed-referred q = seek-referred w d typed-skips q
+
+pub ruleset typings = (typed-start, typed-none, typed-here, typed-other, typed-literal, typed-referred, node-less, needs)
+
+module _ {s : List ℕ} {at : ℕ} {r : TypedFound} (f : TypedAt s at r) {t i x : ℕ} (h : r ≡ Found t i x) where
+  found-within : Within s at (Found t i x)
+  found-within = subst (Within s at) h (f .within)
+
+  pub typed-bounds : (i ≤ length s) × (t ≤ 14)
+  typed-bounds = (found-within .1, found-within .0)
+
+  pub typed-less : length s - x < length s - at
+  typed-less = let a = found-within .2 in let b = found-within .3 in omega (arith, a, b)
+
+-- ---- PERIOD and RECUR by their numbers
+
+types-placed : map typePlace valueTypes ≡ tabled (λ i. i) 0 14
+unfolding tabled
+types-placed = refl
+
+type-again : (t : ℕ) → t ≤ 14 → typePlace (typeAt t) ≡ t
+type-again t h = go (decLe 14 t)
+  where
+    go : Dec (14 ≤ t) → typePlace (typeAt t) ≡ t
+    go (yes k) = let e : t ≡ 14 = omega arith in rw e
+    go (no k) =
+        let l : t < 14 = omega (arith, k) in
+        sym (column-at typePlace UNKNOWN valueTypes t l) ∙ ap (λ (l : List ℕ). getD l t 0) types-placed ∙ tabled-at (λ i. i) 14 0 t l ∙ omega arith
+
+pub type-period : (t : ℕ) → t ≤ 14 → sameType (typeAt t) PERIOD ≡ eqb t 8
+unfolding sameType
+type-period t h = rw (type-again t h)
+
+pub type-recur : (t : ℕ) → t ≤ 14 → sameType (typeAt t) RECUR ≡ eqb t 9
+unfolding sameType
+type-recur t h = rw (type-again t h)
+
+-- a value by the number of its type
+abbrev pub periodFrom : Nodes → Value
+periodFrom kids = periodOf (childNamed (ascii "duration") kids) kids
+
+abbrev pub leafOf : ℕ → Nodes → Value
+leafOf t kids = readOr (text []) (readValue xcal (typeAt t) (charactersOf kids))
+
+pub value-at : (t : ℕ) (kids : Nodes) → t ≤ 14 → valueOf (typeAt t) kids ≡ pick (eqb t 8) (periodFrom kids) (pick (eqb t 9) (recur (partsOf partNames kids)) (leafOf t kids))
+unfolding valueOf
+value-at t kids h = rw (type-period t h, type-recur t h)
+
+module _ (t : ℕ) (kids : Nodes) (h : t ≤ 14) where
+  pub value-period : t ≡ 8 → valueOf (typeAt t) kids ≡ periodFrom kids
+  unfolding pick
+  value-period e = value-at t kids h ∙ rw (eq-eqb t 8 e)
+
+  module _ (n : t ≡ 8 → ⊥) where
+    pub value-recur : t ≡ 9 → valueOf (typeAt t) kids ≡ recur (partsOf partNames kids)
+    unfolding pick
+    value-recur e = value-at t kids h ∙ rw (ne-eqb t 8 n, eq-eqb t 9 e)
+
+    pub value-leaf : (t ≡ 9 → ⊥) → valueOf (typeAt t) kids ≡ leafOf t kids
+    unfolding pick
+    value-leaf m = value-at t kids h ∙ rw (ne-eqb t 8 n, ne-eqb t 9 m)
+
+-- ---- a value written
+
+module _ {d e : List ℕ} {o r : ℕ} (t : ℕ) (s : List ℕ) (i : ℕ) (h : t ≤ 14) where
+  pub put-period : t ≡ 8 → Put d e o r (writeValue (periodFrom (nodesAt s i))) → Put d e o r (writeValue (valueOf (typeAt t) (nodesAt s i)))
+  put-period q p = rw (value-period t (nodesAt s i) h q) p
+
+  module _ (n : t ≡ 8 → ⊥) where
+    pub put-recur : t ≡ 9 → Put d e o r (writeRule (partsOf partNames (nodesAt s i))) → Put d e o r (writeValue (valueOf (typeAt t) (nodesAt s i)))
+    unfolding writeValue
+    put-recur q p = rw (value-recur t (nodesAt s i) h n q) p
+
+    pub put-chars-of : (t ≡ 9 → ⊥) → Put d e o r (valueText (readValue xcal (typeAt t) (rest 1 s (2 * i)))) → Put d e o r (writeValue (valueOf (typeAt t) (nodesAt s i)))
+    put-chars-of q p =
+        rw (value-leaf t (nodesAt s i) h n q) (subst (Put d e o r) (value-or (readValue xcal (typeAt t) (charactersOf (nodesAt s i)))) (put-chars (λ l. valueText (readValue xcal (typeAt t) l)) s i p))
+
+-- ---- the loop over the values
+
+abbrev pub textsOf : List ℕ → ℕ → List (List ℕ)
+textsOf s at = map writeValue (typedValues (nodesAt s at))
+
+pub record Valuing (s : List ℕ) (from : ℕ) (d₀ : List ℕ) (o₀ : ℕ) (d : List ℕ) (o c : ℕ) (started : Bool) : Type 0 where
+  pub todo : Todo d₀ o₀ (writeValues (typedValues (nodesAt s from))) d o (following started 44 (textsOf s c))
+  pub kept : length d ≡ length d₀
+
+pub values-start : (s : List ℕ) (from : ℕ) (d : List ℕ) (o : ℕ) → length d * 1 < 2 ^ 63 → Valuing s from d o d o from false
+unfolding writeValues
+values-start s from d o z = record { todo = rw (following-first 44 (textsOf s from)) (todo-all d o (joinedBy 44 (textsOf s from)) z); kept = refl }
+
+module _ {s : List ℕ} {from : ℕ} {d₀ : List ℕ} {o₀ : ℕ} {d : List ℕ} {o c : ℕ} {b : Bool} {r : TypedFound} (v : Valuing s from d₀ o₀ d o c b) (f : TypedAt s c r) where
+  pub values-more : {t i x : ℕ} {d′ : List ℕ} {q : ℕ} → r ≡ Found t i x → Put d d′ o q (pick b (44 ∷ []) [] ⊕ writeValue (valueOf (typeAt t) (nodesAt s i))) → Valuing s from d₀ o₀ d′ q x true
+  unfolding _⊕_
+  values-more {t} {i} {x} h w = record {
+    todo = todo-step (v .todo) w (ap (λ (l : List Value). following b 44 (map writeValue l)) (f .is ∙ ap (valuesFrom s) h) ∙ following-more b 44 (writeValue (valueOf (typeAt t) (nodesAt s i))) (textsOf s x));
+    kept = put-length w ∙ v .kept;
+  }
+
+  pub values-end : r ≡ Last → Put d₀ d o₀ o (writeValues (typedValues (nodesAt s from)))
+  values-end h = todo-done (v .todo) (ap (λ (l : List Value). following b 44 (map writeValue l)) (f .is ∙ ap (valuesFrom s) h) ∙ following-none b 44)
