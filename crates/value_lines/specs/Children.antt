@@ -17,11 +17,11 @@ use Rattle.sink.specs.Sink.{Put}
 use Rattle.source.specs.Source.{rest}
 use Rattle.xml.specs.Nodes.{charactersOf}
 use Rattle.xcal.specs.ValueNodes.{childNamed, textOf}
-use Rattle.nodes.specs.NodesAt.{nodesAt, nodes-none}
+use Rattle.xml.specs.NodesAt.{nodesAt, nodes-none}
 use Rattle.nodes.specs.NodeFound.{NodeAt, node-less}
 use Rattle.nodes.specs.declared.Node.{Node}
 use Rattle.nodes.specs.declared.NodeKind.the-variants.{None, Element, Literal, Referred}
-use Rattle.value_lines.specs.Standing.{chars-at}
+use Rattle.nodes.specs.Characters.{characters-at}
 use Rattle.value_lines.specs.Walking.{Skips, Seeking, seek-start, seek-none, seek-element, seek-past, seek-literal, seek-referred}
 use Rattle.value_lines.specs.declared.child.Child.{Child}
 use Rattle.value_lines.specs.declared.child.Child.the-variants.{Found, Missing}
@@ -102,7 +102,7 @@ module _ {n s : List ℕ} {from : ℕ} {c : Child} (d : ChildAt n s from c) wher
 
 -- what is written of the characters that are read there
 pub put-chars : {d e : List ℕ} {o r : ℕ} (f : List ℕ → List ℕ) (s : List ℕ) (i : ℕ) → Put d e o r (f (rest 1 s (2 * i))) → Put d e o r (f (charactersOf (nodesAt s i)))
-put-chars {d} {e} {o} {r} f s i p = subst (λ l. Put d e o r (f l)) (chars-at s i) p
+put-chars {d} {e} {o} {r} f s i p = subst (λ l. Put d e o r (f l)) (characters-at s i) p
 
 pub put-there : {d e : List ℕ} {o r : ℕ} (f : List ℕ → List ℕ) {n s : List ℕ} {from i : ℕ} → TextAt n s from i → Put d e o r (f (rest 1 s (2 * i))) → Put d e o r (f (textOf n (nodesAt s from)))
-put-there {d} {e} {o} {r} f {n} {s} {from} {i} t p = subst (λ l. Put d e o r (f l)) (chars-at s i ∙ sym (t .is)) p
+put-there {d} {e} {o} {r} f {n} {s} {from} {i} t p = subst (λ l. Put d e o r (f l)) (characters-at s i ∙ sym (t .is)) p

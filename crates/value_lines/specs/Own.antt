@@ -23,8 +23,8 @@ use Rattle.texts.specs.Text.{writeText}
 use Rattle.values.specs.WriteValue.{writeValue}
 use Rattle.xml.specs.Nodes.{Nodes, charactersOf}
 use Rattle.xcal.specs.ValueNodes.{childNamed, textOf, floatOf}
-use Rattle.nodes.specs.NodesAt.{nodesAt}
-use Rattle.value_lines.specs.Standing.{chars-at}
+use Rattle.xml.specs.NodesAt.{nodesAt}
+use Rattle.nodes.specs.Characters.{characters-at}
 use Rattle.value_lines.specs.Children.{ChildAt, TextAt}
 use Rattle.value_lines.specs.declared.child.Child.{Child}
 use Rattle.value_lines.specs.declared.child.Child.the-variants.{Found, Missing}
@@ -43,7 +43,7 @@ dataText (some s) = ascii ";" ⊕ writeText s
 
 -- the characters of the child are those that were read
 same-chars : {n s : List ℕ} {from i : ℕ} → TextAt n s from i → rest 1 s (2 * i) ≡ textOf n (nodesAt s from)
-same-chars {n} {s} {from} {i} t = chars-at s i ∙ sym (t .is)
+same-chars {n} {s} {from} {i} t = characters-at s i ∙ sym (t .is)
 
 module _ {d e : List ℕ} {o q : ℕ} {n s : List ℕ} {from i : ℕ} (t : TextAt n s from i) {r : FloatRead} (f : readFloat (rest 1 s (2 * i)) ≡ readAs 256 1 s r) where
   pub put-read : {m : Bool} {a b : ℕ} → r ≡ Good m a b → Put d e o q (orNothing writeFloat (readFloat (rest 1 s (2 * i)))) → Put d e o q (writeFloat (floatOf n (nodesAt s from)))

@@ -17,7 +17,7 @@ use Rattle.times.specs.Period.{writePeriod}
 use Rattle.values.specs.WriteValue.{writeValue}
 use Rattle.xml.specs.Nodes.{Nodes, charactersOf}
 use Rattle.xcal.specs.ValueNodes.{childNamed, textOf, momentOf, periodOf}
-use Rattle.nodes.specs.NodesAt.{nodesAt}
+use Rattle.xml.specs.NodesAt.{nodesAt}
 use Rattle.value_lines.specs.Children.{ChildAt, TextAt, put-there, put-chars}
 use Rattle.value_lines.specs.declared.child.Child.{Child}
 use Rattle.value_lines.specs.declared.child.Child.the-variants.{Found, Missing}

@@ -25,7 +25,7 @@ use Rattle.recur.specs.Item.{readItem, writeItem}
 use Rattle.recur.specs.Rule.{writePart, writeRule}
 use Rattle.xml.specs.Nodes.{Nodes, charactersOf}
 use Rattle.xcal.specs.ValueNodes.{itemsOf, onePart, partsOf}
-use Rattle.nodes.specs.NodesAt.{nodesAt}
+use Rattle.xml.specs.NodesAt.{nodesAt}
 use Rattle.value_lines.specs.Children.{put-chars}
 use Rattle.value_lines.specs.Joining.{following, following-first, following-none, following-more}
 use Rattle.value_lines.specs.Rules.{partName, part-capitals, itemAt, itemsFrom, Within, ItemAt}

@@ -28,7 +28,7 @@ use Rattle.recur.specs.Parts.{partNames}
 use Rattle.recur.specs.Item.{readItem}
 use Rattle.xml.specs.Nodes.{charactersOf}
 use Rattle.xcal.specs.ValueNodes.{itemsOf}
-use Rattle.nodes.specs.NodesAt.{nodesAt}
+use Rattle.xml.specs.NodesAt.{nodesAt}
 use Rattle.nodes.specs.NodeFound.{NodeAt, node-less, element-onward}
 use Rattle.nodes.specs.declared.Node.{Node}
 use Rattle.nodes.specs.declared.NodeKind.the-variants.{None, Element, Literal, Referred}

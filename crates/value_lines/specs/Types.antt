@@ -31,8 +31,8 @@ use Rattle.values.specs.declared.ValueRead.{ValueRead}
 use Rattle.values.specs.declared.ValueRead.the-variants.{Good, Bad}
 use Rattle.xml.specs.Nodes.{Nodes, charactersOf}
 use Rattle.xcal.specs.ValueNodes.{childNamed, periodOf, valueOf, typedValues}
-use Rattle.nodes.specs.NodesAt.{nodesAt}
-use Rattle.value_lines.specs.Standing.{chars-at}
+use Rattle.xml.specs.NodesAt.{nodesAt}
+use Rattle.nodes.specs.Characters.{characters-at}
 use Rattle.value_lines.specs.Typed.{valuesFrom, TypedAt, value-period, value-recur, value-leaf}
 use Rattle.value_lines.specs.declared.typed.TypedFound.{TypedFound}
 use Rattle.value_lines.specs.declared.typed.TypedFound.the-variants.{Value as Found, Last}
@@ -82,7 +82,7 @@ module _ (t : ℕ) (s : List ℕ) (i : ℕ) (h : t ≤ 14) where
 
     module _ (m : t ≡ 9 → ⊥) {v : ValueRead} (q : v ≡ valueRead t (isRead (readValue xcal (typeAt t) (rest 1 s (2 * i))))) where
       leaf : {b : Bool} → b ≡ isRead (readValue xcal (typeAt t) (rest 1 s (2 * i))) → isRead (readValue xcal (typeAt t) (charactersOf (nodesAt s i))) ≡ b
-      leaf e = sym (e ∙ ap (λ (l : List ℕ). isRead (readValue xcal (typeAt t) l)) (chars-at s i))
+      leaf e = sym (e ∙ ap (λ (l : List ℕ). isRead (readValue xcal (typeAt t) l)) (characters-at s i))
 
       pub type-is-read : {u : ℕ} → v ≡ Good u → (typeAt t ≡ typeOf (valueOf (typeAt t) (nodesAt s i))) × (t ≤ 14)
       type-is-read e = (sym (ap typeOf (value-leaf t (nodesAt s i) h n m) ∙ type-of-read (typeAt t) (charactersOf (nodesAt s i)) (leaf (good-yes t q e))), h)

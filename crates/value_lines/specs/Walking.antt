@@ -9,7 +9,7 @@ use native.Mathlib.Omega.{arith}
 use lib.ListN.{take}
 use Rattle.source.specs.Source.{rest}
 use Rattle.xml.specs.Nodes.{Nodes, noNodes, element, literal, referred}
-use Rattle.nodes.specs.NodesAt.{nodesAt}
+use Rattle.xml.specs.NodesAt.{nodesAt}
 use Rattle.nodes.specs.NodeFound.{NodeAt, node-none, node-element, node-literal, node-referred, element-onward, literal-onward, referred-onward}
 use Rattle.nodes.specs.declared.Node.{Node}
 use Rattle.nodes.specs.declared.NodeKind.the-variants.{None, Element, Literal, Referred}

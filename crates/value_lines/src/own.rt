@@ -17,7 +17,7 @@ ghost use Rattle.texts.specs.Text.{writeText};
 ghost use Rattle.values.specs.WriteValue.{writeValue};
 ghost use Rattle.xml.specs.Nodes.{charactersOf};
 ghost use Rattle.xcal.specs.ValueNodes.{childNamed, textOf, floatOf};
-ghost use Rattle.nodes.specs.NodesAt.{nodesAt};
+ghost use Rattle.xml.specs.NodesAt.{nodesAt};
 ghost use Rattle.value_lines.specs.Own.{dataText, geoOf, statusOf};
 
 // The FLOAT in the child of a name; 0 where there is none.

@@ -11,7 +11,7 @@ ghost use Rattle.octets.specs.Ascii.{ascii};
 ghost use Rattle.sink.specs.Sink.{Put};
 ghost use Rattle.values.specs.WriteValue.{writeValue};
 ghost use Rattle.xcal.specs.ValueNodes.{childNamed, momentOf, periodOf};
-ghost use Rattle.nodes.specs.NodesAt.{nodesAt};
+ghost use Rattle.xml.specs.NodesAt.{nodesAt};
 ghost use Rattle.value_lines.specs.Periods.{endOf};
 
 // The date-time in the child of a name.

@@ -10,7 +10,7 @@ ghost use Rattle.sink.specs.Sink.{Put};
 ghost use Rattle.schema.specs.Numbers.{typeAt, propertyName};
 ghost use Rattle.values.specs.WriteValue.{writeValues, typeOfAll};
 ghost use Rattle.xcal.specs.ValueNodes.{readValueNodes};
-ghost use Rattle.nodes.specs.NodesAt.{nodesAt};
+ghost use Rattle.xml.specs.NodesAt.{nodesAt};
 
 // The values of the property of the number `p` whose content begins at `inside`, as iCalendar text.
 pub fn put_values(out: &mut [u8], o: usize, p: usize, s: &[u8], inside: usize) -> usize

@@ -23,7 +23,7 @@ ghost use Rattle.recur.specs.Parts.{partNames};
 ghost use Rattle.recur.specs.Item.{writeItem};
 ghost use Rattle.recur.specs.Rule.{writeRule};
 ghost use Rattle.xcal.specs.ValueNodes.{itemsOf, partsOf};
-ghost use Rattle.nodes.specs.NodesAt.{nodesAt};
+ghost use Rattle.xml.specs.NodesAt.{nodesAt};
 ghost use Rattle.value_lines.specs.Rules.{partWords, ItemAt};
 ghost use Rattle.value_lines.specs.PutRule.{itemText};
 

@@ -20,7 +20,7 @@ ghost use Rattle.sink.specs.Sink.{Put};
 ghost use Rattle.schema.specs.Numbers.{typeAt};
 ghost use Rattle.values.specs.WriteValue.{writeValue, writeValues, typeOfAll};
 ghost use Rattle.xcal.specs.ValueNodes.{valueOf, typedValues};
-ghost use Rattle.nodes.specs.NodesAt.{nodesAt};
+ghost use Rattle.xml.specs.NodesAt.{nodesAt};
 ghost use Rattle.value_lines.specs.Typed.{TypedAt};
 
 // A value's element: the number of its type, where its content begins, and the place of the next node; or there is none.

@@ -1,6 +1,6 @@
 -- `value_lines::own::put_geo` meets its contract.
 use denote.Ref.{now}
-use Rattle.nodes.specs.NodesAt.{nodesAt}
+use Rattle.xml.specs.NodesAt.{nodesAt}
 use Rattle.value_lines.specs.Own.{put-geo}
 use Rattle.sink.specs.Sink.{_▷_, writing}
 use Rattle.value_lines.proofs.own.put_geo.Statement.{statement}

@@ -1,6 +1,6 @@
 -- `value_lines::period::put_period` meets its contract.
 use denote.Ref.{now}
-use Rattle.nodes.specs.NodesAt.{nodesAt}
+use Rattle.xml.specs.NodesAt.{nodesAt}
 use Rattle.octets.specs.Ascii.{ascii}
 use Rattle.xcal.specs.ValueNodes.{childNamed}
 use Rattle.value_lines.specs.Periods.{put-period}

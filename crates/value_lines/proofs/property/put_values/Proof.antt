@@ -1,6 +1,6 @@
 -- `value_lines::property::put_values` meets its contract.
 use denote.Ref.{now}
-use Rattle.nodes.specs.NodesAt.{nodesAt}
+use Rattle.xml.specs.NodesAt.{nodesAt}
 use Rattle.value_lines.specs.ValuesAt.{put-geo, put-status, put-typed}
 use Rattle.sink.specs.Sink.{writing}
 use Rattle.value_lines.proofs.property.put_values.Statement.{statement}

@@ -1,6 +1,6 @@
 -- `value_lines::property::type_of_values` meets its contract.
 use denote.Ref.{now}
-use Rattle.nodes.specs.NodesAt.{nodesAt}
+use Rattle.xml.specs.NodesAt.{nodesAt}
 use Rattle.value_lines.specs.ValuesAt.{type-geo, type-status, type-typed}
 use Rattle.value_lines.proofs.property.type_of_values.Statement.{statement}
 use Rattle.value_lines.proofs.property.type_of_values.Tie as tie
