@@ -9,7 +9,6 @@
 --     Typed       values in elements that are named as their type
 --     Types       the type of a value
 --     ValuesAt    the values of a property by its number
-pub mod ElementTypes
 pub mod Walking
 pub mod Children
 pub mod Leaves

@@ -35,13 +35,13 @@ use Rattle.xml.specs.NodesAt.{nodesAt}
 use Rattle.nodes.specs.NodeFound.{NodeAt, node-less, element-onward}
 use Rattle.nodes.specs.declared.Node.{Node}
 use Rattle.nodes.specs.declared.NodeKind.the-variants.{None, Element, Literal, Referred}
-use Rattle.value_lines.specs.ElementTypes.{TypeNamed, smallType}
+use Rattle.value_nodes.specs.ElementTypes.{TypeNamed, smallType}
 use Rattle.value_lines.specs.Walking.{Skips, Seeking, seek-start, seek-none, seek-element, seek-past, seek-literal, seek-referred}
 use Rattle.value_lines.specs.Children.{put-chars}
 use Rattle.value_lines.specs.Leaves.{valueText, value-or}
 use Rattle.value_lines.specs.Joining.{following, following-first, following-none, following-more}
-use Rattle.value_lines.specs.declared.types.Named.{Named}
-use Rattle.value_lines.specs.declared.types.Named.the-variants.{«Type» as Known, Bad}
+use Rattle.value_nodes.specs.declared.Named.{Named}
+use Rattle.value_nodes.specs.declared.Named.the-variants.{«Type» as Known, Bad}
 use Rattle.value_lines.specs.declared.typed.TypedFound.{TypedFound}
 use Rattle.value_lines.specs.declared.typed.TypedFound.the-variants.{Value as Found, Last}
 

@@ -7,7 +7,6 @@ mod period;
 mod property;
 mod rule;
 mod typed;
-mod types;
 
 pub use property::put_values;
 pub use property::type_of_values;
