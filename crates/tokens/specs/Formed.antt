@@ -2,14 +2,15 @@
 --     verdictOf          what the code's answer says
 --     Formed v l r       r is the verdict v, its place not behind the end of an input of l bytes
 --     Ongoing            the invariant of the pass: at the place `at`, with d open elements, the verdict v is that on the rest
---     start-turn .. fault-stop    a turn for each kind of token, and its ends
+--     start-turn .. fault-stop    a turn for each kind of token, or its refusal;   over-fine, over-open: the end of the input
+--     Turn, After        what depth_after answers;   turn-stop, turn-open, turn-stay: by its ways
 --     formed-start, formed-empty, formed-fault    from the root's tag
 use mathlib.Core.Path.{_≡_, refl, ap, _∙_}
 use mathlib.Core.Bool.{Bool, true, false}
 use mathlib.Core.List.{List, [], _∷_}
 use Prim.Native.Nat.{ℕ, _+_, _-_, _≤_, _<_}
 use native.Mathlib.Omega.{arith}
-use lib.Dec.{ltb}
+use lib.Dec.{eqb, ltb}
 use lib.ListN.{length, getD, set, take, length-set}
 use borrow.Author.Tests.{eq-eqb, ne-eqb, ltb-true, ltb-false}
 use Rattle.octets.specs.Pick.{pick, _and_}
@@ -19,11 +20,11 @@ use Rattle.model.specs.Refusal.{XML, Verdict, fine, refuse}
 use Rattle.source.specs.Source.{rest}
 use Rattle.xml.specs.Prolog.{prolog}
 use Rattle.xml.specs.Marks.{documentMarks}
-use Rattle.xml.specs.WellFormed.{hasRoom, closesTop, move, followed, check, xmlVerdict}
+use Rattle.xml.specs.WellFormed.{onward, stop, hasRoom, closesTop, move, followed, check, xmlVerdict}
 use Rattle.xml.specs.NodesAt.{marksAt, mark-none}
-use Rattle.tokens.specs.TokenAt.{Reads, tokenIn, nameIn, token-inside}
+use Rattle.tokens.specs.TokenAt.{Reads, tokenIn, nameIn, token-inside, token-less}
 use Rattle.tokens.specs.MarksAt.{a-token, marks-start, marks-empty, marks-end, marks-char, marks-reference, marks-fault, RootAt, root-start, root-empty, root-fault, root-none, root-place}
-use Rattle.tokens.specs.Open.{opened, opened-push, opened-pop, opened-none, opened-empty, roomAt, room-is, room-low}
+use Rattle.tokens.specs.Open.{opened, opened-push, opened-empty, mayStand, closesAt, closes-is, roomAt, room-is, room-low}
 use Rattle.tokens.specs.declared.Xml.{Xml}
 use Rattle.tokens.specs.declared.Xml.the-variants.{Fine, Refused}
 use Rattle.tokens.specs.declared.TokenAt.{TokenAt}
@@ -86,36 +87,38 @@ module _ {v : Verdict} {s a e : List ℕ} {d at : ℕ} {t : TokenAt} (o : Ongoin
   unfolding check move followed pick
   empty-stop k h = stopped (rw (marks-empty x k, room-is s a e d, h))
 
-  pub end-none : t .kind ≡ End → d ≡ 0 → Formed v (length s) (Refused at)
-  unfolding check move followed closesTop
-  end-none k h = stopped (rw (marks-end x k, opened-none s a e d h))
-
-  module _ (k : t .kind ≡ End) (h : d ≡ 0 → ⊥) where
-    pub end-turn : same (rest 0 (take (getD e (d - 1) 0) s) (getD a (d - 1) 0)) (nameIn s t) ≡ true → Ongoing v s a e (d - 1) (t .next)
-    unfolding check move followed closesTop pick
-    end-turn q = record {
-      deep = omega (arith, o .deep);
-      begun = o .begun;
-      ended = o .ended;
-      inside = token-inside x (a-token End refl k);
-      left = o .left ∙ rw (marks-end x k, opened-pop s a e d h, q);
-    }
-
-    pub end-stop : same (rest 0 (take (getD e (d - 1) 0) s) (getD a (d - 1) 0)) (nameIn s t) ≡ false → Formed v (length s) (Refused at)
-    unfolding check move followed closesTop pick
-    end-stop q = stopped (rw (marks-end x k, opened-pop s a e d h, q))
-
-  pub char-turn : t .kind ≡ Char → (d ≡ 0 → ⊥) → Ongoing v s a e d (t .next)
+  pub end-turn : t .kind ≡ End → closesAt s a e d (t .name) (t .«name_end») ≡ true → Ongoing v s a e (d - 1) (t .next)
   unfolding check move followed pick
-  char-turn k h = stay (a-token Char refl k) (rw (marks-char x k, opened-empty s a e d, ne-eqb d 0 h))
+  end-turn k q = record {
+    deep = omega (arith, o .deep);
+    begun = o .begun;
+    ended = o .ended;
+    inside = token-inside x (a-token End refl k);
+    left = o .left ∙ rw (marks-end x k, closes-is s a e d (t .name) (t .«name_end») at, q);
+  }
 
-  pub space-turn : t .kind ≡ Char → d ≡ 0 → isSpace (t .unit) ≡ true → Ongoing v s a e d (t .next)
+  pub end-stop : t .kind ≡ End → closesAt s a e d (t .name) (t .«name_end») ≡ false → Formed v (length s) (Refused at)
   unfolding check move followed pick
-  space-turn k h q = stay (a-token Char refl k) (rw (marks-char x k, opened-empty s a e d, eq-eqb d 0 h, q))
+  end-stop k q = stopped (rw (marks-end x k, closes-is s a e d (t .name) (t .«name_end») at, q))
 
-  pub char-stop : t .kind ≡ Char → d ≡ 0 → isSpace (t .unit) ≡ false → Formed v (length s) (Refused at)
+  -- what is checked behind a character
+  char-left : t .kind ≡ Char → verdictAt s a e d at ≡ pick (mayStand d (t .unit)) (verdictAt s a e d (t .next)) (refuse XML at)
   unfolding check move followed pick
-  char-stop k h q = stopped (rw (marks-char x k, opened-empty s a e d, eq-eqb d 0 h, q))
+  char-left k = rw (marks-char x k, opened-empty s a e d) (go (eqb d 0) (isSpace (t .unit)))
+    where
+      go : (y z : Bool) → followed (pick y (pick z (onward true (opened s a e d)) (stop at)) (onward true (opened s a e d))) (check (marksAt s (t .next)) (length s))
+          ≡ pick (pick y z true) (verdictAt s a e d (t .next)) (refuse XML at)
+      go true true = refl
+      go true false = refl
+      go false z = refl
+
+  pub char-turn : t .kind ≡ Char → mayStand d (t .unit) ≡ true → Ongoing v s a e d (t .next)
+  unfolding pick
+  char-turn k h = stay (a-token Char refl k) (char-left k ∙ rw h)
+
+  pub char-stop : t .kind ≡ Char → mayStand d (t .unit) ≡ false → Formed v (length s) (Refused at)
+  unfolding pick
+  char-stop k h = stopped (char-left k ∙ rw h)
 
   pub reference-turn : t .kind ≡ Refer → (d ≡ 0 → ⊥) → Ongoing v s a e d (t .next)
   unfolding check move followed pick
@@ -128,6 +131,27 @@ module _ {v : Verdict} {s a e : List ℕ} {d at : ℕ} {t : TokenAt} (o : Ongoin
   pub fault-stop : t .kind ≡ None → at < length s → Formed v (length s) (Refused at)
   unfolding check move followed
   fault-stop k h = stopped (rw (marks-fault x k h))
+
+-- ---- how many elements are open behind a token; 17 where it may not stand there
+
+pub record Turn (v : Verdict) (s a e : List ℕ) (d at : ℕ) (t : TokenAt) (r : ℕ) : Type 0 where
+  pub stops : 16 < r → Formed v (length s) (Refused at)
+  pub opens : d < r → r ≤ 16 → Ongoing v s (set a d (t .name)) (set e d (t .«name_end»)) r (t .next)
+  pub stays : r ≤ d → Ongoing v s a e r (t .next)
+  pub less : r ≤ 16 → length s - t .next < length s - at
+
+abbrev pub After : List ℕ → List ℕ → List ℕ → ℕ → ℕ → TokenAt → ℕ → Type 0
+After s a e d at t r = (v : Verdict) → Ongoing v s a e d at → Turn v s a e d at t r
+
+module _ {v : Verdict} {s a e : List ℕ} {d at : ℕ} {t : TokenAt} (o : Ongoing v s a e d at) (x : Reads tokenIn s at at t) where
+  pub turn-stop : Formed v (length s) (Refused at) → Turn v s a e d at t 17
+  turn-stop f = record { stops = λ h. f; opens = λ h k. absurd (omega arith); stays = λ h. absurd (omega (arith, o .deep)); less = λ h. absurd (omega arith) }
+
+  pub turn-open : (t .kind ≡ None → ⊥) → Ongoing v s (set a d (t .name)) (set e d (t .«name_end»)) (d + 1) (t .next) → Turn v s a e d at t (d + 1)
+  turn-open n f = record { stops = λ h. absurd (omega (arith, f .deep)); opens = λ h k. f; stays = λ h. absurd (omega arith); less = λ h. token-less x n }
+
+  pub turn-stay : (r : ℕ) → r ≤ d → (t .kind ≡ None → ⊥) → Ongoing v s a e r (t .next) → Turn v s a e d at t r
+  turn-stay r l n f = record { stops = λ h. absurd (omega (arith, o .deep)); opens = λ h k. absurd (omega arith); stays = λ h. f; less = λ h. token-less x n }
 
 -- the end of the input
 module _ {v : Verdict} {s a e : List ℕ} {d at : ℕ} (o : Ongoing v s a e d at) (h : length s ≤ at) where

@@ -1,6 +1,7 @@
 -- The open elements of a document, as the places of their names in the input.
 --     opened s a e d    the names of d open elements, the innermost first: name i stands from a[i] to e[i]
 --     opened-push, opened-pop, opened-one, opened-none    one more, one less, one, none
+--     mayStand, closesAt    a character, an end tag may stand there;   closes-is: its law
 --     roomAt d          an element may start inside d open ones, after the root's start;   room-is, room-low: its laws
 use mathlib.Core.Path.{_≡_, refl, sym, ap}
 use mathlib.Core.Bool.{Bool, true, false, false≢true}
@@ -11,11 +12,12 @@ use native.Mathlib.Numerals.{add-one}
 use lib.Dec.{ltb, eqb}
 use lib.ListN.{length, getD, set, take}
 use lib.Seq.{getD-set-same, getD-set-other}
-use borrow.Author.Tests.{ltb-true, ne-eqb}
+use borrow.Author.Tests.{ltb-true, ne-eqb, eqb-true, eqb-false}
 use Rattle.octets.specs.Pick.{pick}
-use Rattle.octets.specs.Words.{isEmpty}
+use Rattle.octets.specs.Class.{isSpace}
+use Rattle.octets.specs.Words.{same, isEmpty}
 use Rattle.source.specs.Source.{rest}
-use Rattle.xml.specs.WellFormed.{hasRoom}
+use Rattle.xml.specs.WellFormed.{Move, onward, stop, hasRoom, closesTop}
 
 unfoldable pub opened : List ℕ → List ℕ → List ℕ → ℕ → List (List ℕ)
 opened s a e zero = []
@@ -71,3 +73,28 @@ room-low d h = go (eqb d 0) h
     go : (t : Bool) → pick t false (ltb d 16) ≡ true → d < 16
     go true k = absurd (false≢true k)
     go false k = ltb-true d 16 k
+
+-- a character may stand where d elements are open: white space alone behind the root
+abbrev pub mayStand : ℕ → ℕ → Bool
+mayStand d u = pick (eqb d 0) (isSpace u) true
+
+-- an end tag with the name from v to w closes the innermost of d open elements
+abbrev pub closesAt : List ℕ → List ℕ → List ℕ → ℕ → ℕ → ℕ → Bool
+closesAt s a e d v w = pick (eqb d 0) false (same (rest 0 (take (getD e (d - 1) 0) s) (getD a (d - 1) 0)) (rest 0 (take w s) v))
+
+pub closes-is : (s a e : List ℕ) (d v w p : ℕ) → closesTop (rest 0 (take w s) v) true (opened s a e d) p ≡ pick (closesAt s a e d v w) (onward true (opened s a e (d - 1))) (stop p)
+unfolding closesTop pick
+closes-is s a e d v w p = go (eqb d 0) refl
+  where
+    top : List ℕ
+    top = rest 0 (take (getD e (d - 1) 0) s) (getD a (d - 1) 0)
+
+    go : (t : Bool) → eqb d 0 ≡ t →
+        closesTop (rest 0 (take w s) v) true (opened s a e d) p ≡ pick (pick t false (same top (rest 0 (take w s) v))) (onward true (opened s a e (d - 1))) (stop p)
+    go true q = rw (opened-none s a e d (eqb-true d 0 q))
+    go false q = rw (opened-pop s a e d (eqb-false d 0 q))
+
+pub closes-some : (s a e : List ℕ) (d v w : ℕ) → closesAt s a e d v w ≡ true → 1 ≤ d
+unfolding pick
+closes-some s a e zero v w h = absurd (false≢true h)
+closes-some s a e (suc d) v w h = omega arith
