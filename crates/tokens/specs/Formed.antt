@@ -11,13 +11,12 @@ use mathlib.Core.List.{List, [], _∷_}
 use Prim.Native.Nat.{ℕ, _+_, _-_, _≤_, _<_}
 use native.Mathlib.Omega.{arith}
 use lib.Dec.{eqb, ltb}
-use lib.ListN.{length, getD, set, take, length-set}
+use lib.ListN.{length, set, length-set}
 use borrow.Author.Tests.{eq-eqb, ne-eqb, ltb-true, ltb-false}
 use Rattle.octets.specs.Pick.{pick, _and_}
 use Rattle.octets.specs.Class.{isSpace}
-use Rattle.octets.specs.Words.{same, same-self}
+use Rattle.octets.specs.Words.{same-self}
 use Rattle.model.specs.Refusal.{XML, Verdict, fine, refuse}
-use Rattle.source.specs.Source.{rest}
 use Rattle.xml.specs.Prolog.{prolog}
 use Rattle.xml.specs.Marks.{documentMarks}
 use Rattle.xml.specs.WellFormed.{onward, stop, hasRoom, closesTop, move, followed, check, xmlVerdict}

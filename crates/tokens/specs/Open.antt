@@ -17,7 +17,7 @@ use Rattle.octets.specs.Pick.{pick}
 use Rattle.octets.specs.Class.{isSpace}
 use Rattle.octets.specs.Words.{same, isEmpty}
 use Rattle.source.specs.Source.{rest}
-use Rattle.xml.specs.WellFormed.{Move, onward, stop, hasRoom, closesTop}
+use Rattle.xml.specs.WellFormed.{onward, stop, hasRoom, closesTop}
 
 unfoldable pub opened : List ℕ → List ℕ → List ℕ → ℕ → List (List ℕ)
 opened s a e zero = []

@@ -1,9 +1,9 @@
 // The XML profile in one pass. See specs/Formed.antt.
-use crate::tag::root_at;
-use crate::token::token_at;
 use crate::TokenAt;
 use crate::TokenKind;
 use crate::Xml;
+use crate::tag::root_at;
+use crate::token::token_at;
 use names::is_word;
 use octets::is_space;
 ghost use mathlib.Core.Path.{_≡_};
@@ -48,7 +48,14 @@ fn may_stand(depth: usize, u: usize) -> bool
 }
 
 // An end tag with the name from `name` to `name_end` closes the innermost of `depth` open elements.
-fn closes_top(s: &[u8], starts: [usize; 16], ends: [usize; 16], depth: usize, name: usize, name_end: usize) -> bool
+fn closes_top(
+    s: &[u8],
+    starts: [usize; 16],
+    ends: [usize; 16],
+    depth: usize,
+    name: usize,
+    name_end: usize,
+) -> bool
     requires { ⌜ (depth ≤ 16) × (name ≤ «name_end») × («name_end» ≤ length (now s)) ⌝ }
     ensures { λ r. ⌜ r ≡ closesAt (now (s .entry)) starts ends depth name «name_end» ⌝ }
 {
@@ -60,7 +67,14 @@ fn closes_top(s: &[u8], starts: [usize; 16], ends: [usize; 16], depth: usize, na
 }
 
 // How many elements are open behind the token `t` at `at`; 17 where it may not stand there.
-fn depth_after(s: &[u8], at: usize, t: TokenAt, starts: [usize; 16], ends: [usize; 16], depth: usize) -> usize
+fn depth_after(
+    s: &[u8],
+    at: usize,
+    t: TokenAt,
+    starts: [usize; 16],
+    ends: [usize; 16],
+    depth: usize,
+) -> usize
     requires { ⌜ Reads tokenIn (now s) at at t × (at < length (now s)) × (depth ≤ 16) ⌝ }
     ensures { λ r. ⌜ After (now (s .entry)) starts ends depth at t r ⌝ }
 {
@@ -101,7 +115,13 @@ fn depth_after(s: &[u8], at: usize, t: TokenAt, starts: [usize; 16], ends: [usiz
 }
 
 // What stands from `from` on, inside as many elements as `inside` says, whose names stand from `starts[i]` to `ends[i]`.
-fn content_formed(s: &[u8], from: usize, starts: [usize; 16], ends: [usize; 16], inside: usize) -> Xml
+fn content_formed(
+    s: &[u8],
+    from: usize,
+    starts: [usize; 16],
+    ends: [usize; 16],
+    inside: usize,
+) -> Xml
     requires { ⌜ (from ≤ length (now s)) × (inside ≤ 16) ⌝ }
     ensures { λ r. ⌜ Formed (verdictAt (now (s .entry)) starts ends inside from) (length (now (s .entry))) r ⌝ }
 {

@@ -1,11 +1,11 @@
 // Tags at a place. See specs/Tags.antt.
+use crate::TokenAt;
+use crate::TokenKind;
 use crate::pieces::attribute_at;
 use crate::pieces::blank_at;
 use crate::pieces::exactly_at;
 use crate::pieces::name_at;
 use crate::prolog::prolog_end;
-use crate::TokenAt;
-use crate::TokenKind;
 ghost use mathlib.Core.Path.{_≡_};
 ghost use Prim.Native.Nat.{_+_, _≤_, _<_};
 ghost use lib.ListN.{length};

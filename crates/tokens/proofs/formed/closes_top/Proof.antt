@@ -1,7 +1,7 @@
--- `tokens::closes_top` meets its contract. Assumes nothing.
+-- `tokens::formed::closes_top` meets its contract.
 use native.Mathlib.Omega.{arith}
-use Rattle.octets.specs.Pick.{branching}
 use borrow.Author.Needs.{needs}
+use Rattle.octets.specs.Pick.{branching}
 use Rattle.tokens.proofs.formed.closes_top.Statement.{statement}
 use Rattle.tokens.proofs.formed.closes_top.Tie as tie
 

@@ -1,9 +1,9 @@
--- `tokens::content_formed` meets its contract. Assumes nothing.
-use Rattle.tokens.specs.Formed.{verdictAt, Ongoing, ongoing-start, over-fine, over-open}
-use lib.ListN.{length}
-use native.Mathlib.Omega.{arith}
+-- `tokens::formed::content_formed` meets its contract.
 use Prim.Native.Nat.{_-_}
+use native.Mathlib.Omega.{arith}
+use lib.ListN.{length}
 use borrow.Author.Needs.{needs}
+use Rattle.tokens.specs.Formed.{verdictAt, Ongoing, ongoing-start, over-fine, over-open}
 use Rattle.tokens.proofs.formed.content_formed.Statement.{statement}
 use Rattle.tokens.proofs.formed.content_formed.Tie as tie
 

@@ -1,13 +1,13 @@
--- `tokens::depth_after` meets its contract. Assumes nothing.
+-- `tokens::formed::depth_after` meets its contract.
+use mathlib.Core.Path.{refl, sym, _∙_}
+use native.Mathlib.Omega.{arith}
+use denote.Ref.{now}
+use borrow.Author.Needs.{needs}
 use Rattle.tokens.specs.declared.TokenKind.the-variants.{Start, Empty, End, Char, Reference as Refer}
 use Rattle.tokens.specs.Formed.{start-turn, start-stop, empty-turn, empty-stop, end-turn, end-stop, char-turn, char-stop, reference-turn, reference-stop, fault-stop, turn-stop, turn-open, turn-stay}
 use Rattle.tokens.specs.Open.{closes-some}
 use Rattle.tokens.specs.MarksAt.{a-token}
 use Rattle.tokens.specs.TokenAt.{token-named}
-use denote.Ref.{now}
-use native.Mathlib.Omega.{arith}
-use mathlib.Core.Path.{refl, sym, _∙_}
-use borrow.Author.Needs.{needs}
 use Rattle.tokens.proofs.formed.depth_after.Statement.{statement}
 use Rattle.tokens.proofs.formed.depth_after.Tie as tie
 

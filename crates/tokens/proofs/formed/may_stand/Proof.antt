@@ -1,4 +1,4 @@
--- `tokens::may_stand` meets its contract. Assumes nothing.
+-- `tokens::formed::may_stand` meets its contract.
 use Rattle.octets.specs.Pick.{branching}
 use Rattle.tokens.proofs.formed.may_stand.Statement.{statement}
 use Rattle.tokens.proofs.formed.may_stand.Tie as tie
