@@ -4,7 +4,7 @@
 --     remaining t j    what is left of the character of the reference t at the place p after j bytes of it, and what follows it
 --     charsFrom s c    the bytes of the characters from the cursor c on, up to a tag
 --     chars-even, chars-odd    by the kind of cursor
-use mathlib.Core.Path.{_≡_, refl}
+use mathlib.Core.Path.{_≡_}
 use mathlib.Core.List.{List, []}
 use Prim.Native.Nat.{ℕ, _+_, _-_, _*_, _/_, _%_}
 use native.Mathlib.Omega.{arith}

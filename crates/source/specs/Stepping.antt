@@ -8,7 +8,7 @@
 use mathlib.Core.Path.{_≡_, refl, sym, ap, _∙_}
 use mathlib.Core.Bool.{Bool, true, false}
 use mathlib.Core.List.{List, [], _∷_}
-use Prim.Native.Nat.{ℕ, _+_, _-_, _*_, _/_, _%_, _^_, _≤_, _<_}
+use Prim.Native.Nat.{ℕ, _+_, _-_, _*_, _/_, _^_, _≤_, _<_}
 use native.Mathlib.Omega.{arith}
 use lib.Dec.{eqb, ltb}
 use lib.ListN.{length, getD, drop, drop-of-length-le, List·getD-eq-default}
@@ -18,7 +18,7 @@ use Rattle.octets.specs.Scan.{drop-next}
 use Rattle.octets.specs.Append.{_⊕_, append-cons, append-empty}
 use Rattle.utf8.specs.Spell.{spell as spelled, spell-ascii}
 use Rattle.utf8.specs.SpellAt.{spelled-two, spelled-three, spelled-four}
-use Rattle.xml.specs.Token.{Token, STag, EmptyElemTag, ETag, CharByte, Reference, Fault}
+use Rattle.xml.specs.Token.{Reference}
 use Rattle.xml.specs.NodesAt.{charsAt}
 use Rattle.xml.specs.CharAt.{charIn, Character, read-none, read-byte, read-reference, chars-none, chars-byte, chars-reference}
 use Rattle.xml.specs.ReferenceBytes.{reference-begins, reference-second, reference-third}

@@ -25,10 +25,7 @@ fn referred_unit(s: &[u8], p: usize, v: usize, n: usize, j: usize) -> Step
                 next: 2 * (p + j) + 1,
             };
         }
-        return Step {
-            u: b,
-            next: 2 * n,
-        };
+        return Step { u: b, next: 2 * n };
     }
     Step { u: 256, next: 0 }
 }
@@ -45,10 +42,7 @@ fn begin_unit(s: &[u8], p: usize, at: usize) -> Step
         return Step { u: 256, next: at };
     }
     if u < 256 {
-        return Step {
-            u: u,
-            next: 2 * n,
-        };
+        return Step { u: u, next: 2 * n };
     }
     referred_unit(s, p, u - 257, n, 0)
 }

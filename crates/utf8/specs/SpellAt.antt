@@ -6,12 +6,12 @@
 use mathlib.Core.Path.{_≡_, refl, sym, ap, _∙_}
 use mathlib.Core.Bool.{Bool, true, false}
 use mathlib.Core.List.{List, [], _∷_}
-use Prim.Native.Nat.{ℕ, zero, suc, _+_, _/_, _%_, _≤_, _<_}
+use Prim.Native.Nat.{ℕ, zero, suc, _+_, _/_, _≤_, _<_}
 use native.Mathlib.Omega.{arith}
-use lib.Dec.{eqb, ltb}
+use lib.Dec.{eqb}
 use lib.ListN.{length, getD}
 use borrow.Author.Needs.{needs}
-use borrow.Author.Tests.{eq-eqb, ne-eqb, lt-ltb, le-ltb}
+use borrow.Author.Tests.{ne-eqb, lt-ltb, le-ltb}
 use Rattle.octets.specs.Pick.{pick, within, _or_}
 use Rattle.utf8.specs.Spell.{spell, isCharacter, tailOf, spell-ascii}
 
@@ -42,7 +42,7 @@ module _ (c : ℕ) where
   unfolding spell pick
   spelled-four l = rw (le-ltb c 0x80 (omega arith), le-ltb c 0x800 (omega arith), le-ltb c 0x10000 l)
 
--- its length
+  -- its length
   pub length-one : c < 0x80 → 1 ≡ length (spell c)
   length-one h = rw (spell-ascii c h)
 
@@ -106,18 +106,21 @@ module _ (c k : ℕ) where
 
   module _ {r : ℕ} where
     pub byte-two : 0x80 ≤ c → c < 0x800 → r ≡ twoOf c k → Byte c k r
-    byte-two l h e =
-        (e ∙ sym (ap (λ (l : List ℕ). getD l k 0) (spelled-two c l h) ∙ get-two (0xC0 + c / 64) (tailOf c) k),
-        rw e (small-pick (eqb k 0) _ _ (omega arith) (small-pick (eqb k 1) _ _ (omega arith) (omega arith))))
+    byte-two l h e = (
+      e ∙ sym (ap (λ (l : List ℕ). getD l k 0) (spelled-two c l h) ∙ get-two (0xC0 + c / 64) (tailOf c) k),
+      rw e (small-pick (eqb k 0) _ _ (omega arith) (small-pick (eqb k 1) _ _ (omega arith) (omega arith))),
+    )
 
     pub byte-three : 0x800 ≤ c → c < 0x10000 → r ≡ threeOf c k → Byte c k r
-    byte-three l h e =
-        (e ∙ sym (ap (λ (l : List ℕ). getD l k 0) (spelled-three c l h) ∙ get-three (0xE0 + c / 4096) (tailOf (c / 64)) (tailOf c) k),
-        rw e (small-pick (eqb k 0) _ _ (omega arith) (small-pick (eqb k 1) _ _ (omega arith) (small-pick (eqb k 2) _ _ (omega arith) (omega arith)))))
+    byte-three l h e = (
+      e ∙ sym (ap (λ (l : List ℕ). getD l k 0) (spelled-three c l h) ∙ get-three (0xE0 + c / 4096) (tailOf (c / 64)) (tailOf c) k),
+      rw e (small-pick (eqb k 0) _ _ (omega arith) (small-pick (eqb k 1) _ _ (omega arith) (small-pick (eqb k 2) _ _ (omega arith) (omega arith)))),
+    )
 
     pub byte-four : 0x10000 ≤ c → c < 0x110000 → r ≡ fourOf c k → Byte c k r
-    byte-four l h e =
-        (e ∙ sym (ap (λ (l : List ℕ). getD l k 0) (spelled-four c l) ∙ get-four (0xF0 + c / 262144) (tailOf (c / 4096)) (tailOf (c / 64)) (tailOf c) k),
-        rw e (small-pick (eqb k 0) _ _ (omega arith) (small-pick (eqb k 1) _ _ (omega arith) (small-pick (eqb k 2) _ _ (omega arith) (small-pick (eqb k 3) _ _ (omega arith) (omega arith))))))
+    byte-four l h e = (
+      e ∙ sym (ap (λ (l : List ℕ). getD l k 0) (spelled-four c l) ∙ get-four (0xF0 + c / 262144) (tailOf (c / 4096)) (tailOf (c / 64)) (tailOf c) k),
+      rw e (small-pick (eqb k 0) _ _ (omega arith) (small-pick (eqb k 1) _ _ (omega arith) (small-pick (eqb k 2) _ _ (omega arith) (small-pick (eqb k 3) _ _ (omega arith) (omega arith))))),
+    )
 
 pub ruleset spelling = (length-one, length-two, length-three, length-four, needs)

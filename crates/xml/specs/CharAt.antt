@@ -16,7 +16,7 @@ use Rattle.octets.specs.Pick.{pick, pick-either}
 use Rattle.octets.specs.Append.{_⊕_}
 use Rattle.utf8.specs.Spell.{spell}
 use Rattle.xml.specs.Token.{Token, STag, EmptyElemTag, ETag, CharByte, Reference, Fault, startBy, endBy, tag, reference, literalByte, token}
-use Rattle.xml.specs.Nodes.{Nodes, noNodes, charactersOf}
+use Rattle.xml.specs.Nodes.{charactersOf}
 use Rattle.xml.specs.NodesAt.{nodesAt, charsAt, nodes-start, nodes-empty, nodes-end, nodes-char, nodes-reference, nodes-fault, nodes-none}
 use Rattle.xml.specs.declared.CharRead.{CharRead}
 

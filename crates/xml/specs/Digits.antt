@@ -8,11 +8,11 @@ use mathlib.Core.Bool.{Bool, true, false, false≢true}
 use mathlib.Core.List.{List, [], _∷_}
 use Prim.Native.Nat.{ℕ, suc, _+_, _-_, _*_, _≤_, _<_}
 use native.Mathlib.Omega.{arith}
-use lib.Dec.{eqb, ltb}
+use lib.Dec.{ltb}
 use lib.ListN.{length, getD, take, drop, drop-of-length-le}
 use borrow.Author.Needs.{needs}
 use borrow.Author.Tests.{lt-ltb, le-ltb, le-leb, lt-leb, ne-eqb, ltb-true, ltb-false}
-use Rattle.octets.specs.Pick.{pick, pick-yes, pick-no, pick-case, _and_, _or_, within, or-no, and-no-right, flag-yes, flag-no}
+use Rattle.octets.specs.Pick.{pick, pick-yes, pick-no, pick-case, _and_, or-no, and-no-right, flag-yes, flag-no}
 use Rattle.octets.specs.Scan.{spanLen, spanEnd, SpanFrom, from-start, from-more, from-stop, from-end, drop-next}
 use Rattle.octets.specs.Class.{isDigit}
 use Rattle.octets.specs.Decimal.{digitOf, value}

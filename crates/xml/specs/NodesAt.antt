@@ -71,7 +71,7 @@ module _ (s : List ℕ) (p b : ℕ) (r : List ℕ) (e : drop p s ≡ b ∷ r) wh
   unfolding marksBy
   mark-fault g = by-token _ g
 
--- ---- nodes
+  -- ---- nodes
 
   pub nodes-start : (nm : List ℕ) (k : ℕ) → token b r ≡ STag nm k →
       nodesAt s p ≡ element p nm (endPlace (marksAt s (p + 1 + k)) 0) (nodesAt s (p + 1 + k)) (nodes (marksAt s (p + 1 + k)) 1)

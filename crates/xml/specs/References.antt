@@ -9,22 +9,19 @@ use mathlib.Core.Bool.{Bool, true, false}
 use mathlib.Core.List.{List, [], _∷_}
 use Prim.Native.Nat.{ℕ, _+_, _-_, _≤_, _<_}
 use native.Mathlib.Omega.{arith}
-use lib.Dec.{eqb, ltb}
-use lib.ListN.{length, getD, take, drop, drop-of-length-le}
+use lib.ListN.{length, getD, drop, drop-of-length-le}
 use lib.Seq.{drop-drop}
 use borrow.Author.Tests.{eq-eqb, ne-eqb, lt-ltb, le-ltb}
 use Rattle.octets.specs.Ascii.{ascii}
-use Rattle.octets.specs.Pick.{pick, pick-yes, pick-no, _and_, and-yes, and-no-left, and-no-right}
+use Rattle.octets.specs.Pick.{pick, pick-yes, pick-no, and-yes, and-no-left, and-no-right}
 use Rattle.octets.specs.Scan.{spanLen, drop-next}
-use Rattle.octets.specs.Class.{isDigit}
 use Rattle.octets.specs.Words.{starts}
-use Rattle.octets.specs.Decimal.{value}
 use Rattle.utf8.specs.Spell.{isCharacter}
 use Rattle.xml.specs.Pieces.{from}
-use Rattle.xml.specs.Token.{Token, CharByte, Reference, Fault, isHexDigit, hexValue, charRef, entityRef, reference, literalByte}
+use Rattle.xml.specs.Token.{Token, CharByte, Reference, charRef, entityRef, reference, literalByte}
 use Rattle.xml.specs.CharAt.{charToken, charIn, Character, no-character, a-byte, a-reference}
 use Rattle.xml.specs.Starting.{starts-inside, starts-byte}
-use Rattle.xml.specs.Digits.{isDigitIn, worthOn, capped, Counted, hex-worth, decimal-worth, capped-character, character-worth}
+use Rattle.xml.specs.Digits.{isDigitIn, worthOn, Counted, hex-worth, decimal-worth, capped-character, character-worth}
 use Rattle.xml.specs.declared.CharRead.{CharRead}
 use Rattle.xml.specs.declared.references.Digits.{Digits}
 

@@ -2,7 +2,7 @@
 --     Starting         the invariant of the loop;   starting: its start, its turn, its ends
 --     starts-inside    bytes that stand at a place end within the length
 --     starts-byte      one byte stands at a place
-use mathlib.Core.Path.{_≡_, refl, sym, ap, _∙_}
+use mathlib.Core.Path.{_≡_, refl, sym, _∙_}
 use mathlib.Core.Bool.{Bool, true, false, false≢true}
 use mathlib.Core.List.{List, [], _∷_}
 use Prim.Native.Nat.{ℕ, _+_, _≤_, _<_}

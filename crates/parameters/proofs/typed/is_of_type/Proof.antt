@@ -1,7 +1,7 @@
 -- `parameters::is_of_type` meets its contract.
 use mathlib.Core.Path.{refl}
-use Rattle.values.specs.ValueAt.{good-yes, good-no}
 use borrow.Author.Needs.{needs}
+use Rattle.values.specs.ValueAt.{good-yes, good-no}
 use Rattle.parameters.proofs.typed.is_of_type.Statement.{statement}
 use Rattle.parameters.proofs.typed.is_of_type.Tie as tie
 

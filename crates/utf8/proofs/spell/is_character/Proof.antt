@@ -1,5 +1,5 @@
 -- `utf8::spell::is_character` meets its contract.
-use borrow.Author.Tests.{eq-eqb, ne-eqb}
+use borrow.Author.Tests.{ne-eqb}
 use Rattle.octets.specs.Pick.{branching, or-take, or-skip, flag-yes, flag-no}
 use Rattle.utf8.specs.SpellAt.{character-tests}
 use Rattle.utf8.proofs.spell.is_character.Statement.{statement}
@@ -12,9 +12,9 @@ is-character-spec = tie.close (tie.spec
     (λ c. rw character-tests (search branching))  -- returns-2
     (λ c. rw character-tests (search branching))  -- returns-3
     (λ c κs. search branching)  -- is-within-requires-2
-    (λ c. rw character-tests (search (or-take, or-skip, flag-yes, flag-no, eq-eqb, ne-eqb) depth 9))  -- returns-4
+    (λ c. rw character-tests (search (or-take, or-skip, flag-yes, flag-no, ne-eqb) depth 9))  -- returns-4
     (λ c κs. search branching)  -- is-within-requires-3
-    (λ c. rw character-tests (search (or-take, or-skip, flag-yes, flag-no, eq-eqb, ne-eqb) depth 9))  -- returns-5
+    (λ c. rw character-tests (search (or-take, or-skip, flag-yes, flag-no, ne-eqb) depth 9))  -- returns-5
     (λ c κs. search branching)  -- is-within-requires-4
-    (λ c. rw character-tests (search (or-take, or-skip, flag-yes, flag-no, eq-eqb, ne-eqb) depth 9))  -- returns-6
+    (λ c. rw character-tests (search (or-skip, flag-no, ne-eqb) depth 9))  -- returns-6
     )

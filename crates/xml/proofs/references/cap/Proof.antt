@@ -1,6 +1,5 @@
 -- `xml::references::cap` meets its contract.
 use Rattle.xml.specs.Digits.{capping}
-use borrow.Author.Needs.{needs}
 use Rattle.xml.proofs.references.cap.Statement.{statement}
 use Rattle.xml.proofs.references.cap.Tie as tie
 

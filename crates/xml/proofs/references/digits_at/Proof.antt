@@ -1,8 +1,8 @@
 -- `xml::references::digits_at` meets its contract.
-use Rattle.xml.specs.Digits.{Counting, counting}
-use lib.ListN.{length}
 use Prim.Native.Nat.{_-_}
+use lib.ListN.{length}
 use borrow.Author.Needs.{needs}
+use Rattle.xml.specs.Digits.{Counting, counting}
 use Rattle.xml.proofs.references.digits_at.Statement.{statement}
 use Rattle.xml.proofs.references.digits_at.Tie as tie
 

@@ -1,4 +1,4 @@
--- `xml::is_digit_in` meets its contract. Assumes nothing.
+-- `xml::references::is_digit_in` meets its contract.
 use Rattle.octets.specs.Pick.{branching}
 use Rattle.xml.proofs.references.is_digit_in.Statement.{statement}
 use Rattle.xml.proofs.references.is_digit_in.Tie as tie

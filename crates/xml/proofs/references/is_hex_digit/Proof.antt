@@ -1,4 +1,4 @@
--- `xml::is_hex_digit` meets its contract. Assumes nothing.
+-- `xml::references::is_hex_digit` meets its contract.
 use Rattle.octets.specs.Pick.{branching}
 use Rattle.xml.proofs.references.is_hex_digit.Statement.{statement}
 use Rattle.xml.proofs.references.is_hex_digit.Tie as tie

@@ -1,8 +1,8 @@
 -- `xml::starting::starts_at` meets its contract.
-use Rattle.xml.specs.Starting.{Starting, starting}
-use lib.ListN.{length}
 use Prim.Native.Nat.{_-_}
+use lib.ListN.{length}
 use borrow.Author.Needs.{needs}
+use Rattle.xml.specs.Starting.{Starting, starting}
 use Rattle.xml.proofs.starting.starts_at.Statement.{statement}
 use Rattle.xml.proofs.starting.starts_at.Tie as tie
 
