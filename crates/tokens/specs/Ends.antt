@@ -5,7 +5,7 @@
 --     ends-found, ends-missing    by what the piece is there
 --     ends-then          one piece and another after it;   ends-quoted, ends-apostrophe: between quotes
 --     from-on            what stands at a later place
-use mathlib.Core.Path.{_≡_, refl, sym, ap, subst, _∙_}
+use mathlib.Core.Path.{_≡_, refl, sym, ap, _∙_}
 use mathlib.Core.Bool.{Bool, true, false}
 use mathlib.Core.List.{List, [], _∷_}
 use mathlib.Core.Option.{none, some}
@@ -105,7 +105,3 @@ module _ {p : Piece} {s : List ℕ} {at q v r : ℕ} where
         stands = λ k. rw (exact-misses (34 ∷ []) x (omega (arith, y .onward)) h) (y .stands k);
         misses = λ k l. rw (exact-misses (34 ∷ []) x k h) (y .misses k l);
       }
-
--- a piece by another name
-pub ends-as : {p q : Piece} {s : List ℕ} {at r : ℕ} → p ≡ q → Ends p s at r → Ends q s at r
-ends-as {p} {q} {s} {at} {r} e x = subst (λ (f : Piece). Ends f s at r) e x

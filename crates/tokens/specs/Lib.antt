@@ -6,6 +6,8 @@
 --     Tags         tags at a place
 --     TokenLaws    the token at a place, by the ways of the code
 --     MarksAt      the marks from a place on, by the token there
+--     Open         the open elements, as places in the input
+--     Formed       the XML profile in one pass
 pub mod Ends
 pub mod PieceLaws
 pub mod Prologue
@@ -13,3 +15,5 @@ pub mod TokenAt
 pub mod Tags
 pub mod TokenLaws
 pub mod MarksAt
+pub mod Open
+pub mod Formed

@@ -1,10 +1,12 @@
 // XML tokens, the prolog and the XML profile, by places in the input. Definitions are in crate xml, laws in specs/.
 
+mod formed;
 mod pieces;
 mod prolog;
 mod tag;
 mod token;
 
+pub use formed::well_formed;
 pub use prolog::prolog_end;
 pub use tag::root_at;
 pub use token::token_at;
@@ -27,4 +29,10 @@ pub struct TokenAt {
     pub name_end: usize,
     pub unit: usize,
     pub next: usize,
+}
+
+// Whether a document is within the XML profile, or the place of its first fault.
+pub enum Xml {
+    Fine,
+    Refused(usize),
 }

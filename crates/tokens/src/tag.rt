@@ -1,17 +1,17 @@
 // Tags at a place. See specs/Tags.antt.
+use crate::TokenAt;
+use crate::TokenKind;
 use crate::pieces::attribute_at;
 use crate::pieces::blank_at;
 use crate::pieces::exactly_at;
 use crate::pieces::name_at;
 use crate::prolog::prolog_end;
-use crate::TokenAt;
-use crate::TokenKind;
 ghost use mathlib.Core.Path.{_≡_};
 ghost use Prim.Native.Nat.{_+_, _≤_, _<_};
 ghost use lib.ListN.{length};
 ghost use Rattle.xml.specs.Token.{tag};
-ghost use Rattle.xml.specs.Prolog.{prolog};
-ghost use Rattle.tokens.specs.TokenAt.{Reads, Faulty, rootIn};
+ghost use Rattle.tokens.specs.MarksAt.{RootAt};
+ghost use Rattle.tokens.specs.TokenAt.{Reads, Faulty};
 ghost use Rattle.tokens.specs.Tags.{endOf, Opened};
 
 // No token stands there.
@@ -100,7 +100,7 @@ pub fn tag_at(s: &[u8], at: usize) -> TokenAt
 
 // The root's tag; its `unit` is its place.
 pub fn root_at(s: &[u8]) -> TokenAt
-    ensures { λ r. ⌜ Reads rootIn (now (s .entry)) (prolog (now (s .entry))) (prolog (now (s .entry))) r ⌝ }
+    ensures { λ r. ⌜ RootAt (now (s .entry)) r ⌝ }
 {
     let at = prolog_end(s);
     let a = exactly_at(s, at, b"<");

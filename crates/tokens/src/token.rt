@@ -1,8 +1,8 @@
 // The token at a place. See specs/TokenAt.antt.
-use crate::tag::fault_at;
-use crate::tag::tag_at;
 use crate::TokenAt;
 use crate::TokenKind;
+use crate::tag::fault_at;
+use crate::tag::tag_at;
 use octets::wide;
 use xml::char_at;
 ghost use mathlib.Core.Path.{_≡_};

@@ -17,7 +17,7 @@ root-at-spec = tie.close (tie.spec
     (λ c κs. search needs)  -- attribute-at-requires
     (λ c κs. search needs)  -- blank-at-requires
     (λ c κs. search needs)  -- opened-at-requires
-    (λ c. rw (← (c .before .before .before .before .before .before .before .before .before .prolog-end .ensures .0)) (root-there (c .before .before .before .before .before .before .before .exactly-at .ensures) (c .before .before .before .before .before .before .if1 .taken) (c .opened-at .ensures rootPiece (exact-stands (ascii "<") (c .before .before .before .before .before .before .before .exactly-at .ensures) (c .before .before .before .before .before .before .if1 .taken) .1) (root-tagged (c .before .before .before .before .before .before .if1 .taken) (c .before .before .before .before .before .name-at .ensures) (c .before .before .attribute-at .ensures) (c .before .blank-at .ensures)))))  -- returns
+    (λ c. record { reads = rw (← (c .before .before .before .before .before .before .before .before .before .prolog-end .ensures .0)) (root-there (c .before .before .before .before .before .before .before .exactly-at .ensures) (c .before .before .before .before .before .before .if1 .taken) (c .opened-at .ensures rootPiece (exact-stands (ascii "<") (c .before .before .before .before .before .before .before .exactly-at .ensures) (c .before .before .before .before .before .before .if1 .taken) .1) (root-tagged (c .before .before .before .before .before .before .if1 .taken) (c .before .before .before .before .before .name-at .ensures) (c .before .before .attribute-at .ensures) (c .before .blank-at .ensures)))); inside = rw (← (c .before .before .before .before .before .before .before .before .before .prolog-end .ensures .0)) (c .before .before .before .before .before .before .before .before .before .prolog-end .ensures .1) })  -- returns
     (λ c κs. search needs)  -- fault-at-requires
-    (λ c. rw (← (c .before .before .before .before .prolog-end .ensures .0)) (root-missing (c .before .before .exactly-at .ensures) (c .before .before .before .before .prolog-end .ensures .1) (c .before .if1 .left) (c .fault-at .ensures)))  -- returns-2
+    (λ c. record { reads = rw (← (c .before .before .before .before .prolog-end .ensures .0)) (root-missing (c .before .before .exactly-at .ensures) (c .before .before .before .before .prolog-end .ensures .1) (c .before .if1 .left) (c .fault-at .ensures)); inside = rw (← (c .before .before .before .before .prolog-end .ensures .0)) (c .before .before .before .before .prolog-end .ensures .1) })  -- returns-2
     )
