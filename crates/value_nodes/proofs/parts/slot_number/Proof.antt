@@ -1,0 +1,11 @@
+-- `value_nodes::slot_number` meets its contract.
+use Rattle.value_nodes.specs.Parts.{slots}
+use Rattle.value_nodes.proofs.parts.slot_number.Statement.{statement}
+use Rattle.value_nodes.proofs.parts.slot_number.Tie as tie
+
+pub slot-number-spec : {M : Type 1} → statement M
+slot-number-spec = tie.close (tie.spec
+    (λ c. search slots)  -- returns
+    (λ c. search slots)  -- sub-result
+    (λ c. search slots)  -- returns-2
+    )

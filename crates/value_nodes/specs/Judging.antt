@@ -1,0 +1,55 @@
+-- STAND-IN for crate nodes.
+-- What readers of elements find, as a verdict.
+--     judgedAs                     the verdict of an answer
+--     is-name .. is-count          the refusals that content is given
+--     after-fine, after-refused    one check after another
+--     unexpected-..                an element that has no place;   `search judging`
+use mathlib.Core.Path.{_≡_, refl, sym, _∙_}
+use mathlib.Core.List.{List, [], _∷_}
+use Prim.Native.Nat.{ℕ, _-_}
+use lib.ListN.{getD}
+use Rattle.model.specs.Refusal.{Refusal, LENGTH, WORK, CHARACTER, LINE, NAME, FRAME, PARAMETER, VALUE, COUNT, ROOM, XML, Verdict, fine, refuse, _otherwise_}
+use Rattle.value_nodes.specs.declared.nodes.Judged.{Judged}
+use Rattle.value_nodes.specs.declared.nodes.Judged.the-variants.{Fine, Refused}
+
+-- STAND-IN, the same as in crate frame
+unfoldable pub refusalAt : ℕ → Refusal
+refusalAt n = getD (LENGTH ∷ WORK ∷ CHARACTER ∷ LINE ∷ NAME ∷ FRAME ∷ PARAMETER ∷ VALUE ∷ COUNT ∷ ROOM ∷ XML ∷ []) (n - 1) LENGTH
+
+abbrev pub judgedAs : Judged → Verdict
+judgedAs Fine = fine
+judgedAs (Refused n p) = refuse (refusalAt n) p
+
+-- ---- the refusals that content is given
+
+pub is-name : (p : ℕ) → judgedAs (Refused 5 p) ≡ refuse NAME p
+unfolding refusalAt
+is-name p = refl
+
+pub is-frame : (p : ℕ) → judgedAs (Refused 6 p) ≡ refuse FRAME p
+unfolding refusalAt
+is-frame p = refl
+
+pub is-parameter : (p : ℕ) → judgedAs (Refused 7 p) ≡ refuse PARAMETER p
+unfolding refusalAt
+is-parameter p = refl
+
+pub is-value : (p : ℕ) → judgedAs (Refused 8 p) ≡ refuse VALUE p
+unfolding refusalAt
+is-value p = refl
+
+pub is-count : (p : ℕ) → judgedAs (Refused 9 p) ≡ refuse COUNT p
+unfolding refusalAt
+is-count p = refl
+
+-- ---- one check after another
+
+module _ {v : Verdict} {j : Judged} (w : Verdict) (h : v ≡ judgedAs j) where
+  pub after-fine : j ≡ Fine → (v otherwise w) ≡ w
+  unfolding _otherwise_
+  after-fine e = rw (h, e)
+
+  pub after-refused : {n p : ℕ} → j ≡ Refused n p → (v otherwise w) ≡ judgedAs (Refused n p)
+  unfolding _otherwise_
+  after-refused e = rw (h, e)
+

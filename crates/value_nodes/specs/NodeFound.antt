@@ -1,0 +1,88 @@
+-- STAND-IN for crate nodes.
+use mathlib.Core.Path.{_≡_, ap, subst, _∙_}
+use mathlib.Core.List.{List}
+use Prim.{Unit, tt}
+use Prim.Native.Nat.{ℕ, _-_, _≤_, _<_}
+use native.Mathlib.Omega.{arith}
+use lib.ListN.{length, take}
+use Rattle.utf8.specs.Spell.{spell}
+use Rattle.source.specs.Source.{rest}
+use Rattle.xml.specs.Nodes.{Nodes, noNodes, element, literal, referred}
+use Rattle.value_nodes.specs.NodesAt.{nodesAt}
+use Rattle.value_nodes.specs.declared.nodes.Node.{Node}
+use Rattle.value_nodes.specs.declared.nodes.NodeKind.{NodeKind}
+use Rattle.value_nodes.specs.declared.nodes.NodeKind.the-variants.{None, Element, Literal, Referred}
+
+-- the content from the place of a node on
+abbrev pub nodeBy : NodeKind → List ℕ → ℕ → Node → Nodes
+nodeBy None s at r = noNodes
+nodeBy Element s at r = element at (rest 0 (take (r .«name_end») s) (r .name)) (r .end) (nodesAt s (r .inside)) (nodesAt s (r .next))
+nodeBy Literal s at r = literal at (r .unit) (nodesAt s (r .next))
+nodeBy Referred s at r = referred at (spell (r .unit)) (nodesAt s (r .next))
+
+abbrev pub nodeOf : List ℕ → ℕ → Node → Nodes
+nodeOf s at r = nodeBy (r .kind) s at r
+
+-- a node, unless it is none, takes bytes; so does an element's start tag
+abbrev pub Takes : NodeKind → ℕ → Node → Type 0
+Takes None at r = Unit {0}
+Takes Element at r = (at < r .next) × (at < r .inside)
+Takes Literal at r = at < r .next
+Takes Referred at r = at < r .next
+
+pub record NodeAt (s : List ℕ) (at : ℕ) (r : Node) : Type 0 where
+  pub is : nodesAt s at ≡ nodeOf s at r
+  pub named : r .name ≤ r .«name_end»
+  pub name-within : r .«name_end» ≤ length s
+  pub inside-within : r .inside ≤ length s
+  pub next-within : r .next ≤ length s
+  pub takes : Takes (r .kind) at r
+
+-- ---- by the kind of node
+
+module _ {s : List ℕ} {at : ℕ} {r : Node} (n : NodeAt s at r) where
+  by-kind : (k : NodeKind) → r .kind ≡ k → nodesAt s at ≡ nodeBy k s at r
+  by-kind k q = n .is ∙ ap (λ (x : NodeKind). nodeBy x s at r) q
+
+  takes-by : (k : NodeKind) → r .kind ≡ k → Takes k at r
+  takes-by k q = subst (λ (x : NodeKind). Takes x at r) q (n .takes)
+
+  pub node-none : r .kind ≡ None → nodesAt s at ≡ noNodes
+  node-none q = by-kind None q
+
+  module _ (q : r .kind ≡ Element) where
+    pub node-element : nodesAt s at ≡ element at (rest 0 (take (r .«name_end») s) (r .name)) (r .end) (nodesAt s (r .inside)) (nodesAt s (r .next))
+    node-element = by-kind Element q
+
+    pub element-onward : (at < r .next) × (at < r .inside)
+    element-onward = takes-by Element q
+
+    pub element-less : length s - r .next < length s - at
+    element-less = omega (arith, element-onward, n .next-within)
+
+    pub inside-less : length s - r .inside < length s - at
+    inside-less = omega (arith, element-onward, n .inside-within)
+
+  module _ (q : r .kind ≡ Literal) where
+    pub node-literal : nodesAt s at ≡ literal at (r .unit) (nodesAt s (r .next))
+    node-literal = by-kind Literal q
+
+    pub literal-onward : at < r .next
+    literal-onward = takes-by Literal q
+
+    pub literal-less : length s - r .next < length s - at
+    literal-less = omega (arith, literal-onward, n .next-within)
+
+  module _ (q : r .kind ≡ Referred) where
+    pub node-referred : nodesAt s at ≡ referred at (spell (r .unit)) (nodesAt s (r .next))
+    node-referred = by-kind Referred q
+
+    pub referred-onward : at < r .next
+    referred-onward = takes-by Referred q
+
+    pub referred-less : length s - r .next < length s - at
+    referred-less = omega (arith, referred-onward, n .next-within)
+
+-- the measure of a walk falls with each node
+pub ruleset node-less = (element-less, inside-less, literal-less, referred-less)
+
