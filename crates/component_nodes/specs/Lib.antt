@@ -1,0 +1,4 @@
+-- The verdict on properties, components and the root of a document.
+--     Children     the children of a property, by numbers
+pub mod Children
+pub mod Turning

@@ -1,0 +1,23 @@
+// The verdict on the elements of properties and components, up to the root. Definitions are in crate xcal (specs/PropertyNodes, specs/ComponentNodes), laws in specs/.
+use nodes::Judged;
+
+mod children;
+mod standing;
+
+// The slot after a child, or that it has no place.
+pub enum After {
+    Slot(usize),
+    Nowhere,
+}
+
+// A child with a place that is fine, and the slot after it; or the refusal.
+pub enum Tried {
+    Good(usize),
+    Stops(Judged),
+}
+
+// Where the next turn begins: the place, the slot, and the two flags; or the verdict.
+pub enum Next {
+    Goes(usize, usize, bool, bool),
+    Ends(Judged),
+}
