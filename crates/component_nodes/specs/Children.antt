@@ -144,7 +144,7 @@ slot-at p n =
 first-slot : (p i : ℕ) → eqb (slotAt p i) 0 ≡ eqb i 0
 unfolding octets-compute
 first-slot p zero = by-number (λ (q : ℕ). eqb (slotAt q 0) 0 ≡ true) p refl refl (λ f h. rw (f, h))
-first-slot p (suc i) = go (eqb p 9) (eqb p 45) (ltb (suc i) 3) (ltb (suc i) 4) (ltb (suc i) 16) ∙ sym (nonzero i)
+first-slot p (suc i) = rw (nonzero i) (go (eqb p 9) (eqb p 45) (ltb (suc i) 3) (ltb (suc i) 4) (ltb (suc i) 16))
   where
     go : (a b x y z : Bool) → eqb (pick a (pick x (suc i) 4) (pick b (pick y (suc i) 4) (pick z 1 4))) 0 ≡ false
     go true b true y z = nonzero i

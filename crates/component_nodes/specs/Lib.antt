@@ -2,3 +2,4 @@
 --     Children     the children of a property, by numbers
 pub mod Children
 pub mod Turning
+pub mod Properties

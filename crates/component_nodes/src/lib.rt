@@ -2,6 +2,7 @@
 use nodes::Judged;
 
 mod children;
+mod properties;
 mod standing;
 
 // The slot after a child, or that it has no place.
