@@ -135,7 +135,7 @@ module _ (p t : ℕ) (kids : Nodes) where
   unfolding _and_
   lacks-not z = record { is = λ w o h e. sym (rw (is-binary w h e, ne-eqb t 0 z)) }
 
-  module _ (s : List ℕ) (z : t ≡ 0) {q : ℕ} (f : (w : List ℕ) → p ≡ placeOf w propertyNames → nodesAt s q ≡ parametersIn w kids) {b : Bool} (g : b ≡ hasEncoding (nodesAt s q)) where
+  module _ (s : List ℕ) (z : t ≡ 0) (q : ℕ) (f : (w : List ℕ) → p ≡ placeOf w propertyNames → nodesAt s q ≡ parametersIn w kids) {b : Bool} (g : b ≡ hasEncoding (nodesAt s q)) where
     pub lacks-found : b ≡ true → LacksAt p t kids false
     unfolding _and_
     lacks-found y = record { is = λ w o h e. sym (rw (is-binary w h e, eq-eqb t 0 z, ← (f w o), ← g, y)) }
