@@ -3,3 +3,5 @@
 pub mod Children
 pub mod Turning
 pub mod Properties
+pub mod Counting
+pub mod Components

