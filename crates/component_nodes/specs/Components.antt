@@ -50,7 +50,7 @@ come p c = record { properties = p; components = c }
 pub record EndAt (k : ℕ) (counts : Bool) (had came : Bool) (e : ℕ) (r : Judged) : Type 0 where
   pub is : (c : List ℕ) → k ≡ placeOf c componentNames → endOfComponent c counts (come had came) e ≡ judgedAs r
 
-module _ (k e : ℕ) {counts had came : Bool} where
+module _ (k e : ℕ) (counts had came : Bool) where
   end-at : (c : List ℕ) → k ≡ placeOf c componentNames → endOfComponent c counts (come had came) e ≡ pick (not had or (eqb k 0 and not came)) (refuse FRAME e) (pick counts fine (refuse COUNT e))
   unfolding endOfComponent
   end-at c o = rw (calendar-place c, ← o)
@@ -83,7 +83,7 @@ module _ (k e : ℕ) {counts had came : Bool} where
 pub record EndsAt (k : ℕ) (any : Bool) (e : ℕ) (r : Judged) : Type 0 where
   pub is : (c : List ℕ) → k ≡ placeOf c componentNames → endOfComponents c any e ≡ judgedAs r
 
-module _ (k e : ℕ) {any : Bool} where
+module _ (k e : ℕ) (any : Bool) where
   ends-at : (c : List ℕ) → k ≡ placeOf c componentNames → endOfComponents c any e ≡ pick (any or eqb k 0 or eqb k 5) fine (refuse FRAME e)
   unfolding endOfComponents
   ends-at c o = rw (calendar-place c, timezone-place c, ← o)
