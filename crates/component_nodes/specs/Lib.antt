@@ -5,3 +5,4 @@ pub mod Turning
 pub mod Properties
 pub mod Counting
 pub mod Components
+pub mod Subcomponents

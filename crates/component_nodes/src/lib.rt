@@ -6,6 +6,7 @@ mod component;
 mod counting;
 mod properties;
 mod standing;
+mod subcomponents;
 
 // The slot after a child, or that it has no place.
 pub enum After {
@@ -29,4 +30,18 @@ pub enum Next {
 pub enum Part {
     Ends(Judged),
     Opens(usize, usize, usize, bool),
+}
+
+// The number of a component that may stand where it does; or another element.
+pub enum Numbered {
+    Number(usize),
+    Other,
+}
+
+// The verdict; or where the children of `components` go on, and whether a component has come; or a component with `components` of its own: its number, whether its counts are good,
+// whether it has `properties`; where the content of its `components` begins, the end tag and the place behind it; its own end tag, and the place behind it.
+pub enum Sub {
+    Done(Judged),
+    Past(usize, bool),
+    Deep(usize, bool, bool, usize, usize, usize, usize, usize),
 }
