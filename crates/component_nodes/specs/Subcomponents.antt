@@ -191,26 +191,49 @@ pub record Among (k : ℕ) (s : List ℕ) (from e at : ℕ) (any : Bool) : Type 
 pub among-start : (k : ℕ) (s : List ℕ) (from e : ℕ) → Among k s from e from false
 among-start k s from e = record { is = λ c o. refl; low = omega arith }
 
-module _ {k : ℕ} {s : List ℕ} {from e at : ℕ} {any : Bool} (m : Among k s from e at any) where
-  pub among-done : {j : Judged} → SubAt k s e at any (Done j) → CompsAt k s from e j
-  among-done b = record { is = λ c o. m .is c o ∙ b .is c o }
+module _ {k : ℕ} {s : List ℕ} {from e at : ℕ} {any : Bool} (m : Among k s from e at any) {t : Sub} (u : SubAt k s e at any t) where
+  pub among-done : {j : Judged} → t ≡ Done j → CompsAt k s from e j
+  among-done {j} y = let b : SubAt k s e at any (Done j) = subst (SubAt k s e at any) y u in record { is = λ c o. m .is c o ∙ b .is c o }
 
-  pub among-past : {d : ℕ} {a : Bool} → SubAt k s e at any (Past d a) → Among k s from e d a
-  among-past b = record { is = λ c o. m .is c o ∙ b .is c o; low = omega (arith, m .low, b .fits) }
+  module _ {d : ℕ} {a : Bool} (y : t ≡ Past d a) where
+    pub among-past : Among k s from e d a
+    among-past = let b : SubAt k s e at any (Past d a) = subst (SubAt k s e at any) y u in record { is = λ c o. m .is c o ∙ b .is c o; low = omega (arith, m .low, b .fits) }
 
-  module _ {n : ℕ} {counts had : Bool} {q x after z d : ℕ} (b : SubAt k s e at any (Deep n counts had q x after z d)) where
+    pub past-less : length s - d < length s - at
+    past-less = subst (SubAt k s e at any) y u .fits
+
+  module _ {n : ℕ} {counts had : Bool} {q x after z d : ℕ} (y : t ≡ Deep n counts had q x after z d) where
+    deep : SubAt k s e at any (Deep n counts had q x after z d)
+    deep = subst (SubAt k s e at any) y u
+
     pub deep-falls : length s - q < length s - from
-    deep-falls = omega (arith, m .low, b .fits .1)
+    deep-falls = omega (arith, m .low, deep .fits .1)
 
-    pub deep-refused : {f p : ℕ} → CompsAt n s q x (Refused f p) → CompsAt k s from e (Refused f p)
-    unfolding _otherwise_
-    deep-refused h = record { is = λ c o. m .is c o ∙ b .is c o ∙ rw (h .is (b .inner) (b .fits .0)) }
+    pub deep-less : length s - d < length s - at
+    deep-less = deep .fits .2
 
-    module _ (h : CompsAt n s q x Fine) where
-      pub deep-behind : {f p : ℕ} → BehindAt n counts had s after z (Refused f p) → CompsAt k s from e (Refused f p)
+    module _ {r : Judged} (h : CompsAt n s q x r) where
+      deep-comps : {v : Judged} → r ≡ v → componentsVerdict (nodesAt s q) (deep .inner) false x ≡ judgedAs v
+      deep-comps g = h .is (deep .inner) (deep .fits .0) ∙ ap judgedAs g
+
+      pub deep-refused : {f p : ℕ} → r ≡ Refused f p → CompsAt k s from e (Refused f p)
       unfolding _otherwise_
-      deep-behind g = record { is = λ c o. m .is c o ∙ b .is c o ∙ rw (h .is (b .inner) (b .fits .0), g .is (b .inner) (b .fits .0)) }
+      deep-refused g = record { is = λ c o. m .is c o ∙ deep .is c o ∙ rw (deep-comps g) }
 
-      pub among-deep : BehindAt n counts had s after z Fine → Among k s from e d true
-      unfolding _otherwise_
-      among-deep g = record { is = λ c o. m .is c o ∙ b .is c o ∙ rw (h .is (b .inner) (b .fits .0), g .is (b .inner) (b .fits .0)); low = omega (arith, m .low, b .fits .2) }
+      module _ (g : r ≡ Fine) {v : Judged} (w : BehindAt n counts had s after z v) where
+        pub deep-behind : {f p : ℕ} → v ≡ Refused f p → CompsAt k s from e (Refused f p)
+        unfolding _otherwise_
+        deep-behind l = record { is = λ c o. m .is c o ∙ deep .is c o ∙ rw (deep-comps g, w .is (deep .inner) (deep .fits .0), l) }
+
+        pub among-deep : v ≡ Fine → Among k s from e d true
+        unfolding _otherwise_
+        among-deep l = record { is = λ c o. m .is c o ∙ deep .is c o ∙ rw (deep-comps g, w .is (deep .inner) (deep .fits .0), l); low = omega (arith, m .low, deep .fits .2) }
+
+-- a measure that is known
+pub falls-under : {a b t : ℕ} → a < b → t ≡ b → a < t
+falls-under l e = omega arith
+
+pub falls-below : {a b t : ℕ} → a < b → b ≡ t → a < t
+falls-below l e = omega arith
+
+pub ruleset among = (among-start, among-done, among-past, past-less, deep-less, deep-refused, deep-behind, among-deep, needs)
