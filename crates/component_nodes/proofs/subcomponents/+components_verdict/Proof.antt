@@ -48,7 +48,7 @@ pub +components-verdict-spec : {M : Type 1} → statement M
     (λ c. search among)  -- loop-less
     (λ c. search among)  -- loop-again
     (λ c. search among)  -- enum-known-t-3
-    (λ c κs. ?)  -- components-verdict-requires
+    (λ c κs. (search (falls-under, falls-below, deep-falls, among), search among))  -- components-verdict-requires
     (λ c. search among)  -- enum-told
     (λ c κs. search among)  -- behind-requires
     (λ c. search among)  -- enum-told-2
