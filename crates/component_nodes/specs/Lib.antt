@@ -6,3 +6,4 @@ pub mod Properties
 pub mod Counting
 pub mod Components
 pub mod Subcomponents
+pub mod Roots

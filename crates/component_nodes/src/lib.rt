@@ -5,8 +5,12 @@ mod children;
 mod component;
 mod counting;
 mod properties;
+mod root;
 mod standing;
 mod subcomponents;
+
+pub use properties::property_verdict;
+pub use root::root_verdict;
 
 // The slot after a child, or that it has no place.
 pub enum After {
