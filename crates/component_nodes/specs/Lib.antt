@@ -3,6 +3,8 @@
 pub mod Children
 pub mod Turning
 pub mod Properties
+pub mod Standing
+pub mod ActionWord
 pub mod Counting
 pub mod Components
 pub mod Subcomponents

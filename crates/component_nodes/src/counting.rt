@@ -1,5 +1,5 @@
 // The counts of a component, from its children. See specs/Counting.antt.
-use crate::standing::action_word;
+use crate::action::action_word;
 use names::is_word;
 use nodes::NodeKind;
 use nodes::has_element;

@@ -1,6 +1,7 @@
 // The verdict on the elements of properties and components, up to the root. Definitions are in crate xcal (specs/PropertyNodes, specs/ComponentNodes), laws in specs/.
 use nodes::Judged;
 
+mod action;
 mod children;
 mod component;
 mod counting;

@@ -9,12 +9,13 @@ ghost use Rattle.names.specs.Table.{placeOf};
 ghost use Rattle.schema.specs.Components.{componentNames};
 ghost use Rattle.schema.specs.Properties.{propertyNames};
 ghost use Rattle.schema.specs.Numbers.{typeAt};
-ghost use Rattle.schema.specs.Counts.{firstText};
-ghost use Rattle.schema.specs.Completing.{actionNumber};
-ghost use Rattle.xcal.specs.ValueNodes.{typedValues, typeOfNodes, valueVerdict};
+ghost use Rattle.schema.specs.Completing.{actionNames};
+ghost use Rattle.xml.specs.Nodes.{charactersOf};
+ghost use Rattle.xcal.specs.ValueNodes.{typeOfNodes, valueVerdict};
 ghost use Rattle.xcal.specs.ParameterNodes.{hasEncoding, parametersVerdict};
 ghost use Rattle.nodes.specs.NodesAt.{nodesAt};
 ghost use Rattle.nodes.specs.Judging.{judgedAs};
+ghost use Rattle.component_nodes.specs.Standing.{TypeNamed};
 
 pub fn type_of_nodes(p: usize, s: &[u8], inside: usize) -> usize
     ensures { λ r. ⌜ ((w : List ℕ) → p ≡ placeOf w propertyNames → typeAt r ≡ typeOfNodes w (nodesAt (now (s .entry)) inside)) × (r ≤ 14) ⌝ }
@@ -42,10 +43,21 @@ pub fn parameters_verdict(p: usize, t: usize, s: &[u8], inside: usize) -> Judged
     Judged::Fine
 }
 
-// The number of the word of an ACTION: the first child that is named as a type, where it is a text.
-pub fn action_word(s: &[u8], inside: usize) -> usize
+pub enum Named {
+    Type(usize),
+    Bad,
+}
+
+pub fn element_type(s: &[u8], name: usize, name_end: usize) -> Named
+    ensures { λ r. ⌜ TypeNamed (rest 0 (take «name_end» (now (s .entry))) name) r ⌝ }
+{
+    Named::Bad
+}
+
+// It is to be action_number(true, 1, s, 4 * inside).
+pub fn text_action(s: &[u8], inside: usize) -> usize
     requires { ⌜ (length (now s) ≤ 65535) × (inside ≤ length (now s)) ⌝ }
-    ensures { λ r. ⌜ r ≡ actionNumber (firstText (typedValues (nodesAt (now (s .entry)) inside))) ⌝ }
+    ensures { λ r. ⌜ r ≡ placeOf (charactersOf (nodesAt (now (s .entry)) inside)) actionNames ⌝ }
 {
     3
 }
