@@ -9,6 +9,7 @@ use Prim.Native.Nat.{ℕ, _≤_}
 use lib.ListN.{length, take}
 use borrow.Author.Needs.{needs}
 use borrow.Author.Tests.{ne-eqb}
+use Rattle.octets.specs.Ascii.{ascii}
 use Rattle.octets.specs.Pick.{pick}
 use Rattle.octets.specs.Reading.{readOr}
 use Rattle.octets.specs.Computing.{octets-compute}
@@ -19,6 +20,17 @@ use Rattle.schema.specs.Types.{typePlace, sameType}
 use Rattle.schema.specs.Numbers.{typeAt}
 use Rattle.schema.specs.Counts.{firstText}
 use Rattle.schema.specs.Completing.{actionNames, actionNumber}
+use Rattle.times.specs.Date.{readDate}
+use Rattle.times.specs.Time.{readTime}
+use Rattle.times.specs.DateTime.{readDateTime}
+use Rattle.times.specs.Duration.{readDuration}
+use Rattle.times.specs.UtcOffset.{readUtcOffset}
+use Rattle.numbers.specs.Integer.{readInteger}
+use Rattle.numbers.specs.Float.{readFloat}
+use Rattle.numbers.specs.Boolean.{readBoolean}
+use Rattle.texts.specs.Uri.{readUri}
+use Rattle.texts.specs.Binary.{readBinary}
+use Rattle.texts.specs.Unknown.{readUnknown}
 use Rattle.values.specs.ReadValue.{readValue}
 use Rattle.xml.specs.Nodes.{Nodes, charactersOf}
 use Rattle.xcal.specs.ValueNodes.{elementType, childNamed, periodOf, valueOf, typedValues}
@@ -50,21 +62,21 @@ period-word (some d) kids = refl
 
 other-word : (t : ValueType) (kids : Nodes) → sameType t TEXT ≡ false → wordOf (valueOf t kids) ≡ 3
 unfolding valueOf sameType pick readValue
-other-word BINARY kids h = unread binary (λ a. refl) _
-other-word BOOLEAN kids h = unread boolean (λ a. refl) _
-other-word CAL-ADDRESS kids h = unread calAddress (λ a. refl) _
-other-word DATE kids h = unread date (λ a. refl) _
-other-word DATE-TIME kids h = unread dateTime (λ a. refl) _
-other-word DURATION kids h = unread duration (λ a. refl) _
-other-word FLOAT kids h = unread float (λ a. refl) _
-other-word INTEGER kids h = unread integer (λ a. refl) _
-other-word PERIOD kids h = period-word (childNamed _ kids) kids
+other-word BINARY kids h = unread binary (λ a. refl) (readBinary xcal (charactersOf kids))
+other-word BOOLEAN kids h = unread boolean (λ a. refl) (readBoolean xcal (charactersOf kids))
+other-word CAL-ADDRESS kids h = unread calAddress (λ a. refl) (readUri (charactersOf kids))
+other-word DATE kids h = unread date (λ a. refl) (readDate xcal (charactersOf kids))
+other-word DATE-TIME kids h = unread dateTime (λ a. refl) (readDateTime xcal (charactersOf kids))
+other-word DURATION kids h = unread duration (λ a. refl) (readDuration xcal (charactersOf kids))
+other-word FLOAT kids h = unread float (λ a. refl) (readFloat (charactersOf kids))
+other-word INTEGER kids h = unread integer (λ a. refl) (readInteger (charactersOf kids))
+other-word PERIOD kids h = period-word (childNamed (ascii "duration") kids) kids
 other-word RECUR kids h = refl
 other-word TEXT kids h = absurd (false≢true (sym h))
-other-word TIME kids h = unread time (λ a. refl) _
-other-word URI kids h = unread uri (λ a. refl) _
-other-word UTC-OFFSET kids h = unread utcOffset (λ a. refl) _
-other-word UNKNOWN kids h = unread unknown (λ a. refl) _
+other-word TIME kids h = unread time (λ a. refl) (readTime xcal (charactersOf kids))
+other-word URI kids h = unread uri (λ a. refl) (readUri (charactersOf kids))
+other-word UTC-OFFSET kids h = unread utcOffset (λ a. refl) (readUtcOffset xcal (charactersOf kids))
+other-word UNKNOWN kids h = unread unknown (λ a. refl) (readUnknown (charactersOf kids))
 
 text-word : (kids : Nodes) → wordOf (valueOf TEXT kids) ≡ placeOf (charactersOf kids) actionNames
 unfolding valueOf sameType pick readValue readOr
