@@ -54,7 +54,7 @@ pub fn element_type(s: &[u8], name: usize, name_end: usize) -> Named
     Named::Bad
 }
 
-// It is to be action_number(true, 1, s, 4 * inside).
+// It is to be action_number(true, 1, s, 2 * inside).
 pub fn text_action(s: &[u8], inside: usize) -> usize
     requires { ⌜ (length (now s) ≤ 65535) × (inside ≤ length (now s)) ⌝ }
     ensures { λ r. ⌜ r ≡ placeOf (charactersOf (nodesAt (now (s .entry)) inside)) actionNames ⌝ }
