@@ -19,7 +19,6 @@ ghost use Rattle.ical.specs.Nesting.{mayHold};
 ghost use Rattle.ical.specs.LineKind.{openAs, beginKind, endKind, propertyKind, kindBy, lineKind};
 ghost use Rattle.frame.specs.Kinds.{KindIs, lineFrom, named};
 use crate::Kind;
-use statement::property_fault;
 use lines::LineRead;
 use lines::line_at;
 use lines::names_carried;
@@ -30,6 +29,7 @@ use schema::component_number;
 use schema::may_begin;
 use schema::may_stand;
 use schema::property_number;
+use statement::property_fault;
 
 // The line, whose name ends at `e`, has no parameters.
 pub fn no_params(s: &[u8], e: usize) -> bool

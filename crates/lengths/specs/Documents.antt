@@ -1,4 +1,4 @@
--- The length of a text's document grows no faster than the text's, whether the text is accepted or not. The bounds are crude: they serve to show that a sink
+-- The length of an unfolded text's document grows no faster than the text's, whether the text is accepted or not. The bounds are crude: they serve to show that a sink
 -- can count it.
 --     xml-bound    a fixed number of bytes for each byte of the text, and 200 for the document around it
 --     xml-short    of a text within the limit
@@ -15,7 +15,7 @@ use Rattle.octets.specs.Append.{_⊕_, length-both}
 use Rattle.octets.specs.Class.{upper}
 use Rattle.octets.specs.Words.{same, starts}
 use Rattle.model.specs.Calendar.{Components}
-use Rattle.folding.specs.Unfold.{unfolded, crlf, length-unfolded}
+use Rattle.folding.specs.Unfold.{crlf}
 use Rattle.folding.specs.Lines.{Line, whole, loose, longer, lineStep, linesAfter, lines}
 use Rattle.lines.specs.ContentLine.{ContentLine, contentLine}
 use Rattle.lines.specs.Write.{writeContentLine}
@@ -89,11 +89,11 @@ document-length c =
     let front = length-both declaration (z ⊕ rootStart ⊕ x ⊕ rootEnd ⊕ z) in
     omega (arith, front, length-both z (rootStart ⊕ x ⊕ rootEnd ⊕ z), length-both rootStart (x ⊕ rootEnd ⊕ z), length-both x (rootEnd ⊕ z), length-both rootEnd z)
 
-pub xml-bound : (s : List ℕ) → length (writeDocument (calendarOf (lines (unfolded s)))) ≤ rate * length s + 200
+pub xml-bound : (u : List ℕ) → length (writeDocument (calendarOf (lines u))) ≤ rate * length u + 200
 unfolding calendarOf
-xml-bound s =
-    let ls : List Line = lines (unfolded s) in
-    omega (arith, document-length (calendarOf ls), nested-length (map entryOf ls), lines-cost ls, after-bytes (unfolded s) 0 0, length-unfolded s)
+xml-bound u =
+    let ls : List Line = lines u in
+    omega (arith, document-length (calendarOf ls), nested-length (map entryOf ls), lines-cost ls, after-bytes u 0 0)
 
-pub xml-short : (s : List ℕ) → length s ≤ 65535 → length (writeDocument (calendarOf (lines (unfolded s)))) < 2 ^ 63
-xml-short s h = omega (arith, xml-bound s, h)
+pub xml-short : (u : List ℕ) → length u ≤ 65535 → length (writeDocument (calendarOf (lines u))) < 2 ^ 32
+xml-short u h = omega (arith, xml-bound u, h)

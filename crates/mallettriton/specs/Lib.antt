@@ -2,8 +2,14 @@
 --     Conversion    what a call answers and what it leaves in the lent buffers, of what its input states
 --     ToXml         iCalendar text to canonical XML
 --     ToText        xCal to canonical text
+--     Answered      what the code answers, as an outcome and as one number
+--     Steps         laws of the steps of the code
+--     Codes         an answer as one number
 --     Computing     opens all of these, for examples that compute
 pub mod Conversion
 pub mod ToXml
 pub mod ToText
+pub mod Answered
+pub mod Steps
+pub mod Codes
 pub mod Computing

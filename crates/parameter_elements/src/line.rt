@@ -1,8 +1,8 @@
 // The parameters of a line as an element.
 use crate::parameter::put_cut_own;
-use parameters::are_read;
 use lines::next_param;
 use names::is_word_any_case;
+use parameters::are_read;
 use xml::put_end_tag;
 use xml::put_start_tag;
 ghost use mathlib.Core.Path.{_≡_};

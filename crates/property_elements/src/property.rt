@@ -1,11 +1,11 @@
 // A content line written as the element of its property. See specs/Property.antt.
 use crate::shown::put_values;
-use parameters::TypeRead;
-use parameter_elements::put_parameters;
-use parameters::stated_type;
 use lines::LineRead;
 use lines::line_at;
 use names::put_lower;
+use parameter_elements::put_parameters;
+use parameters::TypeRead;
+use parameters::stated_type;
 use schema::property_number;
 use sink::put_all;
 ghost use Prim.Native.Nat.{_≤_};

@@ -1,12 +1,12 @@
 // The values of a property in text, written as their elements. See specs/Shown.antt.
 use crate::geo::put_geo;
 use crate::list::put_list;
-use statement::ValuesRead;
 use elements::put_value_element;
 use elements::put_word_element;
-use statement::read_values;
 use schema::has_words;
 use schema::is_listed;
+use statement::ValuesRead;
+use statement::read_values;
 use texts::put_request_status_xml;
 ghost use mathlib.Core.Path.{_≡_};
 ghost use mathlib.Core.List.{[]};

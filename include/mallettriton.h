@@ -1,0 +1,62 @@
+/* Mallettriton for C: iCalendar text (RFC 5545) to xCal (RFC 6321), on buffers that the caller lends.
+ *
+ * Link target/staticlib/libmallettriton.a, which `rt staticlib mallettriton` writes (x86-64 Linux). The library allocates nothing,
+ * keeps nothing between calls and makes no system call. docs/FORMAT.md says what is accepted and what is written.
+ *
+ * A buffer is a pointer and a length in bytes. What is proved holds if each pointer is to that many bytes which can be read (those of
+ * the work room and the output written too) and whose contents are set, no pointer is null, not even of an empty buffer, and
+ * the work room and the output overlap with nothing.
+ */
+#ifndef MALLETTRITON_H
+#define MALLETTRITON_H
+
+#include <stddef.h>
+#include <stdint.h>
+
+#ifdef __cplusplus
+extern "C" {
+#endif
+
+/* The longest input in bytes. A work room of this length serves every input. */
+#define MALLETTRITON_LONGEST 65535
+
+/* What an answer's number says, and what its value is then. Places count bytes of the input from 0; a line's place is the first of its
+ * bytes that unfolding keeps. The lowest number is given that the first faulty line has. */
+enum mallettriton_number {
+    MALLETTRITON_WRITTEN = 0,   /* converted                                              value: how many bytes were written   */
+    MALLETTRITON_LENGTH = 1,    /* the input is longer than 65,535 bytes                  value: 0                             */
+    MALLETTRITON_WORK = 2,      /* the work room is shorter than the input                value: 0                             */
+    MALLETTRITON_CHARACTER = 3, /* not UTF-8, or a character that may not stand there     value: place of its first byte       */
+    MALLETTRITON_LINE = 4,      /* no content line, or not ended by CR LF                 value: place of the line             */
+    MALLETTRITON_NAME = 5,      /* a name that can't be carried                           value: place of the line             */
+    MALLETTRITON_FRAME = 6,     /* something where it may not stand, or still open        value: place of the line, the input's
+                                   at the end, or no calendar at all                             length at the end             */
+    MALLETTRITON_PARAMETER = 7, /* a parameter not permitted, repeated, or of bad value   value: place of the line             */
+    MALLETTRITON_VALUE = 8,     /* a value not of a permitted type                        value: place of the line             */
+    MALLETTRITON_COUNT = 9,     /* a property missing or too often, a pair broken, a      value: place of the END line
+                                   VTIMEZONE with nothing in it                                                                */
+    MALLETTRITON_ROOM = 10,     /* the result is longer than the output                   value: the result's exact length     */
+    MALLETTRITON_XML = 11       /* outside the XML that is read: not given by to_xml                                           */
+};
+
+/* An answer is one number: its number times 4294967296, and its value, which is below 4294967296. */
+#define MALLETTRITON_NUMBER(answer) ((unsigned)((uint64_t)(answer) >> 32))
+#define MALLETTRITON_VALUE_OF(answer) ((size_t)((uint64_t)(answer) & 0xffffffffu))
+
+/* Converts the iCalendar text `input` to canonical XML in `out`.
+ *
+ *   input, input_length   the text; it is not changed
+ *   work, work_length     a work room, as long as the input or longer. After LENGTH and WORK it is as it was; after every other
+ *                         answer it begins with the input without its folds, and its other bytes are as they were
+ *   out, out_length       the output. After WRITTEN it begins with the result, and its other bytes are as they were; after every
+ *                         other answer all of it is as it was. With a length of 0 the call tells the length that is needed
+ */
+uint64_t mallettriton_to_xml(const uint8_t *input, size_t input_length,
+                             uint8_t *work, size_t work_length,
+                             uint8_t *out, size_t out_length);
+
+#ifdef __cplusplus
+}
+#endif
+
+#endif
