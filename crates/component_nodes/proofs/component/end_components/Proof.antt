@@ -1,0 +1,12 @@
+-- `component_nodes::end_components` meets its contract.
+use Rattle.component_nodes.specs.Components.{ending}
+use Rattle.component_nodes.proofs.component.end_components.Statement.{statement}
+use Rattle.component_nodes.proofs.component.end_components.Tie as tie
+
+pub end-components-spec : {M : Type 1} → statement M
+end-components-spec = tie.close (tie.spec
+    (λ c. search ending)  -- returns
+    (λ c. search ending)  -- returns-2
+    (λ c. search ending)  -- returns-3
+    (λ c. search ending)  -- returns-4
+    )

@@ -1,0 +1,11 @@
+-- `component_nodes::property_at` meets its contract.
+use Rattle.component_nodes.specs.Counting.{tallying}
+use Rattle.component_nodes.proofs.counting.property_at.Statement.{statement}
+use Rattle.component_nodes.proofs.counting.property_at.Tie as tie
+
+pub property-at-spec : {M : Type 1} → statement M
+property-at-spec = tie.close (tie.spec
+    (λ c. search tallying)  -- slice-aggregate-property-number
+    (λ c κs. search tallying)  -- property-number-requires
+    (λ c. search tallying)  -- returns
+    )

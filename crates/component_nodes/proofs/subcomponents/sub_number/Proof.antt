@@ -1,0 +1,15 @@
+-- `component_nodes::sub_number` meets its contract.
+use Rattle.component_nodes.specs.Subcomponents.{numbering}
+use Rattle.component_nodes.proofs.subcomponents.sub_number.Statement.{statement}
+use Rattle.component_nodes.proofs.subcomponents.sub_number.Tie as tie
+
+pub sub-number-spec : {M : Type 1} → statement M
+sub-number-spec = tie.close (tie.spec
+    (λ c κs. search numbering)  -- has-capital-requires
+    (λ c. search numbering)  -- returns
+    (λ c. search numbering)  -- slice-aggregate-component-number
+    (λ c κs. search numbering)  -- component-number-requires
+    (λ c κs. search numbering)  -- may-begin-requires
+    (λ c. search numbering)  -- returns-2
+    (λ c. search numbering)  -- returns-3
+    )

@@ -1,0 +1,181 @@
+-- The counts of a component, from its children.
+--     partName      the two children of a component;   finding: the rules of a walk to one of them
+--     Tallied       the invariant of the walk that counts properties;   tallying: the rules
+--     Acting        the invariant of the walk to the first ACTION;   acting: the rules
+--     counting      the rules of the test of the counts
+use mathlib.Core.Path.{_≡_, refl, sym, ap, _∙_}
+use mathlib.Core.Bool.{Bool, true, false}
+use mathlib.Core.List.{List, [], _∷_}
+use Prim.Native.Nat.{ℕ, _-_, _≤_, _<_}
+use native.Mathlib.Omega.{arith}
+use lib.Dec.{eqb}
+use lib.ListN.{length, take, replicate}
+use lib.Seq.{length-take-le}
+use borrow.Author.Needs.{needs}
+use borrow.Author.Tests.{eq-eqb, ne-eqb}
+use Rattle.octets.specs.Ascii.{ascii}
+use Rattle.octets.specs.Pick.{pick, eqb-swap}
+use Rattle.octets.specs.Append.{_⊕_, append-empty, append-cons, append-none, append-regroup}
+use Rattle.octets.specs.Class.{upper}
+use Rattle.octets.specs.Words.{same}
+use Rattle.octets.specs.Computing.{octets-compute}
+use Rattle.source.specs.Source.{rest}
+use Rattle.names.specs.Table.{placeOf}
+use Rattle.model.specs.Calendar.{Property}
+use Rattle.schema.specs.Components.{componentNames}
+use Rattle.schema.specs.Properties.{propertyNames}
+use Rattle.schema.specs.Numbers.{same-place-first}
+use Rattle.schema.specs.Counts.{firstText, actionOf}
+use Rattle.schema.specs.Arrays.{bumped, tallies, tallies-end}
+use Rattle.schema.specs.Completing.{actionNumber, completeAt, complete-tallies}
+use Rattle.xml.specs.Nodes.{Nodes, hasElement}
+use Rattle.xcal.specs.ValueNodes.{typedValues, readValueNodes}
+use Rattle.xcal.specs.ParameterNodes.{readParameterNodes}
+use Rattle.xcal.specs.PropertyNodes.{parametersIn, readProperties}
+use Rattle.xcal.specs.ComponentNodes.{insideOf, isComplete}
+use Rattle.value_nodes.specs.ElementTypes.{geo-place, request-status-place}
+use Rattle.xml.specs.NodesAt.{nodesAt, nodes-none}
+use Rattle.nodes.specs.NodeFound.{NodeAt, node-none, node-element, node-literal, node-referred, element-less, literal-less, referred-less}
+use Rattle.nodes.specs.Walks.{Passing, passing-start}
+use Rattle.nodes.specs.declared.Node.{Node}
+use Rattle.nodes.specs.declared.NodeKind.the-variants.{None, Element, Literal, Referred}
+use Rattle.component_nodes.specs.Turning.{name-inside, content-inside}
+
+-- ---- the children of a component
+
+abbrev pub partName : Bool → List ℕ
+partName true = ascii "properties"
+partName false = ascii "components"
+
+module _ (m : List ℕ) {b r : Bool} where
+  pub part-properties : b ≡ true → r ≡ same m (ascii "properties") → r ≡ same m (partName b)
+  part-properties h e = rw h e
+
+  pub part-components : b ≡ false → r ≡ same m (ascii "components") → r ≡ same m (partName b)
+  part-components h e = rw h e
+
+pub ruleset parting = (part-properties, part-components, length-take-le, needs)
+
+module _ (n : List ℕ) {s : List ℕ} {from at : ℕ} {r : Node} (p : Passing (insideOf n) s from at) (f : NodeAt s at r) where
+  pub find-none : r .kind ≡ None → nodesAt s (length s) ≡ insideOf n (nodesAt s from)
+  unfolding insideOf
+  find-none q = nodes-none s (length s) (omega arith) ∙ sym (p .is ∙ ap (insideOf n) (node-none f q))
+
+  pub find-literal : r .kind ≡ Literal → Passing (insideOf n) s from (r .next)
+  unfolding insideOf
+  find-literal q = record { is = p .is ∙ ap (insideOf n) (node-literal f q) }
+
+  pub find-referred : r .kind ≡ Referred → Passing (insideOf n) s from (r .next)
+  unfolding insideOf
+  find-referred q = record { is = p .is ∙ ap (insideOf n) (node-referred f q) }
+
+  module _ (q : r .kind ≡ Element) {b : Bool} (e : b ≡ same (rest 0 (take (r .«name_end») s) (r .name)) n) where
+    pub find-here : b ≡ true → nodesAt s (r .inside) ≡ insideOf n (nodesAt s from)
+    unfolding insideOf pick
+    find-here h = sym (p .is ∙ ap (insideOf n) (node-element f q) ∙ rw (← e, h))
+
+    pub find-other : b ≡ false → Passing (insideOf n) s from (r .next)
+    unfolding insideOf pick
+    find-other h = record { is = p .is ∙ ap (insideOf n) (node-element f q) ∙ rw (← e, h) }
+
+pub ruleset finding = (passing-start, find-none, find-literal, find-referred, find-here, find-other, name-inside, element-less, literal-less, referred-less, needs)
+
+-- ---- how often each property stands
+
+pub record Tallied (s : List ℕ) (from at : ℕ) (counts : List ℕ) : Type 0 where
+  pub seen : List Property
+  pub tallied : counts ≡ tallies seen
+  pub agrees : readProperties (nodesAt s from) ≡ seen ⊕ readProperties (nodesAt s at)
+
+pub tally-start : (s : List ℕ) (from : ℕ) → Tallied s from from (replicate 46 0)
+unfolding tallies
+tally-start s from = record { seen = []; tallied = refl; agrees = sym (append-empty (readProperties (nodesAt s from))) }
+
+abbrev propertyAt : List ℕ → Nodes → Property
+propertyAt m kids = record { name = upper m; parameters = readParameterNodes (parametersIn (upper m) kids); values = readValueNodes (upper m) kids }
+
+module _ {s : List ℕ} {from at : ℕ} {counts : List ℕ} {r : Node} (i : Tallied s from at counts) (n : NodeAt s at r) where
+  pub tally-none : r .kind ≡ None → counts ≡ tallies (readProperties (nodesAt s from))
+  unfolding readProperties
+  tally-none q = i .tallied ∙ ap tallies (sym (i .agrees ∙ ap (λ (k : Nodes). i .seen ⊕ readProperties k) (node-none n q) ∙ append-none (i .seen)))
+
+  pub tally-literal : r .kind ≡ Literal → Tallied s from (r .next) counts
+  unfolding readProperties
+  tally-literal q = record { seen = i .seen; tallied = i .tallied; agrees = i .agrees ∙ ap (λ (k : Nodes). i .seen ⊕ readProperties k) (node-literal n q) }
+
+  pub tally-referred : r .kind ≡ Referred → Tallied s from (r .next) counts
+  unfolding readProperties
+  tally-referred q = record { seen = i .seen; tallied = i .tallied; agrees = i .agrees ∙ ap (λ (k : Nodes). i .seen ⊕ readProperties k) (node-referred n q) }
+
+  pub tally-more : {p : ℕ} {more : List ℕ} → r .kind ≡ Element → p ≡ placeOf (upper (rest 0 (take (r .«name_end») s) (r .name))) propertyNames → more ≡ bumped p counts → Tallied s from (r .next) more
+  unfolding readProperties
+  tally-more {p} q o e =
+      let x : Property = propertyAt (rest 0 (take (r .«name_end») s) (r .name)) (nodesAt s (r .inside)) in record {
+        seen = i .seen ⊕ (x ∷ []);
+        tallied = e ∙ ap (bumped p) (i .tallied) ∙ ap (λ (k : ℕ). bumped k (tallies (i .seen))) o ∙ sym (tallies-end (i .seen) x);
+        agrees =
+          i .agrees
+          ∙ ap (λ (k : Nodes). i .seen ⊕ readProperties k) (node-element n q)
+          ∙ sym (append-regroup (i .seen) (x ∷ []) (readProperties (nodesAt s (r .next))) ∙ rw (append-cons x [] (readProperties (nodesAt s (r .next))), append-empty (readProperties (nodesAt s (r .next)))));
+      }
+
+pub ruleset tallying = (tally-start, tally-none, tally-literal, tally-referred, tally-more, name-inside, length-take-le, element-less, literal-less, referred-less, needs)
+
+-- ---- the word of the first ACTION
+
+action-first : (w : List ℕ) → same (ascii "ACTION") w ≡ eqb 38 (placeOf w propertyNames)
+unfolding octets-compute placeOf
+action-first w = same-place-first w (ascii "ACTION") propertyNames refl
+
+-- ACTION has a value of a type
+action-values : (w : List ℕ) (kids : Nodes) → placeOf w propertyNames ≡ 38 → readValueNodes w kids ≡ typedValues kids
+unfolding readValueNodes pick
+action-values w kids h = rw (geo-place w, request-status-place w, h)
+
+abbrev pub actionIn : Nodes → ℕ
+actionIn kids = actionNumber (actionOf (readProperties kids))
+
+pub record Acting (s : List ℕ) (from at : ℕ) : Type 0 where
+  pub is : actionIn (nodesAt s from) ≡ actionIn (nodesAt s at)
+
+pub act-start : (s : List ℕ) (from : ℕ) → Acting s from from
+act-start s from = record { is = refl }
+
+module _ {s : List ℕ} {from at : ℕ} {r : Node} (i : Acting s from at) (n : NodeAt s at r) where
+  pub act-none : r .kind ≡ None → 3 ≡ actionIn (nodesAt s from)
+  unfolding readProperties actionOf
+  act-none q = sym (i .is ∙ ap actionIn (node-none n q))
+
+  pub act-literal : r .kind ≡ Literal → Acting s from (r .next)
+  unfolding readProperties
+  act-literal q = record { is = i .is ∙ ap actionIn (node-literal n q) }
+
+  pub act-referred : r .kind ≡ Referred → Acting s from (r .next)
+  unfolding readProperties
+  act-referred q = record { is = i .is ∙ ap actionIn (node-referred n q) }
+
+  module _ {p : ℕ} (q : r .kind ≡ Element) (o : p ≡ placeOf (upper (rest 0 (take (r .«name_end») s) (r .name))) propertyNames) where
+    pub act-here : {a : ℕ} → p ≡ 38 → a ≡ actionNumber (firstText (typedValues (nodesAt s (r .inside)))) → a ≡ actionIn (nodesAt s from)
+    unfolding readProperties actionOf pick
+    act-here z e = e ∙ sym (i .is ∙ ap actionIn (node-element n q) ∙
+        rw (action-first (upper (rest 0 (take (r .«name_end») s) (r .name))), ← o, z, action-values (upper (rest 0 (take (r .«name_end») s) (r .name))) (nodesAt s (r .inside)) (sym o ∙ z)))
+
+    pub act-other : (p ≡ 38 → ⊥) → Acting s from (r .next)
+    unfolding readProperties actionOf pick
+    act-other z = record { is = i .is ∙ ap actionIn (node-element n q) ∙ rw (action-first (upper (rest 0 (take (r .«name_end») s) (r .name))), ← o, eqb-swap p 38 (ne-eqb p 38 z)) }
+
+pub ruleset acting = (act-start, act-none, act-literal, act-referred, act-here, act-other, name-inside, content-inside, length-take-le, element-less, literal-less, referred-less, needs)
+
+-- ---- the test
+
+pub record CompleteAt (k : ℕ) (kids : Nodes) (r : Bool) : Type 0 where
+  pub is : (c : List ℕ) → k ≡ placeOf c componentNames → r ≡ isComplete c kids
+
+pub complete-is : (k : ℕ) (s : List ℕ) (kids : Nodes) (q i : ℕ) {a : ℕ} {counts : List ℕ} {inner r : Bool} →
+    nodesAt s q ≡ insideOf (ascii "properties") kids → counts ≡ tallies (readProperties (nodesAt s q)) → a ≡ actionIn (nodesAt s q) →
+    nodesAt s i ≡ insideOf (ascii "components") kids → inner ≡ hasElement (nodesAt s i) → r ≡ completeAt k counts a inner → CompleteAt k kids r
+complete-is k s kids q i e f g h j x = record {
+  is = λ c o. x ∙ rw (f, g, j, e, h, o) (complete-tallies c (readProperties (insideOf (ascii "properties") kids)) (hasElement (insideOf (ascii "components") kids)));
+}
+
+pub ruleset counting = (complete-is, needs)

@@ -1,0 +1,50 @@
+// The word of an ACTION. See specs/ActionWord.antt.
+use value_nodes::Named;
+use value_nodes::element_type;
+use crate::word::text_action;
+use nodes::NodeKind;
+use nodes::next_node;
+ghost use mathlib.Core.Path.{_≡_};
+ghost use Prim.Native.Nat.{_≤_};
+ghost use lib.ListN.{length};
+ghost use Rattle.schema.specs.Counts.{firstText};
+ghost use Rattle.schema.specs.Completing.{actionNumber};
+ghost use Rattle.xcal.specs.ValueNodes.{typedValues};
+ghost use Rattle.xml.specs.NodesAt.{nodesAt};
+
+// The number of the word of an ACTION whose content begins at `inside`: that of its first child that is named as a type, where it is a text (10).
+pub fn action_word(s: &[u8], inside: usize) -> usize
+    requires { ⌜ (length (now s) ≤ 65535) × (inside ≤ length (now s)) ⌝ }
+    ensures { λ r. ⌜ r ≡ actionNumber (firstText (typedValues (nodesAt (now (s .entry)) inside))) ⌝ }
+{
+    let mut at = inside;
+    loop {
+        let n = next_node(s, at);
+        let kind = n.kind;
+        match kind {
+            NodeKind::None => {
+                return 3;
+            }
+            NodeKind::Element => {
+                let t = element_type(s, n.name, n.name_end);
+                match t {
+                    Named::Type(u) => {
+                        if u == 10 {
+                            return text_action(s, n.inside);
+                        }
+                        return 3;
+                    }
+                    Named::Bad => {
+                        at = n.next;
+                    }
+                }
+            }
+            NodeKind::Literal => {
+                at = n.next;
+            }
+            NodeKind::Referred => {
+                at = n.next;
+            }
+        }
+    }
+}
