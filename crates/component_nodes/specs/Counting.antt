@@ -114,9 +114,9 @@ module _ {s : List ℕ} {from at : ℕ} {counts : List ℕ} {r : Node} (i : Tall
         seen = i .seen ⊕ (x ∷ []);
         tallied = e ∙ ap (bumped p) (i .tallied) ∙ ap (λ (k : ℕ). bumped k (tallies (i .seen))) o ∙ sym (tallies-end (i .seen) x);
         agrees =
-          i .agrees
-          ∙ ap (λ (k : Nodes). i .seen ⊕ readProperties k) (node-element n q)
-          ∙ sym (append-regroup (i .seen) (x ∷ []) (readProperties (nodesAt s (r .next))) ∙ rw (append-cons x [] (readProperties (nodesAt s (r .next))), append-empty (readProperties (nodesAt s (r .next)))));
+            i .agrees
+            ∙ ap (λ (k : Nodes). i .seen ⊕ readProperties k) (node-element n q)
+            ∙ sym (append-regroup (i .seen) (x ∷ []) (readProperties (nodesAt s (r .next))) ∙ rw (append-cons x [] (readProperties (nodesAt s (r .next))), append-empty (readProperties (nodesAt s (r .next)))));
       }
 
 pub ruleset tallying = (tally-start, tally-none, tally-literal, tally-referred, tally-more, name-inside, length-take-le, element-less, literal-less, referred-less, needs)

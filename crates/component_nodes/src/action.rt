@@ -1,9 +1,9 @@
 // The word of an ACTION. See specs/ActionWord.antt.
-use value_nodes::Named;
-use value_nodes::element_type;
 use crate::word::text_action;
 use nodes::NodeKind;
 use nodes::next_node;
+use value_nodes::Named;
+use value_nodes::element_type;
 ghost use mathlib.Core.Path.{_≡_};
 ghost use Prim.Native.Nat.{_≤_};
 ghost use lib.ListN.{length};

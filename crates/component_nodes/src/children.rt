@@ -2,15 +2,15 @@
 use crate::After;
 use crate::Next;
 use crate::Tried;
-use parameter_nodes::parameters_verdict;
-use value_nodes::value_verdict;
 use names::find_word;
 use nodes::Judged;
 use nodes::NodeKind;
 use nodes::next_node;
 use nodes::unexpected;
 use octets::is_space;
+use parameter_nodes::parameters_verdict;
 use schema::is_listed;
+use value_nodes::value_verdict;
 ghost use mathlib.Core.Path.{_≡_};
 ghost use mathlib.Core.List.{List, []};
 ghost use Prim.Native.Nat.{ℕ, _≤_};
@@ -117,7 +117,18 @@ fn child_after(p: usize, slot: usize, next: usize) -> After
 }
 
 // What stands in a child of a slot.
-fn child_inside(k: usize, p: usize, t: usize, slot: usize, s: &[u8], place: usize, name: usize, name_end: usize, inside: usize, end: usize) -> Judged
+fn child_inside(
+    k: usize,
+    p: usize,
+    t: usize,
+    slot: usize,
+    s: &[u8],
+    place: usize,
+    name: usize,
+    name_end: usize,
+    inside: usize,
+    end: usize,
+) -> Judged
     requires { ⌜ (length (now s) ≤ 65535) × (inside ≤ length (now s)) ⌝ }
     ensures { λ r. ⌜ ((c w : List ℕ) → Holder k p t c w → slot ≡ slotAt p (placeOf (rest 0 (take «name_end» (now (s .entry))) name) (childWords p)) → judgedAs r ≡ childVerdict c w (typeAt t) place (rest 0 (take «name_end» (now (s .entry))) name) end (nodesAt (now (s .entry)) inside)) ⌝ }
 {
@@ -128,7 +139,19 @@ fn child_inside(k: usize, p: usize, t: usize, slot: usize, s: &[u8], place: usiz
 }
 
 // The child of a slot at `place`, where slots before `next` have passed.
-fn child(k: usize, p: usize, t: usize, slot: usize, next: usize, s: &[u8], place: usize, name: usize, name_end: usize, inside: usize, end: usize) -> Tried
+fn child(
+    k: usize,
+    p: usize,
+    t: usize,
+    slot: usize,
+    next: usize,
+    s: &[u8],
+    place: usize,
+    name: usize,
+    name_end: usize,
+    inside: usize,
+    end: usize,
+) -> Tried
     requires { ⌜ (length (now s) ≤ 65535) × (inside ≤ length (now s)) ⌝ }
     ensures { λ r. ⌜ (slot ≡ slotAt p (placeOf (rest 0 (take «name_end» (now (s .entry))) name) (childWords p)) → ChildAt k p t next place (rest 0 (take «name_end» (now (s .entry))) name) end (nodesAt (now (s .entry)) inside) r) ⌝ }
 {
@@ -198,7 +221,17 @@ fn between(unit: usize, at: usize, next: usize, slot: usize, first: bool, second
 }
 
 // One node of the content, at `at`.
-fn turn(k: usize, p: usize, t: usize, s: &[u8], at: usize, next: usize, first: bool, second: bool, e: usize) -> Next
+fn turn(
+    k: usize,
+    p: usize,
+    t: usize,
+    s: &[u8],
+    at: usize,
+    next: usize,
+    first: bool,
+    second: bool,
+    e: usize,
+) -> Next
     requires { ⌜ length (now s) ≤ 65535 ⌝ }
     ensures { λ r. ⌜ Turns k p t (now (s .entry)) e at next first second r ⌝ }
 {
@@ -211,7 +244,19 @@ fn turn(k: usize, p: usize, t: usize, s: &[u8], at: usize, next: usize, first: b
         }
         NodeKind::Element => {
             let slot = child_slot(p, s, n.name, n.name_end);
-            let r = child(k, p, t, slot, next, s, at, n.name, n.name_end, n.inside, n.end);
+            let r = child(
+                k,
+                p,
+                t,
+                slot,
+                next,
+                s,
+                at,
+                n.name,
+                n.name_end,
+                n.inside,
+                n.end,
+            );
             match r {
                 Tried::Good(m) => {
                     let f = fills(slot, 1, first);

@@ -1,8 +1,6 @@
 // A property's element, and the children of `properties`. See crate xcal, specs/PropertyNodes.antt.
 use crate::children::child_slot;
 use crate::children::children_verdict;
-use parameter_nodes::has_encoding;
-use value_nodes::type_of_nodes;
 use lines::is_carried_name;
 use names::is_word;
 use nodes::Judged;
@@ -10,8 +8,10 @@ use nodes::NodeKind;
 use nodes::has_capital;
 use nodes::next_node;
 use octets::is_space;
+use parameter_nodes::has_encoding;
 use schema::may_stand;
 use schema::property_number;
+use value_nodes::type_of_nodes;
 ghost use mathlib.Core.Path.{_≡_};
 ghost use mathlib.Core.List.{List};
 ghost use Prim.Native.Nat.{ℕ, _≤_};
@@ -105,7 +105,15 @@ fn is_misplaced(k: usize, p: usize) -> bool
 }
 
 // A property in the component of the number `k`: its start tag is at `place`, its name stands from `name` to `name_end`, its content begins at `inside`, its end tag is at `end`.
-pub fn property_verdict(k: usize, s: &[u8], place: usize, name: usize, name_end: usize, inside: usize, end: usize) -> Judged
+pub fn property_verdict(
+    k: usize,
+    s: &[u8],
+    place: usize,
+    name: usize,
+    name_end: usize,
+    inside: usize,
+    end: usize,
+) -> Judged
     requires { ⌜ (length (now s) ≤ 65535) × («name_end» ≤ length (now s)) ⌝ }
     ensures { λ r. ⌜ PropertyAt k place (rest 0 (take «name_end» (now (s .entry))) name) end (nodesAt (now (s .entry)) inside) r ⌝ }
 {

@@ -95,7 +95,14 @@ fn stream_verdict(s: &[u8], inside: usize, e: usize) -> Judged
 }
 
 // The root: its start tag is at `place`, its name stands from `name` to `name_end`, its content begins at `inside`, its end tag is at `end`.
-pub fn root_verdict(s: &[u8], place: usize, name: usize, name_end: usize, inside: usize, end: usize) -> Judged
+pub fn root_verdict(
+    s: &[u8],
+    place: usize,
+    name: usize,
+    name_end: usize,
+    inside: usize,
+    end: usize,
+) -> Judged
     requires { ⌜ (length (now s) ≤ 65535) × («name_end» ≤ length (now s)) ⌝ }
     ensures { λ r. ⌜ RootAt (now (s .entry)) place (rest 0 (take «name_end» (now (s .entry))) name) inside end r ⌝ }
 {

@@ -2,7 +2,7 @@
 --     line-fits    of a document within the limit
 use mathlib.Core.Path.{_≡_}
 use mathlib.Core.List.{List}
-use Prim.Native.Nat.{ℕ, _≤_}
+use Prim.Native.Nat.{ℕ, _≤_, _<_}
 use native.Mathlib.Omega.{arith}
 use lib.ListN.{length}
 use Rattle.xml.specs.NodesAt.{nodesAt, marksAt}
@@ -15,5 +15,7 @@ use Rattle.text_lines.specs.Content.{lineText}
 
 pub line-fits : {s : List ℕ} {at : ℕ} {r : Node} → NodeAt s at r → r .kind ≡ Element → length s ≤ 65535 →
     length (lineText (nameIn s (r .name) (r .«name_end»)) (nodesAt s (r .inside))) ≤ 262144
-unfolding nodesAt marksAt
-line-fits {s} {at} {r} n q h = omega (arith, lengths.line-fits s at at _ _ _ _ h (node-element n q))
+unfolding nodesAt marksAt lineText
+line-fits {s} {at} {r} n q h =
+    let k : length (lineText (nameIn s (r .name) (r .«name_end»)) (nodesAt s (r .inside))) < 262144 = lengths.line-fits s at at _ _ _ _ h (node-element n q) in
+    omega (arith, k)

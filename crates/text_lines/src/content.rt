@@ -1,12 +1,12 @@
 // The content line of a property's element: its name in capitals, VALUE, its parameters, a colon, its values. See specs/Content.antt.
 use crate::children::parameters_inside;
-use parameter_nodes::put_parameters;
-use value_lines::put_values;
-use value_lines::type_of_values;
 use crate::types::put_value_parameter;
 use names::put_upper;
+use parameter_nodes::put_parameters;
 use schema::property_number;
 use sink::put_all;
+use value_lines::put_values;
+use value_lines::type_of_values;
 ghost use mathlib.Core.Path.{_≡_};
 ghost use mathlib.Core.List.{List, _∷_};
 ghost use Prim.Native.Nat.{ℕ, _≤_};

@@ -1,8 +1,8 @@
 // The children of PERIOD and RECUR, by the numbers of their names. `rule` is true for RECUR. See specs/Parts.antt.
 use crate::leaves::leaf_item;
 use crate::leaves::leaf_value;
-use nodes::Judged;
 use names::find_word;
+use nodes::Judged;
 use octets::is_within;
 ghost use mathlib.Core.Path.{_≡_};
 ghost use Prim.Native.Nat.{_≤_};

@@ -1,8 +1,4 @@
 // PERIOD and RECUR, which are made of elements in a fixed order. `rule` is true for RECUR. See specs/Turning.antt.
-use nodes::Judged;
-use nodes::NodeKind;
-use nodes::next_node;
-use nodes::unexpected;
 use crate::parts::After;
 use crate::parts::at_end;
 use crate::parts::fills_first;
@@ -10,6 +6,10 @@ use crate::parts::fills_second;
 use crate::parts::part_after;
 use crate::parts::part_inside;
 use crate::parts::part_place;
+use nodes::Judged;
+use nodes::NodeKind;
+use nodes::next_node;
+use nodes::unexpected;
 use octets::is_space;
 ghost use mathlib.Core.Path.{_≡_};
 ghost use mathlib.Core.List.{[]};

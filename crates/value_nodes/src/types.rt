@@ -1,8 +1,8 @@
 // The types that elements are named as. See crate xcal, specs/ValueNodes.antt.
 use crate::Named;
+use names::find_word;
 use nodes::NodeKind;
 use nodes::next_node;
-use names::find_word;
 use schema::default_type;
 ghost use mathlib.Core.Path.{_≡_};
 ghost use mathlib.Core.List.{List};

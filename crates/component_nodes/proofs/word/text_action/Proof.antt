@@ -12,7 +12,7 @@ use Rattle.component_nodes.proofs.word.text_action.Tie as tie
 
 pub text-action-spec : {M : Type 1} → statement M
 text-action-spec = tie.close (tie.spec
-    (λ c. omega (arith, c .pre))  -- mul-action-number
+    (λ c. omega (arith, c .before .pre))  -- mul-action-number
     (λ c κs. search needs)  -- action-number-requires
     (λ c. c .action-number .ensures ∙ ap (λ (l : List ℕ). placeOf l actionNames) (characters-at _ _))  -- returns
     )
