@@ -2,12 +2,14 @@
 --     Tokens       what a token that was found says of them
 --     Closing      the end tag of an open element
 --     NodeFound    the node at a place
+--     RootFound    the root of a document
 --     Characters   the characters of an element through the cursor
 --     Judging      what readers find, as a verdict
 --     Walks        walks over nodes
 pub mod Tokens
 pub mod Closing
 pub mod NodeFound
+pub mod RootFound
 pub mod Characters
 pub mod Judging
 pub mod Walks

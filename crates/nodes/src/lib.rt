@@ -2,12 +2,14 @@
 mod closing;
 mod content;
 mod readers;
+mod root;
 
 pub use content::next_node;
 pub use readers::has_capital;
 pub use readers::has_element;
 pub use readers::inner_element;
 pub use readers::unexpected;
+pub use root::root_node;
 
 // Nothing more in the element; or an element, a literal byte, a referred character.
 pub enum NodeKind {
@@ -33,6 +35,15 @@ pub struct Node {
 pub struct Ended {
     pub place: usize,
     pub next: usize,
+}
+
+// The root of a document: the place of its start tag, its name, from `name` to `name_end`, where its content begins, and the place of its end tag.
+pub struct RootElement {
+    pub place: usize,
+    pub name: usize,
+    pub name_end: usize,
+    pub inside: usize,
+    pub end: usize,
 }
 
 // What a reader of elements finds: nothing wrong, or the number of a refusal and its place.
