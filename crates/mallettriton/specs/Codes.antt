@@ -23,6 +23,7 @@ use Rattle.xcal.specs.ComponentNodes.{readRoot}
 use Rattle.xcal.specs.ReadDocument.{documentVerdict, readDocument}
 use Rattle.lengths.specs.Documents.{xml-short}
 use Rattle.text_lengths.specs.Documents.{text-short}
+use Rattle.places.specs.Documents.{document-place}
 use Rattle.mallettriton.specs.Conversion.{Converted, result, fault, converted, Outcome, written, refusal, numbers, outcome}
 use Rattle.mallettriton.specs.ToXml.{toXml, toXmlOutcome}
 use Rattle.mallettriton.specs.ToText.{toText, toTextOutcome}
@@ -59,6 +60,18 @@ to-xml-small s w d = go (leb (length s) 65535) (leb (length s) (length w)) refl
     go true true e = kept-small s (keptVerdict (unfolded s)) (length d) (leb-true (length s) 65535 e)
     go true false e = omega arith
     go false b e = omega arith
+
+pub to-text-small : (s d : List ℕ) → numbers (toTextOutcome s d) .1 < 4294967296
+unfolding toText readDocument documentVerdict pick outcome
+to-text-small s d = go (decLe (length s) 65535)
+  where
+    by-verdict : (v : Verdict) → documentVerdict s ≡ v → length s ≤ 65535 → numbers (outcome (converted writeCalendar (answer v (readRoot (documentNodes s)))) (length d)) .1 < 4294967296
+    by-verdict fine e h = result-small (writeCalendar (readRoot (documentNodes s))) (length d) (text-short s h)
+    by-verdict (refuse r p) e h = omega (arith, document-place s e)
+
+    go : Dec (length s ≤ 65535) → numbers (toTextOutcome s d) .1 < 4294967296
+    go (yes h) = by-verdict (documentVerdict s) refl h
+    go (no h) = rw (lt-leb (length s) 65535 (omega (arith, h))) (omega arith)
 
 number-small : (r : Refusal) → numberOf r < 12
 number-small LENGTH = omega arith

@@ -8,6 +8,7 @@ mod refusing;
 mod text_to_xml;
 mod xml_to_text;
 
+pub use exported::mallettriton_to_text;
 pub use exported::mallettriton_to_xml;
 pub use exported::number_of;
 pub use exported::value_of;
