@@ -4,9 +4,14 @@ use libc::STDIN_FILENO;
 use std::num::wrapping_add_u64;
 use std::num::wrapping_add_usize;
 
-// What a case says: the answer with room enough, how long the input and the result are. `there` is false after the last case.
+// The ways of the two conversions.
+pub const TO_XML: u8 = 1;
+
+pub const TO_TEXT: u8 = 2;
+
+// What a case says: its way, the answer with room enough, how long the input and the result are. After the last case the way is neither.
 pub struct Case {
-    pub there: bool,
+    pub way: u8,
     pub number: u64,
     pub value: u64,
     pub input: usize,
@@ -65,14 +70,14 @@ fn next_parts(b: &mut [u8]) -> usize {
 
 // The next case.
 pub fn next_case(input: &mut [u8], output: &mut [u8]) -> Case {
-    let mut mark = [0u8; 1];
-    let there = io::read_full(STDIN_FILENO, &mut mark) == 1;
+    let mut way = [0u8; 1];
+    io::read_full(STDIN_FILENO, &mut way);
     let number = next_number();
     let value = next_number();
     let n = next_parts(input);
     let m = next_parts(output);
     Case {
-        there: there,
+        way: way[0],
         number: number,
         value: value,
         input: n,

@@ -1,0 +1,121 @@
+// Runs the cases on standard input through the two conversions and prints a line for each, `to XML: agreed N, differing M` and
+// `to text: agreed N, differing M`; the numbers of the cases that differ go to standard error. A case agrees if all checks of it hold (checks.rt).
+//
+// A case is a byte for its way, 1 to XML and 2 to text, the answer's number and value, the input, the result. Numbers have four bytes,
+// the highest first. The value of number 0 is the result's length; a refusal has an empty result. Input and result are each four
+// lengths, of a front, of a middle, of the middle when it is repeated, of a back, and then the bytes of front, middle and back. So an
+// input of 65,535 bytes is a short case as well.
+mod bytes;
+mod checks;
+mod packed;
+
+use checks::agrees;
+use libc::STDERR_FILENO;
+use libc::STDOUT_FILENO;
+use packed::Case;
+use packed::TO_TEXT;
+use packed::TO_XML;
+use packed::next_case;
+use std::num::wrapping_add_u64;
+use std::num::wrapping_add_usize;
+
+// How many cases of a way agree and differ.
+struct Tally {
+    agreed: u64,
+    differing: u64,
+}
+
+// Lends a case the front parts of the buffers that it needs.
+fn is_agreed(c: Case, input: &[u8], result: &[u8], work: &mut [u8], out: &mut [u8]) -> bool {
+    let w = wrapping_add_usize(input.len(), 8);
+    let o = wrapping_add_usize(result.len(), 72);
+    if w <= work.len() {
+        if o <= out.len() {
+            return agrees(c, input, result, &mut work[..w], &mut out[..o]);
+        }
+    }
+    false
+}
+
+fn is_case_agreed(c: Case, input: &[u8], result: &[u8], work: &mut [u8], out: &mut [u8]) -> bool {
+    let n = c.input;
+    let m = c.output;
+    if n <= input.len() {
+        if m <= result.len() {
+            return is_agreed(c, &input[..n], &result[..m], work, out);
+        }
+    }
+    false
+}
+
+// With one case more, if it is of the way.
+fn counted(t: Tally, is_of_way: bool, is_agreed: bool) -> Tally {
+    if is_of_way {
+        if is_agreed {
+            return Tally {
+                agreed: wrapping_add_u64(t.agreed, 1),
+                differing: t.differing,
+            };
+        }
+        return Tally {
+            agreed: t.agreed,
+            differing: wrapping_add_u64(t.differing, 1),
+        };
+    }
+    t
+}
+
+fn tell_differing(n: u64) {
+    io::write_all(STDERR_FILENO, b"differs: case ");
+    io::print_decimal(STDERR_FILENO, n);
+    io::write_all(STDERR_FILENO, b"\n");
+}
+
+fn tell(way: &[u8], t: Tally) {
+    io::write_all(STDOUT_FILENO, way);
+    io::write_all(STDOUT_FILENO, b": agreed ");
+    io::print_decimal(STDOUT_FILENO, t.agreed);
+    io::write_all(STDOUT_FILENO, b", differing ");
+    io::print_decimal(STDOUT_FILENO, t.differing);
+    io::write_all(STDOUT_FILENO, b"\n");
+}
+
+// Case n: whether it agrees, told if not.
+fn run_case(c: Case, n: u64, input: &[u8], result: &[u8], work: &mut [u8], out: &mut [u8]) -> bool {
+    let agreed = is_case_agreed(c, input, result, work, out);
+    if agreed {
+        return true;
+    }
+    tell_differing(n);
+    false
+}
+
+// Runs all cases. The count of turns is for the proof that this ends.
+fn run(input: &mut [u8], result: &mut [u8], work: &mut [u8], out: &mut [u8]) {
+    let mut xml = Tally { agreed: 0, differing: 0 };
+    let mut text = Tally { agreed: 0, differing: 0 };
+    let mut n = 0;
+    let mut turns = u64::MAX;
+    while turns > 0 {
+        turns -= 1;
+        let c = next_case(input, result);
+        if (c.way == TO_XML) | (c.way == TO_TEXT) {
+            n = wrapping_add_u64(n, 1);
+            let agreed = run_case(c, n, input, result, work, out);
+            xml = counted(xml, c.way == TO_XML, agreed);
+            text = counted(text, c.way == TO_TEXT, agreed);
+        } else {
+            turns = 0;
+        }
+    }
+    tell(b"to XML", xml);
+    tell(b"to text", text);
+}
+
+fn main() {
+    let mut input = [0u8; 65536];
+    let mut result = [0u8; 524288];
+    let mut work = [0u8; 65544];
+    let mut out = [0u8; 524360];
+    run(&mut input, &mut result, &mut work, &mut out);
+}
