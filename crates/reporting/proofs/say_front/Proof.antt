@@ -1,8 +1,8 @@
--- `to_xml::say_front` is safe and ends. Assumes nothing.
+-- `reporting::say_front` is safe and ends. Assumes nothing.
 use lib.Seq.{length-take-le}
 use borrow.Author.Needs.{needs}
-use Rattle.to_xml.proofs.say_front.Statement.{statement}
-use Rattle.to_xml.proofs.say_front.Tie as tie
+use Rattle.reporting.proofs.say_front.Statement.{statement}
+use Rattle.reporting.proofs.say_front.Tie as tie
 
 pub say-front-spec : {M : Type 1} → statement M
 say-front-spec = tie.close (tie.spec
