@@ -141,7 +141,8 @@ fn answers(
     fill(out, OUT);
     if w <= work.len() {
         if o <= out.len() {
-            return answer_code(is_for_c, c.way, input, &mut work[..w], &mut out[..o]) == code(c.number, c.value);
+            return answer_code(is_for_c, c.way, input, &mut work[..w], &mut out[..o])
+                == code(c.number, c.value);
         }
     }
     false
@@ -189,7 +190,14 @@ fn refused(c: Case, number: u64, value: u64) -> Case {
 }
 
 // An output of o bytes, fewer than the result: 10, and the result's length.
-fn with_short_output(c: Case, input: &[u8], result: &[u8], o: usize, work: &mut [u8], out: &mut [u8]) -> bool {
+fn with_short_output(
+    c: Case,
+    input: &[u8],
+    result: &[u8],
+    o: usize,
+    work: &mut [u8],
+    out: &mut [u8],
+) -> bool {
     if c.number == 0 {
         let r = refused(c, 10, result.len() as u64);
         return both_do(r, input, &result[..0], input.len(), o, work, out);
@@ -217,7 +225,15 @@ fn with_short_work(c: Case, input: &[u8], result: &[u8], work: &mut [u8], out: &
         return true;
     }
     let w = wrapping_sub_usize(input.len(), 1);
-    both_do(refused(c, 2, 0), input, &result[..0], w, out.len(), work, out)
+    both_do(
+        refused(c, 2, 0),
+        input,
+        &result[..0],
+        w,
+        out.len(),
+        work,
+        out,
+    )
 }
 
 // To XML: a work room 7 bytes longer than the input, and one that is too short.

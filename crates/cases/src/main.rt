@@ -15,6 +15,7 @@ use libc::STDOUT_FILENO;
 use packed::Case;
 use packed::TO_TEXT;
 use packed::TO_XML;
+use packed::is_case;
 use packed::next_case;
 use std::num::wrapping_add_u64;
 use std::num::wrapping_add_usize;
@@ -23,6 +24,13 @@ use std::num::wrapping_add_usize;
 struct Tally {
     agreed: u64,
     differing: u64,
+}
+
+// How many cases there were, and the tally of each way.
+struct Tallies {
+    cases: u64,
+    xml: Tally,
+    text: Tally,
 }
 
 // Lends a case the front parts of the buffers that it needs.
@@ -65,13 +73,17 @@ fn counted(t: Tally, is_of_way: bool, is_agreed: bool) -> Tally {
     t
 }
 
-fn tell_differing(n: u64) {
+// Tells the number of a case that differs.
+fn tell_case(n: u64, is_agreed: bool) {
+    if is_agreed {
+        return;
+    }
     io::write_all(STDERR_FILENO, b"differs: case ");
     io::print_decimal(STDERR_FILENO, n);
     io::write_all(STDERR_FILENO, b"\n");
 }
 
-fn tell(way: &[u8], t: Tally) {
+fn tell_way(way: &[u8], t: Tally) {
     io::write_all(STDOUT_FILENO, way);
     io::write_all(STDOUT_FILENO, b": agreed ");
     io::print_decimal(STDOUT_FILENO, t.agreed);
@@ -80,36 +92,62 @@ fn tell(way: &[u8], t: Tally) {
     io::write_all(STDOUT_FILENO, b"\n");
 }
 
-// Case n: whether it agrees, told if not.
-fn run_case(c: Case, n: u64, input: &[u8], result: &[u8], work: &mut [u8], out: &mut [u8]) -> bool {
-    let agreed = is_case_agreed(c, input, result, work, out);
-    if agreed {
-        return true;
+fn tell(t: Tallies) {
+    let xml = t.xml;
+    let text = t.text;
+    tell_way(b"to XML", xml);
+    tell_way(b"to text", text);
+}
+
+// Runs a case.
+fn with_case(
+    t: Tallies,
+    c: Case,
+    input: &[u8],
+    result: &[u8],
+    work: &mut [u8],
+    out: &mut [u8],
+) -> Tallies {
+    let n = wrapping_add_u64(t.cases, 1);
+    let is_agreed = is_case_agreed(c, input, result, work, out);
+    tell_case(n, is_agreed);
+    let xml = t.xml;
+    let text = t.text;
+    Tallies {
+        cases: n,
+        xml: counted(xml, c.way == TO_XML, is_agreed),
+        text: counted(text, c.way == TO_TEXT, is_agreed),
     }
-    tell_differing(n);
-    false
+}
+
+fn none() -> Tallies {
+    Tallies {
+        cases: 0,
+        xml: Tally {
+            agreed: 0,
+            differing: 0,
+        },
+        text: Tally {
+            agreed: 0,
+            differing: 0,
+        },
+    }
 }
 
 // Runs all cases. The count of turns is for the proof that this ends.
 fn run(input: &mut [u8], result: &mut [u8], work: &mut [u8], out: &mut [u8]) {
-    let mut xml = Tally { agreed: 0, differing: 0 };
-    let mut text = Tally { agreed: 0, differing: 0 };
-    let mut n = 0;
+    let mut t = none();
     let mut turns = u64::MAX;
     while turns > 0 {
         turns -= 1;
         let c = next_case(input, result);
-        if (c.way == TO_XML) | (c.way == TO_TEXT) {
-            n = wrapping_add_u64(n, 1);
-            let agreed = run_case(c, n, input, result, work, out);
-            xml = counted(xml, c.way == TO_XML, agreed);
-            text = counted(text, c.way == TO_TEXT, agreed);
+        if is_case(c) {
+            t = with_case(t, c, input, result, work, out);
         } else {
             turns = 0;
         }
     }
-    tell(b"to XML", xml);
-    tell(b"to text", text);
+    tell(t);
 }
 
 fn main() {

@@ -18,6 +18,10 @@ pub struct Case {
     pub output: usize,
 }
 
+pub fn is_case(c: Case) -> bool {
+    (c.way == TO_XML) | (c.way == TO_TEXT)
+}
+
 fn grown(n: u64, b: u8) -> u64 {
     if n < 16777216 {
         return wrapping_add_u64(n * 256, wide(b));

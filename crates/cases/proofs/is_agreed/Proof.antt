@@ -1,8 +1,8 @@
--- `cases_to_xml::is_agreed` is safe and ends. Assumes nothing.
+-- `cases::is_agreed` is safe and ends. Assumes nothing.
 use lib.Seq.{length-take-le}
 use borrow.Author.Needs.{needs}
-use Rattle.cases_to_xml.proofs.is_agreed.Statement.{statement}
-use Rattle.cases_to_xml.proofs.is_agreed.Tie as tie
+use Rattle.cases.proofs.is_agreed.Statement.{statement}
+use Rattle.cases.proofs.is_agreed.Tie as tie
 
 pub is-agreed-spec : {M : Type 1} → statement M
 is-agreed-spec = tie.close (tie.spec

@@ -1,10 +1,10 @@
--- `cases_to_xml::main` is safe and ends. Assumes nothing.
+-- `cases::main` is safe and ends. Assumes nothing.
 use mathlib.Core.Path.{_≡_, sym}
 use Prim.Native.Nat.{ℕ}
 use lib.ListN.{length, replicate, length-replicate}
 use borrow.Author.Needs.{needs}
-use Rattle.cases_to_xml.proofs.main.Statement.{statement}
-use Rattle.cases_to_xml.proofs.main.Tie as tie
+use Rattle.cases.proofs.main.Statement.{statement}
+use Rattle.cases.proofs.main.Tie as tie
 
 -- for any n: the arrays are too long to be counted by computation
 zeros : (n : ℕ) → n ≡ length {A = ℕ} (replicate n 0)

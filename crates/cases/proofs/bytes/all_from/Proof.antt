@@ -1,9 +1,9 @@
--- `cases_to_xml::all_from` is safe and ends. Assumes nothing.
+-- `cases::all_from` is safe and ends. Assumes nothing.
 use Prim.Native.Nat.{_-_}
 use lib.ListN.{length}
 use borrow.Author.Needs.{needs}
-use Rattle.cases_to_xml.proofs.bytes.all_from.Statement.{statement}
-use Rattle.cases_to_xml.proofs.bytes.all_from.Tie as tie
+use Rattle.cases.proofs.bytes.all_from.Statement.{statement}
+use Rattle.cases.proofs.bytes.all_from.Tie as tie
 
 abbrev Inv-loop : tie.InvT-loop
 Inv-loop b from v i₀ i = Unit {0}

@@ -1,9 +1,9 @@
--- `cases_to_xml::begins` is safe and ends. Assumes nothing.
+-- `cases::begins` is safe and ends. Assumes nothing.
 use Prim.Native.Nat.{_-_}
 use lib.ListN.{length}
 use borrow.Author.Needs.{needs}
-use Rattle.cases_to_xml.proofs.bytes.begins.Statement.{statement}
-use Rattle.cases_to_xml.proofs.bytes.begins.Tie as tie
+use Rattle.cases.proofs.bytes.begins.Statement.{statement}
+use Rattle.cases.proofs.bytes.begins.Tie as tie
 
 abbrev Inv-loop : tie.InvT-loop
 Inv-loop b a i₀ i = Unit {0}

@@ -1,10 +1,10 @@
--- `cases_to_xml::fill` is safe and ends. Assumes nothing.
+-- `cases::fill` is safe and ends. Assumes nothing.
 use mathlib.Core.Path.{_≡_}
 use Prim.Native.Nat.{_-_}
 use lib.ListN.{length}
 use borrow.Author.Needs.{needs}
-use Rattle.cases_to_xml.proofs.bytes.fill.Statement.{statement}
-use Rattle.cases_to_xml.proofs.bytes.fill.Tie as tie
+use Rattle.cases.proofs.bytes.fill.Statement.{statement}
+use Rattle.cases.proofs.bytes.fill.Tie as tie
 
 abbrev Inv-loop : tie.InvT-loop
 Inv-loop b₀ v i₀ b i = length b ≡ length b₀

@@ -1,9 +1,9 @@
--- `cases_to_xml::is_unfolded` is safe and ends. Assumes nothing.
+-- `cases::is_unfolded` is safe and ends. Assumes nothing.
 use Prim.Native.Nat.{_-_, _≤_}
 use lib.ListN.{length}
 use borrow.Author.Needs.{needs}
-use Rattle.cases_to_xml.proofs.checks.is_unfolded.Statement.{statement}
-use Rattle.cases_to_xml.proofs.checks.is_unfolded.Tie as tie
+use Rattle.cases.proofs.checks.is_unfolded.Statement.{statement}
+use Rattle.cases.proofs.checks.is_unfolded.Tie as tie
 
 abbrev Inv-loop : tie.InvT-loop
 Inv-loop input work i₀ skip₀ n₀ i skip n = n ≤ i
