@@ -77,14 +77,45 @@ fn is_unfolded(input: &[u8], work: &[u8]) -> bool {
     all_from(work, n, WORK)
 }
 
-// The way and the answer let the unfolded input stand in the work room.
-fn unfolds(c: Case) -> bool {
-    (c.way == TO_XML) & (c.number != 1) & (c.number != 2)
+// A call that is tried: its way, how many bytes of work room and output are lent, and the number and value of its answer.
+struct Trial {
+    way: u8,
+    work: usize,
+    out: usize,
+    number: u64,
+    value: u64,
+}
+
+// A case with these rooms, answered as it says.
+fn with_rooms(c: Case, work: usize, out: usize) -> Trial {
+    Trial {
+        way: c.way,
+        work: work,
+        out: out,
+        number: c.number,
+        value: c.value,
+    }
+}
+
+// A trial that is refused.
+fn refused(t: Trial, number: u64, value: u64) -> Trial {
+    Trial {
+        way: t.way,
+        work: t.work,
+        out: t.out,
+        number: number,
+        value: value,
+    }
+}
+
+// The unfolded input stands in the work room afterwards.
+fn unfolds(t: Trial) -> bool {
+    (t.way == TO_XML) & (t.number != 1) & (t.number != 2)
 }
 
 // What the work room must hold after an answer.
-fn is_kept(c: Case, input: &[u8], work: &[u8]) -> bool {
-    if unfolds(c) {
+fn is_kept(t: Trial, input: &[u8], work: &[u8]) -> bool {
+    if unfolds(t) {
         return is_unfolded(input, work);
     }
     all_from(work, 0, WORK)
@@ -127,22 +158,16 @@ fn answer_code(is_for_c: bool, way: u8, input: &[u8], work: &mut [u8], out: &mut
     code(n, v as u64)
 }
 
-// With w bytes of work room and o of output the answer is that of the case.
-fn answers(
-    is_for_c: bool,
-    c: Case,
-    input: &[u8],
-    w: usize,
-    o: usize,
-    work: &mut [u8],
-    out: &mut [u8],
-) -> bool {
+// The answer is that of the trial.
+fn answers(is_for_c: bool, t: Trial, input: &[u8], work: &mut [u8], out: &mut [u8]) -> bool {
     fill(work, WORK);
     fill(out, OUT);
+    let w = t.work;
+    let o = t.out;
     if w <= work.len() {
         if o <= out.len() {
-            return answer_code(is_for_c, c.way, input, &mut work[..w], &mut out[..o])
-                == code(c.number, c.value);
+            let a = answer_code(is_for_c, t.way, input, &mut work[..w], &mut out[..o]);
+            return a == code(t.number, t.value);
         }
     }
     false
@@ -151,56 +176,35 @@ fn answers(
 // It is, and the output and the work room hold what they must.
 fn does(
     is_for_c: bool,
-    c: Case,
+    t: Trial,
     input: &[u8],
     result: &[u8],
-    w: usize,
-    o: usize,
     work: &mut [u8],
     out: &mut [u8],
 ) -> bool {
-    let is_answered = answers(is_for_c, c, input, w, o, work, out);
-    is_answered & is_written(result, out) & is_kept(c, input, work)
+    let is_answered = answers(is_for_c, t, input, work, out);
+    is_answered & is_written(result, out) & is_kept(t, input, work)
 }
 
-// The call does what the case says, and so does the call for C.
-fn both_do(
-    c: Case,
-    input: &[u8],
-    result: &[u8],
-    w: usize,
-    o: usize,
-    work: &mut [u8],
-    out: &mut [u8],
-) -> bool {
-    let call = does(false, c, input, result, w, o, work, out);
-    let call_for_c = does(true, c, input, result, w, o, work, out);
+// So it is with the call, and with the call for C.
+fn both_do(t: Trial, input: &[u8], result: &[u8], work: &mut [u8], out: &mut [u8]) -> bool {
+    let call = does(false, t, input, result, work, out);
+    let call_for_c = does(true, t, input, result, work, out);
     call & call_for_c
-}
-
-// The same input refused.
-fn refused(c: Case, number: u64, value: u64) -> Case {
-    Case {
-        way: c.way,
-        number: number,
-        value: value,
-        input: c.input,
-        output: 0,
-    }
 }
 
 // An output of o bytes, fewer than the result: 10, and the result's length.
 fn with_short_output(
     c: Case,
+    o: usize,
     input: &[u8],
     result: &[u8],
-    o: usize,
     work: &mut [u8],
     out: &mut [u8],
 ) -> bool {
     if c.number == 0 {
-        let r = refused(c, 10, result.len() as u64);
-        return both_do(r, input, &result[..0], input.len(), o, work, out);
+        let t = refused(with_rooms(c, input.len(), o), 10, result.len() as u64);
+        return both_do(t, input, &result[..0], work, out);
     }
     true
 }
@@ -209,10 +213,16 @@ fn with_short_output(
 fn with_outputs(c: Case, input: &[u8], result: &[u8], work: &mut [u8], out: &mut [u8]) -> bool {
     let n = input.len();
     let m = result.len();
-    let long = both_do(c, input, result, n, wrapping_add_usize(m, 64), work, out);
-    let exact = both_do(c, input, result, n, m, work, out);
-    let short = with_short_output(c, input, result, wrapping_sub_usize(m, 1), work, out);
-    let none = with_short_output(c, input, result, 0, work, out);
+    let long = both_do(
+        with_rooms(c, n, wrapping_add_usize(m, 64)),
+        input,
+        result,
+        work,
+        out,
+    );
+    let exact = both_do(with_rooms(c, n, m), input, result, work, out);
+    let short = with_short_output(c, wrapping_sub_usize(m, 1), input, result, work, out);
+    let none = with_short_output(c, 0, input, result, work, out);
     long & exact & short & none
 }
 
@@ -225,22 +235,15 @@ fn with_short_work(c: Case, input: &[u8], result: &[u8], work: &mut [u8], out: &
         return true;
     }
     let w = wrapping_sub_usize(input.len(), 1);
-    both_do(
-        refused(c, 2, 0),
-        input,
-        &result[..0],
-        w,
-        out.len(),
-        work,
-        out,
-    )
+    let t = refused(with_rooms(c, w, out.len()), 2, 0);
+    both_do(t, input, &result[..0], work, out)
 }
 
 // To XML: a work room 7 bytes longer than the input, and one that is too short.
 fn with_works(c: Case, input: &[u8], result: &[u8], work: &mut [u8], out: &mut [u8]) -> bool {
     if c.way == TO_XML {
         let w = wrapping_add_usize(input.len(), 7);
-        let long = both_do(c, input, result, w, result.len(), work, out);
+        let long = both_do(with_rooms(c, w, result.len()), input, result, work, out);
         let short = with_short_work(c, input, result, work, out);
         return long & short;
     }
