@@ -23,7 +23,7 @@ use Rattle.xcal.specs.ReadDocument.{documentVerdict, readDocument}
 use Rattle.text_lengths.specs.Documents.{text-short}
 use Rattle.nodes.specs.RootFound.{RootNode}
 use Rattle.nodes.specs.Judging.{judgedAs}
-use Rattle.nodes.specs.declared.Root.{Root}
+use Rattle.nodes.specs.declared.RootElement.{RootElement}
 use Rattle.nodes.specs.declared.Judged.{Judged}
 use Rattle.nodes.specs.declared.Judged.the-variants.{Fine, Refused}
 use Rattle.component_nodes.specs.Roots.{RootAt}
@@ -67,7 +67,7 @@ module _ (s d : List ℕ) where
   xml-fine h g = rw h g
 
 -- the root of a document within the XML profile
-module _ {s : List ℕ} {t : Root} (x : RootNode s t) (f : xmlVerdict s ≡ fine) where
+module _ {s : List ℕ} {t : RootElement} (x : RootNode s t) (f : xmlVerdict s ≡ fine) where
   root-reads : readRoot (documentNodes s) ≡ readComponents (nodesAt s (t .inside))
   unfolding readRoot
   root-reads = rw (x .is f)

@@ -20,15 +20,15 @@ use Rattle.tokens.specs.MarksAt.{RootAt, root-onward, root-place, root-other}
 use Rattle.tokens.specs.Formed.{formed-fault}
 use Rattle.nodes.specs.Closing.{EndedAt}
 use Rattle.nodes.specs.declared.Ended.{Ended}
-use Rattle.nodes.specs.declared.Root.{Root}
+use Rattle.nodes.specs.declared.RootElement.{RootElement}
 use Rattle.tokens.specs.declared.TokenAt.{TokenAt}
 use Rattle.tokens.specs.declared.TokenKind.the-variants.{Start, Empty, End, Char, Reference, Fault}
 
-pub record RootNode (s : List ℕ) (r : Root) : Type 0 where
+pub record RootNode (s : List ℕ) (r : RootElement) : Type 0 where
   pub is : xmlVerdict s ≡ fine → documentNodes s ≡ element (r .place) (rest 0 (take (r .«name_end») s) (r .name)) (r .end) (nodesAt s (r .inside)) noNodes
   pub name-within : r .«name_end» ≤ length s
 
-abbrev pub noRoot : Root
+abbrev pub noRoot : RootElement
 noRoot = record { place = 0; name = 0; «name_end» = 0; inside = 0; end = 0 }
 
 -- a refusal is not fine
@@ -54,16 +54,16 @@ module _ {s : List ℕ} {t : TokenAt} (x : RootAt s t) where
     name-within = omega (arith, x .reads .ended, root-onward x Empty refl k .1);
   }
 
-  pub root-fault : {r : Root} → t .kind ≡ Fault → r ≡ noRoot → RootNode s r
+  pub root-fault : {r : RootElement} → t .kind ≡ Fault → r ≡ noRoot → RootNode s r
   root-fault k e = rw e (record { is = λ h. not-fine (formed-fault x k .is) h; name-within = omega arith })
 
-  pub root-end : {r : Root} → t .kind ≡ End → RootNode s r
+  pub root-end : {r : RootElement} → t .kind ≡ End → RootNode s r
   root-end k = root-other x End k refl
 
-  pub root-char : {r : Root} → t .kind ≡ Char → RootNode s r
+  pub root-char : {r : RootElement} → t .kind ≡ Char → RootNode s r
   root-char k = root-other x Char k refl
 
-  pub root-reference : {r : Root} → t .kind ≡ Reference → RootNode s r
+  pub root-reference : {r : RootElement} → t .kind ≡ Reference → RootNode s r
   root-reference k = root-other x Reference k refl
 
 pub ruleset roots = (start-within, root-start, root-empty, root-fault, root-end, root-char, root-reference, needs)

@@ -38,7 +38,7 @@ pub struct Ended {
 }
 
 // The root of a document: the place of its start tag, its name, from `name` to `name_end`, where its content begins, and the place of its end tag.
-pub struct Root {
+pub struct RootElement {
     pub place: usize,
     pub name: usize,
     pub name_end: usize,

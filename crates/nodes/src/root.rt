@@ -1,15 +1,15 @@
 // The root of a document.
-use crate::Root;
+use crate::RootElement;
 use crate::closing::element_end;
 use tokens::TokenKind;
 use tokens::root_at;
 ghost use mathlib.Core.Path.{_≡_};
 ghost use Rattle.nodes.specs.RootFound.{noRoot, RootNode};
 
-fn no_root() -> Root
+fn no_root() -> RootElement
     ensures { λ r. ⌜ r ≡ noRoot ⌝ }
 {
-    Root {
+    RootElement {
         place: 0,
         name: 0,
         name_end: 0,
@@ -19,7 +19,7 @@ fn no_root() -> Root
 }
 
 // The root of a document that is within the XML profile.
-pub fn root_node(s: &[u8]) -> Root
+pub fn root_node(s: &[u8]) -> RootElement
     ensures { λ r. ⌜ RootNode (now (s .entry)) r ⌝ }
 {
     let t = root_at(s);
@@ -27,7 +27,7 @@ pub fn root_node(s: &[u8]) -> Root
     match kind {
         TokenKind::Start => {
             let e = element_end(s, t.next);
-            Root {
+            RootElement {
                 place: t.unit,
                 name: t.name,
                 name_end: t.name_end,
@@ -35,7 +35,7 @@ pub fn root_node(s: &[u8]) -> Root
                 end: e.place,
             }
         }
-        TokenKind::Empty => Root {
+        TokenKind::Empty => RootElement {
             place: t.unit,
             name: t.name,
             name_end: t.name_end,
