@@ -59,6 +59,8 @@ enum mallettriton_number {
  *                         answer it begins with the input without its folds, and its other bytes are as they were
  *   out, out_length       the output. After WRITTEN it begins with the result, and its other bytes are as they were; after every
  *                         other answer all of it is as it was. With a length of 0 the call tells the length that is needed
+ *
+ * Its answers are 0 to 10. Allow the call 16 kB of stack.
  */
 uint64_t mallettriton_to_xml(const uint8_t *input, size_t input_length,
                              uint8_t *work, size_t work_length,
@@ -67,10 +69,11 @@ uint64_t mallettriton_to_xml(const uint8_t *input, size_t input_length,
 /* Converts the xCal document `input` to canonical iCalendar text in `out`.
  *
  *   input, input_length   the document; it is not changed
- *   out, out_length       the output, as of mallettriton_to_xml
+ *   out, out_length       the output. After WRITTEN it begins with the result, and its other bytes are as they were; after every
+ *                         other answer all of it is as it was. With a length of 0 the call tells the length that is needed
  *
- * There is no work room. The call takes about 300 kB of stack: a content line is put together in a room of 262,144 bytes there, before
- * it is folded into the output.
+ * Its answers are 0, 1, 3 and 5 to 11. There is no work room. Allow the call 300 kB of stack: a content line is put together in a room
+ * of 262,144 bytes there, before it is folded into the output.
  */
 uint64_t mallettriton_to_text(const uint8_t *input, size_t input_length,
                               uint8_t *out, size_t out_length);
