@@ -2,7 +2,7 @@
 // and returns the index after the last byte, which stops at 2 ^ 63. See specs/Sink.antt.
 ghost use mathlib.Core.Path.{_≡_};
 ghost use mathlib.Core.List.{[], _∷_, _++_};
-ghost use Rattle.sink.specs.Sink.{Put};
+ghost use Rattle.sink.specs.Sink.{Put, far};
 
 pub fn put(out: &mut [u8], at: usize, b: u8) -> usize
     ensures { λ r. ⌜ Put (now (out .entry)) (now (out .exit)) at r (b ∷ []) ⌝ }
@@ -27,6 +27,19 @@ pub fn put_all(out: &mut [u8], at: usize, s: &[u8]) -> usize
         i += 1;
     }
     o
+}
+
+// The index `n` bytes on.
+pub fn onward(at: usize, n: usize) -> usize
+    ensures { λ r. ⌜ r ≡ far at n ⌝ }
+{
+    if at < 0x8000_0000_0000_0000 {
+        if n < 0x8000_0000_0000_0000 - at {
+            return at + n;
+        }
+        return 0x8000_0000_0000_0000;
+    }
+    at
 }
 
 // What a function that renders a whole answers: the bytes written, or the length that there is no room for.

@@ -1,7 +1,7 @@
--- `folding::onward` meets its contract.
+-- `sink::onward` meets its contract.
 use Rattle.sink.specs.Sink.{far, writing}
-use Rattle.folding.proofs.folded.onward.Statement.{statement}
-use Rattle.folding.proofs.folded.onward.Tie as tie
+use Rattle.sink.proofs.onward.Statement.{statement}
+use Rattle.sink.proofs.onward.Tie as tie
 
 pub onward-spec : {M : Type 1} → statement M
 unfolding far
