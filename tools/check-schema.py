@@ -151,7 +151,7 @@ compare("STATUS", rows(body(props, "statusTable"), "words"),
 # ---- components
 
 comps = source("Components")
-kinds = {"": "one", "?": "optional", "*": "any", "+": "some⁺"}
+kinds = {"": "once", "?": "optional", "*": "anyTimes", "+": "some⁺"}
 lists = {}
 
 
@@ -173,7 +173,7 @@ def occurrences(t):
 for d, ours_name in (("type-calprops", "calprops"), ("type-eventprop", "eventprop"), ("type-todoprop", "todoprop"), ("type-jourprop", "jourprop"), ("type-fbprop", "fbprop"),
                      ("component-vtimezone", "timezoneprop"), ("type-tzprop", "tzprop"), ("type-audioprop", "audioprop"), ("type-emailprop", "emailprop"), ("type-dispprop", "dispprop")):
     text = body(comps, ours_name)
-    mine = [(n, k) for k, n in re.findall(r'(one|optional|any|some⁺) \(ascii "([\w-]+)"\)', strip(text))]
+    mine = [(n, k) for k, n in re.findall(r'(once|optional|anyTimes|some⁺) \(ascii "([\w-]+)"\)', strip(text))]
     compare(ours_name, mine, occurrences(defs[d][1]))
     lists[d] = ours_name
 

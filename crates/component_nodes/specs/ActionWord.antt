@@ -20,6 +20,7 @@ use Rattle.schema.specs.Types.{typePlace, sameType}
 use Rattle.schema.specs.Numbers.{typeAt}
 use Rattle.schema.specs.Counts.{firstText}
 use Rattle.schema.specs.Completing.{actionNames, actionNumber}
+use Rattle.schema.specs.Places.{type-back}
 use Rattle.times.specs.Date.{readDate}
 use Rattle.times.specs.Time.{readTime}
 use Rattle.times.specs.DateTime.{readDateTime}
@@ -34,7 +35,6 @@ use Rattle.texts.specs.Unknown.{readUnknown}
 use Rattle.values.specs.ReadValue.{readValue}
 use Rattle.xml.specs.Nodes.{Nodes, charactersOf}
 use Rattle.xcal.specs.ValueNodes.{elementType, childNamed, periodOf, valueOf, typedValues}
-use Rattle.value_nodes.specs.ElementTypes.{place-at}
 use Rattle.xml.specs.NodesAt.{nodesAt}
 use Rattle.nodes.specs.NodeFound.{NodeAt, node-none, node-element, node-literal, node-referred, element-less, literal-less, referred-less}
 use Rattle.nodes.specs.declared.Node.{Node}
@@ -121,6 +121,6 @@ module _ {s : List ℕ} {from at : ℕ} {r : Node} (i : Wording s from at) (n : 
       unfolding sameType
       word-other h =
           let f : TypeNamed (rest 0 (take (r .«name_end») s) (r .name)) (Typed u) = subst (TypeNamed _) z d in
-          sym (word-typed ∙ other-word (typeAt u) (nodesAt s (r .inside)) (rw (place-at u (f .small)) (ne-eqb u 10 h)))
+          sym (word-typed ∙ other-word (typeAt u) (nodesAt s (r .inside)) (rw (type-back u (f .small)) (ne-eqb u 10 h)))
 
 pub ruleset actions = (word-start, word-none, word-literal, word-referred, word-past, word-here, word-other, name-inside, content-inside, element-less, literal-less, referred-less, needs)

@@ -20,13 +20,14 @@ use Rattle.octets.specs.Lists.{every}
 use Rattle.octets.specs.Computing.{octets-compute}
 use Rattle.names.specs.Table.{placeOf}
 use Rattle.names.specs.Known.{by-place, unknown-list}
+use Rattle.names.specs.Places.{same-place}
 use Rattle.schema.specs.Properties.{PropertyRow, propertyNames, isListedProperty}
-use Rattle.schema.specs.Numbers.{propertyAt, property-place, same-place}
+use Rattle.schema.specs.Numbers.{propertyAt, property-place, typeWords}
+use Rattle.schema.specs.Sets.{geo-place, request-status-place}
 use Rattle.xcal.specs.Layout.{Slot, slotOf, afterSlot}
 use Rattle.xcal.specs.ValueNodes.{may, must, typeElements}
 use Rattle.xcal.specs.PropertyNodes.{propertySlots}
 use Rattle.value_nodes.specs.Sequencing.{fillings, filled, marked, slot-place}
-use Rattle.value_nodes.specs.ElementTypes.{typeWords, geo-place, request-status-place}
 
 -- ---- their names and slots
 

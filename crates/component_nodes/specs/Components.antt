@@ -19,9 +19,10 @@ use Rattle.octets.specs.Words.{same, isEmpty, same-true}
 use Rattle.octets.specs.Computing.{octets-compute}
 use Rattle.source.specs.Source.{rest}
 use Rattle.names.specs.Table.{placeOf}
+use Rattle.names.specs.Places.{same-place}
 use Rattle.model.specs.Refusal.{FRAME, COUNT, Verdict, fine, refuse, _otherwise_}
 use Rattle.schema.specs.Components.{ComponentRow, componentNames, subcomponentsOf}
-use Rattle.schema.specs.Numbers.{componentAt, component-place, same-place}
+use Rattle.schema.specs.Numbers.{componentAt, component-place}
 use Rattle.schema.specs.Sets.{timezone-place}
 use Rattle.xml.specs.Nodes.{Nodes}
 use Rattle.xcal.specs.Layout.{unexpected}

@@ -8,7 +8,6 @@ use mathlib.Core.Bool.{Bool, true, false}
 use mathlib.Core.List.{List, [], _∷_}
 use Prim.Native.Nat.{ℕ, _-_, _≤_, _<_}
 use native.Mathlib.Omega.{arith}
-use lib.Dec.{eqb}
 use lib.ListN.{length, take, replicate}
 use lib.Seq.{length-take-le}
 use borrow.Author.Needs.{needs}
@@ -18,22 +17,19 @@ use Rattle.octets.specs.Pick.{pick, eqb-swap}
 use Rattle.octets.specs.Append.{_⊕_, append-empty, append-cons, append-none, append-regroup}
 use Rattle.octets.specs.Class.{upper}
 use Rattle.octets.specs.Words.{same}
-use Rattle.octets.specs.Computing.{octets-compute}
 use Rattle.source.specs.Source.{rest}
 use Rattle.names.specs.Table.{placeOf}
 use Rattle.model.specs.Calendar.{Property}
 use Rattle.schema.specs.Components.{componentNames}
 use Rattle.schema.specs.Properties.{propertyNames}
-use Rattle.schema.specs.Numbers.{same-place-first}
 use Rattle.schema.specs.Counts.{firstText, actionOf}
 use Rattle.schema.specs.Arrays.{bumped, tallies, tallies-end}
 use Rattle.schema.specs.Completing.{actionNumber, completeAt, complete-tallies}
+use Rattle.schema.specs.Sets.{action-first, geo-place, request-status-place}
 use Rattle.xml.specs.Nodes.{Nodes, hasElement}
 use Rattle.xcal.specs.ValueNodes.{typedValues, readValueNodes}
-use Rattle.xcal.specs.ParameterNodes.{readParameterNodes}
-use Rattle.xcal.specs.PropertyNodes.{parametersIn, readProperties}
+use Rattle.xcal.specs.PropertyNodes.{readProperties, propertyIn}
 use Rattle.xcal.specs.ComponentNodes.{insideOf, isComplete}
-use Rattle.value_nodes.specs.ElementTypes.{geo-place, request-status-place}
 use Rattle.xml.specs.NodesAt.{nodesAt, nodes-none}
 use Rattle.nodes.specs.NodeFound.{NodeAt, node-none, node-element, node-literal, node-referred, element-less, literal-less, referred-less}
 use Rattle.nodes.specs.Walks.{Passing, passing-start}
@@ -91,9 +87,6 @@ pub tally-start : (s : List ℕ) (from : ℕ) → Tallied s from from (replicate
 unfolding tallies
 tally-start s from = record { seen = []; tallied = refl; agrees = sym (append-empty (readProperties (nodesAt s from))) }
 
-abbrev propertyAt : List ℕ → Nodes → Property
-propertyAt m kids = record { name = upper m; parameters = readParameterNodes (parametersIn (upper m) kids); values = readValueNodes (upper m) kids }
-
 module _ {s : List ℕ} {from at : ℕ} {counts : List ℕ} {r : Node} (i : Tallied s from at counts) (n : NodeAt s at r) where
   pub tally-none : r .kind ≡ None → counts ≡ tallies (readProperties (nodesAt s from))
   unfolding readProperties
@@ -110,7 +103,7 @@ module _ {s : List ℕ} {from at : ℕ} {counts : List ℕ} {r : Node} (i : Tall
   pub tally-more : {p : ℕ} {more : List ℕ} → r .kind ≡ Element → p ≡ placeOf (upper (rest 0 (take (r .«name_end») s) (r .name))) propertyNames → more ≡ bumped p counts → Tallied s from (r .next) more
   unfolding readProperties
   tally-more {p} q o e =
-      let x : Property = propertyAt (rest 0 (take (r .«name_end») s) (r .name)) (nodesAt s (r .inside)) in record {
+      let x : Property = propertyIn (rest 0 (take (r .«name_end») s) (r .name)) (nodesAt s (r .inside)) in record {
         seen = i .seen ⊕ (x ∷ []);
         tallied = e ∙ ap (bumped p) (i .tallied) ∙ ap (λ (k : ℕ). bumped k (tallies (i .seen))) o ∙ sym (tallies-end (i .seen) x);
         agrees =
@@ -122,10 +115,6 @@ module _ {s : List ℕ} {from at : ℕ} {counts : List ℕ} {r : Node} (i : Tall
 pub ruleset tallying = (tally-start, tally-none, tally-literal, tally-referred, tally-more, name-inside, length-take-le, element-less, literal-less, referred-less, needs)
 
 -- ---- the word of the first ACTION
-
-action-first : (w : List ℕ) → same (ascii "ACTION") w ≡ eqb 38 (placeOf w propertyNames)
-unfolding octets-compute placeOf
-action-first w = same-place-first w (ascii "ACTION") propertyNames refl
 
 -- ACTION has a value of a type
 action-values : (w : List ℕ) (kids : Nodes) → placeOf w propertyNames ≡ 38 → readValueNodes w kids ≡ typedValues kids

@@ -26,13 +26,13 @@ use Rattle.schema.specs.Components.{componentNames, mayStand}
 use Rattle.schema.specs.Properties.{propertyNames, isKnownProperty}
 use Rattle.schema.specs.Numbers.{componentName, propertyName, propertyAt, typeAt}
 use Rattle.schema.specs.Columns.{stand-place}
+use Rattle.schema.specs.Places.{type-back}
 use Rattle.lines.specs.Names.{isCarriedName}
 use Rattle.xml.specs.Nodes.{Nodes, noNodes}
 use Rattle.xcal.specs.Layout.{Slot, slotOf, sequence, hasCapital}
 use Rattle.xcal.specs.ValueNodes.{valueSlots, typeOfNodes}
 use Rattle.xcal.specs.ParameterNodes.{hasEncoding}
 use Rattle.xcal.specs.PropertyNodes.{badName, propertySlots, stillBefore, parametersIn, childVerdict, lacksEncoding, propertyVerdict, propertiesVerdict}
-use Rattle.value_nodes.specs.ElementTypes.{place-at}
 use Rattle.xml.specs.NodesAt.{nodesAt, nodes-none}
 use Rattle.nodes.specs.NodeFound.{NodeAt, node-none, node-element, node-literal, node-referred, element-less, literal-less, referred-less}
 use Rattle.nodes.specs.Judging.{judgedAs, is-name, is-frame, is-parameter}
@@ -129,7 +129,7 @@ pub record LacksAt (p t : ℕ) (kids : Nodes) (r : Bool) : Type 0 where
 module _ (p t : ℕ) (kids : Nodes) where
   is-binary : (w : List ℕ) → t ≤ 14 → typeAt t ≡ typeOfNodes w kids → sameType (typeOfNodes w kids) BINARY ≡ eqb t 0
   unfolding sameType
-  is-binary w h e = rw (← e, place-at t h)
+  is-binary w h e = rw (← e, type-back t h)
 
   pub lacks-not : (t ≡ 0 → ⊥) → LacksAt p t kids false
   unfolding _and_

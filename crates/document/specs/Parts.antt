@@ -2,20 +2,15 @@
 --     hasComponents n es    the component n, of which es are the entries behind its BEGIN, has an element `components`
 --     headXml, tailXml      what stands before the subcomponents, and behind them
 --     component-parts       the element is made of these
---     lower-upper           a name in small letters
 --     head-put, tail-put    for code
 use mathlib.Core.Path.{_≡_, refl, sym, ap, _∙_}
 use mathlib.Core.Bool.{Bool, true, false}
 use mathlib.Core.List.{List, [], _∷_}
-use Prim.Native.Nat.{ℕ, _+_, _-_, _≤_}
-use native.Mathlib.Omega.{arith}
-use lib.Dec.{leb}
-use borrow.Author.Tests.{le-leb, lt-leb}
+use Prim.Native.Nat.{ℕ, _-_}
 use Rattle.octets.specs.Ascii.{ascii}
-use Rattle.octets.specs.Pick.{pick, within-yes, and-no-right}
+use Rattle.octets.specs.Pick.{pick}
 use Rattle.octets.specs.Append.{_⊕_, append-empty, append-regroup}
-use Rattle.octets.specs.Class.{upperByte, lowerByte, upper, lower}
-use Rattle.octets.specs.Letters.{upper-by-cases}
+use Rattle.octets.specs.Class.{lower}
 use Rattle.octets.specs.Words.{same}
 use Rattle.names.specs.Table.{placeOf}
 use Rattle.schema.specs.Components.{componentNames}
@@ -59,22 +54,6 @@ regroup a b c x d e f = simp append-regroup
 pub component-parts : (n : List ℕ) (es : List Entry) → innerXml (begin n ∷ es) 0 ≡ (headXml n es ⊕ innerXml es 0 ⊕ tailXml n es) ⊕ innerXml es 1
 unfolding innerOf componentsXml
 component-parts n es = rw (element-parts n (innerOf es 0)) (regroup (startTag (lower n)) (elementOf (ascii "properties") (ownXml n es 0)) _ _ _ _ _)
-
--- ---- names
-
-lower-byte : (b : ℕ) → lowerByte (upperByte b) ≡ lowerByte b
-unfolding pick
-lower-byte b = upper-by-cases (λ x. lowerByte x ≡ lowerByte b) b small (λ e. refl)
-  where
-    small : 97 ≤ b → b ≤ 122 → lowerByte (b - 32) ≡ lowerByte b
-    small l h =
-        let k : b - 32 + 32 ≡ b = omega arith in
-        rw (within-yes 65 90 (b - 32) (le-leb 65 (b - 32) (omega arith)) (le-leb (b - 32) 90 (omega arith)), and-no-right (leb 65 b) (leb b 90) (lt-leb b 90 (omega arith)), k)
-
-pub lower-upper : (s : List ℕ) → lower (upper s) ≡ lower s
-unfolding lower upper
-lower-upper [] = refl
-lower-upper (b ∷ s) = rw (lower-byte b, lower-upper s)
 
 -- ---- for code
 

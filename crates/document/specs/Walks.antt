@@ -2,29 +2,20 @@
 --     ownXml k es d     the XML of the properties of a component k;   innerXml es d: that of its subcomponents
 --     own-begin ..      by the entry at hand
 --     own-place         of a component's name only its number matters
-use mathlib.Core.Path.{_≡_, refl, sym, ap, _∙_}
-use mathlib.Core.Bool.{Bool, true, false}
+use mathlib.Core.Path.{_≡_, refl}
 use mathlib.Core.List.{List, [], _∷_}
 use Prim.Native.Nat.{ℕ, zero, suc, _+_, _-_}
 use native.Mathlib.Numerals.{add-one, sub-one}
 use native.Mathlib.Omega.{arith}
-use lib.Dec.{ltb}
-use borrow.Author.Tests.{ltb-false}
-use Rattle.octets.specs.Pick.{pick}
 use Rattle.octets.specs.Append.{_⊕_}
-use Rattle.octets.specs.Class.{upper}
-use Rattle.octets.specs.Words.{isOneOf}
-use Rattle.octets.specs.Computing.{octets-compute}
-use Rattle.names.specs.Table.{placeOf, place-within, one-of-place}
+use Rattle.names.specs.Table.{placeOf}
 use Rattle.schema.specs.Components.{componentNames}
-use Rattle.schema.specs.Properties.{propertyNames, propertyWords}
-use Rattle.schema.specs.Numbers.{componentName, placed}
-use Rattle.schema.specs.Sets.{wordsAt, words-place}
+use Rattle.schema.specs.Numbers.{componentName}
 use Rattle.lines.specs.ContentLine.{ContentLine}
-use Rattle.ical.specs.Values.{readValues}
 use Rattle.ical.specs.Statement.{propertyOf}
 use Rattle.ical.specs.Tree.{Entry, begin, end, property, nothing, ownOf, innerOf}
 use Rattle.xcal.specs.WriteXml.{propertyXml, propertiesXml, componentsXml}
+use Rattle.property_elements.specs.Placed.{property-of-place}
 
 abbrev pub ownXml : List ℕ → List Entry → ℕ → List ℕ
 ownXml k es d = propertiesXml (ownOf k es d)
@@ -103,31 +94,13 @@ module _ (es : List Entry) where
 
 -- ---- the component's number
 
--- the number of the name of a number
-number-again : (c : List ℕ) → placeOf (componentName (placeOf c componentNames)) componentNames ≡ placeOf c componentNames
-unfolding octets-compute placeOf
-number-again c = rw (placed c componentNames) (go (isOneOf c componentNames) refl)
-  where
-    go : (t : Bool) → isOneOf c componentNames ≡ t → placeOf (pick t c []) componentNames ≡ placeOf c componentNames
-    go true e = refl
-    go false e =
-        let h : ltb (placeOf c componentNames) 9 ≡ false = sym (one-of-place c componentNames) ∙ e in
-        omega (arith, ltb-false (placeOf c componentNames) 9 h, place-within c componentNames)
-
-words-again : (c p : List ℕ) → propertyWords (componentName (placeOf c componentNames)) p ≡ propertyWords c p
-words-again c p = words-place (componentName (placeOf c componentNames)) p ∙ ap (λ (k : ℕ). wordsAt k (placeOf p propertyNames)) (number-again c) ∙ sym (words-place c p)
-
-pub property-place : (c : List ℕ) (l : ContentLine) → propertyOf (componentName (placeOf c componentNames)) l ≡ propertyOf c l
-unfolding propertyOf readValues
-property-place c l = rw (words-again c (upper (l .name)))
-
 pub own-place : (c : List ℕ) (es : List Entry) (d : ℕ) → ownOf (componentName (placeOf c componentNames)) es d ≡ ownOf c es d
 unfolding ownOf
 own-place c [] d = refl
 own-place c (begin n ∷ es) d = own-place c es (suc d)
 own-place c (end ∷ es) zero = refl
 own-place c (end ∷ es) (suc d) = own-place c es d
-own-place c (property l ∷ es) zero = rw (property-place c l, own-place c es zero)
+own-place c (property l ∷ es) zero = rw (property-of-place c l, own-place c es zero)
 own-place c (property l ∷ es) (suc d) = own-place c es (suc d)
 own-place c (nothing ∷ es) zero = own-place c es zero
 own-place c (nothing ∷ es) (suc d) = own-place c es (suc d)

@@ -18,11 +18,11 @@ use Rattle.octets.specs.Pick.{pick}
 use Rattle.octets.specs.Append.{_⊕_, append-none}
 use Rattle.octets.specs.Words.{cutAt, rowOf}
 use Rattle.octets.specs.Reading.{isRead, orNothing}
+use Rattle.octets.specs.Front.{past}
 use Rattle.model.specs.Calendar.{RulePart}
 use Rattle.sink.specs.Sink.{Put, put-length, Todo, todo-all, todo-step, todo-done}
 use Rattle.source.specs.Source.{rest, Reads}
 use Rattle.source.specs.declared.Step.{Step}
-use Rattle.recur.specs.Front.{past}
 use Rattle.recur.specs.Parts.{partOf, partNames, isListed, isListPart}
 use Rattle.recur.specs.Rule.{isEquals, readRule}
 use Rattle.recur.specs.Pieces.{Ends, pieceName, good}

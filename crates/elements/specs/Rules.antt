@@ -14,10 +14,10 @@ use Rattle.octets.specs.Class.{lower}
 use Rattle.octets.specs.Words.{same, same-true, cutAt, rowOf}
 use Rattle.octets.specs.Lists.{distinct}
 use Rattle.octets.specs.Reading.{readEach, consRead, orNothing, andThen-some, consRead-some, provided-some}
+use Rattle.octets.specs.Front.{past}
 use Rattle.model.specs.Calendar.{ical, xcal, RuleItem, moment, number, word, weekday, RulePart}
 use Rattle.times.specs.Date.{isDate, writeDate, date-read-back}
 use Rattle.times.specs.DateTime.{isDateTime, writeDateTime, date-time-read-back}
-use Rattle.recur.specs.Front.{past}
 use Rattle.recur.specs.Parts.{ItemForm, wordOf, enddate, counting, unsigned, signed, weekdaynum, Part, partOf, partNames}
 use Rattle.recur.specs.Item.{readItem, writeItem, writeEnddate, isOfForm, isFor, isItem}
 use Rattle.recur.specs.ItemLaws.{item-characters, item-accepted}

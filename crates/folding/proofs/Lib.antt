@@ -1,9 +1,7 @@
 -- Laws of the loops.
 --     Kept     the bytes kept from an index on, and their places
 --     Ends     the end of a line, from an index on
---     Rest     a write into the rest of a list
 --     Rowed    a content line written one line at a time
 pub mod Kept
 pub mod Ends
-pub mod Rest
 pub mod Rowed

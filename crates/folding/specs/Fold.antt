@@ -11,10 +11,11 @@ use native.Mathlib.Omega.{arith}
 use lib.Dec.{eqb, leb, ltb}
 use lib.ListN.{length, take, drop}
 use borrow.Author.Tests.{ltb-false, lt-ltb, le-ltb, le-leb, leb-true}
-use Rattle.octets.specs.Pick.{pick, within, _and_, _or_, pick-either, and-both, or-neither}
+use Rattle.octets.specs.Pick.{pick, _and_, _or_, pick-either, and-both, or-neither}
 use Rattle.octets.specs.Scan.{allOf}
 use Rattle.octets.specs.Append.{_⊕_}
 use Rattle.octets.specs.Words.{starts, holds}
+use Rattle.octets.specs.Class.{isTail}
 use Rattle.folding.specs.Unfold.{crlf, blankAt, unfolded, unfolded-byte, unfolded-fold, unfolded-end}
 use Rattle.folding.specs.Lines.{Line, whole, loose, longer, lineStep, linesAfter, linesFrom, lines-some}
 
@@ -24,10 +25,6 @@ longest = 75
 -- how many octets the character has that begins with octet b (RFC 3629, section 3); an octet 10xxxxxx begins none and counts as itself
 abbrev pub width : ℕ → ℕ
 width b = pick (ltb b 0xC0) 1 (pick (ltb b 0xE0) 2 (pick (ltb b 0xF0) 3 4))
-
--- UTF8-tail = %x80-BF
-abbrev pub isTail : ℕ → Bool
-isTail b = within 0x80 0xBF b
 
 -- after c octets of a line a character that begins with b does not fit
 abbrev pub isOver : ℕ → ℕ → Bool

@@ -1,12 +1,14 @@
 // A content line as it is written, with its folds and its CRLF. See specs/Fold.antt.
+use octets::smaller;
+use sink::onward;
 use sink::put;
 use sink::put_all;
 ghost use mathlib.Core.Path.{_≡_};
 ghost use mathlib.Core.List.{[], _∷_};
-ghost use Prim.Native.Nat.{min, _≤_};
+ghost use Prim.Native.Nat.{_≤_};
 ghost use lib.ListN.{length};
 ghost use Rattle.octets.specs.Pick.{pick};
-ghost use Rattle.sink.specs.Sink.{Put, far};
+ghost use Rattle.sink.specs.Sink.{Put};
 ghost use Rattle.folding.specs.Fold.{width, longest, foldedLine};
 ghost use Rattle.folding.specs.Rows.{Takes, row};
 
@@ -65,25 +67,6 @@ fn put_row(out: &mut [u8], more: bool, s: &[u8]) -> usize
     let o = put_lead(out, more);
     let p = put_all(out, o, s);
     put_all(out, p, &BREAK)
-}
-
-fn smaller(a: usize, b: usize) -> usize
-    ensures { λ r. ⌜ r ≡ min a b ⌝ }
-{
-    if a < b { a } else { b }
-}
-
-// The index `n` bytes on.
-fn onward(at: usize, n: usize) -> usize
-    ensures { λ r. ⌜ r ≡ far at n ⌝ }
-{
-    if at < 0x8000_0000_0000_0000 {
-        if n < 0x8000_0000_0000_0000 - at {
-            return at + n;
-        }
-        return 0x8000_0000_0000_0000;
-    }
-    at
 }
 
 // A line, from an index: what is lent on is the rest of the output, which may be empty.

@@ -10,18 +10,18 @@ use lib.Dec.{eqb}
 use lib.ListN.{length, replicate}
 use Rattle.octets.specs.Pick.{pick}
 use Rattle.model.specs.Calendar.{Property}
-use Rattle.model.specs.Refusal.{COUNT}
+use Rattle.model.specs.Refusal.{COUNT, refusalAt}
 use Rattle.schema.specs.Numbers.{componentName}
 use Rattle.schema.specs.Counts.{actionOf, complete}
 use Rattle.schema.specs.Arrays.{bumped, tallies}
 use Rattle.schema.specs.Completing.{actionNumber, completeAt, complete-tallies}
+use Rattle.schema.specs.Places.{component-at}
 use Rattle.folding.specs.Lines.{Line, lines, linesAfter, lines-some}
 use Rattle.folding.specs.First.{lines-start, lines-past}
 use Rattle.ical.specs.Nesting.{Open, on, stop, opened, onward, ended, nesting}
 use Rattle.ical.specs.LineKind.{LineKind, step}
 use Rattle.ical.specs.ReadText.{linesVerdict}
-use Rattle.frame.specs.Answers.{refusalAt, Checks}
-use Rattle.frame.specs.Components.{component-at}
+use Rattle.frame.specs.Answers.{Checks}
 use Rattle.frame.specs.Action.{action-seen}
 use Rattle.frame.specs.Kinds.{Held, KindIs}
 use Rattle.frame.specs.Turns.{onFrom, openIn, Turned, Body}

@@ -11,7 +11,7 @@ use borrow.Author.Tests.{eq-eqb, eqb-true}
 use Rattle.octets.specs.Ascii.{ascii}
 use Rattle.octets.specs.Pick.{pick, eqb-swap}
 use Rattle.octets.specs.Class.{upper}
-use Rattle.octets.specs.Words.{same, isOneOf, same-true}
+use Rattle.octets.specs.Words.{isOneOf, same-true}
 use Rattle.octets.specs.Reading.{isRead, readOr, provided}
 use Rattle.octets.specs.Computing.{octets-compute}
 use Rattle.names.specs.Table.{placeOf}
@@ -20,9 +20,8 @@ use Rattle.model.specs.Refusal.{PARAMETER, VALUE}
 use Rattle.schema.specs.Types.{isTypeOf}
 use Rattle.schema.specs.Properties.{propertyNames, propertyRow, permittedTypes, propertyWords}
 use Rattle.schema.specs.Counts.{firstText, actionOf}
-use Rattle.schema.specs.Numbers.{same-place-first}
 use Rattle.schema.specs.Completing.{actionNames, actionNumber}
-use Rattle.schema.specs.Sets.{action-place}
+use Rattle.schema.specs.Sets.{action-place, action-first}
 use Rattle.lines.specs.ContentLine.{ContentLine}
 use Rattle.ical.specs.Parameters.{statedType, parametersGood}
 use Rattle.ical.specs.Values.{readValues, readOwn, oneValue}
@@ -63,11 +62,6 @@ unfolding propertyOf
 action-read k l h e =
     ap actionNumber (action-values k (upper (l .name)) (readOr TEXT (statedType (upper (l .name)) (l .parameters))) (l .value)
     (same-true (upper (l .name)) (ascii "ACTION") (action-place (upper (l .name)) ∙ eq-eqb _ _ e)) (none-fault (statedType (upper (l .name)) (l .parameters)) k l h))
-
--- ACTION's number is 38
-action-first : (w : List ℕ) → same (ascii "ACTION") w ≡ eqb 38 (placeOf w propertyNames)
-unfolding octets-compute placeOf
-action-first w = same-place-first w (ascii "ACTION") propertyNames refl
 
 -- one property more
 pub action-seen : (p : Property) (ps : List Property) {n a b : ℕ} → n ≡ placeOf (p .name) propertyNames → (n ≡ 38 → a ≡ actionNumber (firstText (p .values))) → b ≡ actionNumber (actionOf ps) →

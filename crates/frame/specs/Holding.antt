@@ -16,20 +16,19 @@ use Rattle.octets.specs.Class.{upper}
 use Rattle.octets.specs.Words.{same}
 use Rattle.names.specs.Table.{placeOf, one-of-place}
 use Rattle.model.specs.Calendar.{Property}
-use Rattle.model.specs.Refusal.{Refusal, LENGTH, numberOf}
+use Rattle.model.specs.Refusal.{Refusal, LENGTH, numberOf, refusalAt, refusal-back}
 use Rattle.schema.specs.Components.{mayStand}
 use Rattle.schema.specs.Properties.{propertyNames, isKnownProperty}
 use Rattle.schema.specs.Numbers.{componentName, propertyName}
 use Rattle.schema.specs.Columns.{stand-place}
 use Rattle.schema.specs.Sets.{timezone-place}
 use Rattle.schema.specs.Completing.{actionNames}
+use Rattle.schema.specs.Places.{component-at}
 use Rattle.lines.specs.ContentLine.{ContentLine}
 use Rattle.ical.specs.Statement.{propertyFault, propertyOf}
 use Rattle.ical.specs.Nesting.{mayHold}
 use Rattle.ical.specs.LineKind.{faulty, openAs, heldBy, propertyKind}
-use Rattle.frame.specs.Answers.{refusalAt, refusal-back}
 use Rattle.statement.specs.Faults.{faultNumber}
-use Rattle.frame.specs.Components.{component-at}
 use Rattle.frame.specs.Action.{action-read}
 use Rattle.frame.specs.Kinds.{KindIs}
 use Rattle.frame.specs.declared.Kind.the-variants.{Holds, Faulty}

@@ -22,6 +22,7 @@ use Rattle.octets.specs.Lists.{every}
 use Rattle.source.specs.Source.{rest}
 use Rattle.names.specs.Table.{placeOf}
 use Rattle.model.specs.Calendar.{Property}
+use Rattle.model.specs.Refusal.{refusalAt}
 use Rattle.schema.specs.Components.{componentNames}
 use Rattle.schema.specs.Properties.{propertyNames}
 use Rattle.schema.specs.Numbers.{componentName}
@@ -38,7 +39,6 @@ use Rattle.lines.specs.declared.ParamRead.{ParamRead}
 use Rattle.lines.specs.declared.LineRead.the-variants.{Line, Bad}
 use Rattle.ical.specs.Nesting.{namesCarried}
 use Rattle.ical.specs.LineKind.{LineKind, starts, stops, holds, faulty, beginKind, endKind, propertyKind, kindBy, kindOf, lineKind}
-use Rattle.frame.specs.Answers.{refusalAt}
 use Rattle.frame.specs.Components.{named-component, same-component, begins-at}
 use Rattle.frame.specs.declared.Kind.{Kind}
 use Rattle.frame.specs.declared.Kind.the-variants.{Starts, Stops, Holds, Faulty}

@@ -15,6 +15,7 @@ use Rattle.octets.specs.Class.{isNameChar, upper}
 use Rattle.octets.specs.Words.{same, isEmpty}
 use Rattle.octets.specs.Runs.{runOf}
 use Rattle.octets.specs.Lists.{every}
+use Rattle.model.specs.Refusal.{refusalAt}
 use Rattle.source.specs.Source.{rest}
 use Rattle.names.specs.Table.{placeOf}
 use Rattle.schema.specs.Components.{componentNames}
@@ -28,7 +29,6 @@ use Rattle.lines.specs.Line.{Parts, LineAt}
 use Rattle.lines.specs.Carried.{carriesName}
 use Rattle.lines.specs.declared.LineRead.the-variants.{Line, Bad}
 use Rattle.ical.specs.Nesting.{Move, on, stop, opened, begins, ends, states, namesCarried, moveBy, moveOf, move, onward}
-use Rattle.frame.specs.Answers.{refusalAt}
 use Rattle.frame.specs.Components.{same-component, named-component}
 use Rattle.frame.specs.Kinds.{named, name-is}
 use Rattle.frame.specs.Turns.{onFrom, resumed, Ends, Body, line-moves, loose-stops}

@@ -12,14 +12,13 @@ use lib.Seq.{length-take-le}
 use Rattle.source.specs.Source.{rest}
 use Rattle.source.specs.Facts.{rest-part}
 use Rattle.model.specs.Calendar.{Property}
-use Rattle.model.specs.Refusal.{LINE, Verdict, refuse}
+use Rattle.model.specs.Refusal.{LINE, Verdict, refuse, refusalAt}
 use Rattle.schema.specs.Numbers.{componentName}
 use Rattle.folding.specs.Lines.{Line}
 use Rattle.folding.specs.First.{linesAt, First}
 use Rattle.folding.specs.declared.lines.Ending.the-variants.{Whole, Loose}
 use Rattle.ical.specs.Nesting.{Open, opened, onward, move, nesting}
 use Rattle.ical.specs.LineKind.{LineKind, faulty, lineKind, step, move-is}
-use Rattle.frame.specs.Answers.{refusalAt}
 use Rattle.frame.specs.Kinds.{KindIs}
 use Rattle.frame.specs.declared.Kind.{Kind}
 use Rattle.frame.specs.declared.Kind.the-variants.{Faulty}

@@ -13,7 +13,7 @@ use Rattle.octets.specs.Ascii.{ascii}
 use Rattle.octets.specs.Pick.{pick, _and_, _or_, and-yes, and-both, or-cases, eqb-passes}
 use Rattle.octets.specs.Scan.{allOf, all-weaker}
 use Rattle.octets.specs.Append.{_⊕_, joined, append-empty, append-cons, append-regroup}
-use Rattle.octets.specs.Class.{isNameChar, isVisible, upper}
+use Rattle.octets.specs.Class.{isNameChar, isVisible, upper, name-char-visible}
 use Rattle.octets.specs.Words.{same, isOneOf, cutAt, eachAfter, joinedBy}
 use Rattle.octets.specs.Lists.{every, every-both}
 use Rattle.octets.specs.Reading.{readOr, readEach, none-some, provided-some, andThen-some, each-accepted-of}
@@ -22,7 +22,7 @@ use Rattle.schema.specs.Types.{sameType, isTypeOf}
 use Rattle.schema.specs.Properties.{permittedTypes, isListedProperty, propertyWords}
 use Rattle.schema.specs.Parameters.{parameterType, parameterWords, isQuotedParameter}
 use Rattle.schema.specs.Closed.{isWordChar, parameter-words-plain, property-words-plain}
-use Rattle.utf8.specs.Utf8.{isAscii, tailAt, firstBad, wellFormed, well-formed-good, good-well-formed, bad-append, good-split, ascii-first, visible-good}
+use Rattle.utf8.specs.Utf8.{isAscii, tailAt, firstBad, wellFormed, well-formed-good, good-well-formed, bad-append, good-split, ascii-first, visible-good, good-shifted}
 use Rattle.numbers.specs.Geo.{readGeo, geo-accepted}
 use Rattle.texts.specs.Text.{splitText, alone, readText}
 use Rattle.texts.specs.TextList.{readTexts}
@@ -33,15 +33,15 @@ use Rattle.values.specs.Characters.{freeIn, free-or-shown}
 use Rattle.lines.specs.ContentLine.{ParamValue, RawParameter, ContentLine, isName, isRawParameter, isContentLine}
 use Rattle.lines.specs.Names.{isCarriedName, carried-name-upper}
 use Rattle.lines.specs.Write.{writeParamValue, writeParameter, writeContentLine}
+use Rattle.lines.specs.Carried.{carriesName}
 use Rattle.ical.specs.Parameters.{readWord, readParamValue, readParameter, ownParameters, readParameters}
 use Rattle.ical.specs.Values.{oneValue, readListed, readChosen, readValues}
 use Rattle.ical.specs.Statement.{propertyFault, propertyOf}
 use Rattle.ical.specs.AcceptedProperty.{parameter-read, no-fault}
 use Rattle.ical.specs.AcceptedLine.{alone-is, text-made, unknown-is, status-parts, own-every}
 use Rattle.ical.specs.ValidCalendar.{isGoodValue, isGoodParameter}
-use Rattle.ical.specs.GoodPieces.{good-shifted, split-good, cut-good}
-use Rattle.ical.specs.NestingBack.{isCarriedRaw}
-use Rattle.ical.specs.WrittenLine.{name-shows, name-visible, isGoodChars, comma-ascii}
+use Rattle.ical.specs.GoodPieces.{split-good, cut-good}
+use Rattle.ical.specs.WrittenLine.{name-visible, isGoodChars, comma-ascii}
 
 -- ---- the parts of a line
 
@@ -144,7 +144,7 @@ typed-good t s v n h =
 -- a word of a closed set shows
 word-shows : (b : ℕ) → isWordChar b ≡ true → isVisible b ≡ true
 unfolding _and_
-word-shows b h = or-cases (isNameChar b) (eqb b 46) h (name-shows b) (λ e. eqb-passes isVisible 46 b refl e)
+word-shows b h = or-cases (isNameChar b) (eqb b 46) h (name-char-visible b) (λ e. eqb-passes isVisible 46 b refl e)
 
 word-good : (s : List ℕ) → allOf isWordChar s ≡ true → isGoodValue (text s) ≡ true
 word-good s h = one-piece s (visible-good s (all-weaker isWordChar isVisible word-shows s h))
@@ -171,7 +171,7 @@ param-value-good n r v q h = go (not (r .quoted) and isQuotedParameter n) h
     go false k = word-read-good n (parameterWords n) (parameterType n) (r .chars) v refl (well-formed-good (r .chars) q) k
 
 abbrev isBoth : RawParameter → Bool
-isBoth r = isCarriedRaw r and isGoodRaw r
+isBoth r = carriesName r and isGoodRaw r
 
 parameter-good : (r : RawParameter) (p : Parameter) → isBoth r ≡ true → readParameter r ≡ some p → isGoodParameter p ≡ true
 parameter-good r p q h =
@@ -180,11 +180,11 @@ parameter-good r p q h =
     and-yes _ _ (rw (d .named) (carried-name-upper (r .name) ∙ a .0))
     (each-accepted-of (readParamValue (upper (r .name))) isGoodValue isGoodChars (λ v x k e. param-value-good (upper (r .name)) v x k e) (r .values) (p .values) (a .1) (d .each))
 
-both-raw : (rs : List RawParameter) → every isCarriedRaw rs ≡ true → every isGoodRaw rs ≡ true → every isBoth rs ≡ true
+both-raw : (rs : List RawParameter) → every carriesName rs ≡ true → every isGoodRaw rs ≡ true → every isBoth rs ≡ true
 unfolding every
 both-raw [] h k = refl
 both-raw (r ∷ rs) h k =
-    let d = every-both isCarriedRaw r rs h in
+    let d = every-both carriesName r rs h in
     let e = every-both isGoodRaw r rs k in
     and-yes _ _ (and-yes _ _ (d .0) (e .0)) (both-raw rs (d .1) (e .1))
 
@@ -245,7 +245,7 @@ values-good k n t s vs c h =
 
 -- ---- the property
 
-pub property-good : (k : List ℕ) (l : ContentLine) → isContentLine l ≡ true → firstBad (writeContentLine l) ≡ none → every isCarriedRaw (l .parameters) ≡ true → propertyFault k l ≡ none →
+pub property-good : (k : List ℕ) (l : ContentLine) → isContentLine l ≡ true → firstBad (writeContentLine l) ≡ none → every carriesName (l .parameters) ≡ true → propertyFault k l ≡ none →
     (every isGoodParameter (propertyOf k l .parameters) ≡ true) × (every isGoodValue (propertyOf k l .values) ≡ true)
 unfolding propertyOf readOr
 property-good k l q g c h =

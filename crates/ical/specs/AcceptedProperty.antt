@@ -12,7 +12,7 @@ use Rattle.octets.specs.Class.{upper}
 use Rattle.octets.specs.Letters.{upper-twice}
 use Rattle.octets.specs.Words.{same, isOneOf, isEmpty, empty-is, same-self, same-true}
 use Rattle.octets.specs.Lists.{every, anyOne, distinct, every-map}
-use Rattle.octets.specs.Reading.{consRead, isRead, readOr, readEach, none-some, provided-some, andThen-some, consRead-some, each-empty}
+use Rattle.octets.specs.Reading.{consRead, isRead, readOr, readEach, none-some, provided-some, andThen-some, consRead-some, each-empty, read-some}
 use Rattle.octets.specs.Computing.{octets-compute}
 use Rattle.model.specs.Calendar.{ValueType, BINARY, Value, text, textIn, Parameter}
 use Rattle.model.specs.Refusal.{PARAMETER, VALUE}
@@ -170,11 +170,6 @@ pub record NoFault (k : List ℕ) (l : ContentLine) : Type 0 where
   pub parametersRead : readParameters (l .parameters) ≡ some parameters
   pub valuesRead : readValues k (upper (l .name)) type (l .value) ≡ some values
 
-is-read : {A : Type 0} (o : Option A) → isRead o ≡ true → (a : A) × (o ≡ some a)
-unfolding isRead
-is-read none h = absurd (false≢true h)
-is-read (some a) h = (a, refl)
-
 some-none : {A X : Type 0} {a : A} → some a ≡ none → X
 some-none e = none-some (sym e)
 
@@ -193,8 +188,8 @@ no-fault k l h = go (statedType (upper (l .name)) (l .parameters)) refl h
     go none e h = some-none h
     go (some t) e h =
         let b = both-pass (parametersGood (upper (l .name)) t (l .parameters)) _ h in
-        let v = is-read (readValues k (upper (l .name)) t (l .value)) (b .1) in
-        let p = is-read (readParameters (l .parameters)) (and-both _ _ (and-both _ _ (b .0) .1) .0) in
+        let v = read-some (readValues k (upper (l .name)) t (l .value)) (b .1) in
+        let p = read-some (readParameters (l .parameters)) (and-both _ _ (and-both _ _ (b .0) .1) .0) in
         record { type = t; parameters = p .0; values = v .0; stated = e; good = b .0; parametersRead = p .1; valuesRead = v .1 }
 
 pub property-accepted : (k : List ℕ) (l : ContentLine) → every hasValue (l .parameters) ≡ true → propertyFault k l ≡ none → isProperty k (propertyOf k l) ≡ true

@@ -15,7 +15,7 @@ use Rattle.octets.specs.Append.{_⊕_}
 use Rattle.octets.specs.Words.{starts}
 use Rattle.octets.specs.Lists.{every}
 use Rattle.model.specs.Calendar.{Components}
-use Rattle.model.specs.Refusal.{LENGTH, WORK, Verdict, fine, refuse, _otherwise_, accepted, answer, limit, characters}
+use Rattle.model.specs.Refusal.{LENGTH, WORK, Verdict, fine, refuse, _otherwise_, accepted, answer, limit, characters, refused-not}
 use Rattle.utf8.specs.Utf8.{tailAt, firstBad, good-well-formed, good-split}
 use Rattle.folding.specs.Unfold.{crlf, unfolded}
 use Rattle.folding.specs.Lines.{Line, whole, loose, longer, lineStep, linesAfter, lines, noneLoose}
@@ -24,7 +24,7 @@ use Rattle.ical.specs.Tree.{calendarOf}
 use Rattle.ical.specs.ReadText.{linesVerdict, keptVerdict, placed, textVerdict, readCalendar}
 use Rattle.ical.specs.WriteText.{writeCalendar}
 use Rattle.ical.specs.AcceptedCharacters.{after-byte}
-use Rattle.ical.specs.AcceptedTree.{isGoodOne, refuse-fine, tree-accepted, tree-some}
+use Rattle.ical.specs.AcceptedTree.{isGoodOne, tree-accepted, tree-some}
 use Rattle.ical.specs.ValidCalendar.{hasComponents, Valid}
 use Rattle.ical.specs.TextBack.{text-back}
 
@@ -88,12 +88,12 @@ text-lines-good u h n = lines-good (lines u) n (rw (lines-text u 0 0 n, behind-n
 moved-whole : (m : Move) (p : ℕ) (f : List Open → Verdict) (b : Bool) → ((u : List Open) → f u ≡ fine → b ≡ true) → onward m p f ≡ fine → b ≡ true
 unfolding onward
 moved-whole (Move.on u) p f b k h = k u h
-moved-whole (Move.stop r) p f b k h = refuse-fine h
+moved-whole (Move.stop r) p f b k h = refused-not _ _ h
 
 nesting-whole : (ls : List Line) (e : ℕ) (st : List Open) → nesting e ls st ≡ fine → noneLoose ls ≡ true
 unfolding nesting noneLoose
 nesting-whole [] e st h = refl
-nesting-whole (loose p ∷ ls) e st h = refuse-fine h
+nesting-whole (loose p ∷ ls) e st h = refused-not _ _ h
 nesting-whole (whole p s ∷ ls) e st h = moved-whole (move s st) p (nesting e ls) (noneLoose ls) (λ u k. nesting-whole ls e u k) h
 
 -- ---- what an answer says
@@ -105,22 +105,22 @@ answered (refuse r p) d c h = let z : _≡_ {A = ℕ} 0 1 = cc in absurd (omega 
 placed-fine : (s : List ℕ) (v : Verdict) → placed s v ≡ fine → v ≡ fine
 unfolding placed
 placed-fine s fine h = refl
-placed-fine s (refuse r p) h = refuse-fine h
+placed-fine s (refuse r p) h = refused-not _ _ h
 
 kept : (a b : Bool) (s : List ℕ) (v : Verdict) → pick a (pick b (placed s v) (refuse WORK 0)) (refuse LENGTH 0) ≡ fine → v ≡ fine
 unfolding pick
 kept true true s v h = placed-fine s v h
-kept true false s v h = refuse-fine h
-kept false b s v h = refuse-fine h
+kept true false s v h = refused-not _ _ h
+kept false b s v h = refused-not _ _ h
 
 both-fine : (o : Option ℕ) (w : Verdict) → (characters o otherwise w) ≡ fine → (o ≡ none) × (w ≡ fine)
 unfolding _otherwise_
 both-fine none w h = (refl, h)
-both-fine (some p) w h = refuse-fine h
+both-fine (some p) w h = refused-not _ _ h
 
 lines-valid : (ls : List Line) (e : ℕ) → (noneLoose ls ≡ true → every isGoodOne ls ≡ true) → linesVerdict e ls ≡ fine → Valid (calendarOf ls) × (hasComponents (calendarOf ls) ≡ true)
 unfolding linesVerdict
-lines-valid [] e g h = refuse-fine h
+lines-valid [] e g h = refused-not _ _ h
 lines-valid (l ∷ ls) e g h = (tree-accepted (l ∷ ls) e (g (nesting-whole (l ∷ ls) e [] h)) h, tree-some l ls e h)
 
 -- ---- the text

@@ -9,12 +9,12 @@ use Prim.{tt}
 use Prim.Native.Nat.{ℕ, suc}
 use native.Mathlib.Omega.{arith}
 use Rattle.octets.specs.Ascii.{ascii}
-use Rattle.octets.specs.Pick.{pick, _or_, and-yes, and-both, or-left}
+use Rattle.octets.specs.Pick.{pick, _or_, and-yes, and-both, or-left, or-right, or-false}
 use Rattle.octets.specs.Class.{upper}
 use Rattle.octets.specs.Words.{same, isOneOf, isEmpty}
 use Rattle.octets.specs.Lists.{every, every-both}
 use Rattle.model.specs.Calendar.{Property, Components}
-use Rattle.model.specs.Refusal.{Refusal, Verdict, fine, refuse}
+use Rattle.model.specs.Refusal.{Refusal, Verdict, fine, refused-not}
 use Rattle.schema.specs.Components.{subcomponentsOf, mayStand}
 use Rattle.schema.specs.Properties.{isKnownProperty}
 use Rattle.schema.specs.Counts.{complete}
@@ -84,16 +84,6 @@ begun true true r q v u h = (refl, cc)
 begun true false r q v u h = stop-on h
 begun false b r q v u h = stop-on h
 
-or-always : (b : Bool) → (b or true) ≡ true
-unfolding _or_
-or-always true = refl
-or-always false = refl
-
-or-never : (b : Bool) → (b or false) ≡ b
-unfolding _or_
-or-never true = refl
-or-never false = refl
-
 -- the component that begins
 inner-valid : (k : List ℕ) (ps : List Property) (c : Components) → Body (opened k) ps c → complete k ps (hasComponents c) ≡ true
 unfolding _or_
@@ -103,7 +93,7 @@ begin-in : (k : List ℕ) (st : List Open) (es : List Entry) → mayBegin k st �
 unfolding ownOf innerOf
 begin-in k [] es m h = (unfold isOneOf in or-left _ _ m, h .0 .own, inner-valid k _ _ (h .0), h .0 .inside, h .1)
 begin-in k (f ∷ st) es m h =
-    (record { own = h .1 .0 .own; inside = (m, h .0 .own, inner-valid k _ _ (h .0), h .0 .inside, h .1 .0 .inside); counts = rw (or-always (f .inner)) (later (h .1 .0)) }, frames-begin st k es 0 (h .1 .1))
+    (record { own = h .1 .0 .own; inside = (m, h .0 .own, inner-valid k _ _ (h .0), h .0 .inside, h .1 .0 .inside); counts = rw (or-right (f .inner) true refl) (later (h .1 .0)) }, frames-begin st k es 0 (h .1 .1))
   where
     later : Body (record { name = f .name; seen = f .seen; inner = true }) (ownOf (f .name) es 1) (innerOf es 1) → complete (f .name) (turned (ownOf (f .name) es 1) (f .seen)) true ≡ true
     later b = unfold _or_ in b .counts
@@ -124,7 +114,7 @@ unfolding ends ownOf innerOf turned every
 end-step k ps [] u es m h = stop-on m
 end-step k ps (f ∷ st) u es m h =
     let e = closed (same k (f .name)) (isEmpty ps) (complete (f .name) (f .seen) (f .inner)) _ _ _ st u m in
-    (record { own = refl; inside = tt; counts = rw (or-never (f .inner)) (e .0) }, frames-end st es 0 (rw (← (e .1)) at h))
+    (record { own = refl; inside = tt; counts = rw (or-false (f .inner)) (e .0) }, frames-end st es 0 (rw (← (e .1)) at h))
 
 held : (a : Bool) (o : Option Refusal) (q : Refusal) (v u : List Open) → pick a (told o (on v)) (stop q) ≡ on u → (a ≡ true) × (o ≡ none) × (v ≡ u)
 unfolding pick
@@ -172,19 +162,16 @@ unfoldable pub isGoodOne : Line → Bool
 isGoodOne (whole p s) = wellFormed s
 isGoodOne (loose p) = false
 
-pub refuse-fine : {X : Type 0} {r : Refusal} {p : ℕ} → refuse r p ≡ fine → X
-refuse-fine e = let z : _≡_ {A = ℕ} 0 1 = cc in absurd (omega arith)
-
 moved-on : (m : Move) (p : ℕ) (f : List Open → Verdict) → onward m p f ≡ fine → (u : List Open) × (m ≡ on u) × (f u ≡ fine)
 unfolding onward
 moved-on (on u) p f h = (u, refl, h)
-moved-on (stop r) p f h = refuse-fine h
+moved-on (stop r) p f h = refused-not _ _ h
 
 all-frames : (ls : List Line) (e : ℕ) (st : List Open) → every isGoodOne ls ≡ true → nesting e ls st ≡ fine → Frames st (map entryOf ls) 0
 unfolding nesting ended entryOf innerOf isGoodOne
 all-frames [] e [] g h = tt
-all-frames [] e (f ∷ st) g h = refuse-fine h
-all-frames (loose p ∷ ls) e st g h = refuse-fine h
+all-frames [] e (f ∷ st) g h = refused-not _ _ h
+all-frames (loose p ∷ ls) e st g h = refused-not _ _ h
 all-frames (whole p s ∷ ls) e st g h =
     let a = every-both isGoodOne (whole p s) ls g in
     let m = moved-on (move s st) p (nesting e ls) h in
@@ -213,5 +200,5 @@ first-begins s u es m = go (contentLine s) m
 
 pub tree-some : (l : Line) (ls : List Line) (e : ℕ) → nesting e (l ∷ ls) [] ≡ fine → hasComponents (calendarOf (l ∷ ls)) ≡ true
 unfolding nesting calendarOf entryOf
-tree-some (loose p) ls e h = refuse-fine h
+tree-some (loose p) ls e h = refused-not _ _ h
 tree-some (whole p s) ls e h = let m = moved-on (move s []) p (nesting e ls) h in first-begins s (m .0) (map entryOf ls) (m .1)

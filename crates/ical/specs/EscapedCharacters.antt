@@ -11,13 +11,13 @@ use Prim.Native.Nat.{ℕ, zero, suc, _+_, _≤_}
 use native.Mathlib.Omega.{arith}
 use lib.Dec.{eqb, leb}
 use borrow.Author.Tests.{leb-true, ne-eqb, eqb-true}
-use Rattle.octets.specs.Pick.{pick, pick-no, pick-either, within, _and_, _or_, and-yes, and-both, or-no}
+use Rattle.octets.specs.Pick.{pick, pick-no, within, _and_, _or_, and-yes, and-both, or-no}
 use Rattle.octets.specs.Append.{_⊕_}
 use Rattle.octets.specs.Words.{eachAfter, joinedBy}
 use Rattle.octets.specs.Lists.{every, every-both}
 use Rattle.octets.specs.Reading.{none-some}
 use Rattle.model.specs.Calendar.{Value}
-use Rattle.utf8.specs.Utf8.{isAscii, more, low, high, highAfter, tails, isSequence, badFrom, firstBad, wellFormed, well-formed-good, good-well-formed, good-append, ascii-first, visible-good}
+use Rattle.utf8.specs.Utf8.{isAscii, more, low, high, highAfter, tails, isSequence, badFrom, firstBad, wellFormed, well-formed-good, good-well-formed, good-append, ascii-first, visible-good, low-least}
 use Rattle.texts.specs.Text.{isEscaped, escapeText, writeText}
 use Rattle.texts.specs.RequestStatus.{statusParts}
 use Rattle.values.specs.WriteValue.{writeValue}
@@ -32,9 +32,6 @@ high-escape : (b : ℕ) → 0x80 ≤ b → escapeText b ≡ b ∷ []
 high-escape b h =
     pick-no _ _ _ (ne-eqb b 10 (λ e. omega arith))
     ∙ pick-no _ _ _ (or-no _ _ (or-no _ _ (ne-eqb b 44 (λ e. omega arith)) (ne-eqb b 59 (λ e. omega arith))) (ne-eqb b 92 (λ e. omega arith)))
-
-pub low-least : (a : ℕ) → 0x80 ≤ low a
-low-least a = pick-either (λ n. 0x80 ≤ n) _ _ _ (omega arith) (pick-either (λ n. 0x80 ≤ n) _ _ _ (omega arith) (omega arith))
 
 -- a character that is there, and what follows it
 pub one-good : (a i : ℕ) (s : List ℕ) → isSequence a s ≡ true → badFrom (more a) (i + 1) s ≡ none → badFrom 0 i (a ∷ s) ≡ none

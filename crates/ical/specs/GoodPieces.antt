@@ -15,22 +15,9 @@ use Rattle.octets.specs.Pick.{pick, pick-either, pick-case, within, _and_, _or_
 use Rattle.octets.specs.Words.{onto, cutAt}
 use Rattle.octets.specs.Lists.{every}
 use Rattle.octets.specs.Reading.{none-some, consRead}
-use Rattle.utf8.specs.Utf8.{isAscii, more, low, high, highAfter, tails, isSequence, badFrom, firstBad, wellFormed, good-well-formed, ascii-first}
+use Rattle.utf8.specs.Utf8.{isAscii, more, low, high, highAfter, tails, isSequence, badFrom, firstBad, wellFormed, good-well-formed, ascii-first, low-least}
 use Rattle.texts.specs.Text.{Sign, char, opening, separator, fault, isEscaped, isBreak, signOf, opens, ontoRead, withSign, splitFrom, splitText}
-use Rattle.ical.specs.EscapedCharacters.{low-least, one-good, Spelled}
-
--- ---- where a text starts
-
-pub good-shifted : (s : List ℕ) (k i j : ℕ) → badFrom k i s ≡ none → badFrom k j s ≡ none
-unfolding badFrom pick
-good-shifted [] k i j h = refl
-good-shifted (b ∷ s) (suc k) i j h = good-shifted s k (i + 1) (j + 1) h
-good-shifted (a ∷ s) zero i j h = go (isSequence a s) h (good-shifted s (more a) (i + 1) (j + 1))
-  where
-    go : (t : Bool) → pick t (badFrom (more a) (i + 1) s) (some i) ≡ none → (badFrom (more a) (i + 1) s ≡ none → badFrom (more a) (j + 1) s ≡ none) →
-        pick t (badFrom (more a) (j + 1) s) (some j) ≡ none
-    go true h ih = ih h
-    go false h ih = none-some (sym h)
+use Rattle.ical.specs.EscapedCharacters.{one-good, Spelled}
 
 -- ---- the first piece ends a character, and all others are well formed
 

@@ -1,7 +1,6 @@
 -- The content line of a property is one that the grammar has, so that its bytes are read back as that line.
 --     isLineProperty    a property whose names are names, and whose free characters a content line can have
 --     line-is-line, line-read-back
---     chosen-valid, property-value-valid    a value of a parameter or of a property is spelled as its type says
 use mathlib.Core.Path.{_≡_, refl, _∙_}
 use mathlib.Core.Bool.{Bool, true, false, false≢true}
 use mathlib.Core.List.{List, [], _∷_, map}
@@ -11,20 +10,20 @@ use Rattle.octets.specs.Pick.{pick, pick-no, pick-either, pick-case, _and_, _or
 use Rattle.octets.specs.Scan.{allOf}
 use Rattle.octets.specs.Class.{isVisible}
 use Rattle.octets.specs.Words.{isEmpty, holds, holds-split, noneHolds, none-split, all-without}
-use Rattle.octets.specs.Lists.{every, every-both, all-joined}
-use Rattle.octets.specs.Tables.{row-any-passes}
+use Rattle.octets.specs.Lists.{every, every-both, all-joined, every-and}
 use Rattle.octets.specs.Reading.{readOr}
 use Rattle.octets.specs.Computing.{octets-compute}
-use Rattle.model.specs.Calendar.{ValueType, BOOLEAN, CAL-ADDRESS, TEXT, URI, UNKNOWN, Value, binary, boolean, calAddress, date, dateTime, duration, float, integer, periodExplicit, periodStart, recur, text, time, uri, utcOffset, unknown, geo, requestStatus, typeOf, textIn, Parameter, Property}
+use Rattle.model.specs.Calendar.{ValueType, Value, binary, boolean, calAddress, date, dateTime, duration, float, integer, periodExplicit, periodStart, recur, text, time, uri, utcOffset, unknown, geo, requestStatus, typeOf, textIn, Parameter, Property}
 use Rattle.schema.specs.Types.{sameType, isTypeOf, same-type-true, type-passes}
-use Rattle.schema.specs.Parameters.{parameterTable, parameterRow, unrecognisedParameter, parameterType, parameterWords, isQuotedParameter}
-use Rattle.schema.specs.Properties.{defaultType, propertyWords}
+use Rattle.schema.specs.Parameters.{parameterType, parameterWords, isQuotedParameter}
+use Rattle.schema.specs.Properties.{defaultType}
 use Rattle.schema.specs.Computing.{schema-compute}
+use Rattle.schema.specs.Rows.{parameterTypes, parameter-type}
 use Rattle.texts.specs.Uri.{isUri, uri-visible, uri-unquoted}
 use Rattle.texts.specs.Quoting.{needsQuotes, plain-no-colon, plain-no-semicolon, plain-no-comma}
 use Rattle.values.specs.WriteValue.{writeValue, writeValues, typeOfAll}
 use Rattle.values.specs.ReadBack.{isValue, isTyped}
-use Rattle.values.specs.Valid.{isAmount, isWordIn, isChosen, isParameter, hasOwnValues, isOwnValue, isPropertyValue, areValuesOf, areParameters, isProperty, text-in}
+use Rattle.values.specs.Valid.{isAmount, isWordIn, isChosen, isParameter, isPropertyValue, areValuesOf, areParameters, isProperty, text-in, property-value-valid}
 use Rattle.values.specs.Characters.{isParameterText, isValueText, value-one-line, value-no-return}
 use Rattle.lines.specs.ContentLine.{RawParameter, isValueChar, isQSafeChar, isName, isParamValue, isRawParameter, isContentLine, contentLine}
 use Rattle.lines.specs.Chars.{qsafe-safe}
@@ -59,13 +58,6 @@ qsafe-chars (x ∷ s) a b c =
 
 -- ---- the value of a parameter
 
-isParameterType : ValueType → Bool
-isParameterType t = isTypeOf t (BOOLEAN ∷ CAL-ADDRESS ∷ TEXT ∷ URI ∷ UNKNOWN ∷ [])
-
-parameter-types : (n : List ℕ) → isParameterType (parameterType n) ≡ true
-unfolding octets-compute parameterRow isParameterType isTypeOf sameType
-parameter-types n = row-any-passes (λ r. r .name) n (λ r. isParameterType (r .type)) unrecognisedParameter parameterTable refl refl
-
 uri-chars : (s : List ℕ) → isUri s ≡ true → allOf isQSafeChar s ≡ true
 unfolding _and_
 uri-chars s h = qsafe-chars s (all-without isVisible 13 refl s (uri-visible s h)) (all-without isVisible 10 refl s (uri-visible s h)) (uri-unquoted s h)
@@ -76,8 +68,8 @@ free-chars s h =
     let q = and-both (noneHolds 10 (s ∷ [])) _ (p .1) in
     qsafe-chars s (none-split 13 s [] (p .0) .0) (none-split 10 s [] (q .0) .0) (none-split 34 s [] (q .1) .0)
 
-typed-chars : (v : Value) → isTyped v ≡ true → isValue v ≡ true → isParameterType (typeOf v) ≡ true → isParameterText v ≡ true → allOf isQSafeChar (paramChars v) ≡ true
-unfolding octets-compute isParameterType isTypeOf sameType writeValue
+typed-chars : (v : Value) → isTyped v ≡ true → isValue v ≡ true → isTypeOf (typeOf v) parameterTypes ≡ true → isParameterText v ≡ true → allOf isQSafeChar (paramChars v) ≡ true
+unfolding octets-compute isTypeOf sameType writeValue
 typed-chars (binary s) t h p f = absurd (false≢true p)
 typed-chars (boolean true) t h p f = refl
 typed-chars (boolean false) t h p f = refl
@@ -98,7 +90,7 @@ typed-chars (unknown s) t h p f = free-chars s f
 typed-chars (geo la lo) t h p f = absurd (false≢true t)
 typed-chars (requestStatus c d x) t h p f = absurd (false≢true t)
 
-chosen-chars : (o : Option (List (List ℕ))) (t : ValueType) (v : Value) → isParameterType t ≡ true → isChosen o t v ≡ true → isParameterText v ≡ true → allOf isQSafeChar (paramChars v) ≡ true
+chosen-chars : (o : Option (List (List ℕ))) (t : ValueType) (v : Value) → isTypeOf t parameterTypes ≡ true → isChosen o t v ≡ true → isParameterText v ≡ true → allOf isQSafeChar (paramChars v) ≡ true
 unfolding readOr
 chosen-chars none t v p h f =
     let a = and-both (sameType (typeOf v) t) _ h in
@@ -113,7 +105,7 @@ chosen-chars (some words) t v p h f = go (textIn v) refl h
 param-value-is : (n : List ℕ) (v : Value) → isChosen (parameterWords n) (parameterType n) v ≡ true → isParameterText v ≡ true → isParamValue (paramValueOf n v) ≡ true
 unfolding isParamValue
 param-value-is n v h f =
-    let c = chosen-chars (parameterWords n) (parameterType n) v (parameter-types n) h f in
+    let c = chosen-chars (parameterWords n) (parameterType n) v (parameter-type n) h f in
     pick-case (λ b. b ≡ true) (isQuotedParameter n or needsQuotes (paramChars v)) _ _ (λ e. c)
     (λ e. let q = or-neither (isQuotedParameter n) _ e .1 in qsafe-safe (paramChars v) c (plain-no-semicolon _ q) (plain-no-colon _ q) (plain-no-comma _ q))
 
@@ -157,30 +149,6 @@ with-value-are n t rs h = pick-either (λ (l : List RawParameter). every isRawPa
 
 -- ---- values
 
-pub chosen-valid : (o : Option (List (List ℕ))) (t : ValueType) (v : Value) → isChosen o t v ≡ true → isValue v ≡ true
-chosen-valid none t v h = and-both _ _ (and-both _ _ h .1) .1
-chosen-valid (some words) t v h = go (textIn v) refl h
-  where
-    go : (x : Option (List ℕ)) → textIn v ≡ x → isWordIn words x ≡ true → isValue v ≡ true
-    go none e k = absurd (false≢true k)
-    go (some s) e k = rw (text-in v s e)
-
-pub property-value-valid : (k n : List ℕ) (t : ValueType) (v : Value) → isPropertyValue k n t v ≡ true → isValue v ≡ true
-unfolding pick
-property-value-valid k n t v h = go (hasOwnValues n) h
-  where
-    go : (b : Bool) → pick b (isOwnValue t v) (isChosen (propertyWords k n) t v) ≡ true → isValue v ≡ true
-    go true h = and-both _ _ (and-both _ _ h .1) .1
-    go false h = chosen-valid (propertyWords k n) t v h
-
-both-every : {A : Type 0} (p q : A → Bool) (l : List A) → every p l ≡ true → every q l ≡ true → every (λ a. p a and q a) l ≡ true
-unfolding every
-both-every p q [] h k = refl
-both-every p q (a ∷ l) h k =
-    let d = every-both p a l h in
-    let e = every-both q a l k in
-    and-yes _ _ (and-yes _ _ (d .0) (e .0)) (both-every p q l (d .1) (e .1))
-
 value-written : (k n : List ℕ) (t : ValueType) (v : Value) → (isPropertyValue k n t v and isValueText v) ≡ true → allOf isValueChar (writeValue v) ≡ true
 value-written k n t v w =
     let p = and-both (isPropertyValue k n t v) (isValueText v) w in
@@ -190,7 +158,7 @@ value-written k n t v w =
 values-written : (k n : List ℕ) (t : ValueType) (vs : List Value) → every (isPropertyValue k n t) vs ≡ true → every isValueText vs ≡ true → allOf isValueChar (writeValues vs) ≡ true
 unfolding writeValues pick _or_
 values-written k n t vs h f =
-    all-joined (λ v. isPropertyValue k n t v and isValueText v) writeValue isValueChar 44 refl (value-written k n t) vs (both-every (isPropertyValue k n t) isValueText vs h f)
+    all-joined (λ v. isPropertyValue k n t v and isValueText v) writeValue isValueChar 44 refl (value-written k n t) vs (every-and (isPropertyValue k n t) isValueText vs h f)
 
 -- ---- the line
 

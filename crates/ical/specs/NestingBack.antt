@@ -20,8 +20,8 @@ use Rattle.schema.specs.Properties.{defaultType}
 use Rattle.schema.specs.Counts.{complete}
 use Rattle.values.specs.WriteValue.{typeOfAll}
 use Rattle.folding.specs.Text.{wholeLines}
-use Rattle.lines.specs.ContentLine.{RawParameter}
 use Rattle.lines.specs.Names.{startsOffName, isCarriedName}
+use Rattle.lines.specs.Carried.{carriesName}
 use Rattle.ical.specs.Nesting.{Open, on, opened, mayBegin, beginIn, begins, ends, states, namesCarried, moveBy, moveOf, move, onward, ended, nesting}
 use Rattle.ical.specs.WriteText.{rawOf, valueParameter, withValue, contentLineOf}
 use Rattle.ical.specs.PropertyLaws.{property-read-back, property-no-fault}
@@ -65,19 +65,16 @@ value-carried : isCarriedName (ascii "VALUE") ≡ true
 unfolding isCarriedName startsOffName octets-compute
 value-carried = refl
 
-abbrev pub isCarriedRaw : RawParameter → Bool
-isCarriedRaw r = isCarriedName (r .name)
-
-raw-carried : (ps : List Parameter) → every isGoodParameter ps ≡ true → every isCarriedRaw (map rawOf ps) ≡ true
+raw-carried : (ps : List Parameter) → every isGoodParameter ps ≡ true → every carriesName (map rawOf ps) ≡ true
 unfolding every
 raw-carried [] h = refl
 raw-carried (p ∷ ps) h = let a = every-both isGoodParameter p ps h in and-yes _ _ (and-both _ _ (a .0) .0) (raw-carried ps (a .1))
 
-parameters-carried : (n : List ℕ) (p : Property) → every isGoodParameter (p .parameters) ≡ true → every isCarriedRaw (withValue n (typeOfAll (p .values)) (map rawOf (p .parameters))) ≡ true
+parameters-carried : (n : List ℕ) (p : Property) → every isGoodParameter (p .parameters) ≡ true → every carriesName (withValue n (typeOfAll (p .values)) (map rawOf (p .parameters))) ≡ true
 unfolding withValue pick every
 parameters-carried n p h = go (sameType (typeOfAll (p .values)) (defaultType n))
   where
-    go : (b : Bool) → every isCarriedRaw (pick b (map rawOf (p .parameters)) (valueParameter (typeOfAll (p .values)) ∷ map rawOf (p .parameters))) ≡ true
+    go : (b : Bool) → every carriesName (pick b (map rawOf (p .parameters)) (valueParameter (typeOfAll (p .values)) ∷ map rawOf (p .parameters))) ≡ true
     go true = raw-carried (p .parameters) h
     go false = and-yes _ _ value-carried (raw-carried (p .parameters) h)
 

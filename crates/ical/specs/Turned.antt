@@ -7,8 +7,6 @@ use mathlib.Core.List.{List, [], _∷_}
 use mathlib.Core.Option.{Option, none, some}
 use Prim.Native.Nat.{ℕ, suc, _+_, _≤_}
 use native.Mathlib.Omega.{arith}
-use lib.Dec.{leb}
-use borrow.Author.Tests.{leb-true}
 use Rattle.octets.specs.Ascii.{ascii}
 use Rattle.octets.specs.Pick.{pick, _or_, and-both}
 use Rattle.octets.specs.Words.{same, isOneOf, same-true, rowOf}
@@ -19,8 +17,9 @@ use Rattle.octets.specs.Computing.{octets-compute}
 use Rattle.model.specs.Calendar.{Property}
 use Rattle.schema.specs.Components.{Occurrence, alarmTable, componentTable, componentRow, unknownComponent, occurrencesOf, alarmOccurrences, isAlarm}
 use Rattle.schema.specs.Properties.{propertyNames}
-use Rattle.schema.specs.Counts.{tally, occurrenceIn, isAtMost, isOften, eachOften, firstText, actionOf, listFor, oftenFor, complete}
+use Rattle.schema.specs.Counts.{tally, occurrenceIn, isOften, eachOften, firstText, actionOf, listFor, oftenFor, complete}
 use Rattle.schema.specs.Tallies.{complete-same, often-at}
+use Rattle.schema.specs.Completing.{isOnce, once-short}
 
 unfoldable pub turned : List Property → List Property → List Property
 turned [] seen = seen
@@ -42,16 +41,8 @@ tally-turned w (p ∷ ps) seen = tally-turned w ps (p ∷ seen) ∙ go (same w (
 abbrev action : List ℕ
 action = ascii "ACTION"
 
-abbrev isOnce : Option ℕ → Bool
-isOnce none = false
-isOnce (some m) = leb m 1
-
 abbrev isOnceIn : List Occurrence → Bool
 isOnceIn os = isOnce (occurrenceIn os action .most)
-
-at-most-once : (o : Option ℕ) (n : ℕ) → isOnce o ≡ true → isAtMost o n ≡ true → n ≤ 1
-at-most-once none n h k = absurd (false≢true h)
-at-most-once (some m) n h k = let a = leb-true m 1 h in let b = leb-true n m k in omega arith
 
 component-once : (c : List ℕ) → isOnceIn (occurrencesOf c) ≡ true
 unfolding octets-compute componentRow
@@ -87,7 +78,7 @@ action-once c ps sub h = go (listFor c ps) refl (and-both _ _ h .0)
   where
     go : (o : Option (List Occurrence)) → listFor c ps ≡ o → oftenFor o ps ≡ true → tally action ps ≤ 1
     go none e k = absurd (false≢true k)
-    go (some os) e k = at-most-once (occurrenceIn os action .most) (tally action ps) (listed-once c ps os e) (and-both _ _ (often-at propertyNames os ps action k action-known) .1)
+    go (some os) e k = once-short (occurrenceIn os action .most) (tally action ps) (listed-once c ps os e) (and-both _ _ (often-at propertyNames os ps action k action-known) .1)
 
 -- ---- the word of ACTION
 

@@ -9,10 +9,10 @@ use Prim.Native.Nat.{ℕ}
 use borrow.Author.Tests.{not-true}
 use Rattle.octets.specs.Ascii.{ascii}
 use Rattle.octets.specs.Pick.{pick, pick-yes, _and_, _or_, and-both, pick-first, eqb-apart}
-use Rattle.octets.specs.Append.{_⊕_, append-none}
+use Rattle.octets.specs.Append.{_⊕_}
 use Rattle.octets.specs.Scan.{allOf}
 use Rattle.octets.specs.Class.{upper}
-use Rattle.octets.specs.Words.{same, isOneOf, holds, cutAt, joinedBy, eachAfter, same-true, cut-joined}
+use Rattle.octets.specs.Words.{same, isOneOf, holds, cutAt, same-true, cut-joined}
 use Rattle.octets.specs.Lists.{every, none-holds, every-both}
 use Rattle.octets.specs.Tables.{row-any-passes}
 use Rattle.octets.specs.Reading.{provided, readOr, readEach, each-read-back}
@@ -29,16 +29,12 @@ use Rattle.texts.specs.Text.{writeText, escapeText}
 use Rattle.texts.specs.TextList.{readTexts, texts-read-back}
 use Rattle.texts.specs.RequestStatus.{readRequestStatus, request-status-read-back}
 use Rattle.values.specs.ReadValue.{readValue}
-use Rattle.values.specs.WriteValue.{writeValue, writeValues, typeOfAll}
+use Rattle.values.specs.WriteValue.{writeValue, writeValues, typeOfAll, one-written}
 use Rattle.values.specs.ReadBack.{isValue, isTyped, value-read-back}
 use Rattle.values.specs.Valid.{isAmount, isOfType, isWordIn, isChosen, isOwnValue, isPropertyValue, areValuesOf, arePropertyValues, only-one, text-or-other, text-in, own-value}
 use Rattle.ical.specs.Values.{oneValue, readListed, readChosen, readOwn, readValues}
 
 -- ---- one value
-
-one-written : (v : Value) → writeValues (v ∷ []) ≡ writeValue v
-unfolding writeValues joinedBy eachAfter
-one-written v = append-none (writeValue v)
 
 one-read-back : (read : List ℕ → Option Value) (p : Value → Bool) → ((v : Value) → p v ≡ true → read (writeValue v) ≡ some v) →
     (vs : List Value) → isAmount false vs ≡ true → every p vs ≡ true → oneValue (read (writeValues vs)) ≡ some vs

@@ -1,6 +1,6 @@
 -- The lines of a calendar as bytes: no CR stands in one, none begins with a blank, and their characters are well formed.
 --     line-passes      what holds of bytes that show, and of joined bytes where it holds of both, holds of a content line where it holds of its values
---     name-shows, name-visible    names show
+--     name-char-visible, name-visible    names show
 --     isGoodLine       such a line;   begin-good, end-good, property-good
 use mathlib.Core.Path.{_≡_, refl}
 use mathlib.Core.Bool.{Bool, true, false, not, false≢true}
@@ -8,13 +8,12 @@ use mathlib.Core.List.{List, [], _∷_, map}
 use mathlib.Core.Option.{Option, none, some}
 use Prim.Native.Nat.{ℕ}
 use native.Mathlib.Omega.{arith}
-use lib.Dec.{eqb}
 use borrow.Author.Tests.{ne-eqb}
 use Rattle.octets.specs.Ascii.{ascii}
-use Rattle.octets.specs.Pick.{pick, pick-either, pick-second, _and_, _or_, and-yes, and-both, and-no-left, or-no, or-cases, within-range, within-wider, eqb-passes}
+use Rattle.octets.specs.Pick.{pick, pick-either, pick-second, _and_, _or_, and-yes, and-both, and-no-left, or-no, within-range}
 use Rattle.octets.specs.Scan.{allOf, all-cons, all-split, all-append, all-weaker}
 use Rattle.octets.specs.Append.{_⊕_, joined}
-use Rattle.octets.specs.Class.{isNameChar, isVisible, isCapital, isSmall, isAlpha, isDigit}
+use Rattle.octets.specs.Class.{isNameChar, isVisible, name-char-visible}
 use Rattle.octets.specs.Words.{starts, holds, holds-neither, all-without, eachAfter, joinedBy}
 use Rattle.octets.specs.Lists.{every, every-both, every-weaker}
 use Rattle.octets.specs.Reading.{readOr}
@@ -27,29 +26,20 @@ use Rattle.utf8.specs.Utf8.{isAscii, firstBad, wellFormed, well-formed-good, go
 use Rattle.folding.specs.Unfold.{blankAt}
 use Rattle.values.specs.WriteValue.{writeValue, writeValues, typeOfAll}
 use Rattle.values.specs.ReadBack.{isValue}
-use Rattle.values.specs.Valid.{isChosen, isParameter, isPropertyValue, areParameters, areValuesOf, isProperty, text-in}
+use Rattle.values.specs.Valid.{isChosen, isParameter, isPropertyValue, areParameters, areValuesOf, isProperty, text-in, chosen-valid, property-value-valid}
 use Rattle.lines.specs.ContentLine.{ParamValue, RawParameter, ContentLine, isValueChar, isQSafeChar, isSafeChar, isName, isParamValue, isRawParameter, isContentLine}
 use Rattle.lines.specs.Write.{writeParamValue, writeParameter, writeContentLine}
 use Rattle.ical.specs.WriteText.{paramChars, paramValueOf, rawOf, valueParameter, withValue, contentLineOf}
-use Rattle.ical.specs.LineLaws.{isLineParameter, isLineProperty, chosen-valid, property-value-valid, line-is-line}
+use Rattle.ical.specs.LineLaws.{isLineParameter, isLineProperty, line-is-line}
 use Rattle.ical.specs.ValidCalendar.{isGoodValue, isGoodParameter, isStated, Stated, stated}
 use Rattle.ical.specs.EscapedCharacters.{joined-good, value-good}
 use Rattle.ical.specs.TreeBack.{beginOf, endOf, lineOf}
 
 -- ---- names show
 
-pub name-shows : (b : ℕ) → isNameChar b ≡ true → isVisible b ≡ true
-name-shows b h =
-    or-cases (isAlpha b) _ h
-    (λ k. or-cases (isCapital b) (isSmall b) k (λ c. within-wider 65 90 33 126 b (omega arith) (omega arith) c) (λ c. within-wider 97 122 33 126 b (omega arith) (omega arith) c))
-    (λ k. or-cases (isDigit b) (eqb b 45) k (λ c. within-wider 48 57 33 126 b (omega arith) (omega arith) c) (λ c. eqb-passes isVisible 45 b hyphen c))
-  where
-    hyphen : isVisible 45 ≡ true
-    hyphen = unfold _and_ in refl
-
 pub name-visible : (n : List ℕ) → isName n ≡ true → allOf isVisible n ≡ true
 unfolding isName
-name-visible n h = all-weaker isNameChar isVisible name-shows n (pick-second _ _ h .1)
+name-visible n h = all-weaker isNameChar isVisible name-char-visible n (pick-second _ _ h .1)
 
 -- ---- what holds of a line
 
@@ -131,7 +121,7 @@ byte-no-blank b s h =
 name-no-blank : (n r : List ℕ) → isName n ≡ true → blankAt (n ⊕ r) ≡ false
 unfolding isName _⊕_ pick
 name-no-blank [] r h = absurd (false≢true h)
-name-no-blank (b ∷ n) r h = byte-no-blank b (n ⊕ r) (name-shows b (all-split isNameChar b n h .0))
+name-no-blank (b ∷ n) r h = byte-no-blank b (n ⊕ r) (name-char-visible b (all-split isNameChar b n h .0))
 
 -- ---- characters
 
@@ -176,7 +166,7 @@ value-name = refl
 
 type-good : (t : ValueType) → isGoodRaw (valueParameter t) ≡ true
 unfolding every
-type-good t = and-yes _ _ value-name (and-yes _ _ (good-well-formed _ (visible-good _ (all-weaker isNameChar isVisible name-shows (typeName t) (type-name-is-name t)))) refl)
+type-good t = and-yes _ _ value-name (and-yes _ _ (good-well-formed _ (visible-good _ (all-weaker isNameChar isVisible name-char-visible (typeName t) (type-name-is-name t)))) refl)
 
 with-value-good : (n : List ℕ) (t : ValueType) (rs : List RawParameter) → every isGoodRaw rs ≡ true → every isGoodRaw (withValue n t rs) ≡ true
 unfolding withValue every

@@ -13,6 +13,7 @@ use Rattle.octets.specs.Pick.{pick-either}
 use Rattle.octets.specs.Append.{_⊕_, length-both}
 use Rattle.octets.specs.Class.{lower}
 use Rattle.octets.specs.Words.{same}
+use Rattle.octets.specs.Letters.{lower-length}
 use Rattle.model.specs.Calendar.{Property, Components, component}
 use Rattle.lines.specs.ContentLine.{ContentLine}
 use Rattle.lines.specs.Write.{writeContentLine}
@@ -20,7 +21,7 @@ use Rattle.ical.specs.Statement.{propertyOf}
 use Rattle.ical.specs.Tree.{Entry, begin, end, property, nothing, ownOf, innerOf}
 use Rattle.xml.specs.Escape.{elementOf}
 use Rattle.xcal.specs.WriteXml.{propertyXml, propertiesXml, isNoMore, componentsElement, componentsXml}
-use Rattle.lengths.specs.Elements.{lower-length, element-length}
+use Rattle.lengths.specs.Elements.{element-length}
 use Rattle.lengths.specs.Values.{rate}
 use Rattle.lengths.specs.Properties.{property-length}
 

@@ -14,6 +14,7 @@ use Rattle.octets.specs.Pick.{pick-either}
 use Rattle.octets.specs.Append.{_⊕_, length-both}
 use Rattle.octets.specs.Class.{upper}
 use Rattle.octets.specs.Words.{same, starts}
+use Rattle.octets.specs.Letters.{upper-length}
 use Rattle.model.specs.Calendar.{Components}
 use Rattle.folding.specs.Unfold.{crlf}
 use Rattle.folding.specs.Lines.{Line, whole, loose, longer, lineStep, linesAfter, lines}
@@ -22,7 +23,6 @@ use Rattle.lines.specs.Write.{writeContentLine}
 use Rattle.lines.specs.Accepted.{content-line-write-back}
 use Rattle.ical.specs.Tree.{Entry, begin, end, property, entryBy, entryOf, calendarOf}
 use Rattle.xcal.specs.WriteXml.{componentsXml, declaration, rootStart, rootEnd, writeDocument}
-use Rattle.lengths.specs.Elements.{upper-length}
 use Rattle.lengths.specs.Values.{rate}
 use Rattle.lengths.specs.Properties.{value-within}
 use Rattle.lengths.specs.Depths.{cost, costs, nested-length}

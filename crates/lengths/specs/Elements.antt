@@ -1,30 +1,18 @@
--- How long elements, character data and words in another letter case are.
---     upper-length, lower-length    letter case changes no length
+-- How long elements and character data are.
 --     element-length                an element: its name twice, five bytes of tags, its content
 --     escaped-length                an entity is of five bytes at most
 --     text-element-length           an element of character data
-use mathlib.Core.Path.{_≡_, refl, ap}
+use mathlib.Core.Path.{_≡_}
 use mathlib.Core.List.{List, [], _∷_}
-use Prim.Native.Nat.{ℕ, suc, _+_, _*_, _≤_}
+use Prim.Native.Nat.{ℕ, _+_, _*_, _≤_}
 use native.Mathlib.Omega.{arith}
 use lib.Dec.{eqb}
 use lib.ListN.{length}
 use Rattle.octets.specs.Ascii.{ascii}
 use Rattle.octets.specs.Pick.{pick-either}
 use Rattle.octets.specs.Append.{_⊕_, length-both}
-use Rattle.octets.specs.Class.{upper, lower}
 use Rattle.xml.specs.Escape.{escapedByte, escaped, startTag, endTag, elementOf}
 use Rattle.xcal.specs.WriteXml.{textElement}
-
-pub upper-length : (s : List ℕ) → length (upper s) ≡ length s
-unfolding upper
-upper-length [] = refl
-upper-length (b ∷ s) = ap suc (upper-length s)
-
-pub lower-length : (s : List ℕ) → length (lower s) ≡ length s
-unfolding lower
-lower-length [] = refl
-lower-length (b ∷ s) = ap suc (lower-length s)
 
 pub element-length : (n c : List ℕ) → length (elementOf n c) ≡ 2 * length n + 5 + length c
 element-length n c =

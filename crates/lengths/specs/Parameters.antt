@@ -15,6 +15,7 @@ use Rattle.octets.specs.Append.{_⊕_, joined, length-both}
 use Rattle.octets.specs.Class.{upper, lower}
 use Rattle.octets.specs.Words.{joinedBy}
 use Rattle.octets.specs.Reading.{andThen-some, readEach, consRead, consRead-some, none-some}
+use Rattle.octets.specs.Letters.{upper-length, lower-length}
 use Rattle.model.specs.Calendar.{ical, ValueType, TEXT, Value, text, Parameter}
 use Rattle.schema.specs.Types.{sameType}
 use Rattle.schema.specs.Parameters.{parameterType, isListedParameter, parameterWords, isQuotedParameter}
@@ -24,7 +25,7 @@ use Rattle.lines.specs.Write.{writeParamValue, writeParameter}
 use Rattle.ical.specs.Parameters.{readTyped, readWord, readParamValue, isSingle, readParameter, isValueParameter, ownParameters, readParameters}
 use Rattle.xml.specs.Escape.{elementOf}
 use Rattle.xcal.specs.WriteXml.{valuesXml, parameterXml, parametersXml, parametersElement}
-use Rattle.lengths.specs.Elements.{upper-length, lower-length, element-length}
+use Rattle.lengths.specs.Elements.{element-length}
 use Rattle.lengths.specs.Pieces.{joined-weight}
 use Rattle.lengths.specs.Values.{rate, Short, kept-length, value-length, each-length}
 use Rattle.lengths.specs.PropertyValues.{word-short}

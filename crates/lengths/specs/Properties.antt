@@ -10,6 +10,7 @@ use lib.ListN.{length}
 use Rattle.octets.specs.Append.{_⊕_, joined, length-both}
 use Rattle.octets.specs.Class.{upper, lower}
 use Rattle.octets.specs.Reading.{readOr}
+use Rattle.octets.specs.Letters.{upper-length, lower-length}
 use Rattle.model.specs.Calendar.{ValueType, TEXT, Value, Parameter}
 use Rattle.lines.specs.ContentLine.{RawParameter, ContentLine}
 use Rattle.lines.specs.Write.{writeParameter, writeContentLine}
@@ -17,7 +18,7 @@ use Rattle.ical.specs.Values.{readValues}
 use Rattle.ical.specs.Parameters.{statedType, readParameters}
 use Rattle.ical.specs.Statement.{propertyOf}
 use Rattle.xcal.specs.WriteXml.{valuesXml, parametersXml, parametersElement, propertyXml}
-use Rattle.lengths.specs.Elements.{upper-length, lower-length, element-length}
+use Rattle.lengths.specs.Elements.{element-length}
 use Rattle.lengths.specs.Values.{rate}
 use Rattle.lengths.specs.PropertyValues.{values-length}
 use Rattle.lengths.specs.Parameters.{bytes, parameters-length, wrapped-length}

@@ -14,6 +14,7 @@ use Rattle.octets.specs.Append.{length-both}
 use Rattle.octets.specs.Class.{upper}
 use Rattle.octets.specs.Words.{same, isOneOf, cutAt}
 use Rattle.octets.specs.Reading.{provided, provided-some, readEach, none-some}
+use Rattle.octets.specs.Letters.{upper-length}
 use Rattle.model.specs.Calendar.{ical, ValueType, TEXT, Value, text}
 use Rattle.schema.specs.Types.{sameType, isTypeOf}
 use Rattle.schema.specs.Properties.{isListedProperty, permittedTypes, propertyWords}
@@ -24,7 +25,7 @@ use Rattle.texts.specs.RequestStatus.{readRequestStatus}
 use Rattle.values.specs.ReadValue.{readValue}
 use Rattle.ical.specs.Values.{oneValue, readListed, readChosen, readOwn, readValues}
 use Rattle.xcal.specs.WriteXml.{textElement, valueXml, valuesXml}
-use Rattle.lengths.specs.Elements.{upper-length, text-element-length}
+use Rattle.lengths.specs.Elements.{text-element-length}
 use Rattle.lengths.specs.Pieces.{weight, cut-weight, split-weight}
 use Rattle.lengths.specs.Numbers.{geo-length}
 use Rattle.lengths.specs.Texts.{status-length}

@@ -23,15 +23,17 @@ use Rattle.octets.specs.Lists.{every}
 use Rattle.octets.specs.Decimal.{digits}
 use Rattle.octets.specs.Reading.{provided-some, andThen, andThen-some, readEach, consRead, consRead-some, none-some}
 use Rattle.octets.specs.Computing.{octets-compute}
+use Rattle.octets.specs.Front.{upTo, fromOn, past}
+use Rattle.octets.specs.Letters.{upper-length, lower-length}
 use Rattle.model.specs.Calendar.{ical, xcal, Whole, RuleItem, moment, number, word, weekday, RulePart}
 use Rattle.times.specs.Date.{isDate, readDate, writeDate}
 use Rattle.times.specs.DateTime.{readDateTime, writeDateTime}
-use Rattle.recur.specs.Front.{upTo, fromOn, past}
+use Rattle.numbers.specs.Integer.{writeWhole}
 use Rattle.recur.specs.Parts.{ItemForm, wordOf, enddate, counting, unsigned, signed, weekdaynum, Part, partTable, partNames, partOf, isListPart, weekdays}
-use Rattle.recur.specs.Item.{readWord, readCounting, readUnsigned, readSigned, writeWhole, readOrdinal, writeOrdinal, orOther, readEnddate, readForm, writeItem, readItem}
+use Rattle.recur.specs.Item.{readWord, readCounting, readUnsigned, readSigned, readOrdinal, writeOrdinal, orOther, readEnddate, readForm, writeItem, readItem}
 use Rattle.recur.specs.Rule.{rulePart, isEquals, itemsOf, readPart, partNamed, withPart, inOrder, ruled, readRule}
 use Rattle.xcal.specs.WriteXml.{textElement, itemsXml, partsXml}
-use Rattle.lengths.specs.Elements.{upper-length, lower-length, text-element-length}
+use Rattle.lengths.specs.Elements.{text-element-length}
 use Rattle.lengths.specs.Pieces.{weight, cut-weight}
 use Rattle.lengths.specs.Times.{date-kept, date-time-kept, date-written, date-time-written}
 use Rattle.lengths.specs.Numbers.{digits-length}

@@ -11,6 +11,7 @@ use lib.Dec.{eqb}
 use lib.ListN.{length, drop, length-drop}
 use Rattle.octets.specs.Pick.{pick}
 use Rattle.octets.specs.Class.{upper}
+use Rattle.octets.specs.Letters.{upper-length}
 use Rattle.model.specs.Calendar.{ical, xcal}
 use Rattle.times.specs.Spelling.{keep, begins, withMarks, keep-is, marks-length}
 use Rattle.times.specs.Date.{isDate, dateMarks, readDate, writeDate}
@@ -18,7 +19,6 @@ use Rattle.times.specs.Time.{isTime, timeMarks, readTime, writeTime}
 use Rattle.times.specs.DateTime.{isDateTime, dateTimeMarks, readDateTime, writeDateTime}
 use Rattle.times.specs.Duration.{unsigned, isDuration, durationOf, readDuration, writeDuration}
 use Rattle.times.specs.UtcOffset.{isUtcOffset, minuteMarks, secondMarks, readUtcOffset, writeUtcOffset}
-use Rattle.lengths.specs.Elements.{upper-length}
 
 -- what is kept is as long as what was read
 pub date-kept : (s v : List ℕ) → readDate ical s ≡ some v → length v ≡ length s

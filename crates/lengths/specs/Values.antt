@@ -15,6 +15,7 @@ use Rattle.octets.specs.Pick.{pick}
 use Rattle.octets.specs.Append.{_⊕_, length-both}
 use Rattle.octets.specs.Class.{upper, lower}
 use Rattle.octets.specs.Reading.{andThen, andThen-some, readEach, consRead, consRead-some, none-some}
+use Rattle.octets.specs.Letters.{upper-length, lower-length}
 use Rattle.model.specs.Calendar.{ical, xcal, ValueType, BINARY, BOOLEAN, CAL-ADDRESS, DATE, DATE-TIME, DURATION, FLOAT, INTEGER, PERIOD, RECUR, TEXT, TIME, URI, UTC-OFFSET, UNKNOWN}
 use Rattle.model.specs.Calendar.{RulePart, Value, binary, boolean, calAddress, date, dateTime, duration, float, integer, periodExplicit, periodStart, recur, text, time, uri, utcOffset, unknown, typeOf}
 use Rattle.schema.specs.Types.{typeName}
@@ -35,7 +36,7 @@ use Rattle.recur.specs.Rule.{readRule}
 use Rattle.values.specs.ReadValue.{readValue}
 use Rattle.values.specs.WriteValue.{characters}
 use Rattle.xcal.specs.WriteXml.{textElement, partsXml, plainXml, valueXml, valuesXml}
-use Rattle.lengths.specs.Elements.{upper-length, lower-length, element-length, text-element-length}
+use Rattle.lengths.specs.Elements.{element-length, text-element-length}
 use Rattle.lengths.specs.Pieces.{weight}
 use Rattle.lengths.specs.Times.{date-length, time-length, date-time-kept, date-time-written, date-time-length, duration-length, offset-length}
 use Rattle.lengths.specs.Numbers.{integer-length, truth-length, float-length}

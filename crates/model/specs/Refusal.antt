@@ -1,10 +1,14 @@
 -- The refusals and their numbers, and the answer of a reading.
---     Refusal, numberOf   the eleven refusals
---     Verdict             what a check finds;   _otherwise_ is one check after another
+--     Refusal, numberOf   the eleven refusals;   refusalAt: the one of a number, refusal-back: the one that has this number
+--     Verdict             what a check finds;   _otherwise_ is one check after another;   refused-not: a refusal is not fine
 --     characters, limit   refusals 3 and 1
 --     Answer              what reading an input gives
-use Prim.Native.Nat.{ℕ}
+use mathlib.Core.Path.{_≡_, refl}
+use mathlib.Core.List.{[], _∷_}
 use mathlib.Core.Option.{Option, none, some}
+use Prim.Native.Nat.{ℕ, _-_}
+use native.Mathlib.Omega.{arith}
+use lib.ListN.{getD}
 use Rattle.model.specs.Calendar.{Calendar}
 
 -- 1 LENGTH, 2 WORK, 3 CHARACTER, 4 LINE, 5 NAME, 6 FRAME, 7 PARAMETER, 8 VALUE, 9 COUNT, 11 XML have a place; 10 ROOM has the exact length
@@ -24,10 +28,30 @@ numberOf COUNT = 9
 numberOf ROOM = 10
 numberOf XML = 11
 
+unfoldable pub refusalAt : ℕ → Refusal
+refusalAt n = getD (LENGTH ∷ WORK ∷ CHARACTER ∷ LINE ∷ NAME ∷ FRAME ∷ PARAMETER ∷ VALUE ∷ COUNT ∷ ROOM ∷ XML ∷ []) (n - 1) LENGTH
+
+pub refusal-back : (r : Refusal) → refusalAt (numberOf r) ≡ r
+unfolding refusalAt
+refusal-back LENGTH = refl
+refusal-back WORK = refl
+refusal-back CHARACTER = refl
+refusal-back LINE = refl
+refusal-back NAME = refl
+refusal-back FRAME = refl
+refusal-back PARAMETER = refl
+refusal-back VALUE = refl
+refusal-back COUNT = refl
+refusal-back ROOM = refl
+refusal-back XML = refl
+
 -- what a check finds: nothing, or a refusal and its place
 pub data Verdict : Type 0 where
   fine : Verdict
   refuse : Refusal → ℕ → Verdict
+
+pub refused-not : {X : Type 0} (r : Refusal) (p : ℕ) → refuse r p ≡ fine → X
+refused-not r p e = let z : _≡_ {A = ℕ} 0 1 = cc in absurd (omega arith)
 
 -- one check after another: the first refusal stands
 infixr 30 _otherwise_

@@ -2,6 +2,7 @@
 --     Case       a word in a given case, byte by byte
 --     Table      a table of names, the place of a name in it, and the row of a list by that place
 --     Known      what is said of a word, by its place in a list of known words
+--     Places     words compared by their places, the word at a place
 --     Matching   the walk over a table
 --     Runs       a run of bytes, and the loops that compare and write a word
 --     Computing  one name that opens all of them
@@ -9,6 +10,7 @@
 pub mod Case
 pub mod Table
 pub mod Known
+pub mod Places
 pub mod Matching
 pub mod Runs
 pub mod Computing

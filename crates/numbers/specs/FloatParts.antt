@@ -12,15 +12,16 @@ use native.Mathlib.Omega.{arith}
 use lib.Dec.{eqb, ltb}
 use lib.ListN.{length}
 use borrow.Author.Tests.{eqb-true, ne-eqb, lt-ltb}
-use Rattle.octets.specs.Pick.{pick, _and_, and-no-right}
+use Rattle.octets.specs.Pick.{pick, _and_, and-no-right, and-true}
 use Rattle.octets.specs.Scan.{allOf}
 use Rattle.octets.specs.Class.{isDigit}
 use Rattle.octets.specs.Words.{isEmpty, cutAt, onto}
 use Rattle.octets.specs.Reading.{provided, andThen}
+use Rattle.octets.specs.Front.{upTo}
 use Rattle.model.specs.Calendar.{Decimal}
 use Rattle.numbers.specs.Sign.{isDigits, leadsInDigit}
 use Rattle.numbers.specs.Float.{decimal, fraction, pointed, noLeading}
-use Rattle.numbers.specs.Until.{upTo}
+use Rattle.numbers.specs.Until.{before}
 
 unfoldable pub front : List ℕ → List ℕ
 front [] = []
@@ -36,23 +37,23 @@ unfoldable pub moreAfter : ℕ → List ℕ → List (List ℕ)
 moreAfter c [] = []
 moreAfter c (b ∷ s) = pick (eqb b c) (cutAt c s) (moreAfter c s)
 
-pub cut-parts : (s : List ℕ) (c : ℕ) → cutAt c s ≡ upTo c s ∷ moreAfter c s
+pub cut-parts : (s : List ℕ) (c : ℕ) → cutAt c s ≡ before c s ∷ moreAfter c s
 unfolding cutAt onto upTo moreAfter pick
 cut-parts [] c = refl
 cut-parts (b ∷ s) c = go (eqb b c) (cut-parts s c)
   where
-    go : (t : Bool) → cutAt c s ≡ upTo c s ∷ moreAfter c s →
-        pick t ([] ∷ cutAt c s) (onto b (cutAt c s)) ≡ pick t [] (b ∷ upTo c s) ∷ pick t (cutAt c s) (moreAfter c s)
+    go : (t : Bool) → cutAt c s ≡ before c s ∷ moreAfter c s →
+        pick t ([] ∷ cutAt c s) (onto b (cutAt c s)) ≡ pick t [] (b ∷ before c s) ∷ pick t (cutAt c s) (moreAfter c s)
     go true ih = refl
     go false ih = rw ih
 
 -- where there is one piece, it is the whole
-pub one-piece : (s : List ℕ) (c : ℕ) → isEmpty (moreAfter c s) ≡ true → upTo c s ≡ s
+pub one-piece : (s : List ℕ) (c : ℕ) → isEmpty (moreAfter c s) ≡ true → before c s ≡ s
 unfolding upTo moreAfter pick
 one-piece [] c h = refl
 one-piece (b ∷ s) c h = go (eqb b c) h (one-piece s c)
   where
-    go : (t : Bool) → isEmpty (pick t (cutAt c s) (moreAfter c s)) ≡ true → (isEmpty (moreAfter c s) ≡ true → upTo c s ≡ s) → pick t [] (b ∷ upTo c s) ≡ b ∷ s
+    go : (t : Bool) → isEmpty (pick t (cutAt c s) (moreAfter c s)) ≡ true → (isEmpty (moreAfter c s) ≡ true → before c s ≡ s) → pick t [] (b ∷ before c s) ≡ b ∷ s
     go true k ih = let z : false ≡ true = rw (cut-parts s c) at k in absurd (false≢true z)
     go false k ih = ap (λ (l : List ℕ). b ∷ l) (ih k)
 
@@ -73,11 +74,6 @@ digits-piece (b ∷ s) h = go (isDigit b) refl h (digits-piece s)
     go true e k ih = rw (digit-point b e) (ih k)
     go false e k ih = absurd (false≢true k)
 
-and-true : (t : Bool) → (t and true) ≡ t
-unfolding _and_
-and-true true = refl
-and-true false = refl
-
 -- the fraction is what follows the point, if it is digits
 fraction-is : (s : List ℕ) → fraction (cutAt 46 s) ≡ provided (isDigits s) s
 unfolding fraction pick
@@ -87,9 +83,9 @@ fraction-is s = rw (cut-parts s 46) (go (isEmpty (moreAfter 46 s)) refl)
     odd true e k = absurd (false≢true (sym k ∙ digits-piece s e))
     odd false e k = rw (and-no-right (ltb 0 (length s)) false refl)
 
-    go : (t : Bool) → isEmpty (moreAfter 46 s) ≡ t → provided (isDigits (upTo 46 s) and t) (upTo 46 s) ≡ provided (isDigits s) s
+    go : (t : Bool) → isEmpty (moreAfter 46 s) ≡ t → provided (isDigits (before 46 s) and t) (before 46 s) ≡ provided (isDigits s) s
     go true e = rw (one-piece s 46 e, and-true (isDigits s))
-    go false e = rw (and-no-right (isDigits (upTo 46 s)) false refl) (odd (allOf isDigit s) refl e)
+    go false e = rw (and-no-right (isDigits (before 46 s)) false refl) (odd (allOf isDigit s) refl e)
 
 -- ---- the digits before the point
 
@@ -97,24 +93,24 @@ clash : {A : Type 0} {b : ℕ} {s : List ℕ} → _≡_ {A = List ℕ} [] (b ∷
 clash {A} {b} {s} h = let z : _≡_ {A = ℕ} 0 1 = cc in absurd (omega arith)
 
 -- they reach the end
-reach : (s : List ℕ) → afterDigits s ≡ [] → (upTo 46 s ≡ front s) × (moreAfter 46 s ≡ [])
+reach : (s : List ℕ) → afterDigits s ≡ [] → (before 46 s ≡ front s) × (moreAfter 46 s ≡ [])
 unfolding front afterDigits upTo moreAfter pick
 reach [] h = (refl, refl)
 reach (b ∷ s) h = go (isDigit b) refl h (reach s)
   where
-    go : (t : Bool) → isDigit b ≡ t → pick t (afterDigits s) (b ∷ s) ≡ [] → (afterDigits s ≡ [] → (upTo 46 s ≡ front s) × (moreAfter 46 s ≡ [])) →
-        (pick (eqb b 46) [] (b ∷ upTo 46 s) ≡ pick t (b ∷ front s) []) × (pick (eqb b 46) (cutAt 46 s) (moreAfter 46 s) ≡ [])
+    go : (t : Bool) → isDigit b ≡ t → pick t (afterDigits s) (b ∷ s) ≡ [] → (afterDigits s ≡ [] → (before 46 s ≡ front s) × (moreAfter 46 s ≡ [])) →
+        (pick (eqb b 46) [] (b ∷ before 46 s) ≡ pick t (b ∷ front s) []) × (pick (eqb b 46) (cutAt 46 s) (moreAfter 46 s) ≡ [])
     go true e k ih = rw (digit-point b e) (ap (λ (l : List ℕ). b ∷ l) (ih k .0), ih k .1)
     go false e k ih = clash (sym k)
 
 -- they reach a point
-meet : (s : List ℕ) {a : List ℕ} → afterDigits s ≡ 46 ∷ a → (upTo 46 s ≡ front s) × (moreAfter 46 s ≡ cutAt 46 a)
+meet : (s : List ℕ) {a : List ℕ} → afterDigits s ≡ 46 ∷ a → (before 46 s ≡ front s) × (moreAfter 46 s ≡ cutAt 46 a)
 unfolding front afterDigits upTo moreAfter pick
 meet [] h = clash h
 meet (b ∷ s) {a} h = go (isDigit b) refl h (λ k. meet s k)
   where
-    go : (t : Bool) → isDigit b ≡ t → pick t (afterDigits s) (b ∷ s) ≡ 46 ∷ a → (afterDigits s ≡ 46 ∷ a → (upTo 46 s ≡ front s) × (moreAfter 46 s ≡ cutAt 46 a)) →
-        (pick (eqb b 46) [] (b ∷ upTo 46 s) ≡ pick t (b ∷ front s) []) × (pick (eqb b 46) (cutAt 46 s) (moreAfter 46 s) ≡ cutAt 46 a)
+    go : (t : Bool) → isDigit b ≡ t → pick t (afterDigits s) (b ∷ s) ≡ 46 ∷ a → (afterDigits s ≡ 46 ∷ a → (before 46 s ≡ front s) × (moreAfter 46 s ≡ cutAt 46 a)) →
+        (pick (eqb b 46) [] (b ∷ before 46 s) ≡ pick t (b ∷ front s) []) × (pick (eqb b 46) (cutAt 46 s) (moreAfter 46 s) ≡ cutAt 46 a)
     go true e k ih = rw (digit-point b e) (ap (λ (l : List ℕ). b ∷ l) (ih k .0), ih k .1)
     go false e k ih =
         let f : b ≡ 46 = cc in
@@ -122,13 +118,13 @@ meet (b ∷ s) {a} h = go (isDigit b) refl h (λ k. meet s k)
         rw (f, g) (refl, refl)
 
 -- they reach another byte, which is no digit
-odd-byte : (s : List ℕ) {a : List ℕ} {x : ℕ} → afterDigits s ≡ x ∷ a → (x ≡ 46 → ⊥) → allOf isDigit (upTo 46 s) ≡ false
+odd-byte : (s : List ℕ) {a : List ℕ} {x : ℕ} → afterDigits s ≡ x ∷ a → (x ≡ 46 → ⊥) → allOf isDigit (before 46 s) ≡ false
 unfolding afterDigits upTo allOf pick
 odd-byte [] h n = clash h
 odd-byte (b ∷ s) {a} {x} h n = go (isDigit b) refl h (λ k. odd-byte s k n)
   where
-    go : (t : Bool) → isDigit b ≡ t → pick t (afterDigits s) (b ∷ s) ≡ x ∷ a → (afterDigits s ≡ x ∷ a → allOf isDigit (upTo 46 s) ≡ false) →
-        allOf isDigit (pick (eqb b 46) [] (b ∷ upTo 46 s)) ≡ false
+    go : (t : Bool) → isDigit b ≡ t → pick t (afterDigits s) (b ∷ s) ≡ x ∷ a → (afterDigits s ≡ x ∷ a → allOf isDigit (before 46 s) ≡ false) →
+        allOf isDigit (pick (eqb b 46) [] (b ∷ before 46 s)) ≡ false
     go true e k ih = rw (digit-point b e, e) (ih k)
     go false e k ih = let f : b ≡ x = cc in rw (ne-eqb b 46 (λ q. n (sym f ∙ q)), e)
 
@@ -150,14 +146,14 @@ front-digits : (s : List ℕ) → leadsInDigit s ≡ true → isDigits (front s)
 unfolding _and_
 front-digits s h = rw (lt-ltb 0 (length (front s)) (front-some s h), front-all s)
 
-no-digits : (s : List ℕ) → leadsInDigit s ≡ false → isDigits (upTo 46 s) ≡ false
+no-digits : (s : List ℕ) → leadsInDigit s ≡ false → isDigits (before 46 s) ≡ false
 unfolding leadsInDigit upTo allOf pick _and_
 no-digits [] h = refl
 no-digits (b ∷ s) h = go (eqb b 46)
   where
-    go : (t : Bool) → isDigits (pick t [] (b ∷ upTo 46 s)) ≡ false
+    go : (t : Bool) → isDigits (pick t [] (b ∷ before 46 s)) ≡ false
     go true = refl
-    go false = rw h (and-no-right (ltb 0 (length (b ∷ upTo 46 s))) false refl)
+    go false = rw h (and-no-right (ltb 0 (length (b ∷ before 46 s))) false refl)
 
 -- ---- what is spelled
 
@@ -180,7 +176,7 @@ module _ (m : Bool) (s : List ℕ) where
 
   pub spelling-other : {a : List ℕ} {x : ℕ} → afterDigits s ≡ x ∷ a → (x ≡ 46 → ⊥) → pointed m (cutAt 46 s) ≡ none
   unfolding pointed pick
-  spelling-other k n = rw (cut-parts s 46, odd-byte s k n, and-no-right (ltb 0 (length (upTo 46 s))) false refl)
+  spelling-other k n = rw (cut-parts s 46, odd-byte s k n, and-no-right (ltb 0 (length (before 46 s))) false refl)
 
 pub front-leading : (s : List ℕ) → noLeading (front s) ≡ front (noLeading s)
 unfolding front noLeading pick _and_

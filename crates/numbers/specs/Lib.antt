@@ -3,6 +3,7 @@
 --     Integer     INTEGER
 --     Cursor      a byte that is known was found at the cursor
 --     Digit       a byte that was compared is a digit, or none
+--     Numeral     digits as the code reads them one by one
 --     ReadInteger INTEGER as the code reads and writes it
 --     PutInteger  a number written digit by digit
 --     Float       FLOAT
@@ -24,6 +25,7 @@ pub mod Sign
 pub mod Integer
 pub mod Cursor
 pub mod Digit
+pub mod Numeral
 pub mod ReadInteger
 pub mod PutInteger
 pub mod Float

@@ -16,7 +16,7 @@ use Rattle.model.specs.Calendar.{Decimal, Value, geo}
 use Rattle.source.specs.Source.{rest}
 use Rattle.numbers.specs.Float.{readFloat}
 use Rattle.numbers.specs.Geo.{longitude, coordinates, readGeo}
-use Rattle.numbers.specs.Until.{upTo, until, until-all}
+use Rattle.numbers.specs.Until.{until, until-all, before}
 use Rattle.numbers.specs.FloatParts.{moreAfter, cut-parts, one-piece}
 use Rattle.numbers.specs.declared.geo.Mark.{Mark}
 use Rattle.numbers.specs.declared.geo.GeoRead.{GeoRead}
@@ -88,7 +88,7 @@ both-read (some d) none h k = absurd (false≢true k)
 both-read (some d) (some e) h k = refl
 
 -- the longitude, by the pieces after the semicolon
-geo-parts : (l : List ℕ) → readGeo l ≡ bothOf (readFloat (upTo 59 l)) (longitude (moreAfter 59 l))
+geo-parts : (l : List ℕ) → readGeo l ≡ bothOf (readFloat (before 59 l)) (longitude (moreAfter 59 l))
 unfolding coordinates bothOf
 geo-parts l = rw (cut-parts l 59)
 
@@ -107,14 +107,14 @@ refused m s at h = record { is = h; good = rw h }
 module _ (m : ℕ) (s : List ℕ) (at : ℕ) {f : Mark} (p : Parted 59 m s at f) where
   pub geo-single : f .ok ≡ false → ReadsGeo m s at Bad
   unfolding pick longitude
-  geo-single h = refused m s at (geo-parts (rest m s at) ∙ rw (p .is, h) (both-none (readFloat (upTo 59 (rest m s at)))))
+  geo-single h = refused m s at (geo-parts (rest m s at) ∙ rw (p .is, h) (both-none (readFloat (before 59 (rest m s at)))))
 
   module _ {g : Mark} (q : Parted 59 m s (f .next) g) (h : f .ok ≡ true) where
     pub geo-triple : g .ok ≡ true → ReadsGeo m s at Bad
     unfolding pick
     geo-triple k =
         let e : moreAfter 59 (rest m s (f .next)) ≡ cutAt 59 (rest m s (g .next)) = rw k at (q .is) in
-        refused m s at (geo-parts (rest m s at) ∙ rw (p .is, h, two-more (rest m s (f .next)) (rest m s (g .next)) e) (both-none (readFloat (upTo 59 (rest m s at)))))
+        refused m s at (geo-parts (rest m s at) ∙ rw (p .is, h, two-more (rest m s (f .next)) (rest m s (g .next)) e) (both-none (readFloat (before 59 (rest m s at)))))
 
     two : g .ok ≡ false → readGeo (rest m s at) ≡ bothOf (readFloat (until 59 m s at)) (readFloat (rest m s (f .next)))
     unfolding pick until

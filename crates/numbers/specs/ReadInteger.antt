@@ -1,33 +1,29 @@
 -- INTEGER as the code reads and writes it, and its laws at each way that the code goes.
---     numberTo most n s    what the digits of s are worth after digits that are worth n, if there are no others and it is no more than most; else 2 ^ 32 - 1
---     numberIn most s      the same of s itself, which must have a digit
+--     numberIn most s      what the digits of s are worth, which must have a digit and be worth no more than most; else 2 ^ 32 - 1
 --     wholeOf              what the answer of `read_integer` states
 --     wholeIs m n          the number of sign m and magnitude n
-use mathlib.Core.Path.{_≡_, refl, _∙_}
+use mathlib.Core.Path.{_≡_, refl}
 use mathlib.Core.Bool.{Bool, true, false}
 use mathlib.Core.List.{List, [], _∷_}
 use mathlib.Core.Option.{Option, none, some}
-use Prim.Native.Nat.{ℕ, _+_, _-_, _*_, _≤_, _<_}
+use Prim.Native.Nat.{ℕ, _-_, _≤_}
 use native.Mathlib.Omega.{arith}
 use lib.Dec.{eqb, leb, ltb}
 use lib.ListN.{length}
-use borrow.Author.Tests.{ne-eqb, lt-ltb, le-leb, lt-leb, leb-true}
+use borrow.Author.Tests.{ne-eqb, lt-ltb, leb-true}
 use Rattle.octets.specs.Pick.{pick, _and_, _or_}
 use Rattle.octets.specs.Scan.{allOf}
 use Rattle.octets.specs.Class.{isDigit}
-use Rattle.octets.specs.Decimal.{value, digitOf, isNumber}
+use Rattle.octets.specs.Decimal.{value, isNumber}
 use Rattle.octets.specs.Reading.{provided}
 use Rattle.model.specs.Calendar.{Whole}
 use Rattle.source.specs.Source.{rest, spell, Reads}
 use Rattle.source.specs.declared.Step.{Step}
-use Rattle.numbers.specs.Digit.{is-digit, below-digit, above-digit}
 use Rattle.numbers.specs.Sign.{hasMinus, unsigned}
 use Rattle.numbers.specs.Integer.{whole, readInteger}
 use Rattle.numbers.specs.declared.integer.IntegerRead.{IntegerRead}
 use Rattle.numbers.specs.declared.integer.IntegerRead.the-variants.{Value, Bad}
-
-unfoldable pub numberTo : ℕ → ℕ → List ℕ → ℕ
-numberTo m n s = pick (allOf isDigit s and leb (value n s) m) (value n s) 4294967295
+use Rattle.numbers.specs.Numeral.{worthTo}
 
 unfoldable pub numberIn : ℕ → List ℕ → ℕ
 numberIn m s = pick (isNumber m s) (value 0 s) 4294967295
@@ -42,45 +38,14 @@ wholeOf Bad = none
 unfoldable pub wholeFrom : Bool → ℕ → Option Whole
 wholeFrom m n = pick (eqb n 4294967295) none (some (whole m n))
 
--- ---- digits to the end, one a turn
-
--- digits never make a number less
-grows : (s : List ℕ) (n : ℕ) → n ≤ value n s
-unfolding value
-grows [] n = omega arith
-grows (b ∷ s) n = omega (arith, grows s (n * 10 + digitOf b))
-
-module _ (m n : ℕ) where
-  pub number-end : {s : List ℕ} → s ≡ [] → n ≤ m → numberTo m n s ≡ n
-  unfolding numberTo allOf value pick _and_
-  number-end e h = rw (e, le-leb n m h)
-
-  pub number-low : {s t : List ℕ} {b : ℕ} → s ≡ b ∷ t → b < 48 → numberTo m n s ≡ 4294967295
-  unfolding numberTo allOf pick _and_
-  number-low {s} {t} {b} e h = rw (e, below-digit b h)
-
-  pub number-high : {s t : List ℕ} {b : ℕ} → s ≡ b ∷ t → 57 < b → numberTo m n s ≡ 4294967295
-  unfolding numberTo allOf pick _and_
-  number-high {s} {t} {b} e h = rw (e, above-digit b h)
-
-  pub number-more : {s t : List ℕ} {b : ℕ} → s ≡ b ∷ t → 48 ≤ b → b ≤ 57 → numberTo m n s ≡ numberTo m (n * 10 + (b - 48)) t
-  unfolding numberTo allOf value pick
-  number-more {s} {t} {b} e h k = rw (e, is-digit b h k)
-
-  pub number-much : {s t : List ℕ} {b : ℕ} → s ≡ b ∷ t → 48 ≤ b → b ≤ 57 → m < n * 10 + (b - 48) → numberTo m n s ≡ 4294967295
-  unfolding numberTo pick _and_
-  number-much {s} {t} {b} e h k l = number-more e h k ∙ go (allOf isDigit t)
-    where
-      go : (c : Bool) → pick (c and leb (value (n * 10 + (b - 48)) t) m) (value (n * 10 + (b - 48)) t) 4294967295 ≡ 4294967295
-      go true = rw (lt-leb (value (n * 10 + (b - 48)) t) m (omega (arith, grows t (n * 10 + (b - 48)))))
-      go false = refl
+-- ---- digits to the end
 
 pub number-none : (m : ℕ) {s : List ℕ} → s ≡ [] → numberIn m s ≡ 4294967295
 unfolding numberIn pick _and_
 number-none m e = rw e
 
-pub number-some : (m : ℕ) {s t : List ℕ} {b : ℕ} → s ≡ b ∷ t → numberIn m s ≡ numberTo m 0 s
-unfolding numberIn numberTo _and_
+pub number-some : (m : ℕ) {s t : List ℕ} {b : ℕ} → s ≡ b ∷ t → numberIn m s ≡ worthTo m 0 s
+unfolding numberIn worthTo _and_
 number-some m {s} {t} {b} e = rw (lt-ltb 0 (length s) (rw e (omega arith)))
 
 -- ---- the sign

@@ -1,5 +1,5 @@
 -- What stands from a cursor on, up to a byte that ends it.
---     upTo e s         s up to its first e, or the whole of it
+--     before e s       s up to its first e, or the whole of it
 --     until e m s c    the bytes from the cursor c on up to the first e; to the end where e is 256, which is no byte
 --     Turns            the contract of a step there, as `Reads` of `source` is one to the end
 --     turn-byte, turn-end    what stands at the cursor, where a byte was found, and where none was
@@ -12,16 +12,16 @@ use lib.Dec.{eqb}
 use lib.ListN.{length}
 use borrow.Author.Tests.{eq-eqb, ne-eqb}
 use Rattle.octets.specs.Pick.{pick}
+use Rattle.octets.specs.Front.{upTo}
 use Rattle.source.specs.Source.{rest, spell, Reads}
 use Rattle.source.specs.Facts.{spell-byte, spell-end}
 use Rattle.source.specs.declared.Step.{Step}
 
-unfoldable pub upTo : ℕ → List ℕ → List ℕ
-upTo e [] = []
-upTo e (b ∷ s) = pick (eqb b e) [] (b ∷ upTo e s)
+abbrev pub before : ℕ → List ℕ → List ℕ
+before e s = upTo (λ b. eqb b e) s
 
 unfoldable pub until : ℕ → ℕ → List ℕ → ℕ → List ℕ
-until e m s c = pick (eqb e 256) (rest m s c) (upTo e (rest m s c))
+until e m s c = pick (eqb e 256) (rest m s c) (before e (rest m s c))
 
 pub record Turns (e m : ℕ) (s : List ℕ) (c : ℕ) (r : Step) : Type 0 where
   pub is : until e m s c ≡ spell (r .u) (until e m s (r .next))
@@ -50,8 +50,8 @@ module _ (e : ℕ) {m : ℕ} {s : List ℕ} {c : ℕ} {r : Step} (p : Reads m s 
   unfolding until upTo spell pick
   on h = rw (p .is) (go (eqb e 256) (eqb (r .u) 256))
     where
-      go : (t v : Bool) → pick t (pick v [] (r .u ∷ rest m s (r .next))) (upTo e (pick v [] (r .u ∷ rest m s (r .next))))
-          ≡ pick v [] (r .u ∷ pick t (rest m s (r .next)) (upTo e (rest m s (r .next))))
+      go : (t v : Bool) → pick t (pick v [] (r .u ∷ rest m s (r .next))) (before e (pick v [] (r .u ∷ rest m s (r .next))))
+          ≡ pick v [] (r .u ∷ pick t (rest m s (r .next)) (before e (rest m s (r .next))))
       go true v = refl
       go false true = refl
       go false false = rw (ne-eqb (r .u) e h)
@@ -60,7 +60,7 @@ module _ (e : ℕ) {m : ℕ} {s : List ℕ} {c : ℕ} {r : Step} (p : Reads m s 
   unfolding until upTo spell pick
   stops h = rw (p .is, h) (go (eqb e 256))
     where
-      go : (t : Bool) → pick t (pick t [] (e ∷ rest m s (r .next))) (upTo e (pick t [] (e ∷ rest m s (r .next)))) ≡ []
+      go : (t : Bool) → pick t (pick t [] (e ∷ rest m s (r .next))) (before e (pick t [] (e ∷ rest m s (r .next)))) ≡ []
       go true = refl
       go false = rw (eq-eqb e e refl)
 

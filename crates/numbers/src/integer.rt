@@ -7,7 +7,8 @@ ghost use Rattle.octets.specs.Reading.{orNothing};
 ghost use Rattle.source.specs.Source.{rest};
 ghost use Rattle.sink.specs.Sink.{Put};
 ghost use Rattle.numbers.specs.Integer.{whole, writeWhole, readInteger, writeInteger};
-ghost use Rattle.numbers.specs.ReadInteger.{numberTo, numberIn, wholeFrom, wholeOf, wholeIs};
+ghost use Rattle.numbers.specs.ReadInteger.{numberIn, wholeFrom, wholeOf, wholeIs};
+use crate::numeral::worth;
 use sink::put;
 use source::unit;
 
@@ -17,35 +18,7 @@ pub enum IntegerRead {
     Bad,
 }
 
-// What the digits to the end are worth; 2 ^ 32 - 1 where one is no digit, or where they are worth more than `most`.
-fn worth(mode: usize, s: &[u8], at: usize, most: usize) -> u32
-    requires { ⌜ most ≤ 2147483648 ⌝ }
-    ensures { λ r. ⌜ numberTo most 0 (rest mode (now (s .entry)) at) ≡ r ⌝ }
-{
-    let mut c = at;
-    let mut v: usize = 0;
-    loop {
-        let t = unit(mode, s, c);
-        let u = t.u;
-        if u == 256 {
-            return v as u32;
-        }
-        if u < 48 {
-            return 4294967295;
-        }
-        if 57 < u {
-            return 4294967295;
-        }
-        let w = v * 10 + (u - 48);
-        if most < w {
-            return 4294967295;
-        }
-        v = w;
-        c = t.next;
-    }
-}
-
-// The same, where there must be a digit.
+// What the digits to the end are worth, where there must be one; 2 ^ 32 - 1 where one is no digit, or where they are worth more than `most`.
 fn number(mode: usize, s: &[u8], at: usize, most: usize) -> u32
     requires { ⌜ most ≤ 2147483648 ⌝ }
     ensures { λ r. ⌜ numberIn most (rest mode (now (s .entry)) at) ≡ r ⌝ }
@@ -54,7 +27,7 @@ fn number(mode: usize, s: &[u8], at: usize, most: usize) -> u32
     if t.u == 256 {
         return 4294967295;
     }
-    worth(mode, s, at, most)
+    worth(false, most, mode, s, at)
 }
 
 // The number with its sign: zero has none.

@@ -37,8 +37,8 @@ use Rattle.lines.specs.declared.ParamAt.{ParamAt}
 use Rattle.xml.specs.Escape.{startTag, endTag, elementOf}
 use Rattle.ical.specs.Parameters.{readParameter, ownParameters, readParameters}
 use Rattle.xcal.specs.WriteXml.{valueXml, parametersXml, parametersElement}
+use Rattle.parameters.specs.Cutting.{paramCut}
 use Rattle.parameter_elements.specs.Shown.{valueShown, charsShown, shown, ownShown, parametersShown, shown-is}
-use Rattle.parameter_elements.specs.Walk.{cutParam}
 
 unfoldable pub rowAt : ℕ → ParameterRow
 rowAt q = parameterAt q
@@ -99,7 +99,7 @@ module _ (s : List ℕ) (e c : ℕ) (h : length s < e) where
     pub past-value : (p : ParameterRow) → Put d f o r (valueShown p (rest 0 s c)) → Put d f o r (valueShown p (rest 0 (take e s) c))
     past-value p w = rw (uncut s e h) w
 
-    pub past-own : (first : ℕ) → Put d f o r (ownShown (record { name = rest 0 s c; values = valuesAt 0 s first })) → Put d f o r (ownShown (cutParam s c e first))
+    pub past-own : (first : ℕ) → Put d f o r (ownShown (record { name = rest 0 s c; values = valuesAt 0 s first })) → Put d f o r (ownShown (paramCut s c e first))
     past-own first w = rw (uncut s e h) w
 
 -- ---- all parameters

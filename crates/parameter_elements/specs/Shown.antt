@@ -1,20 +1,16 @@
 -- Parameters of a content line written as XML with no regard to whether they are readable.
 --     valueShown, shown, ownShown    a value of a parameter as its element, a parameter as its element, and nothing of VALUE
 --     parametersShown                all parameters of a line, but VALUE
---     lower-any-case                 a name in small letters is the same whatever case it stands in
 --     shown-is                       of parameters that are readable it is the XML of what they state
 use mathlib.Core.Path.{_≡_, refl, ap, _∙_}
 use mathlib.Core.Bool.{Bool, true, false, not}
 use mathlib.Core.List.{List, [], _∷_, map}
 use mathlib.Core.Option.{Option, none, some, Option·map}
 use Prim.Native.Nat.{ℕ, _-_}
-use native.Mathlib.Omega.{arith}
-use lib.Dec.{leb}
-use borrow.Author.Tests.{le-leb, lt-leb}
-use Rattle.octets.specs.Pick.{pick, _and_, _or_, and-no-right, within-yes}
+use Rattle.octets.specs.Pick.{pick, _and_, _or_}
 use Rattle.octets.specs.Append.{_⊕_, joined, append-empty}
-use Rattle.octets.specs.Class.{lowerByte, upperByte, upper, lower}
-use Rattle.octets.specs.Letters.{upper-by-cases}
+use Rattle.octets.specs.Class.{upper, lower}
+use Rattle.octets.specs.Letters.{lower-any-case}
 use Rattle.octets.specs.Words.{isOneOf}
 use Rattle.octets.specs.Reading.{isRead, orNothing, readEach, consRead, none-some, provided-some, andThen-some, consRead-some}
 use Rattle.model.specs.Calendar.{ical, TEXT, Value, text, Parameter}
@@ -43,20 +39,6 @@ ownShown r = pick (isValueParameter r) [] (shown r)
 
 abbrev pub parametersShown : List RawParameter → List ℕ
 parametersShown rs = joined (map ownShown rs)
-
--- ---- names in small letters
-
-lower-any-byte : (b : ℕ) → lowerByte (upperByte b) ≡ lowerByte b
-unfolding pick
-lower-any-byte b =
-    upper-by-cases (λ x. lowerByte x ≡ lowerByte b) b
-    (λ l h. rw (within-yes 65 90 (b - 32) (le-leb 65 (b - 32) (omega arith)) (le-leb (b - 32) 90 (omega arith)), and-no-right (leb 65 b) (leb b 90) (lt-leb b 90 (omega arith))) (omega arith))
-    (λ e. refl)
-
-pub lower-any-case : (n : List ℕ) → lower (upper n) ≡ lower n
-unfolding upper lower
-lower-any-case [] = refl
-lower-any-case (b ∷ n) = rw (lower-any-byte b, lower-any-case n)
 
 -- ---- each of a list, read and written
 

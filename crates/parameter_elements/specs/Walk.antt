@@ -19,12 +19,13 @@ use Rattle.source.specs.Source.{rest}
 use Rattle.schema.specs.Parameters.{ParameterRow}
 use Rattle.lines.specs.ContentLine.{ParamValue, RawParameter, nextValue, nextParam}
 use Rattle.lines.specs.Items.{items}
-use Rattle.lines.specs.Cursor.{valuesAt, paramsAt}
+use Rattle.lines.specs.Cursor.{paramsAt}
 use Rattle.lines.specs.Values.{ValueAt, value-chars, value-more, value-over, value-fault}
 use Rattle.lines.specs.Params.{ParamOf, name-chars, param-more, param-over, param-fault}
 use Rattle.lines.specs.declared.ParamAt.{ParamAt}
 use Rattle.lines.specs.declared.ParamRead.{ParamRead}
 use Rattle.ical.specs.Parameters.{ownParameters}
+use Rattle.parameters.specs.Cutting.{paramCut}
 use Rattle.parameter_elements.specs.Shown.{valueShown, charsShown, ownShown}
 
 pub record Writing {A : Type 0} (f : A → List ℕ) (d₀ : List ℕ) (at₀ : ℕ) (all : List A) (d : List ℕ) (at : ℕ) (left : List A) : Type 0 where
@@ -59,17 +60,13 @@ module _ (p : ParameterRow) {d₀ : List ℕ} {at₀ : ℕ} {all : List ParamVal
 
 -- ---- the parameters of a line
 
--- a parameter whose name is cut out of the line
-abbrev pub cutParam : List ℕ → ℕ → ℕ → ℕ → RawParameter
-cutParam s name end first = record { name = rest 0 (take end s) name; values = valuesAt 0 s first }
-
 module _ {s : List ℕ} {c : ℕ} {r : ParamRead} (a : ParamOf nextParam 0 s c r) (h : r .there ≡ true) (k : r .ok ≡ true) where
-  pub cut-more : paramsAt 0 s c ≡ cutParam s (r .name) (r .end) (r .first) ∷ paramsAt 0 s (r .next)
+  pub cut-more : paramsAt 0 s c ≡ paramCut s (r .name) (r .end) (r .first) ∷ paramsAt 0 s (r .next)
   cut-more = param-more a h k ∙ rw (name-chars (a .named h k))
 
 module _ {d₀ : List ℕ} {at₀ : ℕ} {all : List RawParameter} {d : List ℕ} {at : ℕ} {s : List ℕ} {c : ℕ} {r : ParamRead}
     (t : Writing ownShown d₀ at₀ all d at (paramsAt 0 s c)) (a : ParamOf nextParam 0 s c r) where
-  pub param-written : {e : List ℕ} {m : ℕ} → r .there ≡ true → r .ok ≡ true → Put d e at m (ownShown (cutParam s (r .name) (r .end) (r .first))) →
+  pub param-written : {e : List ℕ} {m : ℕ} → r .there ≡ true → r .ok ≡ true → Put d e at m (ownShown (paramCut s (r .name) (r .end) (r .first))) →
       Writing ownShown d₀ at₀ all e m (paramsAt 0 s (r .next))
   param-written h k w = writing-more t _ _ (cut-more a h k) w
 

@@ -4,31 +4,30 @@
 --     leaf-..          what a value's characters may not have
 --     typeWords        the names of the types' elements, by the types' numbers;   type-word: compared by number
 --     value-..         an element that is a value
-use mathlib.Core.Path.{_≡_, refl, sym, ap, _∙_}
+use mathlib.Core.Path.{_≡_, refl, sym, _∙_}
 use mathlib.Core.Bool.{Bool, true, false, false≢true}
-use mathlib.Core.List.{List, [], _∷_}
+use mathlib.Core.List.{List}
 use mathlib.Core.Option.{Option, none, some}
 use Prim.Native.Nat.{ℕ, _-_, _*_, _<_}
 use native.Mathlib.Omega.{arith}
-use lib.Dec.{eqb}
 use lib.ListN.{length}
 use borrow.Author.Needs.{needs}
-use borrow.Author.Tests.{eq-eqb, ne-eqb, eqb-true}
+use borrow.Author.Tests.{eq-eqb, ne-eqb}
 use Rattle.octets.specs.Ascii.{ascii}
 use Rattle.octets.specs.Pick.{pick, _and_, _or_, and-go, and-stop}
 use Rattle.octets.specs.Class.{lower}
 use Rattle.octets.specs.Words.{same, isOneOf, holds}
 use Rattle.octets.specs.Reading.{isRead}
-use Rattle.octets.specs.Computing.{octets-compute}
-use Rattle.model.specs.Calendar.{xcal, ValueType, Value}
+use Rattle.model.specs.Calendar.{xcal, Value}
 use Rattle.source.specs.Source.{rest, Reads}
 use Rattle.source.specs.Facts.{rest-byte, rest-end, byte-small}
 use Rattle.source.specs.declared.Step.{Step}
 use Rattle.names.specs.Table.{placeOf, namesIn}
-use Rattle.schema.specs.Types.{typeName, typePlace, place-type, type-passes}
+use Rattle.schema.specs.Types.{typeName, typePlace, place-type}
 use Rattle.schema.specs.Parameters.{ParameterRow}
-use Rattle.schema.specs.Numbers.{typeAt, parameterAt, same-place}
+use Rattle.schema.specs.Numbers.{typeAt, parameterAt, typeWords, type-words-are}
 use Rattle.schema.specs.Sets.{isWordOf, parameterWordsAt}
+use Rattle.schema.specs.Places.{type-word}
 use Rattle.values.specs.ReadValue.{readValue}
 use Rattle.xml.specs.Nodes.{Nodes, charactersOf, hasElement}
 use Rattle.xcal.specs.ParameterNodes.{readWordIn}
@@ -110,26 +109,6 @@ module _ (r : ParameterRow) (kids : Nodes) {a : Bool} (e : a ≡ hasElement kids
 
 -- ---- the name of a value's element
 
-abbrev pub typeWords : List (List ℕ)
-typeWords =
-    ascii "binary" ∷ ascii "boolean" ∷ ascii "cal-address" ∷ ascii "date" ∷ ascii "date-time" ∷ ascii "duration" ∷ ascii "float" ∷ ascii "integer" ∷
-    ascii "period" ∷ ascii "recur" ∷ ascii "text" ∷ ascii "time" ∷ ascii "uri" ∷ ascii "utc-offset" ∷ ascii "unknown" ∷ []
-
-words-are : namesIn (ascii "binary\nboolean\ncal-address\ndate\ndate-time\nduration\nfloat\ninteger\nperiod\nrecur\ntext\ntime\nuri\nutc-offset\nunknown\n") ≡ typeWords
-unfolding namesIn pick
-words-are = refl
-
-word-known : (t : ValueType) → isOneOf (lower (typeName t)) typeWords ≡ true
-unfolding octets-compute
-word-known t = type-passes (λ u. isOneOf (lower (typeName u)) typeWords) refl t
-
-word-placed : (t : ValueType) → placeOf (lower (typeName t)) typeWords ≡ typePlace t
-unfolding octets-compute placeOf
-word-placed t = eqb-true _ _ (type-passes (λ u. eqb (placeOf (lower (typeName u)) typeWords) (typePlace u)) refl t)
-
-pub type-word : (l : List ℕ) (t : ValueType) → same l (lower (typeName t)) ≡ eqb (placeOf l typeWords) (typePlace t)
-type-word l t = same-place l (lower (typeName t)) typeWords (word-known t) ∙ ap (eqb (placeOf l typeWords)) (word-placed t)
-
 -- an element that is a value of the parameter r
 abbrev pub isValue : ParameterRow → List ℕ → Nodes → Bool
 isValue r m kids = same m (lower (typeName (r .type))) and isRead (readLeaf r kids)
@@ -137,7 +116,7 @@ isValue r m kids = same m (lower (typeName (r .type))) and isRead (readLeaf r ki
 module _ (q : ℕ) (w : List ℕ) (kids : Nodes) {t k : ℕ} (e : t ≡ typePlace (parameterAt q .type))
     (f : k ≡ placeOf (rest 0 w 0) (namesIn (ascii "binary\nboolean\ncal-address\ndate\ndate-time\nduration\nfloat\ninteger\nperiod\nrecur\ntext\ntime\nuri\nutc-offset\nunknown\n"))) where
   placed : k ≡ placeOf w typeWords
-  placed = f ∙ rw (whole w, words-are)
+  placed = f ∙ rw (whole w, type-words-are)
 
   pub value-named : {b : Bool} → k ≡ t → b ≡ isRead (readLeaf (rowAt q) kids) → b ≡ isValue (rowAt q) w kids
   unfolding rowAt

@@ -1,7 +1,6 @@
 -- The names of the elements before a place.
 --     isBefore m k kids    an element named m stands before the place k
 --     before-..            the walk that looks for one;   `search befores`
---     same-both            words compared, the other way round
 use mathlib.Core.Path.{_≡_, refl, sym, ap, _∙_}
 use mathlib.Core.Bool.{Bool, true, false}
 use mathlib.Core.List.{List}
@@ -10,7 +9,7 @@ use lib.Dec.{ltb}
 use borrow.Author.Needs.{needs}
 use borrow.Author.Tests.{lt-ltb, le-ltb}
 use Rattle.octets.specs.Pick.{_and_, _or_}
-use Rattle.octets.specs.Words.{same, same-true, same-self, same-swap}
+use Rattle.octets.specs.Words.{same}
 use Rattle.source.specs.Source.{rest}
 use Rattle.xml.specs.Nodes.{Nodes, noNodes, element, literal, referred}
 use Rattle.xml.specs.NodesAt.{nodesAt}
@@ -51,10 +50,3 @@ module _ (m : List ℕ) (k : ℕ) {s : List ℕ} {from at : ℕ} {r : Child} (p 
       before-more q = record { is = children-some (skips-before m k) p n h ∙ rw (lt-ltb (r .place) k l, ← named, q) }
 
 pub ruleset befores = (passing-start, before-none, before-past, before-same, before-more, child-less, needs)
-
-pub same-both : (s t : List ℕ) → same s t ≡ same t s
-same-both s t = go (same s t) refl
-  where
-    go : (b : Bool) → same s t ≡ b → b ≡ same t s
-    go true e = sym (rw (same-true s t e) (same-self t))
-    go false e = sym (same-swap s t e)

@@ -6,11 +6,9 @@ use mathlib.Core.Path.{_≡_, refl, sym, ap, _∙_}
 use mathlib.Core.Bool.{Bool, true, false, not, false≢true}
 use mathlib.Core.List.{List, []}
 use mathlib.Core.Option.{Option, none, some}
-use Prim.Native.Nat.{ℕ, _+_, _≤_, _<_}
-use native.Mathlib.Omega.{arith}
-use native.Mathlib.Decide.{decLe}
+use Prim.Native.Nat.{ℕ, _≤_}
 use lib.Dec.{eqb}
-use lib.ListN.{length, take, List·getD-eq-default}
+use lib.ListN.{length, take}
 use lib.Seq.{take-length}
 use borrow.Author.Tests.{eq-eqb, ne-eqb, eqb-true}
 use Rattle.octets.specs.Ascii.{ascii}
@@ -18,15 +16,16 @@ use Rattle.octets.specs.Pick.{_and_, _or_, and-both}
 use Rattle.octets.specs.Words.{same, isOneOf}
 use Rattle.octets.specs.Reading.{isRead, readOr}
 use Rattle.octets.specs.Computing.{octets-compute}
-use Rattle.model.specs.Calendar.{Value, UNKNOWN}
+use Rattle.model.specs.Calendar.{Value}
 use Rattle.source.specs.Source.{rest}
 use Rattle.names.specs.Table.{placeOf}
-use Rattle.schema.specs.Types.{typePlace, valueTypes, sameType}
+use Rattle.names.specs.Places.{same-place}
+use Rattle.schema.specs.Types.{sameType}
 use Rattle.schema.specs.Properties.{propertyNames, permitsParameter}
 use Rattle.schema.specs.Parameters.{ParameterRow, parameterNames, isListedParameter, encodings}
-use Rattle.schema.specs.Numbers.{typeAt, same-place}
-use Rattle.schema.specs.Cells.{tabled, tabled-at, column-at}
+use Rattle.schema.specs.Numbers.{typeAt}
 use Rattle.schema.specs.Columns.{permitsAt, permits-place}
+use Rattle.schema.specs.Places.{type-back}
 use Rattle.lines.specs.Names.{isCarriedName}
 use Rattle.xml.specs.Nodes.{Nodes}
 use Rattle.xcal.specs.Layout.{hasCapital}
@@ -96,17 +95,6 @@ module _ (p t q : ℕ) (kids : Nodes) {a : Bool} (e : a ≡ permitsAt p t q) whe
 
 -- ---- the same of names
 
-types-placed : (t : ℕ) → t < 14 → typePlace (typeAt t) ≡ t
-unfolding tabled
-types-placed t k = let z : 0 + t ≡ t = omega arith in sym (column-at typePlace UNKNOWN valueTypes t k) ∙ tabled-at (λ x. x) 14 0 t k ∙ z
-
-type-number : (t : ℕ) → t ≤ 14 → typePlace (typeAt t) ≡ t
-type-number t h = go (decLe 14 t)
-  where
-    go : Dec (14 ≤ t) → typePlace (typeAt t) ≡ t
-    go (yes k) = rw (List·getD-eq-default valueTypes UNKNOWN k) (omega arith)
-    go (no k) = types-placed t (omega (arith, k))
-
 encoding-known : isOneOf (ascii "ENCODING") parameterNames ≡ true
 unfolding octets-compute
 encoding-known = refl
@@ -140,7 +128,7 @@ module _ (n : List ℕ) (kids : Nodes) where
 
     encoded-is : encodedBy (placeOf n parameterNames) t kids ≡ encodes n (typeAt t) kids
     unfolding encodedBy sameType _and_ _or_
-    encoded-is = rw (same-place n (ascii "ENCODING") parameterNames encoding-known, encoding-place, type-number t k) (go (eqb (placeOf n parameterNames) 6) (eqb t 0) refl)
+    encoded-is = rw (same-place n (ascii "ENCODING") parameterNames encoding-known, encoding-place, type-back t k) (go (eqb (placeOf n parameterNames) 6) (eqb t 0) refl)
       where
         go : (a b : Bool) → eqb (placeOf n parameterNames) 6 ≡ a → (not (a and b) or firstIs (ascii "BASE64") kids) ≡ (not (a and b) or isBase64 (readOr [] (readParamNodes n kids)))
         go false b e = refl
@@ -153,7 +141,7 @@ pub sound-is : (w n : List ℕ) (p t : ℕ) (kids : Nodes) → p ≡ placeOf w p
     ≡ (not (permitsParameter w (typeAt t) n) or not (valuesGood (isListedParameter n) (readParamNodes n kids)) or not (encodes n (typeAt t) kids))
 unfolding soundBy _and_ _or_
 sound-is w n p t kids h k =
-    rw (permits-place w n (typeAt t), type-number t k, ← h, good-at n kids)
+    rw (permits-place w n (typeAt t), type-back t k, ← h, good-at n kids)
     (go (permitsAt p t (placeOf n parameterNames)) (goodBy (rowAt (placeOf n parameterNames)) kids) (encodedBy (placeOf n parameterNames) t kids) (encodes n (typeAt t) kids) (λ g. encoded-is n kids t k g))
   where
     go : (a b c d : Bool) → (b ≡ true → c ≡ d) → not (a and b and c) ≡ (not a or not b or not d)

@@ -11,9 +11,9 @@ use native.Mathlib.Omega.{arith}
 use lib.Dec.{eqb}
 use borrow.Author.Needs.{needs}
 use borrow.Author.Tests.{eq-eqb, ne-eqb, lt-ltb, le-ltb}
-use Rattle.octets.specs.Pick.{pick, _and_, _or_}
+use Rattle.octets.specs.Pick.{pick, _and_, _or_, or-false}
 use Rattle.octets.specs.Class.{upper, isSpace}
-use Rattle.octets.specs.Words.{same, isOneOf}
+use Rattle.octets.specs.Words.{same, isOneOf, same-either}
 use Rattle.model.specs.Refusal.{NAME, FRAME, PARAMETER, Verdict, fine, refuse, _otherwise_}
 use Rattle.source.specs.Source.{rest}
 use Rattle.names.specs.Table.{placeOf}
@@ -30,7 +30,7 @@ use Rattle.nodes.specs.declared.Judged.the-variants.{Fine, Refused}
 use Rattle.nodes.specs.declared.Node.{Node}
 use Rattle.nodes.specs.declared.NodeKind.the-variants.{None, Element, Literal, Referred}
 use Rattle.parameter_nodes.specs.Children.{nameOf, whole, node-named}
-use Rattle.parameter_nodes.specs.Seen.{isBefore, same-both}
+use Rattle.parameter_nodes.specs.Seen.{isBefore}
 use Rattle.parameter_nodes.specs.Sound.{soundBy, sound-is}
 
 -- ---- one parameter
@@ -137,11 +137,7 @@ module _ {p t : ℕ} {s : List ℕ} {from at : ℕ} {n : Node} (i : Told p t s f
     -- the names before this element are those seen
     here : isBefore name at (nodesAt s from) ≡ isOneOf name (i .seen)
     unfolding isBefore _and_ _or_
-    here = i .known name at (omega arith) ∙ ap (λ (x : Nodes). isOneOf name (i .seen) or isBefore name at x) (node-named a q) ∙ rw (le-ltb at at (omega arith)) (end (isOneOf name (i .seen)))
-      where
-        end : (b : Bool) → (b or false) ≡ b
-        end true = refl
-        end false = refl
+    here = i .known name at (omega arith) ∙ ap (λ (x : Nodes). isOneOf name (i .seen) or isBefore name at x) (node-named a q) ∙ rw (le-ltb at at (omega arith)) (or-false (isOneOf name (i .seen)))
 
     next : (w : List ℕ) → p ≡ placeOf w propertyNames → t ≤ 14 →
         parametersVerdict w (typeAt t) (nodesAt s from) [] ≡ (parameterVerdict w (typeAt t) (i .seen) at name (n .end) (nodesAt s (n .inside)) otherwise parametersVerdict w (typeAt t) (nodesAt s (n .next)) (name ∷ i .seen))
@@ -163,7 +159,7 @@ module _ {p t : ℕ} {s : List ℕ} {from at : ℕ} {n : Node} (i : Told p t s f
         known = λ m k h.
             i .known m k (omega (arith, element-onward a q, h))
             ∙ ap (λ (x : Nodes). isOneOf m (i .seen) or isBefore m k x) (node-named a q)
-            ∙ rw (lt-ltb at k (omega (arith, element-onward a q, h)), same-both name m) (turned (isOneOf m (i .seen)) (same m name) (isBefore m k (nodesAt s (n .next))));
+            ∙ rw (lt-ltb at k (omega (arith, element-onward a q, h)), same-either name m) (turned (isOneOf m (i .seen)) (same m name) (isBefore m k (nodesAt s (n .next))));
         is = λ w h k. next w h k ∙ after-fine _ (own w h k ∙ e) z;
       }
         where

@@ -7,13 +7,11 @@
 use mathlib.Core.Path.{_≡_, refl, sym, ap, _∙_}
 use mathlib.Core.Bool.{Bool, true, false}
 use mathlib.Core.List.{List, [], _∷_}
-use Prim.Native.Nat.{ℕ, min, _≤_}
-use native.Mathlib.Omega.{arith}
-use native.Mathlib.Decide.{decLe}
+use Prim.Native.Nat.{ℕ, min}
 use lib.ListN.{length, take}
-use lib.Seq.{take-all, take-length}
 use Rattle.octets.specs.Class.{upper}
 use Rattle.octets.specs.Words.{isEmpty}
+use Rattle.octets.specs.Scan.{take-least}
 use Rattle.source.specs.Source.{rest}
 use Rattle.lines.specs.ContentLine.{ParamValue, RawParameter, paramValue, nextValue, nextParam}
 use Rattle.lines.specs.Items.{items}
@@ -24,15 +22,8 @@ use Rattle.lines.specs.Params.{ParamOf, name-chars, param-more, param-over, par
 use Rattle.lines.specs.declared.ParamAt.{ParamAt}
 use Rattle.lines.specs.declared.ParamRead.{ParamRead}
 
-cut-least : (s : List ℕ) (e : ℕ) → take (min e (length s)) s ≡ take e s
-cut-least s e = go (decLe e (length s))
-  where
-    go : Dec (e ≤ length s) → take (min e (length s)) s ≡ take e s
-    go (yes h) = let k : min e (length s) ≡ e = omega arith in rw k
-    go (no h) = let k : min e (length s) ≡ length s = omega arith in rw k (take-length s ∙ sym (take-all e s (omega arith)))
-
 pub cut-at : {A : Type 0} (f : List ℕ → A) {r : A} {e : ℕ} (s : List ℕ) (c to : ℕ) → e ≡ min to (length s) → r ≡ f (rest 0 (take e s) c) → r ≡ f (rest 0 (take to s) c)
-cut-at f s c to h p = p ∙ ap (λ (l : List ℕ). f (rest 0 l c)) (rw h (cut-least s to))
+cut-at f s c to h p = p ∙ ap (λ (l : List ℕ). f (rest 0 l c)) (rw h (take-least s to))
 
 -- ---- parameters
 

@@ -2,11 +2,10 @@
 --     permitsName, permitsIt    a name is VALUE, or that of a parameter which the property permits
 --     goodAt                    all that `parametersGood` asks for;   good-place: it is the same of names
 --     word-.., encoded-..       for code
-use mathlib.Core.Path.{_≡_, refl, sym, ap, _∙_}
+use mathlib.Core.Path.{_≡_, sym, ap, _∙_}
 use mathlib.Core.Bool.{Bool, true, false, not}
 use mathlib.Core.List.{List}
-use Prim.Native.Nat.{ℕ, zero, suc, _≤_}
-use native.Mathlib.Omega.{arith}
+use Prim.Native.Nat.{ℕ, _≤_}
 use lib.Dec.{eqb}
 use borrow.Author.Tests.{eq-eqb, ne-eqb}
 use Rattle.octets.specs.Ascii.{ascii}
@@ -17,11 +16,12 @@ use Rattle.octets.specs.Lists.{every, anyOne, distinct}
 use Rattle.octets.specs.Reading.{isRead}
 use Rattle.source.specs.Source.{rest}
 use Rattle.names.specs.Table.{placeOf}
-use Rattle.schema.specs.Types.{typePlace, sameType}
+use Rattle.schema.specs.Types.{sameType}
 use Rattle.schema.specs.Properties.{propertyNames, permitsParameter}
 use Rattle.schema.specs.Parameters.{parameterNames}
 use Rattle.schema.specs.Numbers.{typeAt}
 use Rattle.schema.specs.Columns.{permitsAt, permits-place}
+use Rattle.schema.specs.Places.{type-back}
 use Rattle.lines.specs.ContentLine.{RawParameter, paramValue, nextValue}
 use Rattle.lines.specs.Items.{items}
 use Rattle.lines.specs.Cursor.{valuesAt}
@@ -48,28 +48,10 @@ goodAt p t rs =
 
 -- ---- of names
 
-place-at : (t : ℕ) → t ≤ 14 → typePlace (typeAt t) ≡ t
-place-at zero h = refl
-place-at (suc zero) h = refl
-place-at (suc (suc zero)) h = refl
-place-at (suc (suc (suc zero))) h = refl
-place-at (suc (suc (suc (suc zero)))) h = refl
-place-at (suc (suc (suc (suc (suc zero))))) h = refl
-place-at (suc (suc (suc (suc (suc (suc zero)))))) h = refl
-place-at (suc (suc (suc (suc (suc (suc (suc zero))))))) h = refl
-place-at (suc (suc (suc (suc (suc (suc (suc (suc zero)))))))) h = refl
-place-at (suc (suc (suc (suc (suc (suc (suc (suc (suc zero))))))))) h = refl
-place-at (suc (suc (suc (suc (suc (suc (suc (suc (suc (suc zero)))))))))) h = refl
-place-at (suc (suc (suc (suc (suc (suc (suc (suc (suc (suc (suc zero))))))))))) h = refl
-place-at (suc (suc (suc (suc (suc (suc (suc (suc (suc (suc (suc (suc zero)))))))))))) h = refl
-place-at (suc (suc (suc (suc (suc (suc (suc (suc (suc (suc (suc (suc (suc zero))))))))))))) h = refl
-place-at (suc (suc (suc (suc (suc (suc (suc (suc (suc (suc (suc (suc (suc (suc zero)))))))))))))) h = refl
-place-at (suc (suc (suc (suc (suc (suc (suc (suc (suc (suc (suc (suc (suc (suc (suc n))))))))))))))) h = absurd (omega arith)
-
 pub good-place : (p t : ℕ) (rs : List RawParameter) {b : Bool} → b ≡ goodAt p t rs → (w : List ℕ) → p ≡ placeOf w propertyNames → t ≤ 14 → b ≡ parametersGood w (typeAt t) rs
 unfolding parametersGood sameType
 good-place p t rs e w h k =
-    e ∙ rw (place-at t k, own-every (λ r. permitsParameter w (typeAt t) (upper (r .name))) (permitsIt p t) (λ r. rw (permits-place w (upper (r .name)) (typeAt t), place-at t k, h)) rs)
+    e ∙ rw (type-back t k, own-every (λ r. permitsParameter w (typeAt t) (upper (r .name))) (permitsIt p t) (λ r. rw (permits-place w (upper (r .name)) (typeAt t), type-back t k, h)) rs)
 
 -- ---- for code
 

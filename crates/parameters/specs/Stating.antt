@@ -9,20 +9,18 @@ use mathlib.Core.Option.{Option, none, some}
 use Prim.Native.Nat.{ℕ, zero, suc, _≤_, _<_}
 use native.Mathlib.Omega.{arith}
 use native.Mathlib.Nat.{not-suc-le-zero, le-of-suc-le-suc}
-use lib.Dec.{leb}
 use lib.ListN.{length, getD, take}
-use borrow.Author.Tests.{leb-true}
 use Rattle.octets.specs.Ascii.{ascii}
 use Rattle.octets.specs.Pick.{pick}
 use Rattle.octets.specs.Class.{upper}
 use Rattle.octets.specs.Words.{same, isEmpty}
-use Rattle.octets.specs.Computing.{octets-compute}
 use Rattle.model.specs.Calendar.{ValueType, UNKNOWN}
 use Rattle.source.specs.Source.{rest}
 use Rattle.names.specs.Table.{placeOf, nth}
-use Rattle.schema.specs.Types.{valueTypes, typeNamed, typePlace, place-type, type-passes}
+use Rattle.schema.specs.Types.{valueTypes, typeNamed, typePlace, place-type}
 use Rattle.schema.specs.Properties.{PropertyRow, propertyNames}
 use Rattle.schema.specs.Numbers.{typeNames, typeAt, propertyAt, property-place, type-place}
+use Rattle.schema.specs.Places.{type-known}
 use Rattle.lines.specs.ContentLine.{paramValue, nextValue, nextParam}
 use Rattle.lines.specs.Items.{items}
 use Rattle.lines.specs.Cursor.{valuesAt, paramsAt}
@@ -74,15 +72,11 @@ type-bad e = record { is = e; known = λ n k. let z : _≡_ {A = ℕ} 0 1 = cc i
 pub type-as : {o o′ : Option ValueType} {r : TypeRead} → o′ ≡ o → TypeOf o r → TypeOf o′ r
 type-as e p = rw e p
 
-place-known : (t : ValueType) → typePlace t ≤ 14
-unfolding octets-compute
-place-known t = leb-true _ _ (type-passes (λ u. leb (typePlace u) 14) refl t)
-
 -- by its number
 pub type-at : (u : ValueType) {t : ℕ} → t ≡ typePlace u → TypeOf (some u) (Known t)
 type-at u {t} e = record {
   is = rw (e, place-type u);
-  known = λ n k. let z : t ≡ n = cc in let l : typePlace u ≤ 14 = place-known u in omega arith;
+  known = λ n k. let z : t ≡ n = cc in let l : typePlace u ≤ 14 = type-known u in omega arith;
 }
 
 -- ---- VALUE's one value

@@ -1,8 +1,8 @@
 // Names and values cut out of a line: from the cursor `from` to the cursor `to`.
 use names::is_word_any_case;
+use octets::smaller;
 use schema::parameter_number;
 ghost use mathlib.Core.Path.{_≡_};
-ghost use Prim.Native.Nat.{min};
 ghost use lib.ListN.{take};
 ghost use Rattle.octets.specs.Ascii.{ascii};
 ghost use Rattle.octets.specs.Class.{upper};
@@ -10,15 +10,6 @@ ghost use Rattle.octets.specs.Words.{same};
 ghost use Rattle.source.specs.Source.{rest};
 ghost use Rattle.names.specs.Table.{placeOf};
 ghost use Rattle.schema.specs.Parameters.{parameterNames};
-
-pub fn smaller(a: usize, b: usize) -> usize
-    ensures { λ r. ⌜ r ≡ min a b ⌝ }
-{
-    if a < b {
-        return a;
-    }
-    b
-}
 
 // The word is `w`, which has no small letters, in any case.
 pub fn is_named(s: &[u8], from: usize, to: usize, w: &[u8]) -> bool

@@ -1,6 +1,6 @@
 // No parameter twice. See specs/Comparing.antt.
-use crate::cut::smaller;
 use lines::next_param;
+use octets::smaller;
 use octets::upper_unit;
 use source::unit;
 ghost use mathlib.Core.Path.{_≡_};

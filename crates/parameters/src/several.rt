@@ -1,8 +1,8 @@
 // The values of a parameter, from the cursor of its first on. See specs/Readable.antt.
-use crate::cut::smaller;
 use crate::typed::is_value_at;
 use lines::next_value;
 use lines::param_value;
+use octets::smaller;
 ghost use mathlib.Core.Path.{_≡_};
 ghost use Rattle.octets.specs.Lists.{every};
 ghost use Rattle.octets.specs.Words.{isEmpty};

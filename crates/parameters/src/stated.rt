@@ -1,10 +1,10 @@
 // The type that a line states. See specs/Stating.antt.
 use crate::TypeRead;
 use crate::cut::is_value_name;
-use crate::cut::smaller;
 use crate::several::is_last;
 use lines::next_param;
 use lines::param_value;
+use octets::smaller;
 use schema::default_type;
 use schema::type_number;
 ghost use mathlib.Core.Option.{some};

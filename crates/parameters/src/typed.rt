@@ -19,7 +19,7 @@ ghost use Rattle.ical.specs.Parameters.{readTyped, readWord, readParamValue};
 ghost use Rattle.parameters.specs.Typing.{readBy};
 
 // A value of the type of the number `t`.
-fn is_of_type(t: usize, s: &[u8], at: usize) -> bool
+pub fn is_of_type(t: usize, s: &[u8], at: usize) -> bool
     ensures { λ r. ⌜ r ≡ isRead (readValue ical (typeAt t) (rest 0 (now (s .entry)) at)) ⌝ }
 {
     let v = read_value(false, t, 0, s, at);

@@ -1,30 +1,26 @@
 -- The values of a property by numbers: of the component, the property, the type.
 --     valuesAt       the values that are read, by numbers;   values-at: they are those of the names
 --     values-named   the values of a property are those of its number's name;   property-of-place: and so is the property that a line states
---     component-again, property-again, type-again    the number of the name of a number
+--     component-again, property-again    the number of the name of a number
 use mathlib.Core.Path.{_≡_, refl, sym, ap, _∙_}
-use mathlib.Core.List.{List, [], _∷_, map}
+use mathlib.Core.List.{List, [], _∷_}
 use mathlib.Core.Option.{Option, none}
 use Prim.Native.Nat.{ℕ, _≤_, _<_}
 use native.Mathlib.Omega.{arith}
 use native.Mathlib.Decide.{decLe}
 use lib.Dec.{eqb}
-use lib.ListN.{getD, List·getD-eq-default}
+use lib.ListN.{List·getD-eq-default}
 use borrow.Author.Tests.{ne-eqb}
-use Rattle.octets.specs.Ascii.{ascii}
 use Rattle.octets.specs.Pick.{pick}
 use Rattle.octets.specs.Class.{upper}
-use Rattle.octets.specs.Words.{same}
-use Rattle.octets.specs.Computing.{octets-compute}
-use Rattle.names.specs.Table.{placeOf, place-within}
+use Rattle.names.specs.Table.{placeOf}
 use Rattle.model.specs.Calendar.{ValueType, TEXT, UNKNOWN, Value}
 use Rattle.schema.specs.Types.{valueTypes, typePlace, sameType, isTypeOf}
 use Rattle.schema.specs.Components.{componentNames}
 use Rattle.schema.specs.Properties.{PropertyRow, propertyNames, permittedTypes, isListedProperty}
-use Rattle.schema.specs.Numbers.{typeAt, propertyAt, componentName, propertyName, property-place, same-place}
-use Rattle.schema.specs.Cells.{tabled, tabled-at, column-at}
-use Rattle.schema.specs.Arrays.{place-at}
-use Rattle.schema.specs.Sets.{wordsAt, words-place}
+use Rattle.schema.specs.Numbers.{typeAt, propertyAt, componentName, propertyName, property-place}
+use Rattle.schema.specs.Sets.{wordsAt, words-place, geo-place, request-status-place}
+use Rattle.schema.specs.Places.{component-at, no-component, component-fixed, property-at, no-property, property-fixed, type-back}
 use Rattle.numbers.specs.Geo.{readGeo}
 use Rattle.texts.specs.RequestStatus.{readRequestStatus}
 use Rattle.lines.specs.ContentLine.{ContentLine}
@@ -44,14 +40,6 @@ valuesAt k p t l = pick (isTypeOf t (propertyAt p .default ∷ propertyAt p .oth
 -- ---- names by their numbers
 
 module _ (w : List ℕ) where
-  geo-place : same w (ascii "GEO") ≡ eqb (placeOf w propertyNames) 9
-  unfolding octets-compute placeOf
-  geo-place = same-place w (ascii "GEO") propertyNames refl
-
-  status-place : same w (ascii "REQUEST-STATUS") ≡ eqb (placeOf w propertyNames) 45
-  unfolding octets-compute placeOf
-  status-place = same-place w (ascii "REQUEST-STATUS") propertyNames refl
-
   listed-place : isListedProperty w ≡ propertyAt (placeOf w propertyNames) .listed
   listed-place = ap (λ (r : PropertyRow). r .listed) (property-place w)
 
@@ -59,7 +47,7 @@ module _ (w : List ℕ) where
   types-place = ap (λ (r : PropertyRow). r .default ∷ r .others) (property-place w)
 
   own-place : (c : List ℕ) (t : ValueType) (l : List ℕ) → readOwn c w t l ≡ ownAt (placeOf c componentNames) (placeOf w propertyNames) t l
-  own-place c t l = rw (geo-place, status-place, listed-place, words-place c w)
+  own-place c t l = rw (geo-place w, request-status-place w, listed-place, words-place c w)
 
 pub values-at : (c w : List ℕ) (t : ValueType) (l : List ℕ) → readValues c w t l ≡ valuesAt (placeOf c componentNames) (placeOf w propertyNames) t l
 unfolding readValues
@@ -67,37 +55,17 @@ values-at c w t l = rw (own-place w c t l, types-place w)
 
 -- ---- the number of the name of a number
 
-components-placed : map (λ w. placeOf w componentNames) componentNames ≡ tabled (λ i. i) 0 9
-unfolding octets-compute placeOf tabled
-components-placed = refl
-
 pub component-again : (k : ℕ) → k < 9 → k ≡ placeOf (componentName k) componentNames
-component-again k h =
-    sym (sym (column-at (λ w. placeOf w componentNames) [] componentNames k h) ∙ ap (λ (l : List ℕ). getD l k 0) components-placed ∙ tabled-at (λ i. i) 9 0 k h ∙ omega arith)
-
-no-component : placeOf [] componentNames ≡ 9
-unfolding octets-compute placeOf
-no-component = refl
+component-again k h = sym (component-at k h)
 
 pub component-other : (k : ℕ) → 9 ≤ k → 9 ≡ placeOf (componentName k) componentNames
 component-other k h = rw (List·getD-eq-default componentNames [] h) (sym no-component)
 
-no-property : placeOf [] propertyNames ≡ 46
-unfolding octets-compute placeOf
-no-property = refl
-
 pub property-again : (p : ℕ) → p < 46 → p ≡ placeOf (propertyName p) propertyNames
-property-again p h = sym (place-at p h)
+property-again p h = sym (property-at p h)
 
 pub property-other : (p : ℕ) → 46 ≤ p → 46 ≡ placeOf (propertyName p) propertyNames
 property-other p h = rw (List·getD-eq-default propertyNames [] h) (sym no-property)
-
-types-placed : map typePlace valueTypes ≡ tabled (λ i. i) 0 14
-unfolding tabled
-types-placed = refl
-
-type-again : (t : ℕ) → t < 14 → typePlace (typeAt t) ≡ t
-type-again t h = sym (column-at typePlace UNKNOWN valueTypes t h) ∙ ap (λ (l : List ℕ). getD l t 0) types-placed ∙ tabled-at (λ i. i) 14 0 t h ∙ omega arith
 
 pub type-text : (t : ℕ) → sameType (typeAt t) TEXT ≡ eqb t 10
 unfolding sameType
@@ -105,7 +73,7 @@ type-text t = go (decLe 14 t)
   where
     go : Dec (14 ≤ t) → eqb (typePlace (typeAt t)) 10 ≡ eqb t 10
     go (yes h) = rw (List·getD-eq-default valueTypes UNKNOWN h) (sym (ne-eqb t 10 (λ e. omega arith)))
-    go (no h) = rw (type-again t (omega arith))
+    go (no h) = rw (type-back t (omega arith))
 
 pub type-here : (t : ℕ) → t < 14 → (typeAt t ≡ typeAt t) × (t ≤ 14)
 type-here t h = (refl, omega arith)
@@ -114,20 +82,6 @@ pub type-other : (t : ℕ) → 14 ≤ t → (typeAt 14 ≡ typeAt t) × (14 ≤ 
 type-other t h = (sym (List·getD-eq-default valueTypes UNKNOWN h), omega arith)
 
 -- ---- the values of a name are those of its number's name
-
-component-fixed : (c : List ℕ) → placeOf (componentName (placeOf c componentNames)) componentNames ≡ placeOf c componentNames
-component-fixed c = go (decLe 9 (placeOf c componentNames))
-  where
-    go : Dec (9 ≤ placeOf c componentNames) → placeOf (componentName (placeOf c componentNames)) componentNames ≡ placeOf c componentNames
-    go (yes h) = let k : placeOf c componentNames ≡ 9 = omega (arith, place-within c componentNames) in sym (component-other (placeOf c componentNames) h) ∙ sym k
-    go (no h) = sym (component-again (placeOf c componentNames) (omega arith))
-
-property-fixed : (w : List ℕ) → placeOf (propertyName (placeOf w propertyNames)) propertyNames ≡ placeOf w propertyNames
-property-fixed w = go (decLe 46 (placeOf w propertyNames))
-  where
-    go : Dec (46 ≤ placeOf w propertyNames) → placeOf (propertyName (placeOf w propertyNames)) propertyNames ≡ placeOf w propertyNames
-    go (yes h) = let k : placeOf w propertyNames ≡ 46 = omega (arith, place-within w propertyNames) in sym (property-other (placeOf w propertyNames) h) ∙ sym k
-    go (no h) = sym (property-again (placeOf w propertyNames) (omega arith))
 
 pub values-named : (c w : List ℕ) (p : ℕ) (t : ValueType) (l : List ℕ) → p ≡ placeOf w propertyNames → readValues c (propertyName p) t l ≡ readValues c w t l
 values-named c w p t l h =

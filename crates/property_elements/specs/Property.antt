@@ -4,18 +4,16 @@
 --     contentXml     those of its parameters and its values
 --     partsXml       the whole element;   property-xml: what is written of the line
 use mathlib.Core.Path.{_≡_, refl, sym, ap, _∙_}
-use mathlib.Core.List.{List, [], _∷_}
+use mathlib.Core.List.{List, []}
 use mathlib.Core.Option.{none}
-use Prim.Native.Nat.{ℕ, _+_, _-_, _*_, _^_, _≤_, _<_}
+use Prim.Native.Nat.{ℕ, _-_, _*_, _^_, _≤_, _<_}
 use native.Mathlib.Omega.{arith}
 use native.Mathlib.Decide.{decLe}
-use lib.Dec.{leb}
 use lib.ListN.{length, take, drop-of-length-le}
-use borrow.Author.Tests.{le-leb, lt-leb}
-use Rattle.octets.specs.Pick.{pick, within-yes, and-no-right}
+use Rattle.octets.specs.Pick.{pick}
 use Rattle.octets.specs.Append.{_⊕_}
-use Rattle.octets.specs.Class.{isNameChar, upperByte, lowerByte, upper, lower}
-use Rattle.octets.specs.Letters.{upper-by-cases}
+use Rattle.octets.specs.Class.{isNameChar, upper, lower}
+use Rattle.octets.specs.Letters.{lower-any-case}
 use Rattle.octets.specs.Runs.{runOf}
 use Rattle.octets.specs.Scan.{spanLen}
 use Rattle.octets.specs.Reading.{readOr, orNothing, none-some}
@@ -56,20 +54,6 @@ partsXml k s c e v = elementOf (lower (nameIn s c e)) (contentXml k s c e v)
 
 -- ---- laws
 
-lower-byte : (b : ℕ) → lowerByte (upperByte b) ≡ lowerByte b
-unfolding pick
-lower-byte b = upper-by-cases (λ x. lowerByte x ≡ lowerByte b) b small (λ e. refl)
-  where
-    small : 97 ≤ b → b ≤ 122 → lowerByte (b - 32) ≡ lowerByte b
-    small l h =
-        let k : b - 32 + 32 ≡ b = omega arith in
-        rw (within-yes 65 90 (b - 32) (le-leb 65 (b - 32) (omega arith)) (le-leb (b - 32) 90 (omega arith)), and-no-right (leb 65 b) (leb b 90) (lt-leb b 90 (omega arith))) k
-
-pub lower-upper : (s : List ℕ) → lower (upper s) ≡ lower s
-unfolding lower upper
-lower-upper [] = refl
-lower-upper (b ∷ s) = rw (lower-byte b, lower-upper s)
-
 no-line : contentLine [] ≡ none
 unfolding contentLine runOf spanLen pick
 no-line = refl
@@ -90,7 +74,7 @@ module _ {s : List ℕ} {c e v : ℕ} (a : LineAt 0 s c (Line e v)) where
   unfolding propertyXml propertyOf
   property-xml k =
       ap (orNothing (λ l. propertyXml (propertyOf (componentName k) l))) (a .is)
-      ∙ rw (name-chars (a .parts .name), lower-upper (runOf isNameChar (rest 0 s c)))
+      ∙ rw (name-chars (a .parts .name), lower-any-case (runOf isNameChar (rest 0 s c)))
 
 -- ---- for the code
 

@@ -1,5 +1,6 @@
 // A list of values in text, written as an element for each. See specs/Pieces.antt.
 use elements::put_value_element;
+use recur::rule::byte_end;
 use source::unit;
 use texts::put_texts_xml;
 ghost use Prim.Native.Nat.{_≤_};
@@ -10,29 +11,9 @@ ghost use Rattle.model.specs.Calendar.{ical};
 ghost use Rattle.sink.specs.Sink.{Put};
 ghost use Rattle.source.specs.Source.{rest};
 ghost use Rattle.schema.specs.Numbers.{typeAt};
-ghost use Rattle.recur.specs.Pieces.{Ends};
 ghost use Rattle.values.specs.ReadValue.{readValue};
 ghost use Rattle.xcal.specs.WriteXml.{valueXml};
 ghost use Rattle.property_elements.specs.Pieces.{piecesXml, listedXml};
-
-// The cursor at the first comma, or at the end.
-fn piece_end(s: &[u8], at: usize) -> usize
-    requires { ⌜ at ≤ length (now s) ⌝ }
-    ensures { λ r. ⌜ Ends 44 (now (s .entry)) at r ⌝ }
-{
-    let mut c = at;
-    loop {
-        let n = unit(0, s, c);
-        let u = n.u;
-        if u == 256 {
-            return c;
-        }
-        if u == 44 {
-            return c;
-        }
-        c = n.next;
-    }
-}
 
 // The value of the type `t` from the cursor `at` to the cursor `e`.
 fn put_piece(out: &mut [u8], o: usize, t: usize, s: &[u8], at: usize, e: usize) -> usize
@@ -50,7 +31,7 @@ fn put_pieces(out: &mut [u8], at: usize, t: usize, s: &[u8], from: usize) -> usi
     let mut o = at;
     let mut c = from;
     loop {
-        let e = piece_end(s, c);
+        let e = byte_end(44, s, c);
         o = put_piece(out, o, t, s, c, e);
         let n = unit(0, s, e);
         let u = n.u;

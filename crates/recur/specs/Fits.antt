@@ -15,6 +15,7 @@ use Rattle.octets.specs.Class.{isAlpha}
 use Rattle.octets.specs.Words.{isOneOf, isEmpty}
 use Rattle.octets.specs.Reading.{provided, andThen, isRead}
 use Rattle.octets.specs.Computing.{octets-compute}
+use Rattle.octets.specs.Front.{upTo, fromOn}
 use Rattle.model.specs.Calendar.{Format, formatOf}
 use Rattle.source.specs.Source.{rest, Reads}
 use Rattle.source.specs.Facts.{rest-byte, rest-end}
@@ -23,9 +24,9 @@ use Rattle.names.specs.Case.{cased, caseOf}
 use Rattle.times.specs.Date.{readDate}
 use Rattle.times.specs.DateTime.{readDateTime}
 use Rattle.names.specs.Table.{placeOf, namesIn, one-of-place}
-use Rattle.recur.specs.Front.{upTo, fromOn}
+use Rattle.numbers.specs.Sign.{unsigned as afterSign}
 use Rattle.recur.specs.Parts.{ItemForm, wordOf, enddate, counting, unsigned, signed, weekdaynum, Part, partOf, partTable, partNames, frequencies, weekdays}
-use Rattle.recur.specs.Item.{inCapitals, isNumeral, isShort, afterSign, readOrdinal, orOther, readEnddate, readWord, readForm, readItem}
+use Rattle.recur.specs.Item.{inCapitals, isNumeral, isShort, readOrdinal, orOther, readEnddate, readWord, readForm, readItem}
 
 abbrev pub isNumeralOf : ℕ → ℕ → ℕ → List ℕ → Bool
 isNumeralOf d lo hi s = isShort d s and isNumeral lo hi s

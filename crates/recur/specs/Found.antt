@@ -3,24 +3,23 @@
 --     Finds        the contract of the search: the piece, within the slice
 --     named-at     a name against the name at a place
 --     found-here, found-none, found-more    the ways of the loop
-use mathlib.Core.Path.{_≡_, refl, sym, ap, _∙_}
-use mathlib.Core.Bool.{Bool, true, false, false≢true}
-use mathlib.Core.List.{List, [], _∷_}
+use mathlib.Core.Path.{_≡_, sym, ap, _∙_}
+use mathlib.Core.List.{List, []}
 use mathlib.Core.Option.{Option, none, some}
-use Prim.Native.Nat.{ℕ, zero, suc, _≤_, _<_}
+use Prim.Native.Nat.{ℕ, _≤_, _<_}
 use native.Mathlib.Omega.{arith}
 use lib.Dec.{eqb}
 use lib.ListN.{length, take, getD}
 use borrow.Author.Tests.{eq-eqb, ne-eqb}
-use Rattle.octets.specs.Pick.{pick, _or_, or-right, pick-second}
-use Rattle.octets.specs.Words.{same, same-self, same-true, isOneOf, cutAt, rowOf}
-use Rattle.octets.specs.Lists.{distinct}
+use Rattle.octets.specs.Pick.{pick, _or_}
+use Rattle.octets.specs.Words.{same, cutAt, rowOf}
 use Rattle.source.specs.Source.{rest, Reads}
 use Rattle.source.specs.declared.Step.{Step}
 use Rattle.names.specs.Table.{placeOf}
+use Rattle.names.specs.Places.{place-back}
 use Rattle.recur.specs.Parts.{partNames}
 use Rattle.recur.specs.Pieces.{Ends, pieceName, placeAt}
-use Rattle.recur.specs.PieceLaws.{Left, pieces-any, pieces-last, pieces-more, step-less, same-place}
+use Rattle.recur.specs.PieceLaws.{Left, pieces-any, pieces-last, pieces-more, step-less, part-same}
 use Rattle.recur.specs.RuleLaws.{names-once}
 use Rattle.recur.specs.declared.rule.PieceFound.{PieceFound}
 use Rattle.recur.specs.declared.rule.PieceFound.the-variants.{Piece, Missing}
@@ -44,30 +43,11 @@ pub record Finds (o : Option (List ℕ)) (s : List ℕ) (r : PieceFound) : Type 
 
 -- ---- the name at a place
 
-one-at : (ws : List (List ℕ)) (p : ℕ) → p < length ws → isOneOf (getD ws p []) ws ≡ true
-unfolding isOneOf _or_
-one-at [] p h = absurd (omega arith)
-one-at (x ∷ ws) zero h = rw (same-self x)
-one-at (x ∷ ws) (suc p) h = or-right (same (getD ws p []) x) (isOneOf (getD ws p []) ws) (one-at ws p (omega arith))
-
--- names that stand once each
-place-at : (ws : List (List ℕ)) (p : ℕ) → distinct ws ≡ true → p < length ws → placeOf (getD ws p []) ws ≡ p
-unfolding placeOf distinct pick
-place-at [] p d h = absurd (omega arith)
-place-at (x ∷ ws) zero d h = rw (same-self x)
-place-at (x ∷ ws) (suc p) d h =
-    let k = pick-second (isOneOf x ws) (distinct ws) d in
-    go (same (getD ws p []) x) refl (k .0) (place-at ws p (k .1) (omega arith))
-  where
-    go : (t : Bool) → same (getD ws p []) x ≡ t → isOneOf x ws ≡ false → placeOf (getD ws p []) ws ≡ p → pick t 0 (suc (placeOf (getD ws p []) ws)) ≡ suc p
-    go true e k ih = absurd (false≢true (sym k ∙ rw (← (same-true (getD ws p []) x e)) (one-at ws p (omega arith))))
-    go false e k ih = ap suc ih
-
 pub named-at : (p : ℕ) (w : List ℕ) → p < 14 → same (getD partNames p []) (pieceName w) ≡ eqb (placeAt w) p
 unfolding placeAt
 named-at p w h =
-    let e = place-at partNames p names-once h in
-    sym (same-place (getD partNames p []) (pieceName w) (rw e h)) ∙ ap (eqb (placeOf (pieceName w) partNames)) e
+    let e = place-back partNames p names-once h in
+    sym (part-same (getD partNames p []) (pieceName w) (rw e h)) ∙ ap (eqb (placeOf (pieceName w) partNames)) e
 
 -- ---- the loop over the pieces
 

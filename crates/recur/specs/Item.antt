@@ -7,18 +7,20 @@ use mathlib.Core.Bool.{Bool, true, false}
 use mathlib.Core.List.{List, [], _∷_}
 use mathlib.Core.Option.{Option, none, some}
 use Prim.Native.Nat.{ℕ}
-use lib.Dec.{eqb, leb}
+use lib.Dec.{leb}
 use lib.ListN.{length}
 use Rattle.octets.specs.Pick.{pick, _and_, _or_, within}
 use Rattle.octets.specs.Append.{_⊕_}
 use Rattle.octets.specs.Class.{isAlpha, upper}
 use Rattle.octets.specs.Words.{isOneOf}
-use Rattle.octets.specs.Decimal.{value, isNumber, digits}
+use Rattle.octets.specs.Decimal.{value, isNumber}
 use Rattle.octets.specs.Reading.{provided, andThen}
+use Rattle.octets.specs.Front.{upTo, fromOn}
 use Rattle.model.specs.Calendar.{Format, ical, xcal, Whole, RuleItem, moment, number, word, weekday}
 use Rattle.times.specs.Date.{isDate, readDate, writeDate}
 use Rattle.times.specs.DateTime.{isDateTime, readDateTime, writeDateTime}
-use Rattle.recur.specs.Front.{upTo, fromOn}
+use Rattle.numbers.specs.Sign.{hasMinus, unsigned as afterSign}
+use Rattle.numbers.specs.Integer.{writeWhole}
 use Rattle.recur.specs.Parts.{ItemForm, wordOf, enddate, counting, unsigned, signed, weekdaynum, Part, partOf, weekdays}
 
 abbrev pub whole : Bool → ℕ → Whole
@@ -42,15 +44,6 @@ isNumeral lo hi s = isNumber hi s and leb lo (value 0 s)
 abbrev pub isShort : ℕ → List ℕ → Bool
 isShort d s = leb (length s) d
 
--- a sign at the front: whether it is a minus, and what follows it
-unfoldable pub isMinus : List ℕ → Bool
-isMinus [] = false
-isMinus (b ∷ s) = eqb b 45
-
-unfoldable pub afterSign : List ℕ → List ℕ
-afterSign [] = []
-afterSign (b ∷ s) = pick (eqb b 43 or eqb b 45) s (b ∷ s)
-
 -- 1*DIGIT, 1 to 2147483647
 abbrev pub readCounting : List ℕ → Option Whole
 readCounting s = provided (isNumeral 1 2147483647 s) (whole false (value 0 s))
@@ -61,10 +54,7 @@ readUnsigned d lo hi s = provided (isShort d s and isNumeral lo hi s) (whole fal
 
 -- [plus / minus] 1*dDIGIT, 1 to hi
 abbrev pub readSigned : ℕ → ℕ → List ℕ → Option Whole
-readSigned d hi s = provided (isShort d (afterSign s) and isNumeral 1 hi (afterSign s)) (whole (isMinus s) (value 0 (afterSign s)))
-
-abbrev pub writeWhole : Whole → List ℕ
-writeWhole w = pick (w .negative) (45 ∷ digits 9 (w .magnitude)) (digits 9 (w .magnitude))
+readSigned d hi s = provided (isShort d (afterSign s) and isNumeral 1 hi (afterSign s)) (whole (hasMinus s) (value 0 (afterSign s)))
 
 -- ---- weekdays: an ordinal, if there are characters before the first letter, and a weekday
 

@@ -1,5 +1,4 @@
 -- RECUR (RFC 5545, section 3.3.10): recurrence rules.
---     Front        a list cut at its first byte that passes a test
 --     Parts        the parts of a rule in the schema's order, and what an item of each is
 --     Item         one item of a part, read and written
 --     Rule         a whole rule in text, read and written
@@ -17,7 +16,6 @@
 --     Computing    opens all definitions, for examples that compute
 --     PieceLaws    laws of a rule's pieces, for each way that the code goes
 --     Examples     computed examples
-pub mod Front
 pub mod Parts
 pub mod Item
 pub mod Rule

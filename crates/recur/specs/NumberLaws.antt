@@ -4,20 +4,22 @@
 --     whole-characters   a written number is digits, with a minus before them if it is negative
 use mathlib.Core.Path.{_≡_, refl}
 use mathlib.Core.Bool.{Bool, true, false}
-use mathlib.Core.List.{List, [], _∷_}
+use mathlib.Core.List.{List}
 use mathlib.Core.Option.{some}
 use Prim.Native.Nat.{ℕ, _^_, _≤_, _<_}
 use native.Mathlib.Omega.{arith}
 use lib.Dec.{eqb, leb, ltb}
 use lib.ListN.{length}
-use borrow.Author.Tests.{le-leb, leb-true, ltb-true, ne-eqb}
-use Rattle.octets.specs.Pick.{pick, _and_, _or_, within, and-yes, or-left, or-right, and-both, pick-first, within-range}
-use Rattle.octets.specs.Scan.{allOf, all-weaker}
+use borrow.Author.Tests.{le-leb, leb-true, ltb-true}
+use Rattle.octets.specs.Pick.{pick, _and_, _or_, within, and-yes, or-left, or-right, and-both, within-range}
+use Rattle.octets.specs.Scan.{allOf}
 use Rattle.octets.specs.Class.{isDigit}
-use Rattle.octets.specs.Decimal.{value, isNumber, digits, digits-value, digits-all, digits-number, digits-short}
+use Rattle.octets.specs.Decimal.{value, isNumber, digits, digits-value, digits-number, digits-short}
 use Rattle.octets.specs.Reading.{provided-some}
 use Rattle.model.specs.Calendar.{Whole}
-use Rattle.recur.specs.Item.{whole, isNumeral, isShort, isMinus, afterSign, readCounting, readUnsigned, readSigned, writeWhole}
+use Rattle.numbers.specs.Sign.{hasMinus, unsigned as afterSign}
+use Rattle.numbers.specs.Integer.{writeWhole, whole-minus, whole-rest, whole-all}
+use Rattle.recur.specs.Item.{whole, isNumeral, isShort, readCounting, readUnsigned, readSigned}
 
 -- ---- a number's digits
 
@@ -33,39 +35,6 @@ numeral-within lo hi s h =
     and-yes (leb lo (value 0 s)) (leb (value 0 s) hi)
     (and-both (isNumber hi s) (leb lo (value 0 s)) h .1)
     (and-both (allOf isDigit s) (leb (value 0 s) hi) (and-both (ltb 0 (length s)) (allOf isDigit s and leb (value 0 s) hi) p .1) .1)
-
--- ---- signs
-
-digit-sign : (b : ℕ) → isDigit b ≡ true → (eqb b 43 ≡ false) × (eqb b 45 ≡ false)
-digit-sign b h =
-    let l : 48 ≤ b = within-range 48 57 b h .0 in
-    (ne-eqb b 43 (λ e. omega arith), ne-eqb b 45 (λ e. omega arith))
-
-no-minus : (s : List ℕ) → allOf isDigit s ≡ true → isMinus s ≡ false
-unfolding isMinus allOf
-no-minus [] h = refl
-no-minus (b ∷ s) h = digit-sign b (pick-first (isDigit b) (allOf isDigit s) h .0) .1
-
-no-sign : (s : List ℕ) → allOf isDigit s ≡ true → afterSign s ≡ s
-unfolding afterSign allOf pick _or_
-no-sign [] h = refl
-no-sign (b ∷ s) h = let g = digit-sign b (pick-first (isDigit b) (allOf isDigit s) h .0) in rw (g .0, g .1)
-
-written-minus : (w : Whole) → isMinus (writeWhole w) ≡ w .negative
-unfolding pick isMinus
-written-minus w = go (w .negative)
-  where
-    go : (t : Bool) → isMinus (pick t (45 ∷ digits 9 (w .magnitude)) (digits 9 (w .magnitude))) ≡ t
-    go true = refl
-    go false = no-minus (digits 9 (w .magnitude)) (digits-all 9 (w .magnitude))
-
-written-digits : (w : Whole) → afterSign (writeWhole w) ≡ digits 9 (w .magnitude)
-unfolding pick afterSign _or_
-written-digits w = go (w .negative)
-  where
-    go : (t : Bool) → afterSign (pick t (45 ∷ digits 9 (w .magnitude)) (digits 9 (w .magnitude))) ≡ digits 9 (w .magnitude)
-    go true = refl
-    go false = no-sign (digits 9 (w .magnitude)) (digits-all 9 (w .magnitude))
 
 -- ---- read back
 
@@ -105,7 +74,7 @@ module _ (d lo hi : ℕ) (enough : isEnough d hi ≡ true) (w : Whole) where
       let n = w .magnitude in
       let g : n ≤ hi = within-range 1 hi n h .1 in
       let m : hi ≤ 2147483647 = enough-most d hi enough in
-      rw (written-minus w, written-digits w, enough-short d 1 hi n enough h, numeral 1 hi n m h, digits-value 9 n (omega arith))
+      rw (whole-minus w, whole-rest w, enough-short d 1 hi n enough h, numeral 1 hi n m h, digits-value 9 n (omega arith))
 
 -- ---- accepted
 
@@ -123,7 +92,7 @@ module _ (d : ℕ) where
   pub signed-accepted : (hi : ℕ) (s : List ℕ) (w : Whole) → readSigned d hi s ≡ some w → within 1 hi (w .magnitude) ≡ true
   signed-accepted hi s w h =
       let t = afterSign s in
-      let e = provided-some (isShort d t and isNumeral 1 hi t) (whole (isMinus s) (value 0 t)) w h in
+      let e = provided-some (isShort d t and isNumeral 1 hi t) (whole (hasMinus s) (value 0 t)) w h in
       rw (← (e .1)) (numeral-within 1 hi t (and-both (isShort d t) (isNumeral 1 hi t) (e .0) .1))
 
 -- ---- characters
@@ -132,9 +101,4 @@ abbrev pub isNumberChar : ℕ → Bool
 isNumberChar b = isDigit b or eqb b 45
 
 pub whole-characters : (w : Whole) → allOf isNumberChar (writeWhole w) ≡ true
-unfolding pick allOf
-whole-characters w = go (w .negative) (all-weaker isDigit isNumberChar (λ b h. or-left (isDigit b) (eqb b 45) h) (digits 9 (w .magnitude)) (digits-all 9 (w .magnitude)))
-  where
-    go : (t : Bool) → allOf isNumberChar (digits 9 (w .magnitude)) ≡ true → allOf isNumberChar (pick t (45 ∷ digits 9 (w .magnitude)) (digits 9 (w .magnitude))) ≡ true
-    go true h = rw (or-right (isDigit 45) (eqb 45 45) refl) h
-    go false h = h
+whole-characters w = whole-all isNumberChar (λ b h. or-left (isDigit b) (eqb b 45) h) (or-right (isDigit 45) (eqb 45 45) refl) w

@@ -1,8 +1,5 @@
 -- Numbers of rule parts as the code reads them through the cursor, and the laws at each way that the code goes.
---     front letters s         what stands before the first letter, or all of s
---     Fronts                  the contract of a step over `front`: r is its byte at a cursor, and the cursor after it
---     worthTo most n s        what the digits of s are worth after digits that are worth n, if there are no others and it is no more than most; else 2 ^ 32 - 1
---     numeralIn lo hi s       the same of s itself, which must have a digit and be worth lo at least
+--     numeralIn lo hi s       what the digits of s are worth, which must have a digit and be worth lo to hi; else 2 ^ 32 - 1
 use mathlib.Core.Path.{_≡_, refl, sym, _∙_}
 use mathlib.Core.Bool.{Bool, true, false}
 use mathlib.Core.List.{List, [], _∷_}
@@ -12,69 +9,22 @@ use lib.Dec.{eqb, leb, ltb}
 use lib.ListN.{length}
 use borrow.Author.Needs.{needs}
 use borrow.Author.Tests.{ne-eqb, lt-ltb, le-ltb, le-leb, lt-leb, leb-true, leb-false}
-use Rattle.octets.specs.Pick.{pick, _and_, _or_, within-yes, and-no-left, and-no-right}
+use Rattle.octets.specs.Pick.{pick, _and_, _or_}
 use Rattle.octets.specs.Scan.{allOf}
-use Rattle.octets.specs.Class.{isDigit, isAlpha}
-use Rattle.octets.specs.Decimal.{value, digitOf}
-use Rattle.source.specs.Source.{rest, spell, Reads}
-use Rattle.source.specs.Facts.{spell-byte, spell-end}
+use Rattle.octets.specs.Class.{isDigit}
+use Rattle.octets.specs.Decimal.{value}
+use Rattle.source.specs.Source.{rest, spell}
 use Rattle.source.specs.declared.Step.{Step}
-use Rattle.recur.specs.Front.{upTo}
-use Rattle.recur.specs.Item.{isNumeral, isShort, afterSign}
-
-abbrev pub front : Bool → List ℕ → List ℕ
-front true s = upTo isAlpha s
-front false s = s
-
-pub record Fronts (l : Bool) (m : ℕ) (s : List ℕ) (c : ℕ) (r : Step) : Type 0 where
-  pub is : front l (rest m s c) ≡ spell (r .u) (front l (rest m s (r .next)))
-  pub small : r .u ≤ 256
-  pub moved : c < r .next + r .u / 256 * 2 ^ 64
-  pub inside : r .next ≤ 4 * length s + r .u / 256 * 2 ^ 64
-
-unfoldable pub worthTo : ℕ → ℕ → List ℕ → ℕ
-worthTo m n s = pick (allOf isDigit s and leb (value n s) m) (value n s) 4294967295
+use Rattle.numbers.specs.Numeral.{front, Fronts, fronts-byte, fronts-end, worthTo}
+use Rattle.numbers.specs.Sign.{unsigned as afterSign}
+use Rattle.recur.specs.Item.{isNumeral, isShort}
 
 unfoldable pub numeralIn : ℕ → ℕ → List ℕ → ℕ
 numeralIn lo hi s = pick (isNumeral lo hi s) (value 0 s) 4294967295
 
--- ---- a step
-
-up-spell : (u : ℕ) (r : List ℕ) → isAlpha u ≡ false → upTo isAlpha (spell u r) ≡ spell u (upTo isAlpha r)
-unfolding upTo spell pick
-up-spell u r h = go (eqb u 256)
-  where
-    go : (t : Bool) → upTo isAlpha (pick t [] (u ∷ r)) ≡ pick t [] (u ∷ upTo isAlpha r)
-    go true = refl
-    go false = rw h
-
-up-letter : (u : ℕ) (r : List ℕ) → isAlpha u ≡ true → upTo isAlpha (spell u r) ≡ []
-unfolding upTo spell pick
-up-letter u r h = go (eqb u 256)
-  where
-    go : (t : Bool) → upTo isAlpha (pick t [] (u ∷ r)) ≡ []
-    go true = refl
-    go false = rw h
-
-module _ {l : Bool} {m : ℕ} {s : List ℕ} {c : ℕ} {r : Step} (p : Reads m s c r) where
-  pub front-all : l ≡ false → Fronts l m s c r
-  front-all e = rw e (record { is = p .is; small = p .small; moved = p .moved; inside = p .inside })
-
-  pub front-byte : l ≡ true → isAlpha (r .u) ≡ false → Fronts l m s c r
-  front-byte e h = rw e (record { is = rw (p .is) (up-spell (r .u) (rest m s (r .next)) h); small = p .small; moved = p .moved; inside = p .inside })
-
-  pub front-letter : l ≡ true → isAlpha (r .u) ≡ true → c < 2 ^ 64 → Fronts l m s c (record { u = 256; next = c })
-  unfolding spell pick
-  front-letter e h b = rw e (record { is = rw (p .is) (up-letter (r .u) (rest m s (r .next)) h); small = omega arith; moved = omega arith; inside = omega arith })
+-- ---- a sign
 
 module _ {l : Bool} {m : ℕ} {s : List ℕ} {c : ℕ} {r : Step} (p : Fronts l m s c r) where
-  pub fronts-byte : (r .u ≡ 256 → ⊥) → front l (rest m s c) ≡ r .u ∷ front l (rest m s (r .next))
-  fronts-byte h = p .is ∙ spell-byte (r .u) (front l (rest m s (r .next))) h
-
-  pub fronts-end : r .u ≡ 256 → front l (rest m s c) ≡ []
-  fronts-end h = p .is ∙ spell-end (r .u) (front l (rest m s (r .next))) h
-
-  -- a sign
   pub sign-plus : r .u ≡ 43 → afterSign (front l (rest m s c)) ≡ front l (rest m s (r .next))
   unfolding afterSign spell pick _or_
   sign-plus h = rw (p .is, h)
@@ -90,48 +40,6 @@ module _ {l : Bool} {m : ℕ} {s : List ℕ} {c : ℕ} {r : Step} (p : Fronts l 
       go : (t : Bool) → afterSign (pick t [] (r .u ∷ front l (rest m s (r .next)))) ≡ pick t [] (r .u ∷ front l (rest m s (r .next)))
       go true = refl
       go false = rw (ne-eqb (r .u) 43 h, ne-eqb (r .u) 45 k)
-
--- ---- digits to the end, one a turn
-
-is-digit : (b : ℕ) → 48 ≤ b → b ≤ 57 → isDigit b ≡ true
-is-digit b h k = within-yes 48 57 b (le-leb 48 b h) (le-leb b 57 k)
-
-below-digit : (b : ℕ) → b < 48 → isDigit b ≡ false
-below-digit b h = and-no-left (leb 48 b) (leb b 57) (lt-leb 48 b h)
-
-above-digit : (b : ℕ) → 57 < b → isDigit b ≡ false
-above-digit b h = and-no-right (leb 48 b) (leb b 57) (lt-leb b 57 h)
-
--- digits never make a number less
-grows : (s : List ℕ) (n : ℕ) → n ≤ value n s
-unfolding value
-grows [] n = omega arith
-grows (b ∷ s) n = omega (arith, grows s (n * 10 + digitOf b))
-
-module _ (m n : ℕ) where
-  pub worth-end : {s : List ℕ} → s ≡ [] → n ≤ m → worthTo m n s ≡ n
-  unfolding worthTo allOf value pick _and_
-  worth-end e h = rw (e, le-leb n m h)
-
-  pub worth-low : {s t : List ℕ} {b : ℕ} → s ≡ b ∷ t → b < 48 → worthTo m n s ≡ 4294967295
-  unfolding worthTo allOf pick _and_
-  worth-low {s} {t} {b} e h = rw (e, below-digit b h)
-
-  pub worth-high : {s t : List ℕ} {b : ℕ} → s ≡ b ∷ t → 57 < b → worthTo m n s ≡ 4294967295
-  unfolding worthTo allOf pick _and_
-  worth-high {s} {t} {b} e h = rw (e, above-digit b h)
-
-  pub worth-more : {s t : List ℕ} {b : ℕ} → s ≡ b ∷ t → 48 ≤ b → b ≤ 57 → worthTo m n s ≡ worthTo m (n * 10 + (b - 48)) t
-  unfolding worthTo allOf value pick
-  worth-more {s} {t} {b} e h k = rw (e, is-digit b h k)
-
-  pub worth-much : {s t : List ℕ} {b : ℕ} → s ≡ b ∷ t → 48 ≤ b → b ≤ 57 → m < n * 10 + (b - 48) → worthTo m n s ≡ 4294967295
-  unfolding worthTo pick _and_
-  worth-much {s} {t} {b} e h k l = worth-more e h k ∙ go (allOf isDigit t)
-    where
-      go : (c : Bool) → pick (c and leb (value (n * 10 + (b - 48)) t) m) (value (n * 10 + (b - 48)) t) 4294967295 ≡ 4294967295
-      go true = rw (lt-leb (value (n * 10 + (b - 48)) t) m (omega (arith, grows t (n * 10 + (b - 48)))))
-      go false = refl
 
 -- ---- a number of at least one digit, worth lo at least
 

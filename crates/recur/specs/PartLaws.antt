@@ -19,9 +19,9 @@ use Rattle.octets.specs.Tables.{row-named, row-passes}
 use Rattle.octets.specs.Lists.{every, all-joined, none-holds}
 use Rattle.octets.specs.Reading.{andThen, consRead, readEach, andThen-some, consRead-some, each-accepted, each-read-back}
 use Rattle.octets.specs.Computing.{octets-compute}
+use Rattle.octets.specs.Front.{upTo, past, beginsBy, upTo-front, past-front}
 use Rattle.times.specs.Spelling.{isTimeChar}
 use Rattle.model.specs.Calendar.{ical, RuleItem, RulePart}
-use Rattle.recur.specs.Front.{upTo, past, beginsBy, upTo-front, past-front}
 use Rattle.recur.specs.Parts.{Part, partTable, partOf, isListPart}
 use Rattle.recur.specs.Item.{readItem, writeItem, isFor, isItem}
 use Rattle.recur.specs.WordLaws.{capital-char}

@@ -8,10 +8,10 @@
 use mathlib.Core.Bool.{Bool, true, false}
 use mathlib.Core.List.{List, [], _∷_, map}
 use mathlib.Core.Option.{Option, none, some}
-use Prim.Native.Nat.{ℕ, suc}
+use Prim.Native.Nat.{ℕ}
 use Rattle.octets.specs.Ascii.{ascii}
-use Rattle.octets.specs.Pick.{pick}
-use Rattle.octets.specs.Words.{same, isOneOf, rowOf}
+use Rattle.octets.specs.Words.{isOneOf, rowOf}
+use Rattle.names.specs.Table.{placeOf}
 
 -- freq = "SECONDLY" / "MINUTELY" / "HOURLY" / "DAILY" / "WEEKLY" / "MONTHLY" / "YEARLY"
 abbrev pub frequencies : List (List ℕ)
@@ -76,10 +76,5 @@ isListed (some r) = r .listed
 abbrev pub isListPart : List ℕ → Bool
 isListPart n = isListed (partOf n)
 
--- the place of a word in a list
-unfoldable pub placeIn : List ℕ → List (List ℕ) → ℕ
-placeIn w [] = 0
-placeIn w (x ∷ ws) = pick (same w x) 0 (suc (placeIn w ws))
-
 abbrev pub partOrder : List ℕ → ℕ
-partOrder n = placeIn n partNames
+partOrder n = placeOf n partNames

@@ -14,22 +14,22 @@ use native.Mathlib.Omega.{arith}
 use lib.Dec.{eqb}
 use lib.ListN.{length, take, getD, drop-of-length-le, List·getD-map}
 use lib.Seq.{length-take-le}
-use borrow.Author.Tests.{eq-eqb, ne-eqb, eqb-true}
+use borrow.Author.Tests.{eq-eqb, ne-eqb, lt-ltb}
 use Rattle.octets.specs.Ascii.{ascii}
-use Rattle.octets.specs.Pick.{pick, _and_, _or_, and-no-right}
+use Rattle.octets.specs.Pick.{pick, _and_, _or_, and-no-right, and-true}
 use Rattle.octets.specs.Append.{_⊕_}
 use Rattle.octets.specs.Class.{upper}
 use Rattle.octets.specs.Lists.{distinct}
-use Rattle.octets.specs.Words.{same, same-self, same-true, isOneOf, onto, cutAt, rowOf}
+use Rattle.octets.specs.Words.{same, isOneOf, onto, cutAt, rowOf, same-either}
 use Rattle.octets.specs.Reading.{andThen, isRead, consRead, readEach, andThen-some, consRead-some}
 use Rattle.octets.specs.Computing.{octets-compute}
+use Rattle.octets.specs.Front.{upTo, fromOn, past}
 use Rattle.model.specs.Calendar.{ical, RulePart}
 use Rattle.source.specs.Source.{rest, Reads}
 use Rattle.source.specs.Facts.{rest-byte, rest-end, byte-small, cut-is}
 use Rattle.source.specs.declared.Step.{Step}
-use Rattle.names.specs.Table.{placeOf, namesIn, nth, row-place}
-use Rattle.names.specs.Known.{word-at}
-use Rattle.recur.specs.Front.{upTo, fromOn, past}
+use Rattle.names.specs.Table.{placeOf, namesIn, nth, row-place, one-of-place}
+use Rattle.names.specs.Places.{same-place}
 use Rattle.recur.specs.Parts.{Part, partOf, partNames, partTable, isListed, isListPart}
 use Rattle.recur.specs.Item.{readItem}
 use Rattle.recur.specs.Rule.{rulePart, isEquals, itemsOf, readPart, nameOf, hasPart, isComplete, inOrder, ruled, readRule}
@@ -254,11 +254,6 @@ unfolding readEach areItems isRead
 items-read n [] = refl
 items-read n (x ∷ l) = cons-read (readItem ical n x) (readEach (readItem ical n) l) ∙ rw (items-read n l, part-place n)
 
-and-one : (t : Bool) → (t and true) ≡ t
-unfolding _and_
-and-one true = refl
-and-one false = refl
-
 module _ (w : List ℕ) where
   part-read : isRead (readPart w) ≡ areItems (placeOf (pieceName w) partNames) (itemsOf (pieceName w) (past isEquals w))
   part-read = read-then (readEach (readItem ical (pieceName w)) (itemsOf (pieceName w) (past isEquals w))) _ ∙ items-read (pieceName w) (itemsOf (pieceName w) (past isEquals w))
@@ -273,7 +268,7 @@ module _ (w : List ℕ) where
   unfolding placeAt pick areItems
   part-single h e =
       let l : isListPart (pieceName w) ≡ false = rw (part-place (pieceName w)) h in
-      e ∙ sym (part-read ∙ rw l (and-one (isRead (readItem ical (getD partNames (placeOf (pieceName w) partNames) []) (past isEquals w)))))
+      e ∙ sym (part-read ∙ rw l (and-true (isRead (readItem ical (getD partNames (placeOf (pieceName w) partNames) []) (past isEquals w)))))
 
 -- ---- the whole rule
 
@@ -292,23 +287,13 @@ known w h = go (partOf (pieceName w)) refl (sym (part-read w) ∙ h)
     go (some r) e k = nth-inside partTable (placeOf (pieceName w) partNames) r (sym (row-place (λ (r : Part). r .name) (pieceName w) partTable) ∙ e)
 
 -- two names, one of a part, by their places
-pub same-place : (n x : List ℕ) → placeOf n partNames < 14 → eqb (placeOf x partNames) (placeOf n partNames) ≡ same n x
-same-place n x l = go (same n x) (eqb (placeOf x partNames) (placeOf n partNames)) refl refl
-  where
-    go : (a b : Bool) → same n x ≡ a → eqb (placeOf x partNames) (placeOf n partNames) ≡ b → b ≡ a
-    go true b p q = sym q ∙ rw (same-true n x p) (eq-eqb (placeOf x partNames) (placeOf x partNames) refl)
-    go false true p q =
-        let e : placeOf x partNames ≡ placeOf n partNames = eqb-true (placeOf x partNames) (placeOf n partNames) q in
-        let v : x ≡ getD partNames (placeOf x partNames) [] = word-at x partNames (omega arith) in
-        let u : n ≡ getD partNames (placeOf n partNames) [] = word-at n partNames l in
-        let y : n ≡ x = u ∙ ap (λ (k : ℕ). getD partNames k []) (sym e) ∙ sym v in
-        absurd (false≢true (sym p ∙ rw y (same-self x)))
-    go false false p q = refl
+pub part-same : (n x : List ℕ) → placeOf n partNames < 14 → eqb (placeOf x partNames) (placeOf n partNames) ≡ same n x
+part-same n x l = sym (same-either n x ∙ same-place x n partNames (one-of-place n partNames ∙ lt-ltb (placeOf n partNames) 14 l))
 
 one-place : (n : List ℕ) → placeOf n partNames < 14 → (ws : List (List ℕ)) → hasPlace (placeOf n partNames) ws ≡ isOneOf n (map pieceName ws)
 unfolding hasPlace placeAt isOneOf
 one-place n l [] = refl
-one-place n l (w ∷ ws) = rw (same-place n (pieceName w) l, one-place n l ws)
+one-place n l (w ∷ ws) = rw (part-same n (pieceName w) l, one-place n l ws)
 
 each-part : (ws : List (List ℕ)) → eachPart ws ≡ (isRead (readEach readPart ws) and distinct (map pieceName ws))
 unfolding eachPart readEach distinct placeAt _and_ isRead pick

@@ -16,10 +16,10 @@ use Rattle.octets.specs.Pick.{pick, _and_, _or_}
 use Rattle.octets.specs.Append.{_⊕_}
 use Rattle.octets.specs.Class.{upper}
 use Rattle.octets.specs.Reading.{isRead}
+use Rattle.octets.specs.Front.{upTo, fromOn}
 use Rattle.model.specs.Calendar.{ical}
 use Rattle.source.specs.Source.{rest}
 use Rattle.names.specs.Table.{placeOf}
-use Rattle.recur.specs.Front.{upTo, fromOn}
 use Rattle.recur.specs.Parts.{partNames}
 use Rattle.recur.specs.Item.{readItem}
 use Rattle.recur.specs.Rule.{isEquals, readPart}

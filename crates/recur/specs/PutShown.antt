@@ -17,6 +17,7 @@ use Rattle.octets.specs.Class.{isAlpha, upper}
 use Rattle.octets.specs.Words.{isEmpty}
 use Rattle.octets.specs.Decimal.{digits}
 use Rattle.octets.specs.Reading.{isRead, orNothing}
+use Rattle.octets.specs.Front.{upTo}
 use Rattle.model.specs.Calendar.{Format, formatOf, RuleItem}
 use Rattle.sink.specs.Sink.{Put, put-no}
 use Rattle.source.specs.Source.{rest, spell}
@@ -27,10 +28,11 @@ use Rattle.times.specs.declared.date.DateRead.{DateRead}
 use Rattle.times.specs.declared.date.DateRead.the-variants.{Day, NoDate}
 use Rattle.times.specs.DateTime.{readDateTime, writeDateTime}
 use Rattle.numbers.specs.Sign as sign
-use Rattle.recur.specs.Front.{upTo}
+use Rattle.numbers.specs.Numeral.{front, Fronts, fronts-byte, fronts-end}
+use Rattle.numbers.specs.Sign.{hasMinus, unsigned as afterSign}
 use Rattle.recur.specs.Parts.{Part, partTable, partNames}
-use Rattle.recur.specs.Item.{inCapitals, isMinus, afterSign, readEnddate, writeEnddate, readItem, writeItem}
-use Rattle.recur.specs.Numeral.{front, Fronts, fronts-byte, fronts-end, numeralIn}
+use Rattle.recur.specs.Item.{inCapitals, readEnddate, writeEnddate, readItem, writeItem}
+use Rattle.recur.specs.Numeral.{numeralIn}
 use Rattle.recur.specs.Fits.{beyond}
 use Rattle.recur.specs.Shown.{shownNumber, shownOrdinal, end-day, end-moment, rowAt, shownAt, item-shown, number-at}
 
@@ -60,15 +62,15 @@ module _ (g f : Format) (s : List ℕ) {d e : List ℕ} {o r : ℕ} where
 -- ---- numbers, as they are put
 
 module _ {l : Bool} {m : ℕ} {s : List ℕ} {c : ℕ} {r : Step} (p : Fronts l m s c r) where
-  pub minus-is : eqb (r .u) 45 ≡ isMinus (front l (rest m s c))
-  unfolding isMinus spell pick
+  pub minus-is : eqb (r .u) 45 ≡ hasMinus (front l (rest m s c))
+  unfolding hasMinus spell pick
   minus-is = rw (p .is) (go (eqb (r .u) 256) refl)
     where
-      go : (t : Bool) → eqb (r .u) 256 ≡ t → eqb (r .u) 45 ≡ isMinus (pick t [] (r .u ∷ front l (rest m s (r .next))))
+      go : (t : Bool) → eqb (r .u) 256 ≡ t → eqb (r .u) 45 ≡ hasMinus (pick t [] (r .u ∷ front l (rest m s (r .next))))
       go true e = ne-eqb (r .u) 45 (λ h. let q = eqb-true (r .u) 256 e in omega arith)
       go false e = refl
 
-pub put-number : (t : List ℕ) {d e : List ℕ} {o q : ℕ} (neg : Bool) (n : ℕ) {v : List ℕ} → neg ≡ isMinus t → afterSign t ≡ v → numeralIn 0 2147483647 v ≡ n →
+pub put-number : (t : List ℕ) {d e : List ℕ} {o q : ℕ} (neg : Bool) (n : ℕ) {v : List ℕ} → neg ≡ hasMinus t → afterSign t ≡ v → numeralIn 0 2147483647 v ≡ n →
     Put d e o q (sign.signed neg (digits 9 n)) → Put d e o q (shownNumber t)
 put-number t neg n a b c w = rw (← a, b, c) w
 

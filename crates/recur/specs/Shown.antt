@@ -20,17 +20,19 @@ use Rattle.octets.specs.Words.{isOneOf, isEmpty}
 use Rattle.octets.specs.Lists.{every, every-both}
 use Rattle.octets.specs.Decimal.{value}
 use Rattle.octets.specs.Reading.{andThen, isRead, orNothing, none-some}
+use Rattle.octets.specs.Front.{upTo, fromOn}
 use Rattle.model.specs.Calendar.{Format, ical, Whole, moment}
 use Rattle.times.specs.Date.{isDate, readDate, writeDate, date-accepted, date-read-back}
 use Rattle.times.specs.DateTime.{isDateTime, readDateTime, writeDateTime, date-time-accepted, date-time-no-date}
-use Rattle.recur.specs.Front.{upTo, fromOn}
+use Rattle.numbers.specs.Sign.{hasMinus, unsigned as afterSign}
+use Rattle.numbers.specs.Integer.{writeWhole}
 use Rattle.recur.specs.Parts.{ItemForm, wordOf, enddate, counting, unsigned, signed, weekdaynum, Part, partTable, partNames, weekdays}
-use Rattle.recur.specs.Item.{inCapitals, isNumeral, isShort, orOther, isMinus, afterSign, readEnddate, writeEnddate, readForm, readItem, writeItem, writeWhole, whole, readOrdinal, writeOrdinal}
+use Rattle.recur.specs.Item.{inCapitals, isNumeral, isShort, orOther, readEnddate, writeEnddate, readForm, readItem, writeItem, whole, readOrdinal, writeOrdinal}
 use Rattle.recur.specs.Numeral.{numeralIn}
 use Rattle.recur.specs.Fits.{fitsOrdinal, fitsForm, form-read, part-at}
 
 abbrev pub shownNumber : List ℕ → List ℕ
-shownNumber s = writeWhole (whole (isMinus s) (numeralIn 0 2147483647 (afterSign s)))
+shownNumber s = writeWhole (whole (hasMinus s) (numeralIn 0 2147483647 (afterSign s)))
 
 abbrev pub shownOrdinal : List ℕ → List ℕ
 shownOrdinal s = pick (isEmpty s) [] (shownNumber s)
@@ -59,8 +61,8 @@ digit-sign : (b : ℕ) → isDigit b ≡ true → (eqb b 43 ≡ false) × (eqb b
 digit-sign b h = let g = within-range 48 57 b h in (ne-eqb b 43 (λ e. omega arith), ne-eqb b 45 (λ e. omega arith))
 
 -- digits have no sign
-plain-number : (lo hi : ℕ) (s : List ℕ) → isNumeral lo hi s ≡ true → (isMinus s ≡ false) × (afterSign s ≡ s)
-unfolding isMinus afterSign pick _or_
+plain-number : (lo hi : ℕ) (s : List ℕ) → isNumeral lo hi s ≡ true → (hasMinus s ≡ false) × (afterSign s ≡ s)
+unfolding hasMinus afterSign pick _or_
 plain-number lo hi [] h = (refl, refl)
 plain-number lo hi (b ∷ s) h =
     let a = and-both (ltb 0 (length (b ∷ s)) and allOf isDigit (b ∷ s) and leb (value 0 (b ∷ s)) hi) (leb lo (value 0 (b ∷ s))) h in
@@ -72,7 +74,7 @@ plain-number lo hi (b ∷ s) h =
 shown-plain : (lo hi : ℕ) (s : List ℕ) → hi ≤ 2147483647 → isNumeral lo hi s ≡ true → writeWhole (whole false (value 0 s)) ≡ shownNumber s
 shown-plain lo hi s l h = let p = plain-number lo hi s h in sym (rw (p .0, p .1, numeral-wide lo hi s l h))
 
-shown-signed : (hi : ℕ) (s : List ℕ) → hi ≤ 2147483647 → isNumeral 1 hi (afterSign s) ≡ true → writeWhole (whole (isMinus s) (value 0 (afterSign s))) ≡ shownNumber s
+shown-signed : (hi : ℕ) (s : List ℕ) → hi ≤ 2147483647 → isNumeral 1 hi (afterSign s) ≡ true → writeWhole (whole (hasMinus s) (value 0 (afterSign s))) ≡ shownNumber s
 shown-signed hi s l h = sym (rw (numeral-wide 1 hi (afterSign s) l h))
 
 -- ---- ends
@@ -115,7 +117,7 @@ ordinal-shown : (t : List ℕ) → fitsOrdinal t ≡ true → (o : Option Whole)
 unfolding pick _or_ andThen
 ordinal-shown [] h = (none, refl, refl)
 ordinal-shown (b ∷ t) h =
-    (some (whole (isMinus (b ∷ t)) (value 0 (afterSign (b ∷ t)))), rw h, shown-signed 53 (b ∷ t) (omega arith) (and-both (isShort 2 (afterSign (b ∷ t))) (isNumeral 1 53 (afterSign (b ∷ t))) h .1))
+    (some (whole (hasMinus (b ∷ t)) (value 0 (afterSign (b ∷ t)))), rw h, shown-signed 53 (b ∷ t) (omega arith) (and-both (isShort 2 (afterSign (b ∷ t))) (isNumeral 1 53 (afterSign (b ∷ t))) h .1))
 
 end-shown : (g f : Format) (s : List ℕ) → orNothing (writeItem g) (readForm f enddate s) ≡ orNothing (writeEnddate g) (readEnddate f s)
 unfolding andThen

@@ -19,11 +19,13 @@ use Rattle.octets.specs.Words.{isOneOf}
 use Rattle.octets.specs.Lists.{every, word-passes}
 use Rattle.octets.specs.Reading.{andThen, andThen-some, provided-some, none-some}
 use Rattle.octets.specs.Computing.{octets-compute}
+use Rattle.octets.specs.Front.{upTo, fromOn, beginsBy, upTo-front, fromOn-front}
 use Rattle.times.specs.Spelling.{isTimeChar}
 use Rattle.model.specs.Calendar.{Format, ical, xcal, Whole, RuleItem, weekday}
-use Rattle.recur.specs.Front.{upTo, fromOn, beginsBy, upTo-front, fromOn-front}
+use Rattle.numbers.specs.Sign.{unsigned as afterSign}
+use Rattle.numbers.specs.Integer.{writeWhole}
 use Rattle.recur.specs.Parts.{weekdays}
-use Rattle.recur.specs.Item.{inCapitals, readWord, afterSign, readSigned, writeWhole, readOrdinal, writeOrdinal, isOrdinal, readWeekday, isWeekdaynum}
+use Rattle.recur.specs.Item.{inCapitals, readWord, readSigned, readOrdinal, writeOrdinal, isOrdinal, readWeekday, isWeekdaynum}
 use Rattle.recur.specs.NumberLaws.{isEnough, isNumberChar, signed-read-back, signed-accepted, whole-characters}
 
 -- ---- words

@@ -3,27 +3,13 @@ ghost use mathlib.Core.Path.{_≡_};
 ghost use Prim.Native.Nat.{_≤_, _<_};
 ghost use Rattle.octets.specs.Pick.{_and_};
 ghost use Rattle.source.specs.Source.{rest};
-ghost use Rattle.recur.specs.Item.{isShort, isNumeral, afterSign};
-ghost use Rattle.recur.specs.Numeral.{front, Fronts, worthTo, numeralIn};
+ghost use Rattle.numbers.specs.Sign.{unsigned};
+ghost use Rattle.numbers.specs.Numeral.{front};
+ghost use Rattle.recur.specs.Item.{isShort, isNumeral};
+ghost use Rattle.recur.specs.Numeral.{numeralIn};
 ghost use Rattle.recur.specs.Fits.{isNumeralOf};
-use octets::is_alpha;
-use source::Step;
-use source::unit;
-
-// The byte at the cursor `at`, or 256 at the end, which a letter is too where `letters` says so.
-pub fn front_unit(letters: bool, mode: usize, s: &[u8], at: usize) -> Step
-    ensures { λ r. ⌜ Fronts letters mode (now (s .entry)) at r ⌝ }
-{
-    let t = unit(mode, s, at);
-    if letters {
-        let a = is_alpha(t.u);
-        if a {
-            return Step { u: 256, next: at };
-        }
-        return t;
-    }
-    t
-}
+use numbers::numeral::front_unit;
+use numbers::numeral::worth;
 
 // No more than `d` bytes.
 fn is_short(letters: bool, d: usize, mode: usize, s: &[u8], at: usize) -> bool
@@ -41,34 +27,6 @@ fn is_short(letters: bool, d: usize, mode: usize, s: &[u8], at: usize) -> bool
             return false;
         }
         i += 1;
-        c = t.next;
-    }
-}
-
-// What the digits are worth; 2 ^ 32 - 1 where one is no digit, or where they are worth more than `most`.
-fn worth(letters: bool, most: usize, mode: usize, s: &[u8], at: usize) -> u32
-    requires { ⌜ most ≤ 2147483647 ⌝ }
-    ensures { λ r. ⌜ worthTo most 0 (front letters (rest mode (now (s .entry)) at)) ≡ r ⌝ }
-{
-    let mut c = at;
-    let mut v: usize = 0;
-    loop {
-        let t = front_unit(letters, mode, s, c);
-        let u = t.u;
-        if u == 256 {
-            return v as u32;
-        }
-        if u < 48 {
-            return 4294967295;
-        }
-        if 57 < u {
-            return 4294967295;
-        }
-        let w = v * 10 + (u - 48);
-        if most < w {
-            return 4294967295;
-        }
-        v = w;
         c = t.next;
     }
 }
@@ -120,7 +78,7 @@ pub fn is_unsigned(
 
 // The cursor after a sign.
 pub fn after_sign(letters: bool, mode: usize, s: &[u8], at: usize) -> usize
-    ensures { λ r. ⌜ afterSign (front letters (rest mode (now (s .entry)) at)) ≡ front letters (rest mode (now (s .entry)) r) ⌝ }
+    ensures { λ r. ⌜ unsigned (front letters (rest mode (now (s .entry)) at)) ≡ front letters (rest mode (now (s .entry)) r) ⌝ }
 {
     let t = front_unit(letters, mode, s, at);
     let u = t.u;
@@ -136,7 +94,7 @@ pub fn after_sign(letters: bool, mode: usize, s: &[u8], at: usize) -> usize
 // A number of 1 to `hi`, of no more than `d` digits, that may have a sign.
 pub fn is_signed(letters: bool, d: usize, hi: usize, mode: usize, s: &[u8], at: usize) -> bool
     requires { ⌜ hi ≤ 2147483647 ⌝ }
-    ensures { λ r. ⌜ r ≡ isNumeralOf d 1 hi (afterSign (front letters (rest mode (now (s .entry)) at))) ⌝ }
+    ensures { λ r. ⌜ r ≡ isNumeralOf d 1 hi (unsigned (front letters (rest mode (now (s .entry)) at))) ⌝ }
 {
     let c = after_sign(letters, mode, s, at);
     is_unsigned(letters, d, 1, hi, mode, s, c)

@@ -4,29 +4,30 @@ ghost use mathlib.Core.List.{[]};
 ghost use lib.ListN.{getD};
 ghost use Rattle.octets.specs.Class.{isAlpha};
 ghost use Rattle.octets.specs.Reading.{orNothing};
+ghost use Rattle.octets.specs.Front.{upTo};
 ghost use Rattle.model.specs.Calendar.{formatOf};
 ghost use Rattle.sink.specs.Sink.{Put};
 ghost use Rattle.source.specs.Source.{rest};
-ghost use Rattle.recur.specs.Front.{upTo};
+ghost use Rattle.numbers.specs.Sign.{hasMinus};
+ghost use Rattle.numbers.specs.Numeral.{front};
 ghost use Rattle.recur.specs.Parts.{partNames, weekdaynum};
-ghost use Rattle.recur.specs.Item.{inCapitals, isMinus, readEnddate, writeEnddate, readItem, writeItem};
-ghost use Rattle.recur.specs.Numeral.{front};
+ghost use Rattle.recur.specs.Item.{inCapitals, readEnddate, writeEnddate, readItem, writeItem};
 ghost use Rattle.recur.specs.Shown.{shownNumber, shownOrdinal, shown, rowAt, shownAt};
 use crate::item::is_item;
 use crate::number::after_sign;
-use crate::number::front_unit;
 use crate::number::numeral_of;
 use crate::word::first_letter;
 use names::put_rest;
 use names::put_upper;
 use numbers::integer::put_whole;
+use numbers::numeral::front_unit;
 use times::date::DateRead;
 use times::date::put_date;
 use times::date::read_date;
 use times::date_time::put_date_time;
 
 fn is_minus(letters: bool, mode: usize, s: &[u8], at: usize) -> bool
-    ensures { λ r. ⌜ r ≡ isMinus (front letters (rest mode (now (s .entry)) at)) ⌝ }
+    ensures { λ r. ⌜ r ≡ hasMinus (front letters (rest mode (now (s .entry)) at)) ⌝ }
 {
     let t = front_unit(letters, mode, s, at);
     t.u == 45

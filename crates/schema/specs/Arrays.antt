@@ -4,10 +4,9 @@
 --     tallies-end    one more property at the end of the list
 --     tally-count    the entry of a property's number is its tally, or 255
 --     eachFrom       a test of k numbers from i on;   from-more, from-stop, from-end: for a loop;   from-list: of the elements of a list
---     place-at, known-at       the name of a known number
 use mathlib.Core.Path.{_≡_, refl, sym, ap, subst, _∙_}
 use mathlib.Core.Bool.{Bool, true, false}
-use mathlib.Core.List.{List, [], _∷_, map}
+use mathlib.Core.List.{List, [], _∷_}
 use Prim.Native.Nat.{ℕ, zero, suc, _+_, _-_, _≤_, _<_, min}
 use native.Mathlib.Omega.{arith}
 use lib.Dec.{eqb}
@@ -16,15 +15,15 @@ use lib.Seq.{ext-getD, set-getD, getD-set-same, getD-set-other}
 use borrow.Author.Tests.{eqb-true, eqb-false}
 use Rattle.octets.specs.Pick.{pick, _and_}
 use Rattle.octets.specs.Append.{_⊕_}
-use Rattle.octets.specs.Words.{same, isOneOf}
+use Rattle.octets.specs.Words.{same}
 use Rattle.octets.specs.Lists.{every}
-use Rattle.octets.specs.Computing.{octets-compute}
 use Rattle.names.specs.Table.{placeOf}
+use Rattle.names.specs.Places.{same-place-first}
 use Rattle.model.specs.Calendar.{Property}
 use Rattle.schema.specs.Properties.{propertyNames}
 use Rattle.schema.specs.Counts.{tally}
-use Rattle.schema.specs.Numbers.{propertyName, same-place-first}
-use Rattle.schema.specs.Cells.{tabled, tabled-at, column-at, row-at-passes}
+use Rattle.schema.specs.Numbers.{propertyName}
+use Rattle.schema.specs.Places.{known-property, property-at}
 
 unfoldable pub bumped : ℕ → List ℕ → List ℕ
 bumped n t = set t n (min 255 (suc (getD t n 0)))
@@ -54,20 +53,6 @@ bumped-past n t h = set-past t n _ h
 
 -- ---- the entries
 
-names-known : every (λ w. isOneOf w propertyNames) propertyNames ≡ true
-unfolding octets-compute
-names-known = refl
-
-names-placed : map (λ w. placeOf w propertyNames) propertyNames ≡ tabled (λ i. i) 0 46
-unfolding octets-compute placeOf tabled
-names-placed = refl
-
-pub known-at : (n : ℕ) → n < 46 → isOneOf (propertyName n) propertyNames ≡ true
-known-at n h = row-at-passes (λ w. isOneOf w propertyNames) [] propertyNames n names-known h
-
-pub place-at : (n : ℕ) → n < 46 → placeOf (propertyName n) propertyNames ≡ n
-place-at n h = sym (column-at (λ w. placeOf w propertyNames) [] propertyNames n h) ∙ ap (λ (l : List ℕ). getD l n 0) names-placed ∙ tabled-at (λ i. i) 46 0 n h ∙ omega arith
-
 pub length-tallies : (ps : List Property) → length (tallies ps) ≡ 46
 unfolding tallies bumped
 length-tallies [] = refl
@@ -95,7 +80,7 @@ pub tally-count : (n : ℕ) (ps : List Property) → n < 46 → getD (tallies ps
 unfolding tallies tally
 tally-count n [] l = getD-replicate 46 n 0 0 l
 tally-count n (p ∷ ps) l =
-    rw (same-place-first (p .name) (propertyName n) propertyNames (known-at n l), place-at n l)
+    rw (same-place-first (p .name) (propertyName n) propertyNames (known-property n l), property-at n l)
     (counted n (placeOf (p .name) propertyNames) (tallies ps) (tally (propertyName n) ps) (omega (arith, length-tallies ps)) (tally-count n ps l) (eqb n (placeOf (p .name) propertyNames)) refl)
 
 -- one more property at the end
@@ -113,7 +98,7 @@ tallies-end ps p = ext-getD 0 _ _ (length-tallies (ps ⊕ (p ∷ [])) ∙ sym (l
     entry : (n : ℕ) → n < 46 → getD (tallies (ps ⊕ (p ∷ []))) n 0 ≡ getD (bumped (placeOf (p .name) propertyNames) (tallies ps)) n 0
     entry n l =
         tally-count n (ps ⊕ (p ∷ [])) l
-        ∙ rw (tally-end (propertyName n) ps p, same-place-first (p .name) (propertyName n) propertyNames (known-at n l), place-at n l)
+        ∙ rw (tally-end (propertyName n) ps p, same-place-first (p .name) (propertyName n) propertyNames (known-property n l), property-at n l)
         (sym (counted n (placeOf (p .name) propertyNames) (tallies ps) (tally (propertyName n) ps) (omega (arith, length-tallies ps)) (tally-count n ps l) (eqb n (placeOf (p .name) propertyNames)) refl))
 
 -- ---- a loop over numbers

@@ -20,13 +20,14 @@ use Rattle.octets.specs.Reading.{readOr}
 use Rattle.octets.specs.Lists.{every}
 use Rattle.octets.specs.Computing.{octets-compute}
 use Rattle.names.specs.Table.{placeOf, one-of-place}
+use Rattle.names.specs.Places.{name-place, placed, same-place}
 use Rattle.model.specs.Calendar.{ValueType, UNKNOWN}
 use Rattle.schema.specs.Types.{valueTypes, typePlace, sameType, isTypeOf, place-type, type-any}
 use Rattle.schema.specs.Parameters.{parameterNames, isKnownParameter}
 use Rattle.schema.specs.Components.{ComponentRow, audioprop, dispprop, emailprop, componentTable, componentNames, componentRow, unknownComponent, subcomponentsOf, isAlarm, mayStand}
 use Rattle.schema.specs.Properties.{PropertyRow, permittedTypes, propertyTable, propertyNames, unrecognisedProperty, isKnownProperty, permitsParameter}
 use Rattle.schema.specs.Rows.{stand-known, subcomponents-known}
-use Rattle.schema.specs.Numbers.{typeAt, componentAt, propertyAt, componentName, propertyName, parameterName, property-place, component-place, name-place, placed, same-place}
+use Rattle.schema.specs.Numbers.{typeAt, componentAt, propertyAt, componentName, propertyName, parameterName, property-place, component-place}
 use Rattle.schema.specs.Cells.{digit, digit-is, grid, cell-at, column-at, at-passes, row-at-passes}
 
 abbrev pub permitsType : ℕ → ℕ → Bool

@@ -263,11 +263,11 @@ pairs-number c ps sub h =
     (tally (ascii "DTEND") ps) (tally (ascii "DTSTART") ps) (tally (ascii "DURATION") ps) (tally (ascii "REPEAT") ps) sub (λ e. h (alarm-place c ∙ e)))
 
 -- in a VALARM that is as often as its list says DURATION stands at most once
-abbrev isOnce : Option ℕ → Bool
+abbrev pub isOnce : Option ℕ → Bool
 isOnce none = false
 isOnce (some m) = leb m 1
 
-once-short : (m : Option ℕ) (n : ℕ) → isOnce m ≡ true → isAtMost m n ≡ true → n ≤ 1
+pub once-short : (m : Option ℕ) (n : ℕ) → isOnce m ≡ true → isAtMost m n ≡ true → n ≤ 1
 once-short none n h k = absurd (false≢true h)
 once-short (some m) n h k = omega (arith, leb-true m 1 h, leb-true n m k)
 

@@ -23,16 +23,16 @@ pub record Occurrence : Type 0 where
   pub most : Option ℕ
 
 -- property-x
-abbrev pub one : List ℕ → Occurrence
-one p = record { property = p; least = 1; most = some 1 }
+abbrev pub once : List ℕ → Occurrence
+once p = record { property = p; least = 1; most = some 1 }
 
 -- property-x?
 abbrev pub optional : List ℕ → Occurrence
 optional p = record { property = p; least = 0; most = some 1 }
 
 -- property-x*
-abbrev pub any : List ℕ → Occurrence
-any p = record { property = p; least = 0; most = none }
+abbrev pub anyTimes : List ℕ → Occurrence
+anyTimes p = record { property = p; least = 0; most = none }
 
 -- property-x+
 abbrev pub some⁺ : List ℕ → Occurrence
@@ -41,8 +41,8 @@ some⁺ p = record { property = p; least = 1; most = none }
 -- type-calprops, line 399
 abbrev pub calprops : List Occurrence
 calprops =
-    one (ascii "PRODID") ∷
-    one (ascii "VERSION") ∷
+    once (ascii "PRODID") ∷
+    once (ascii "VERSION") ∷
     optional (ascii "CALSCALE") ∷
     optional (ascii "METHOD") ∷
     []
@@ -50,9 +50,9 @@ calprops =
 -- 3.6.1 type-eventprop, line 425
 abbrev pub eventprop : List Occurrence
 eventprop =
-    one (ascii "DTSTAMP") ∷
-    one (ascii "DTSTART") ∷
-    one (ascii "UID") ∷
+    once (ascii "DTSTAMP") ∷
+    once (ascii "DTSTART") ∷
+    once (ascii "UID") ∷
     optional (ascii "CLASS") ∷  -- line 430
     optional (ascii "CREATED") ∷
     optional (ascii "DESCRIPTION") ∷
@@ -70,23 +70,23 @@ eventprop =
     optional (ascii "RRULE") ∷  -- line 445
     optional (ascii "DTEND") ∷  -- line 447: (property-dtend | property-duration)?
     optional (ascii "DURATION") ∷
-    any (ascii "ATTACH") ∷  -- line 449
-    any (ascii "ATTENDEE") ∷
-    any (ascii "CATEGORIES") ∷
-    any (ascii "COMMENT") ∷
-    any (ascii "CONTACT") ∷
-    any (ascii "EXDATE") ∷
-    any (ascii "REQUEST-STATUS") ∷  -- property-rstatus
-    any (ascii "RELATED-TO") ∷  -- property-related
-    any (ascii "RESOURCES") ∷
-    any (ascii "RDATE") ∷
+    anyTimes (ascii "ATTACH") ∷  -- line 449
+    anyTimes (ascii "ATTENDEE") ∷
+    anyTimes (ascii "CATEGORIES") ∷
+    anyTimes (ascii "COMMENT") ∷
+    anyTimes (ascii "CONTACT") ∷
+    anyTimes (ascii "EXDATE") ∷
+    anyTimes (ascii "REQUEST-STATUS") ∷  -- property-rstatus
+    anyTimes (ascii "RELATED-TO") ∷  -- property-related
+    anyTimes (ascii "RESOURCES") ∷
+    anyTimes (ascii "RDATE") ∷
     []
 
 -- 3.6.2 type-todoprop, line 470
 abbrev pub todoprop : List Occurrence
 todoprop =
-    one (ascii "DTSTAMP") ∷
-    one (ascii "UID") ∷
+    once (ascii "DTSTAMP") ∷
+    once (ascii "UID") ∷
     optional (ascii "CLASS") ∷  -- line 474
     optional (ascii "COMPLETED") ∷
     optional (ascii "CREATED") ∷
@@ -106,23 +106,23 @@ todoprop =
     optional (ascii "DTSTART") ∷  -- line 492: ((property-dtstart?, property-dtend?) | (property-dtstart, property-duration)?)
     optional (ascii "DTEND") ∷
     optional (ascii "DURATION") ∷
-    any (ascii "ATTACH") ∷  -- line 497
-    any (ascii "ATTENDEE") ∷
-    any (ascii "CATEGORIES") ∷
-    any (ascii "COMMENT") ∷
-    any (ascii "CONTACT") ∷
-    any (ascii "EXDATE") ∷
-    any (ascii "REQUEST-STATUS") ∷
-    any (ascii "RELATED-TO") ∷
-    any (ascii "RESOURCES") ∷
-    any (ascii "RDATE") ∷
+    anyTimes (ascii "ATTACH") ∷  -- line 497
+    anyTimes (ascii "ATTENDEE") ∷
+    anyTimes (ascii "CATEGORIES") ∷
+    anyTimes (ascii "COMMENT") ∷
+    anyTimes (ascii "CONTACT") ∷
+    anyTimes (ascii "EXDATE") ∷
+    anyTimes (ascii "REQUEST-STATUS") ∷
+    anyTimes (ascii "RELATED-TO") ∷
+    anyTimes (ascii "RESOURCES") ∷
+    anyTimes (ascii "RDATE") ∷
     []
 
 -- 3.6.3 type-jourprop, line 515. DESCRIPTION at most once: the schema decides how often
 abbrev pub jourprop : List Occurrence
 jourprop =
-    one (ascii "DTSTAMP") ∷
-    one (ascii "UID") ∷
+    once (ascii "DTSTAMP") ∷
+    once (ascii "UID") ∷
     optional (ascii "CLASS") ∷  -- line 519
     optional (ascii "CREATED") ∷
     optional (ascii "DTSTART") ∷
@@ -134,39 +134,39 @@ jourprop =
     optional (ascii "SUMMARY") ∷
     optional (ascii "URL") ∷
     optional (ascii "RRULE") ∷  -- line 530
-    any (ascii "ATTACH") ∷  -- line 532
-    any (ascii "ATTENDEE") ∷
-    any (ascii "CATEGORIES") ∷
-    any (ascii "COMMENT") ∷
-    any (ascii "CONTACT") ∷
+    anyTimes (ascii "ATTACH") ∷  -- line 532
+    anyTimes (ascii "ATTENDEE") ∷
+    anyTimes (ascii "CATEGORIES") ∷
+    anyTimes (ascii "COMMENT") ∷
+    anyTimes (ascii "CONTACT") ∷
     optional (ascii "DESCRIPTION") ∷  -- line 537
-    any (ascii "EXDATE") ∷
-    any (ascii "RELATED-TO") ∷
-    any (ascii "RDATE") ∷
-    any (ascii "REQUEST-STATUS") ∷
+    anyTimes (ascii "EXDATE") ∷
+    anyTimes (ascii "RELATED-TO") ∷
+    anyTimes (ascii "RDATE") ∷
+    anyTimes (ascii "REQUEST-STATUS") ∷
     []
 
 -- 3.6.4 type-fbprop, line 550. DTEND and DURATION may stand together
 abbrev pub fbprop : List Occurrence
 fbprop =
-    one (ascii "DTSTAMP") ∷
-    one (ascii "UID") ∷
+    once (ascii "DTSTAMP") ∷
+    once (ascii "UID") ∷
     optional (ascii "CONTACT") ∷  -- line 554
     optional (ascii "DTSTART") ∷
     optional (ascii "DTEND") ∷
     optional (ascii "DURATION") ∷
     optional (ascii "ORGANIZER") ∷
     optional (ascii "URL") ∷
-    any (ascii "ATTENDEE") ∷  -- line 561
-    any (ascii "COMMENT") ∷
-    any (ascii "FREEBUSY") ∷
-    any (ascii "REQUEST-STATUS") ∷
+    anyTimes (ascii "ATTENDEE") ∷  -- line 561
+    anyTimes (ascii "COMMENT") ∷
+    anyTimes (ascii "FREEBUSY") ∷
+    anyTimes (ascii "REQUEST-STATUS") ∷
     []
 
 -- 3.6.5 component-vtimezone, line 570; the rules: TZURL is read for the misspelt name of RFC 6321's copy
 abbrev pub timezoneprop : List Occurrence
 timezoneprop =
-    one (ascii "TZID") ∷
+    once (ascii "TZID") ∷
     optional (ascii "LAST-MODIFIED") ∷  -- line 573
     optional (ascii "TZURL") ∷
     []
@@ -174,20 +174,20 @@ timezoneprop =
 -- type-tzprop, line 591, of STANDARD and of DAYLIGHT
 abbrev pub tzprop : List Occurrence
 tzprop =
-    one (ascii "DTSTART") ∷
-    one (ascii "TZOFFSETTO") ∷
-    one (ascii "TZOFFSETFROM") ∷
+    once (ascii "DTSTART") ∷
+    once (ascii "TZOFFSETTO") ∷
+    once (ascii "TZOFFSETFROM") ∷
     optional (ascii "RRULE") ∷  -- line 596
-    any (ascii "COMMENT") ∷  -- line 598
-    any (ascii "RDATE") ∷
-    any (ascii "TZNAME") ∷
+    anyTimes (ascii "COMMENT") ∷  -- line 598
+    anyTimes (ascii "RDATE") ∷
+    anyTimes (ascii "TZNAME") ∷
     []
 
 -- 3.6.6 type-audioprop, line 609
 abbrev pub audioprop : List Occurrence
 audioprop =
-    one (ascii "ACTION") ∷
-    one (ascii "TRIGGER") ∷  -- line 612
+    once (ascii "ACTION") ∷
+    once (ascii "TRIGGER") ∷  -- line 612
     optional (ascii "DURATION") ∷  -- line 614: (property-duration, property-repeat)?
     optional (ascii "REPEAT") ∷
     optional (ascii "ATTACH") ∷  -- line 616
@@ -196,22 +196,22 @@ audioprop =
 -- type-emailprop, line 619
 abbrev pub emailprop : List Occurrence
 emailprop =
-    one (ascii "ACTION") ∷
-    one (ascii "DESCRIPTION") ∷
-    one (ascii "TRIGGER") ∷
-    one (ascii "SUMMARY") ∷
+    once (ascii "ACTION") ∷
+    once (ascii "DESCRIPTION") ∷
+    once (ascii "TRIGGER") ∷
+    once (ascii "SUMMARY") ∷
     some⁺ (ascii "ATTENDEE") ∷  -- line 625
     optional (ascii "DURATION") ∷  -- line 627: (property-duration, property-repeat)?
     optional (ascii "REPEAT") ∷
-    any (ascii "ATTACH") ∷  -- line 629
+    anyTimes (ascii "ATTACH") ∷  -- line 629
     []
 
 -- type-dispprop, line 632
 abbrev pub dispprop : List Occurrence
 dispprop =
-    one (ascii "ACTION") ∷
-    one (ascii "DESCRIPTION") ∷
-    one (ascii "TRIGGER") ∷
+    once (ascii "ACTION") ∷
+    once (ascii "DESCRIPTION") ∷
+    once (ascii "TRIGGER") ∷
     optional (ascii "DURATION") ∷  -- line 637: (property-duration, property-repeat)?
     optional (ascii "REPEAT") ∷
     []

@@ -12,6 +12,7 @@
 --     Numbers     names by their numbers, and the rows of numbers
 --     Cells       tables that a definition fills
 --     Columns     what the tables say, by numbers
+--     Places      the number of the name of a number
 --     Sets        closed sets, by numbers
 --     Arrays      the tallies of a component in an array
 --     Completing  counts over that array
@@ -27,6 +28,7 @@ pub mod Counts
 pub mod Tallies
 pub mod Numbers
 pub mod Cells
+pub mod Places
 pub mod Columns
 pub mod Sets
 pub mod Arrays

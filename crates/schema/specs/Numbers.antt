@@ -1,22 +1,15 @@
 -- Numbers of names. A component, property, parameter or type is its place in its list of names; a place equal to the list's length is an unrecognised one.
---     typeNames                                     the names of the fourteen types
+--     typeNames                                     the names of the fourteen types;   typeWords: of their elements in xCal, and of `unknown`
 --     typeAt, componentAt, propertyAt, parameterAt  the type, or the row, of a number
 --     componentName, propertyName, parameterName    the name of a number; of an unrecognised one no bytes
 --     property-place, parameter-place, component-place, type-place    the row of a name is the row of its number
---     same-place          words are the same where their places are
---     name-place, placed  the name of the number of a known name, and of any
---     types-are, components-are, properties-are, parameters-are   the tables of names in the code
-use mathlib.Core.Path.{_≡_, refl, sym, ap, _∙_}
-use mathlib.Core.Bool.{Bool, true, false, false≢true}
+--     types-are, type-words-are, components-are, properties-are, parameters-are   the tables of names in the code
+use mathlib.Core.Path.{_≡_, refl}
 use mathlib.Core.List.{List, [], _∷_, map}
-use Prim.Native.Nat.{ℕ, suc}
-use native.Mathlib.Omega.{arith}
-use lib.Dec.{eqb}
+use Prim.Native.Nat.{ℕ}
 use lib.ListN.{getD}
-use borrow.Author.Tests.{eq-eqb, ne-eqb, eqb-false}
 use Rattle.octets.specs.Ascii.{ascii}
 use Rattle.octets.specs.Pick.{pick, _or_}
-use Rattle.octets.specs.Words.{same, isOneOf, same-self, same-true, same-swap}
 use Rattle.octets.specs.Reading.{readOr}
 use Rattle.names.specs.Table.{placeOf, namesIn, nth, row-place, row-or}
 use Rattle.model.specs.Calendar.{ValueType, UNKNOWN}
@@ -27,6 +20,11 @@ use Rattle.schema.specs.Properties.{PropertyRow, propertyTable, property
 
 abbrev pub typeNames : List (List ℕ)
 typeNames = map typeName valueTypes
+
+abbrev pub typeWords : List (List ℕ)
+typeWords =
+    ascii "binary" ∷ ascii "boolean" ∷ ascii "cal-address" ∷ ascii "date" ∷ ascii "date-time" ∷ ascii "duration" ∷ ascii "float" ∷ ascii "integer"
+    ∷ ascii "period" ∷ ascii "recur" ∷ ascii "text" ∷ ascii "time" ∷ ascii "uri" ∷ ascii "utc-offset" ∷ ascii "unknown" ∷ []
 
 abbrev pub typeAt : ℕ → ValueType
 typeAt n = getD valueTypes n UNKNOWN
@@ -72,60 +70,15 @@ pub type-place-or : (w : List ℕ) → readOr UNKNOWN (typeNamed w) ≡ typeAt (
 unfolding typeNamed
 type-place-or w = row-or typeName w (λ t. t) UNKNOWN valueTypes
 
--- ---- places
-
-pub name-place : (w : List ℕ) (ws : List (List ℕ)) → isOneOf w ws ≡ true → getD ws (placeOf w ws) [] ≡ w
-unfolding placeOf isOneOf pick _or_
-name-place w [] h = absurd (false≢true h)
-name-place w (x ∷ ws) h = go (same w x) refl h (name-place w ws)
-  where
-    go : (t : Bool) → same w x ≡ t → (t or isOneOf w ws) ≡ true → (isOneOf w ws ≡ true → getD ws (placeOf w ws) [] ≡ w) →
-        getD (x ∷ ws) (pick t 0 (suc (placeOf w ws))) [] ≡ w
-    go true e k ih = sym (same-true w x e)
-    go false e k ih = ih k
-
-pub placed : (w : List ℕ) (ws : List (List ℕ)) → getD ws (placeOf w ws) [] ≡ pick (isOneOf w ws) w []
-unfolding placeOf isOneOf pick _or_
-placed w [] = refl
-placed w (x ∷ ws) = go (same w x) refl (placed w ws)
-  where
-    go : (t : Bool) → same w x ≡ t → getD ws (placeOf w ws) [] ≡ pick (isOneOf w ws) w [] →
-        getD (x ∷ ws) (pick t 0 (suc (placeOf w ws))) [] ≡ pick (t or isOneOf w ws) w []
-    go true e ih = sym (same-true w x e)
-    go false e ih = ih
-
--- a word and another that is in the list: at different places where they differ
-apart : (w x : List ℕ) (ws : List (List ℕ)) → isOneOf x ws ≡ true → same w x ≡ false → eqb (placeOf w ws) (placeOf x ws) ≡ false
-unfolding placeOf isOneOf pick _or_
-apart w x [] h d = absurd (false≢true h)
-apart w x (y ∷ ws) h d = go (same w y) (same x y) refl refl h (apart w x ws)
-  where
-    go : (t u : Bool) → same w y ≡ t → same x y ≡ u → (u or isOneOf x ws) ≡ true → (isOneOf x ws ≡ true → same w x ≡ false → eqb (placeOf w ws) (placeOf x ws) ≡ false) →
-        eqb (pick t 0 (suc (placeOf w ws))) (pick u 0 (suc (placeOf x ws))) ≡ false
-    go true true e f k ih = absurd (false≢true (sym d ∙ rw (same-true w y e, same-true x y f) (same-self y)))
-    go true false e f k ih = ne-eqb 0 (suc (placeOf x ws)) (λ q. omega arith)
-    go false true e f k ih = ne-eqb (suc (placeOf w ws)) 0 (λ q. omega arith)
-    go false false e f k ih = ne-eqb (suc (placeOf w ws)) (suc (placeOf x ws)) (λ q. eqb-false (placeOf w ws) (placeOf x ws) (ih k d) (omega arith))
-
-pub same-place : (w x : List ℕ) (ws : List (List ℕ)) → isOneOf x ws ≡ true → same w x ≡ eqb (placeOf w ws) (placeOf x ws)
-same-place w x ws h = go (same w x) refl
-  where
-    go : (t : Bool) → same w x ≡ t → t ≡ eqb (placeOf w ws) (placeOf x ws)
-    go true e = sym (eq-eqb _ _ (ap (λ (v : List ℕ). placeOf v ws) (same-true w x e)))
-    go false e = sym (apart w x ws h e)
-
-pub same-place-first : (w x : List ℕ) (ws : List (List ℕ)) → isOneOf x ws ≡ true → same x w ≡ eqb (placeOf x ws) (placeOf w ws)
-same-place-first w x ws h = go (same x w) refl
-  where
-    go : (t : Bool) → same x w ≡ t → t ≡ eqb (placeOf x ws) (placeOf w ws)
-    go true e = sym (eq-eqb _ _ (ap (λ (v : List ℕ). placeOf v ws) (same-true x w e)))
-    go false e = sym (ne-eqb (placeOf x ws) (placeOf w ws) (λ q. eqb-false (placeOf w ws) (placeOf x ws) (apart w x ws h (same-swap x w e)) (sym q)))
-
 -- ---- the tables of names in the code
 
 pub types-are : namesIn (ascii "BINARY\nBOOLEAN\nCAL-ADDRESS\nDATE\nDATE-TIME\nDURATION\nFLOAT\nINTEGER\nPERIOD\nRECUR\nTEXT\nTIME\nURI\nUTC-OFFSET\n") ≡ typeNames
 unfolding namesIn pick
 types-are = refl
+
+pub type-words-are : namesIn (ascii "binary\nboolean\ncal-address\ndate\ndate-time\nduration\nfloat\ninteger\nperiod\nrecur\ntext\ntime\nuri\nutc-offset\nunknown\n") ≡ typeWords
+unfolding namesIn pick
+type-words-are = refl
 
 pub components-are : namesIn (ascii "VCALENDAR\nVEVENT\nVTODO\nVJOURNAL\nVFREEBUSY\nVTIMEZONE\nSTANDARD\nDAYLIGHT\nVALARM\n") ≡ componentNames
 unfolding namesIn pick

@@ -2,10 +2,11 @@
 --     known-property-passes, known-parameter-passes, known-component-passes   what every name of the table passes, a known name passes
 --     unrecognised-property, unrecognised-parameter     what a name of no row has
 --     property-name.., parameter-name.., component-name..    names are made of name characters, in capitals
+--     parameterTypes, parameter-type     the types of parameters
 --     stand-known, subcomponents-known   what may stand in a component is known
 use mathlib.Core.Path.{_≡_, refl, sym}
 use mathlib.Core.Bool.{Bool, true, false, not, false≢true}
-use mathlib.Core.List.{List, _∷_, map}
+use mathlib.Core.List.{List, [], _∷_, map}
 use Prim.Native.Nat.{ℕ}
 use lib.Dec.{ltb}
 use lib.ListN.{length}
@@ -19,7 +20,7 @@ use Rattle.octets.specs.Tables.{row-any-passes, row-known-passes, row-none}
 use Rattle.octets.specs.Lists.{every, word-passes}
 use Rattle.octets.specs.Reading.{readOr}
 use Rattle.octets.specs.Computing.{octets-compute}
-use Rattle.model.specs.Calendar.{ValueType, CAL-ADDRESS, URI, UNKNOWN}
+use Rattle.model.specs.Calendar.{ValueType, BOOLEAN, CAL-ADDRESS, TEXT, URI, UNKNOWN}
 use Rattle.schema.specs.Types.{sameType, isTypeOf, same-type-self, type-any}
 use Rattle.schema.specs.Parameters.{parameterTable, parameterRow, parameterNames, isKnownParameter, unrecognisedParameter, parameterType, isQuotedParameter}
 use Rattle.schema.specs.Components.{Occurrence, componentTable, componentRow, componentNames, subcomponentsOf, standingIn, isAlarm, mayStand, unknownComponent, audioprop, dispprop, emailprop, occurrencesOf}
@@ -93,6 +94,14 @@ default-permitted w = rw (same-type-self (defaultType w))
 pub known-types : (w : List ℕ) → isKnownProperty w ≡ true → isTypeOf UNKNOWN (permittedTypes w) ≡ false
 unfolding octets-compute isKnownProperty propertyRow isTypeOf sameType
 known-types w h = not-true _ (row-known-passes (λ r. r .name) w (λ r. not (isTypeOf UNKNOWN (r .default ∷ r .others))) unrecognisedProperty propertyTable refl h)
+
+-- the types that a parameter's values have
+abbrev pub parameterTypes : List ValueType
+parameterTypes = BOOLEAN ∷ CAL-ADDRESS ∷ TEXT ∷ URI ∷ UNKNOWN ∷ []
+
+pub parameter-type : (w : List ℕ) → isTypeOf (parameterType w) parameterTypes ≡ true
+unfolding octets-compute parameterRow isTypeOf sameType
+parameter-type w = row-any-passes (λ r. r .name) w (λ r. isTypeOf (r .type) parameterTypes) unrecognisedParameter parameterTable refl refl
 
 -- the quoted parameters are those whose values are a URI or a calendar address
 pub quoted-type : (w : List ℕ) → isQuotedParameter w ≡ (sameType (parameterType w) URI or sameType (parameterType w) CAL-ADDRESS)

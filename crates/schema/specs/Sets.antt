@@ -22,10 +22,11 @@ use Rattle.octets.specs.Words.{same, isOneOf, rowOf}
 use Rattle.octets.specs.Reading.{andThen, isRead}
 use Rattle.octets.specs.Computing.{octets-compute}
 use Rattle.names.specs.Table.{placeOf, nth, one-of-place}
+use Rattle.names.specs.Places.{same-place, same-place-first}
 use Rattle.schema.specs.Parameters.{ParameterRow, parameterTable, unrecognisedParameter, parameterNames, parameterWords, cutypes, encodings, fbtypes, partstats, ranges, trigrels, reltypes, roles}
 use Rattle.schema.specs.Components.{componentNames}
 use Rattle.schema.specs.Properties.{WordsRow, propertyNames, wordsTable, statusTable, propertyWords}
-use Rattle.schema.specs.Numbers.{parameterAt, parameter-place, same-place}
+use Rattle.schema.specs.Numbers.{parameterAt, parameter-place}
 
 abbrev pub wordSets : List (List (List ℕ))
 wordSets =
@@ -114,6 +115,19 @@ module _ (p : List ℕ) where
   pub action-place : same p (ascii "ACTION") ≡ eqb (placeOf p propertyNames) 38
   unfolding octets-compute placeOf
   action-place = same-place p (ascii "ACTION") propertyNames refl
+
+  -- ACTION, the other way round
+  pub action-first : same (ascii "ACTION") p ≡ eqb 38 (placeOf p propertyNames)
+  unfolding octets-compute placeOf
+  action-first = same-place-first p (ascii "ACTION") propertyNames refl
+
+  pub geo-place : same p (ascii "GEO") ≡ eqb (placeOf p propertyNames) 9
+  unfolding octets-compute placeOf
+  geo-place = same-place p (ascii "GEO") propertyNames refl
+
+  pub request-status-place : same p (ascii "REQUEST-STATUS") ≡ eqb (placeOf p propertyNames) 45
+  unfolding octets-compute placeOf
+  request-status-place = same-place p (ascii "REQUEST-STATUS") propertyNames refl
 
 -- ---- sets by their numbers
 

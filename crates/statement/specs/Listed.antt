@@ -1,13 +1,12 @@
 -- Lists of values: what the code finds piece by piece is what `readListed` says.
 --     eachValue t ws     each of the pieces ws is a value of the type t
---     number-below       the number of the type of a number
 --     each-bad, each-last, each-more          the loop over pieces;   each-gone: past the end
 --     listed-text, listed-other               a list of TEXT, and of another type
 use mathlib.Core.Path.{_≡_, refl, sym, ap, _∙_}
 use mathlib.Core.Bool.{Bool, true, false}
 use mathlib.Core.List.{List, [], _∷_, map}
 use mathlib.Core.Option.{Option, none, some}
-use Prim.Native.Nat.{ℕ, _+_, _≤_, _<_}
+use Prim.Native.Nat.{ℕ, _≤_, _<_}
 use native.Mathlib.Omega.{arith}
 use native.Mathlib.Decide.{decLe}
 use lib.ListN.{length, take, List·getD-eq-default}
@@ -18,9 +17,9 @@ use Rattle.octets.specs.Reading.{andThen, isRead, consRead, readEach}
 use Rattle.model.specs.Calendar.{ical, ValueType, TEXT, UNKNOWN, Value, text}
 use Rattle.source.specs.Source.{rest, Reads}
 use Rattle.source.specs.declared.Step.{Step}
-use Rattle.schema.specs.Types.{valueTypes, typePlace, sameType}
+use Rattle.schema.specs.Types.{valueTypes, sameType}
 use Rattle.schema.specs.Numbers.{typeAt}
-use Rattle.schema.specs.Cells.{tabled, tabled-at, column-at}
+use Rattle.schema.specs.Places.{type-back}
 use Rattle.recur.specs.Pieces.{Ends}
 use Rattle.recur.specs.PieceLaws.{Left, step-less, pieces-any, pieces-last, pieces-more, cons-read, rest-gone}
 use Rattle.texts.specs.TextList.{readTexts}
@@ -69,17 +68,13 @@ each-gone t s c h e = rw (rest-gone s c h) (gone-is t (rw (rest-gone s c h) at e
 
 -- ---- a list
 
-pub number-below : (t : ℕ) → t < 14 → typePlace (typeAt t) ≡ t
-unfolding tabled
-number-below t k = let z : 0 + t ≡ t = omega arith in sym (column-at typePlace UNKNOWN valueTypes t k) ∙ tabled-at (λ x. x) 14 0 t k ∙ z
-
 not-text : (t : ℕ) → (t ≡ 10 → ⊥) → sameType (typeAt t) TEXT ≡ false
 unfolding sameType
 not-text t h = go (decLe 14 t)
   where
     go : Dec (14 ≤ t) → sameType (typeAt t) TEXT ≡ false
     go (yes k) = rw (List·getD-eq-default valueTypes UNKNOWN k)
-    go (no k) = let z : t < 14 = omega (arith, k) in rw (number-below t z) (ne-eqb t 10 h)
+    go (no k) = let z : t < 14 = omega (arith, k) in rw (type-back t (omega arith)) (ne-eqb t 10 h)
 
 module _ {r : Bool} (t : ℕ) (l : List ℕ) where
   pub listed-text : t ≡ 10 → r ≡ isRead (readTexts l) → r ≡ isRead (readListed (typeAt t) l)

@@ -11,21 +11,19 @@ use mathlib.Core.Option.{Option, none, some}
 use Prim.Native.Nat.{ℕ}
 use lib.Dec.{eqb}
 use borrow.Author.Needs.{needs}
-use Rattle.octets.specs.Ascii.{ascii}
 use Rattle.octets.specs.Pick.{pick}
 use Rattle.octets.specs.Class.{upper}
-use Rattle.octets.specs.Words.{same, isOneOf}
+use Rattle.octets.specs.Words.{isOneOf}
 use Rattle.octets.specs.Reading.{isRead}
-use Rattle.octets.specs.Computing.{octets-compute}
 use Rattle.model.specs.Calendar.{ical, ValueType, Value, text}
 use Rattle.source.specs.Source.{rest}
 use Rattle.names.specs.Table.{placeOf}
 use Rattle.schema.specs.Types.{isTypeOf}
 use Rattle.schema.specs.Components.{componentNames}
 use Rattle.schema.specs.Properties.{PropertyRow, propertyNames, permittedTypes}
-use Rattle.schema.specs.Numbers.{typeAt, propertyAt, property-place, same-place}
+use Rattle.schema.specs.Numbers.{typeAt, propertyAt, property-place}
 use Rattle.schema.specs.Columns.{permitsType}
-use Rattle.schema.specs.Sets.{wordsAt, isWordOf, words-place}
+use Rattle.schema.specs.Sets.{wordsAt, isWordOf, words-place, geo-place, request-status-place}
 use Rattle.numbers.specs.Geo.{readGeo}
 use Rattle.numbers.specs.ReadGeo.{ReadsGeo}
 use Rattle.numbers.specs.declared.geo.GeoRead.{GeoRead}
@@ -65,14 +63,6 @@ goodAt k p t l = pick (permitsType p t) (ownAt k p t l) false
 
 -- ---- names and their numbers
 
-geo-place : (w : List ℕ) → same w (ascii "GEO") ≡ eqb (placeOf w propertyNames) 9
-unfolding octets-compute placeOf
-geo-place w = same-place w (ascii "GEO") propertyNames refl
-
-status-place : (w : List ℕ) → same w (ascii "REQUEST-STATUS") ≡ eqb (placeOf w propertyNames) 45
-unfolding octets-compute placeOf
-status-place w = same-place w (ascii "REQUEST-STATUS") propertyNames refl
-
 one-read : (o : Option Value) → isRead (oneValue o) ≡ isRead o
 one-read o = mapped (λ v. v ∷ []) o
 
@@ -91,7 +81,7 @@ own-same : {a a′ b b′ d d′ : Bool} {o o′ : Option (List (List ℕ))} (t 
 own-same {a} {a′} {b} {b′} {d} {d′} {o} {o′} t l p q r u = rw (← p, ← q, ← r, ← u) (own-read a b d o t l)
 
 own-place : (c w : List ℕ) (t : ℕ) (l : List ℕ) → isRead (readOwn c w (typeAt t) l) ≡ ownAt (placeOf c componentNames) (placeOf w propertyNames) t l
-own-place c w t l = own-same (typeAt t) l (geo-place w) (status-place w) (ap (λ (r : PropertyRow). r .listed) (property-place w)) (words-place c w)
+own-place c w t l = own-same (typeAt t) l (geo-place w) (request-status-place w) (ap (λ (r : PropertyRow). r .listed) (property-place w)) (words-place c w)
 
 pick-read : {A : Type 0} (b : Bool) (o : Option A) → isRead (pick b o none) ≡ pick b (isRead o) false
 unfolding pick isRead

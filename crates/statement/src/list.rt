@@ -1,31 +1,18 @@
-// One value of a type, and lists of values, from a cursor to the end. See specs/Listed.antt.
+// Lists of values, from a cursor to the end. See specs/Listed.antt.
 ghost use mathlib.Core.Path.{_≡_};
 ghost use Prim.Native.Nat.{_≤_};
 ghost use lib.ListN.{length};
 ghost use Rattle.octets.specs.Words.{cutAt};
 ghost use Rattle.octets.specs.Reading.{isRead};
-ghost use Rattle.model.specs.Calendar.{ical};
 ghost use Rattle.source.specs.Source.{rest};
 ghost use Rattle.schema.specs.Numbers.{typeAt};
-ghost use Rattle.values.specs.ReadValue.{readValue};
 ghost use Rattle.ical.specs.Values.{readListed};
 ghost use Rattle.statement.specs.Listed.{eachValue};
+use parameters::is_of_type;
 use recur::rule::byte_end;
 use source::unit;
 use texts::is_kept;
 use texts::read_text;
-use values::ValueRead;
-use values::read_value;
-
-pub fn is_value(t: usize, s: &[u8], at: usize) -> bool
-    ensures { λ r. ⌜ r ≡ isRead (readValue ical (typeAt t) (rest 0 (now (s .entry)) at)) ⌝ }
-{
-    let r = read_value(false, t, 0, s, at);
-    match r {
-        ValueRead::Good(n) => true,
-        ValueRead::Bad => false,
-    }
-}
 
 // Each piece between commas is a value.
 fn are_pieces(t: usize, s: &[u8], at: usize) -> bool
@@ -35,7 +22,7 @@ fn are_pieces(t: usize, s: &[u8], at: usize) -> bool
     let mut c = at;
     loop {
         let e = byte_end(44, s, c);
-        let fits = is_value(t, &s[..e], c);
+        let fits = is_of_type(t, &s[..e], c);
         if fits {
             let n = unit(0, s, e);
             let u = n.u;
@@ -56,7 +43,7 @@ fn are_values(t: usize, s: &[u8], at: usize) -> bool
     if at <= s.len() {
         return are_pieces(t, s, at);
     }
-    is_value(t, s, at)
+    is_of_type(t, s, at)
 }
 
 // A list of TEXT, 10, or of another type.

@@ -15,9 +15,9 @@ ghost use Rattle.ical.specs.Values.{readChosen, readValues};
 ghost use Rattle.statement.specs.ValuesAt.{ownAt, goodAt, valuesRead};
 use crate::ValuesRead;
 use crate::list::are_listed;
-use crate::list::is_value;
 use numbers::geo::GeoRead;
 use numbers::geo::read_geo;
+use parameters::is_of_type;
 use schema::has_words;
 use schema::is_listed;
 use schema::is_word_of;
@@ -53,7 +53,7 @@ fn is_chosen(k: usize, p: usize, t: usize, s: &[u8], at: usize) -> bool
     if closed {
         return is_word_of(k, p, false, 0, s, at);
     }
-    is_value(t, s, at)
+    is_of_type(t, s, at)
 }
 
 // The values of a property, of which 9 is GEO and 45 REQUEST-STATUS.

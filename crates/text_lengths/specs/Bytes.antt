@@ -3,23 +3,22 @@
 --     scan-within     marks have no more bytes than what they are read from
 --     root-within     nor has the root's tag with what follows it
 use mathlib.Core.Path.{_≡_, refl}
-use mathlib.Core.Bool.{true, false≢true}
 use mathlib.Core.List.{List, [], _∷_}
 use mathlib.Core.Option.{Option, none, some}
 use Prim.{Unit, tt}
 use Prim.Native.Nat.{ℕ, zero, suc, _+_, _-_, _≤_}
 use native.Mathlib.Omega.{arith}
 use lib.Dec.{eqb, ltb}
-use lib.ListN.{length, length-take, length-drop}
+use lib.ListN.{length, length-take}
 use borrow.Author.Tests.{ltb-true}
 use Rattle.octets.specs.Ascii.{ascii}
 use Rattle.octets.specs.Pick.{pick, pick-either, pick-case, _and_, and-both}
 use Rattle.octets.specs.Scan.{spanLen}
 use Rattle.octets.specs.Class.{isAlpha, isNameChar, isDigit}
-use Rattle.octets.specs.Words.{starts}
+use Rattle.octets.specs.Words.{starts, starts-length}
 use Rattle.octets.specs.Reading.{andThen-some, provided-some, none-some}
 use Rattle.utf8.specs.Spell.{spell, isCharacter}
-use Rattle.xml.specs.Pieces.{from, first, Piece, S?, Name, nameOf, both, _then_, exactly}
+use Rattle.xml.specs.Pieces.{from, first, Piece, S?, Name, nameOf, both, _then_, exactly, length-from}
 use Rattle.xml.specs.Token.{Token, STag, EmptyElemTag, ETag, CharByte, Reference, Fault, namespaceAttribute, startBy, endBy, tag, rootTag, isHexDigit, charRef, reference, literalByte, token}
 use Rattle.xml.specs.Marks.{Mark, opens, closes, char, refers, fault, marksBy, scan, rootMarks}
 
@@ -42,16 +41,6 @@ Fits (CharByte b k) s = Unit {0}
 Fits (Reference v k) s = length (spell v) + (length s - k) ≤ suc (length s)
 Fits Fault s = Unit {0}
 
-starts-length : (w s : List ℕ) → starts w s ≡ true → length w ≤ length s
-unfolding starts
-starts-length [] s h = omega arith
-starts-length (x ∷ w) [] h = absurd (false≢true h)
-starts-length (x ∷ w) (y ∷ s) h = omega (arith, starts-length w s (and-both (eqb x y) (starts w s) h .1))
-
-from-length : (n : ℕ) (s : List ℕ) → length (from n s) ≡ length s - n
-unfolding from
-from-length n s = length-drop n s
-
 both-most : (a : ℕ) (o : Option ℕ) (n : ℕ) → both a o ≡ some n → a ≤ n
 unfolding both
 both-most a none n h = none-some h
@@ -70,9 +59,9 @@ unfolding startBy
 start-fits none s h = tt
 start-fits (some n) s h =
     pick-case (λ t. Fits t s) (starts (ascii ">") (from n s)) (STag (nameOf s) (n + 1)) _
-    (λ e. omega (arith, h n refl, starts-length (ascii ">") (from n s) e, from-length n s))
+    (λ e. omega (arith, h n refl, starts-length (ascii ">") (from n s) e, length-from n s))
     (λ d. pick-case (λ t. Fits t s) (starts (ascii "/>") (from n s)) (EmptyElemTag (nameOf s) (n + 2)) Fault
-    (λ e. omega (arith, h n refl, starts-length (ascii "/>") (from n s) e, from-length n s)) (λ e. tt))
+    (λ e. omega (arith, h n refl, starts-length (ascii "/>") (from n s) e, length-from n s)) (λ e. tt))
 
 end-fits : (o : Option ℕ) (r s : List ℕ) → Fits (endBy o r) s
 unfolding endBy
@@ -105,7 +94,7 @@ unfolding charRef
 number-fits k d v s l =
     pick-case (λ t. Fits t s) (ltb 0 d and starts (ascii ";") (from d (from k s)) and isCharacter v) (Reference v (k + d + 1)) Fault
     (λ e. let p = and-both (ltb 0 d) _ e in let q = and-both (starts (ascii ";") (from d (from k s))) (isCharacter v) (p .1) in
-    omega (arith, spell-most v, ltb-true 0 d (p .0), starts-length (ascii ";") (from d (from k s)) (q .0), from-length d (from k s), from-length k s)) (λ e. tt)
+    omega (arith, spell-most v, ltb-true 0 d (p .0), starts-length (ascii ";") (from d (from k s)) (q .0), length-from d (from k s), length-from k s)) (λ e. tt)
 
 entity-fits : (w : List ℕ) (v k : ℕ) (s : List ℕ) (other : Token) → length w ≡ k → 3 ≤ k → Fits other s → Fits (pick (starts w s) (Reference v k) other) s
 entity-fits w v k s other e l f =

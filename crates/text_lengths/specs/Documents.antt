@@ -17,18 +17,18 @@ use Rattle.octets.specs.Class.{upper}
 use Rattle.octets.specs.Words.{same}
 use Rattle.octets.specs.Lists.{every, distinct}
 use Rattle.octets.specs.Computing.{octets-compute}
+use Rattle.octets.specs.Letters.{upper-length}
 use Rattle.model.specs.Calendar.{Property, Components, component}
 use Rattle.folding.specs.Fold.{isOver, breakBefore, columnAt, foldFrom}
 use Rattle.lines.specs.Write.{writeContentLine}
 use Rattle.ical.specs.WriteText.{contentLineOf, propertyLine, propertyLines, beginLine, endLine, writeCalendar}
 use Rattle.xml.specs.Marks.{marks}
 use Rattle.xml.specs.Nodes.{Nodes, noNodes, element, literal, referred, nodes, documentNodes}
-use Rattle.xcal.specs.PropertyNodes.{readProperties}
+use Rattle.xcal.specs.PropertyNodes.{readProperties, propertyIn}
 use Rattle.xcal.specs.ComponentNodes.{insideOf, readComponents, readInner, readRoot}
-use Rattle.lengths.specs.Elements.{upper-length}
 use Rattle.text_lengths.specs.Sizes.{size, nodes-size, document-size, part, named, parts, parts-size}
 use Rattle.text_lengths.specs.Children.{inside-size}
-use Rattle.text_lengths.specs.Lines.{propertyIn, line-length}
+use Rattle.text_lengths.specs.Lines.{line-length}
 
 abbrev pub rate : ℕ
 rate = 60

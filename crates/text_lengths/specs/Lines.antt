@@ -1,5 +1,4 @@
 -- The content line of a property, by the size of its element.
---     propertyIn       the property that an element states
 --     line-length      its content line
 use mathlib.Core.List.{List, [], _∷_, map}
 use Prim.Native.Nat.{ℕ, _+_, _*_, _≤_}
@@ -10,7 +9,8 @@ use Rattle.octets.specs.Pick.{pick, pick-either}
 use Rattle.octets.specs.Append.{_⊕_, joined, length-both}
 use Rattle.octets.specs.Class.{upper}
 use Rattle.octets.specs.Words.{eachAfter, joinedBy}
-use Rattle.model.specs.Calendar.{ValueType, Property}
+use Rattle.octets.specs.Letters.{upper-length}
+use Rattle.model.specs.Calendar.{ValueType}
 use Rattle.schema.specs.Types.{typeName, sameType}
 use Rattle.schema.specs.Properties.{defaultType}
 use Rattle.values.specs.WriteValue.{typeOfAll}
@@ -20,17 +20,13 @@ use Rattle.ical.specs.WriteText.{rawOf, valueParameter, withValue, contentLineO
 use Rattle.xml.specs.Nodes.{Nodes}
 use Rattle.xcal.specs.ValueNodes.{readValueNodes}
 use Rattle.xcal.specs.ParameterNodes.{readParameterNodes}
-use Rattle.xcal.specs.PropertyNodes.{parametersIn}
-use Rattle.lengths.specs.Elements.{upper-length}
+use Rattle.xcal.specs.PropertyNodes.{parametersIn, propertyIn}
 use Rattle.lengths.specs.Values.{type-length}
 use Rattle.lengths.specs.Parameters.{bytes}
 use Rattle.lengths.specs.Properties.{line-length as length-of-line}
 use Rattle.text_lengths.specs.Sizes.{size}
 use Rattle.text_lengths.specs.PropertyValues.{values-length}
 use Rattle.text_lengths.specs.Parameters.{parameters-length}
-
-abbrev pub propertyIn : List ℕ → Nodes → Property
-propertyIn m kids = record { name = upper m; parameters = readParameterNodes (parametersIn (upper m) kids); values = readValueNodes (upper m) kids }
 
 -- ;VALUE= and the name of a type
 value-parameter : (t : ValueType) → length (writeParameter (valueParameter t)) ≤ 18

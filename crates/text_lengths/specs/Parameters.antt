@@ -12,6 +12,7 @@ use Rattle.octets.specs.Append.{_⊕_, joined, length-both}
 use Rattle.octets.specs.Class.{isSpace, upper, lower}
 use Rattle.octets.specs.Words.{same, same-true, isOneOf, holds, joinedBy}
 use Rattle.octets.specs.Reading.{provided-some, andThen, andThen-some, consRead, consRead-some, readOr, none-some}
+use Rattle.octets.specs.Letters.{upper-length, lower-length}
 use Rattle.model.specs.Calendar.{ValueType, Value, text}
 use Rattle.schema.specs.Types.{typeName}
 use Rattle.schema.specs.Parameters.{parameterType, parameterWords}
@@ -20,7 +21,6 @@ use Rattle.lines.specs.Write.{writeParamValue, writeParameter}
 use Rattle.ical.specs.WriteText.{paramChars, paramValueOf, rawOf}
 use Rattle.xml.specs.Nodes.{Nodes, noNodes, element, literal, referred, charactersOf, hasElement}
 use Rattle.xcal.specs.ParameterNodes.{readWordIn, readParamNode, readParamNodes, readParameterNodes}
-use Rattle.lengths.specs.Elements.{upper-length, lower-length}
 use Rattle.lengths.specs.Pieces.{weight, joined-within}
 use Rattle.lengths.specs.Parameters.{bytes}
 use Rattle.text_lengths.specs.Sizes.{size, characters-size}

@@ -17,16 +17,16 @@ use Rattle.octets.specs.Words.{same, same-true, isOneOf, joinedBy}
 use Rattle.octets.specs.Lists.{every, every-both, distinct}
 use Rattle.octets.specs.Reading.{provided-some, andThen, andThen-some, readOr}
 use Rattle.octets.specs.Computing.{octets-compute}
+use Rattle.octets.specs.Front.{upTo, fromOn}
+use Rattle.octets.specs.Letters.{lower-length}
 use Rattle.model.specs.Calendar.{ical, xcal, Whole, RuleItem, moment, number, word, weekday, RulePart}
 use Rattle.times.specs.Date.{isDate, readDate, writeDate}
 use Rattle.times.specs.DateTime.{readDateTime, writeDateTime}
-use Rattle.recur.specs.Front.{upTo, fromOn}
 use Rattle.recur.specs.Parts.{ItemForm, wordOf, enddate, counting, unsigned, signed, weekdaynum, partNames, partOf, weekdays}
 use Rattle.recur.specs.Item.{readWord, readCounting, readUnsigned, readSigned, readOrdinal, writeOrdinal, orOther, readEnddate, readForm, writeItem, readItem}
 use Rattle.recur.specs.Rule.{rulePart, writePart, writeRule}
 use Rattle.xml.specs.Nodes.{Nodes, noNodes, element, literal, referred, charactersOf}
 use Rattle.xcal.specs.ValueNodes.{itemsOf, onePart, partsOf}
-use Rattle.lengths.specs.Elements.{lower-length}
 use Rattle.lengths.specs.Pieces.{weight, joined-within}
 use Rattle.lengths.specs.Rules.{whole-length, ordinal-length, from-length}
 use Rattle.text_lengths.specs.Sizes.{size, characters-size, part, named, parts, parts-size}

@@ -17,6 +17,7 @@ use Rattle.octets.specs.Append.{length-both}
 use Rattle.octets.specs.Class.{upper, lower}
 use Rattle.octets.specs.Words.{same, same-true}
 use Rattle.octets.specs.Reading.{readOr, isRead, none-some}
+use Rattle.octets.specs.Letters.{upper-length}
 use Rattle.model.specs.Calendar.{xcal, ValueType, PERIOD, RECUR, UNKNOWN, Value, text, recur}
 use Rattle.schema.specs.Types.{typeName, typeNamed, sameType, type-named-is, type-passes}
 use Rattle.schema.specs.Computing.{schema-compute}
@@ -28,7 +29,6 @@ use Rattle.values.specs.ReadValue.{readValue}
 use Rattle.values.specs.WriteValue.{writeValue}
 use Rattle.xml.specs.Nodes.{Nodes, noNodes, element, literal, referred, charactersOf}
 use Rattle.xcal.specs.ValueNodes.{elementType, childNamed, textOf, momentOf, periodOf, partsOf, valueOf, oneOf, typedValues}
-use Rattle.lengths.specs.Elements.{upper-length}
 use Rattle.lengths.specs.Pieces.{weight}
 use Rattle.text_lengths.specs.Sizes.{size, characters-size, part}
 use Rattle.text_lengths.specs.Values.{escaped-most, date-time-kept, duration-length, value-length}

@@ -1,5 +1,4 @@
 -- The content line of a property's element: of the name m, with these children.
---     propertyIn        the property that it states
 --     lineText          its content line;   parametersText: VALUE and the other parameters
 --     parameters-put, values-put, line-put    from what was put
 use mathlib.Core.Path.{_≡_, refl, sym, ap, subst, _∙_}
@@ -15,12 +14,13 @@ use Rattle.octets.specs.Append.{_⊕_, joined, append-empty, append-none}
 use Rattle.octets.specs.Class.{upper}
 use Rattle.octets.specs.Words.{isOneOf, joinedBy, eachAfter}
 use Rattle.octets.specs.Computing.{octets-compute}
-use Rattle.model.specs.Calendar.{ValueType, Value, Property}
+use Rattle.model.specs.Calendar.{ValueType, Value}
 use Rattle.sink.specs.Sink.{Put, _▷_}
 use Rattle.names.specs.Table.{placeOf, one-of-place}
+use Rattle.names.specs.Places.{placed}
 use Rattle.schema.specs.Types.{typeName, sameType}
 use Rattle.schema.specs.Properties.{propertyNames, defaultType}
-use Rattle.schema.specs.Numbers.{typeAt, propertyName, placed}
+use Rattle.schema.specs.Numbers.{typeAt, propertyName}
 use Rattle.values.specs.WriteValue.{writeValues, typeOfAll}
 use Rattle.lines.specs.ContentLine.{RawParameter}
 use Rattle.lines.specs.Write.{writeParamValue, writeParameter, writeContentLine}
@@ -28,13 +28,10 @@ use Rattle.ical.specs.WriteText.{rawOf, valueParameter, withValue, contentLineO
 use Rattle.xml.specs.Nodes.{Nodes}
 use Rattle.xcal.specs.ValueNodes.{readValueNodes}
 use Rattle.xcal.specs.ParameterNodes.{readParameterNodes}
-use Rattle.xcal.specs.PropertyNodes.{parametersIn}
+use Rattle.xcal.specs.PropertyNodes.{parametersIn, propertyIn}
 use Rattle.xml.specs.NodesAt.{nodesAt}
 use Rattle.text_lines.specs.Parameters.{ParametersAt, geo-at, status-at}
 use Rattle.text_lines.specs.Typing.{valueAt, valueOf, value-at}
-
-abbrev pub propertyIn : List ℕ → Nodes → Property
-propertyIn m kids = record { name = upper m; parameters = readParameterNodes (parametersIn (upper m) kids); values = readValueNodes (upper m) kids }
 
 unfoldable pub lineText : List ℕ → Nodes → List ℕ
 lineText m kids = writeContentLine (contentLineOf (propertyIn m kids))

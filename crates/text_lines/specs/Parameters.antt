@@ -18,8 +18,8 @@ use Rattle.octets.specs.Pick.{pick, _or_}
 use Rattle.octets.specs.Words.{same, isOneOf}
 use Rattle.octets.specs.Computing.{octets-compute}
 use Rattle.names.specs.Table.{placeOf, namesIn, one-of-place}
+use Rattle.names.specs.Places.{same-place}
 use Rattle.schema.specs.Properties.{propertyNames, isListedProperty}
-use Rattle.schema.specs.Numbers.{same-place}
 use Rattle.xcal.specs.Layout.{Slot, slotOf}
 use Rattle.xcal.specs.ValueNodes.{must, may, typeElements, valueSlots}
 use Rattle.xcal.specs.PropertyNodes.{stillBefore, parametersIn}

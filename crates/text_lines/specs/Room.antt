@@ -2,14 +2,15 @@
 --     room-count, room-within    how many bytes it has
 --     folded-put                 what is folded from there is the line
 --     name-within, name-cut, name-folded    the same of a word and a name in capitals
-use mathlib.Core.Path.{_≡_, refl, sym, ap, subst}
-use mathlib.Core.List.{List, [], _∷_}
-use Prim.Native.Nat.{ℕ, suc, _+_, _-_, _≤_}
+use mathlib.Core.Path.{_≡_, sym, ap, subst}
+use mathlib.Core.List.{List}
+use Prim.Native.Nat.{ℕ, _+_, _-_, _≤_}
 use native.Mathlib.Omega.{arith}
 use lib.ListN.{length, take, drop, length-take, length-drop}
 use lib.Seq.{take-append-seam, length-take-le}
 use Rattle.octets.specs.Append.{_⊕_, length-both}
 use Rattle.octets.specs.Class.{upper}
+use Rattle.octets.specs.Letters.{upper-length}
 use Rattle.source.specs.Facts.{rest-part}
 use Rattle.sink.specs.Sink.{Put, far, put-length, overwrite-fits, _▷_}
 use Rattle.folding.specs.Fold.{foldedLine}
@@ -34,13 +35,8 @@ module _ {d e : List ℕ} {n : ℕ} {bs : List ℕ} (p : Put d e 0 n bs) (h : le
 
 -- ---- a word and a name in capitals
 
-length-upper : (l : List ℕ) → length (upper l) ≡ length l
-unfolding upper
-length-upper [] = refl
-length-upper (x ∷ l) = ap suc (length-upper l)
-
 name-short : (s : List ℕ) (c e : ℕ) → length (upper (nameIn s c e)) ≤ length s
-name-short s c e = omega (arith, length-upper (nameIn s c e), ap length (rest-part s c e), length-take (e - c) (drop c s), length-drop c s)
+name-short s c e = omega (arith, upper-length (nameIn s c e), ap length (rest-part s c e), length-take (e - c) (drop c s), length-drop c s)
 
 module _ {d e f w : List ℕ} {a n : ℕ} (s : List ℕ) (c x : ℕ)
     (u : Put d e 0 a w) (v : Put e f a n (upper (nameIn s c x))) (h : length w + length s ≤ length d) where

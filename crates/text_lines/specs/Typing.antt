@@ -6,7 +6,6 @@ use mathlib.Core.Bool.{Bool}
 use mathlib.Core.List.{List, [], _∷_, map}
 use Prim.Native.Nat.{ℕ, zero, suc, _-_, _*_, _^_, _≤_, _<_}
 use native.Mathlib.Omega.{arith}
-use native.Mathlib.Decide.{decLe}
 use native.Mathlib.Nat.{not-suc-le-zero, le-of-suc-le-suc}
 use lib.Dec.{eqb, leb}
 use lib.ListN.{length, take, drop, getD, List·getD-eq-default}
@@ -23,7 +22,8 @@ use Rattle.names.specs.Table.{placeOf}
 use Rattle.schema.specs.Types.{typeName, valueTypes, typePlace, sameType}
 use Rattle.schema.specs.Properties.{PropertyRow, propertyNames, defaultType}
 use Rattle.schema.specs.Numbers.{typeAt, propertyAt, property-place}
-use Rattle.schema.specs.Cells.{column-at, tabled, tabled-at, at-passes}
+use Rattle.schema.specs.Cells.{at-passes}
+use Rattle.schema.specs.Places.{type-back}
 
 abbrev pub valueAt : ℕ → ℕ → List ℕ
 valueAt p t = pick (eqb t (typePlace (propertyAt p .default))) [] (ascii ";VALUE=" ⊕ typeName (typeAt t))
@@ -33,27 +33,10 @@ valueOf w t = pick (sameType t (defaultType w)) [] (ascii ";VALUE=" ⊕ typeName
 
 -- ---- by numbers
 
-types-placed : map typePlace valueTypes ≡ tabled (λ i. i) 0 14
-unfolding tabled
-types-placed = refl
-
-place-below : (t : ℕ) → t < 14 → typePlace (typeAt t) ≡ t
-place-below t h = sym (column-at typePlace UNKNOWN valueTypes t h) ∙ ap (λ (l : List ℕ). getD l t 0) types-placed ∙ tabled-at (λ i. i) 14 0 t h ∙ omega arith
-
-place-other : (t : ℕ) → 14 ≤ t → t ≤ 14 → typePlace (typeAt t) ≡ t
-place-other t h l = ap typePlace (List·getD-eq-default valueTypes UNKNOWN h) ∙ omega arith
-
-place-at : (t : ℕ) → t ≤ 14 → typePlace (typeAt t) ≡ t
-place-at t h = go (decLe 14 t)
-  where
-    go : Dec (14 ≤ t) → typePlace (typeAt t) ≡ t
-    go (yes l) = place-other t l h
-    go (no l) = place-below t (omega arith)
-
 same-at : (w : List ℕ) {p : ℕ} (t : ℕ) → p ≡ placeOf w propertyNames → t ≤ 14 → eqb t (typePlace (propertyAt p .default)) ≡ sameType (typeAt t) (defaultType w)
 unfolding sameType
 same-at w t e h =
-    ap (λ (r : PropertyRow). eqb t (typePlace (r .default))) (ap propertyAt e ∙ sym (property-place w)) ∙ ap (λ (k : ℕ). eqb k (typePlace (defaultType w))) (sym (place-at t h))
+    ap (λ (r : PropertyRow). eqb t (typePlace (r .default))) (ap propertyAt e ∙ sym (property-place w)) ∙ ap (λ (k : ℕ). eqb k (typePlace (defaultType w))) (sym (type-back t h))
 
 pub value-at : (w : List ℕ) {p : ℕ} (t : ℕ) → p ≡ placeOf w propertyNames → t ≤ 14 → valueAt p t ≡ valueOf w (typeAt t)
 value-at w t e h = ap (λ (b : Bool). pick b [] (ascii ";VALUE=" ⊕ typeName (typeAt t))) (same-at w t e h)

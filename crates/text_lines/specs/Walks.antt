@@ -3,23 +3,21 @@
 --     headText                        what stands before the components inside a component
 --     Walking                         the invariant of a walk that writes: what is left to write from the node at hand on;   `search owns`, `search inners`
 use mathlib.Core.Path.{_≡_, refl, sym, ap, subst, _∙_}
-use mathlib.Core.Bool.{Bool, true, false}
 use mathlib.Core.List.{List, []}
 use Prim.Native.Nat.{ℕ, _-_, _*_, _^_, _≤_, _<_}
 use native.Mathlib.Omega.{arith}
 use lib.ListN.{length}
 use borrow.Author.Needs.{needs}
 use Rattle.octets.specs.Ascii.{ascii}
-use Rattle.octets.specs.Pick.{pick}
 use Rattle.octets.specs.Append.{_⊕_, append-is, append-regroup}
 use Rattle.octets.specs.Class.{upper}
-use Rattle.octets.specs.Words.{same}
 use Rattle.sink.specs.Sink.{Put, put-length, _▷_, Todo, todo-all, todo-step, todo-done}
 use Rattle.folding.specs.Fold.{foldedLine}
 use Rattle.ical.specs.WriteText.{propertyLines, beginLine, endLine, writeCalendar}
 use Rattle.xml.specs.Nodes.{Nodes, noNodes, element, literal, referred}
 use Rattle.xcal.specs.PropertyNodes.{readProperties}
-use Rattle.xcal.specs.ComponentNodes.{insideOf, readComponents, readInner}
+use Rattle.xcal.specs.ComponentNodes.{insideOf, readComponents}
+use Rattle.xcal.specs.ComponentsAccepted.{inner-components}
 use Rattle.xml.specs.NodesAt.{nodesAt}
 use Rattle.nodes.specs.NodeFound.{NodeAt, node-none, node-element, node-literal, node-referred, element-less, inside-less, literal-less, referred-less}
 use Rattle.nodes.specs.declared.Node.{Node}
@@ -39,24 +37,12 @@ headText m kids = beginLine (upper m) ⊕ propertyLines (readProperties (insideO
 
 -- ---- the components inside
 
-inner-is : (kids : Nodes) → readInner kids ≡ readComponents (insideOf (ascii "components") kids)
-unfolding readInner readComponents insideOf pick
-inner-is noNodes = refl
-inner-is (literal p b more) = inner-is more
-inner-is (referred p bs more) = inner-is more
-inner-is (element p m x kids more) = go (same m (ascii "components")) (inner-is more)
-  where
-    go : (t : Bool) → readInner more ≡ readComponents (insideOf (ascii "components") more) →
-        pick t (readComponents kids) (readInner more) ≡ readComponents (pick t kids (insideOf (ascii "components") more))
-    go true ih = refl
-    go false ih = ih
-
 -- a component's lines, in three parts, and those of the next ones
 component-parts : (p : ℕ) (m : List ℕ) (x : ℕ) (kids more : Nodes) →
     calendarText (element p m x kids more)
     ≡ (headText m kids ⊕ calendarText (insideOf (ascii "components") kids) ⊕ endLine (upper m)) ⊕ calendarText more
 unfolding calendarText headText readComponents writeCalendar
-component-parts p m x kids more = rw (inner-is kids) (sym (regroup (beginLine (upper m)) _ _ (endLine (upper m)) (writeCalendar (readComponents more))))
+component-parts p m x kids more = rw (inner-components kids) (sym (regroup (beginLine (upper m)) _ _ (endLine (upper m)) (writeCalendar (readComponents more))))
   where
     regroup : (a b c d f : List ℕ) → ((a ⊕ b) ⊕ c ⊕ d) ⊕ f ≡ a ⊕ b ⊕ c ⊕ d ⊕ f
     regroup a b c d f = rw (append-regroup (a ⊕ b) (c ⊕ d) f, append-regroup a b ((c ⊕ d) ⊕ f), append-regroup c d f)

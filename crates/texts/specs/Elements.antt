@@ -6,14 +6,12 @@ use mathlib.Core.Path.{_≡_, refl, sym, ap, _∙_}
 use mathlib.Core.Bool.{Bool, true, false, false≢true}
 use mathlib.Core.List.{List, [], _∷_}
 use mathlib.Core.Option.{Option, none, some}
-use Prim.Native.Nat.{ℕ, zero, suc, _*_, _^_, min, _≤_, _<_}
-use native.Mathlib.Omega.{arith}
-use native.Mathlib.Decide.{decLe}
+use Prim.Native.Nat.{ℕ, zero, suc, _*_, _^_, min, _<_}
 use lib.ListN.{length, take}
-use lib.Seq.{take-all, take-length}
 use Rattle.octets.specs.Ascii.{ascii}
 use Rattle.octets.specs.Append.{_⊕_, append-none}
 use Rattle.octets.specs.Reading.{andThen, isRead, consRead, orNothing}
+use Rattle.octets.specs.Scan.{take-least}
 use Rattle.sink.specs.Sink.{Put, put-none, put-length, Todo, todo-all, todo-step, todo-done, writing}
 use Rattle.source.specs.Source.{rest, Reads}
 use Rattle.source.specs.declared.Step.{Step}
@@ -27,13 +25,6 @@ textsXml [] = []
 textsXml (t ∷ ts) = elementOf (ascii "text") (escaped t) ⊕ textsXml ts
 
 -- ---- a slice cut at its length, or before
-
-take-least : (s : List ℕ) (e : ℕ) → take (min e (length s)) s ≡ take e s
-take-least s e = go (decLe e (length s))
-  where
-    go : Dec (e ≤ length s) → take (min e (length s)) s ≡ take e s
-    go (yes h) = let k : min e (length s) ≡ e = omega arith in rw k
-    go (no h) = let k : min e (length s) ≡ length s = omega arith in rw k (take-length s ∙ sym (take-all e s (omega arith)))
 
 pub put-part : {d f : List ℕ} {at o r : ℕ} (s : List ℕ) (e c : ℕ) → r ≡ min e (length s) →
     Put d f at o (orNothing escaped (readText (rest 0 (take r s) c))) → Put d f at o (orNothing escaped (readText (rest 0 (take e s) c)))

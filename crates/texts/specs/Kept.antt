@@ -10,7 +10,7 @@ use native.Mathlib.Omega.{arith}
 use lib.Dec.{eqb, ltb}
 use borrow.Author.Needs.{needs}
 use borrow.Author.Tests.{eq-eqb, ne-eqb, ltb-true, eqb-true, eqb-false}
-use Rattle.octets.specs.Pick.{pick, _and_, _or_, and-both}
+use Rattle.octets.specs.Pick.{pick, _and_, _or_, and-both, or-false}
 use Rattle.octets.specs.Class.{isAlpha, isSpace}
 use Rattle.octets.specs.Words.{holds}
 use Rattle.model.specs.Calendar.{Format, ical, xcal, formatOf}
@@ -21,10 +21,10 @@ use Rattle.texts.specs.Unknown.{isUnknown}
 use Rattle.texts.specs.Uri.{inUri, uriFrom, isUri}
 use Rattle.texts.specs.Binary.{isBase64, base64Value, padFits, inGroup, nextPlace, binaryFrom, withoutSpace, binaryChars}
 use Rattle.texts.specs.declared.Kept.{Kept}
-use Rattle.texts.specs.declared.Kept.the-variants.{Chars, Bad}
+use Rattle.texts.specs.declared.Kept.the-variants.{Good, Bad}
 
 abbrev pub isKept : Kept → Bool
-isKept (Chars e) = true
+isKept Good = true
 isKept Bad = false
 
 -- a value that a reader's loop has yet to test: v is what it is to answer
@@ -113,15 +113,10 @@ module _ {v : Bool} {m : ℕ} {s : List ℕ} {c : ℕ} {r : Step} (p : Reads m s
   binary-end e h k = k ∙ sym (e ∙ rw (rest-end p h) (ap (binaryFrom n last) (none-left x)))
 
 -- `=` at each place, where w is what the character before it is worth
-or-none : (a : Bool) → a ≡ (a or false)
-unfolding _or_
-or-none true = refl
-or-none false = refl
-
 module _ (n last w : ℕ) (q : w ≡ base64Value last) where
   pub pad-two : n ≡ 2 → eqb (w % 16) 0 ≡ padFits n last
   unfolding _or_ _and_
-  pad-two e = rw (e, q) (or-none (eqb (base64Value last % 16) 0))
+  pad-two e = rw (e, q) (sym (or-false (eqb (base64Value last % 16) 0)))
 
   pub pad-three : n ≡ 3 → eqb (w % 4) 0 ≡ padFits n last
   unfolding _or_ _and_

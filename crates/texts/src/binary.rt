@@ -108,14 +108,14 @@ pub fn is_passed(xcal: bool, u: usize) -> bool
     false
 }
 
-fn ended(n: usize, at: usize) -> Kept
+fn ended(n: usize) -> Kept
     ensures { λ r. ⌜ isKept r ≡ (eqb n 0 or eqb n 5) ⌝ }
 {
     if n == 0 {
-        return Kept::Chars(at);
+        return Kept::Good;
     }
     if n == 5 {
-        return Kept::Chars(at);
+        return Kept::Good;
     }
     Kept::Bad
 }
@@ -130,7 +130,7 @@ pub fn read_binary(xcal: bool, mode: usize, s: &[u8], at: usize) -> Kept
         let t = unit(mode, s, c);
         let u = t.u;
         if u == 256 {
-            return ended(n, c);
+            return ended(n);
         }
         if is_passed(xcal, u) {
             c = t.next;

@@ -5,10 +5,10 @@ use crate::text::read_text;
 use crate::written::put_text_xml;
 use markup::put_end_tag;
 use markup::put_start_tag;
+use octets::smaller;
 use source::unit;
 ghost use mathlib.Core.Path.{_≡_};
 ghost use mathlib.Core.Bool.{true};
-ghost use Prim.Native.Nat.{min};
 ghost use lib.ListN.{take};
 ghost use Rattle.octets.specs.Ascii.{ascii};
 ghost use Rattle.octets.specs.Reading.{isRead, orNothing};
@@ -18,15 +18,6 @@ ghost use Rattle.xml.specs.Escape.{escaped, elementOf};
 ghost use Rattle.texts.specs.Text.{readText};
 ghost use Rattle.texts.specs.TextList.{readTexts};
 ghost use Rattle.texts.specs.Elements.{textsXml};
-
-fn smaller(a: usize, b: usize) -> usize
-    ensures { λ r. ⌜ r ≡ min a b ⌝ }
-{
-    if a < b {
-        return a;
-    }
-    b
-}
 
 // The TEXT from the cursor `from` to the cursor `end`, as the element `name`.
 pub fn put_text_element(

@@ -31,9 +31,9 @@ pub use uri::read_uri;
 pub use written::put_text_escaped;
 pub use written::put_text_xml;
 
-// A value that is kept by its characters: the cursor at their end; or none that is of the type.
+// Whether a value that is kept by its characters is of the type.
 pub enum Kept {
-    Chars(usize),
+    Good,
     Bad,
 }
 
@@ -47,7 +47,7 @@ pub fn is_kept(k: Kept) -> bool
     ensures { λ r. ⌜ r ≡ isKept k ⌝ }
 {
     match k {
-        Kept::Chars(_) => true,
+        Kept::Good => true,
         Kept::Bad => false,
     }
 }

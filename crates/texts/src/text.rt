@@ -75,13 +75,13 @@ pub fn is_opening(after: bool, u: usize) -> bool
 }
 
 // At the end no backslash may stand open.
-fn ended(after: bool, at: usize) -> Kept
+fn ended(after: bool) -> Kept
     ensures { λ r. ⌜ isKept r ≡ pick after false true ⌝ }
 {
     if after {
         return Kept::Bad;
     }
-    Kept::Chars(at)
+    Kept::Good
 }
 
 // Texts between bare separators: 44 comma, 59 semicolon, 0 none.
@@ -94,7 +94,7 @@ pub fn read_text(sep: usize, mode: usize, s: &[u8], at: usize) -> Kept
         let t = unit(mode, s, c);
         let u = t.u;
         if u == 256 {
-            return ended(after, c);
+            return ended(after);
         }
         if in_text(after, sep, u) {
             after = is_opening(after, u);

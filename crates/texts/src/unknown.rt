@@ -14,7 +14,7 @@ pub fn read_unknown(mode: usize, s: &[u8], at: usize) -> Kept
         let t = unit(mode, s, c);
         let u = t.u;
         if u == 256 {
-            return Kept::Chars(c);
+            return Kept::Good;
         }
         if u == 10 {
             return Kept::Bad;

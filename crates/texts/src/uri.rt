@@ -82,11 +82,11 @@ fn in_uri(past: bool, u: usize) -> bool
     is_scheme_char(u)
 }
 
-fn ended(past: bool, at: usize) -> Kept
+fn ended(past: bool) -> Kept
     ensures { λ r. ⌜ isKept r ≡ past ⌝ }
 {
     if past {
-        return Kept::Chars(at);
+        return Kept::Good;
     }
     Kept::Bad
 }
@@ -110,7 +110,7 @@ fn read_after(mode: usize, s: &[u8], from: usize) -> Kept
         let t = unit(mode, s, c);
         let u = t.u;
         if u == 256 {
-            return ended(past, c);
+            return ended(past);
         }
         if in_uri(past, u) {
             past = past_colon(past, u);

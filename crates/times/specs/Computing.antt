@@ -17,7 +17,7 @@ use Rattle.times.specs.DateTimeAlong.{joinTime, momentFrom, momentBy, mo
 use Rattle.times.specs.Written.{marked, yearDigits, dayBytes, clockBytes, momentBytes}
 use Rattle.times.specs.OffsetAlong.{whole, shiftBytes, offsetBy, isMinus, offsetOf}
 use Rattle.times.specs.OffsetWritten.{signOf, lastBytes, offsetBytes}
-use Rattle.times.specs.PeriodAt.{slashed, afterStart, periodUpper, periodBy, cutPeriod, periodAfter}
+use Rattle.times.specs.PeriodAlong.{slashed, afterStart, periodUpper, periodBy, cutPeriod, periodAfter}
 use Rattle.times.specs.PeriodWritten.{ofPeriod, startXml, endXml, endBytes}
 
 unfoldable pub times-compute : ℕ

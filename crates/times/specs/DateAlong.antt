@@ -24,7 +24,7 @@ use Rattle.octets.specs.Reading.{provided, andThen}
 use Rattle.model.specs.Calendar.{Format, ical, xcal}
 use Rattle.source.specs.Source.{rest}
 use Rattle.times.specs.Spelling.{Mark, keep, withMarks, withoutMarks, putMark, fits}
-use Rattle.times.specs.Pattern.{Followed, reached, lost, along, zeros, digitsAt, followedBy, isMark, areMarks, along-marks, along-digits}
+use Rattle.times.specs.Pattern.{Followed, reached, lost, along, zeros, digitsAt, followedBy, isMark, areMarks, along-marks, along-digits, worth2, worth4}
 use Rattle.times.specs.Date.{isDay, isDate, readDate, dateMarks}
 use Rattle.times.specs.MonthRule.{dateOf}
 use Rattle.times.specs.Letters.{cased}
@@ -64,13 +64,6 @@ eight P q (a ∷ b ∷ c ∷ d ∷ e ∷ f ∷ []) l = absurd (omega arith)
 eight P q (a ∷ b ∷ c ∷ d ∷ e ∷ f ∷ g ∷ []) l = absurd (omega arith)
 eight P q (a ∷ b ∷ c ∷ d ∷ e ∷ f ∷ g ∷ h ∷ []) l = q a b c d e f g h
 eight P q (a ∷ b ∷ c ∷ d ∷ e ∷ f ∷ g ∷ h ∷ i ∷ v) l = absurd (omega arith)
-
--- what digits are worth, one after another, as `value` counts
-abbrev worth2 : ℕ → ℕ → ℕ
-worth2 a b = (0 * 10 + a) * 10 + b
-
-abbrev worth4 : ℕ → ℕ → ℕ → ℕ → ℕ
-worth4 a b c d = (worth2 a b * 10 + c) * 10 + d
 
 abbrev worth8 : ℕ → ℕ → ℕ → ℕ → ℕ → ℕ → ℕ → ℕ → ℕ
 worth8 a b c d e f g h = (((worth4 a b c d * 10 + e) * 10 + f) * 10 + g) * 10 + h

@@ -12,7 +12,7 @@ use lib.Dec.{eqb, ltb}
 use lib.ListN.{length, drop}
 use borrow.Author.Tests.{eqb-true, eqb-false, eq-eqb, ne-eqb, lt-ltb, ltb-true, leb-true}
 use borrow.Author.Needs.{needs}
-use Rattle.octets.specs.Pick.{pick, _and_, _or_, flag-yes, flag-no, or-take, or-skip, and-both}
+use Rattle.octets.specs.Pick.{pick, _and_, _or_, flag-yes, flag-no, or-take, or-skip, and-both, or-right, or-false}
 use Rattle.octets.specs.Append.{_⊕_}
 use Rattle.octets.specs.Scan.{spanLen}
 use Rattle.octets.specs.Class.{isDigit}
@@ -67,16 +67,6 @@ span-other u r h = go (eqb u 256)
     go true = refl
     go false = rw h
 
-or-true : (t : Bool) → (t or true) ≡ true
-unfolding _or_
-or-true true = refl
-or-true false = refl
-
-or-false : (t : Bool) → (t or false) ≡ t
-unfolding _or_
-or-false true = refl
-or-false false = refl
-
 module _ {e : Bool} {m : ℕ} {s : List ℕ} {at : ℕ} where
   pub run-start : Running e m s at false at
   unfolding _or_
@@ -88,7 +78,7 @@ module _ {e : Bool} {m : ℕ} {s : List ℕ} {at : ℕ} where
     run-more h =
         let k : spanLen isDigit (cased e (rest m s c)) ≡ suc (spanLen isDigit (cased e (rest m s (a .next)))) = rw (p .is) (span-digit (a .u) _ h) in
         let b : cased e (rest m s c) ≡ a .u ∷ cased e (rest m s (a .next)) = p .is ∙ spell-byte (a .u) _ (digit-byte (a .u) h) in record {
-          some-digit = f .some-digit ∙ rw (k, lt-ltb 0 (suc (spanLen isDigit (cased e (rest m s (a .next))))) (omega arith)) (or-true any);
+          some-digit = f .some-digit ∙ rw (k, lt-ltb 0 (suc (spanLen isDigit (cased e (rest m s (a .next))))) (omega arith)) (or-right any true refl);
           left = f .left ∙ rw (k, b);
         }
 

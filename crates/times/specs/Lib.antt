@@ -19,6 +19,7 @@
 --     OffsetAlong    UTC-OFFSET by its patterns
 --     OffsetWritten  UTC-OFFSET written
 --     Period         PERIOD in iCalendar text
+--     PeriodAlong    PERIOD by the pattern of its start
 --     PeriodAt       PERIOD read at a cursor
 --     PeriodWritten  PERIOD written
 --     Computing  opens all of these, for examples that compute
@@ -42,6 +43,7 @@ pub mod UtcOffset
 pub mod OffsetAlong
 pub mod OffsetWritten
 pub mod Period
+pub mod PeriodAlong
 pub mod PeriodAt
 pub mod PeriodWritten
 pub mod Computing

@@ -14,7 +14,7 @@ use lib.Dec.{eqb, leb, ltb}
 use lib.ListN.{length, take, drop, length-drop, drop-of-length-le}
 use lib.Seq.{take-all}
 use borrow.Author.Tests.{eqb-true, eqb-false, eq-eqb, ne-eqb, leb-true, le-leb, lt-ltb, le-ltb, ltb-true, ltb-false}
-use Rattle.octets.specs.Pick.{pick, _and_, _or_, and-no-right, and-both, and-no-left, pick-yes, pick-no, flag-yes, flag-no}
+use Rattle.octets.specs.Pick.{pick, _and_, _or_, and-no-right, and-both, and-no-left, pick-yes, pick-no, flag-yes, flag-no, and-true}
 use borrow.Author.Needs.{needs}
 use Rattle.octets.specs.Append.{_⊕_}
 use Rattle.octets.specs.Scan.{allOf, all-split}
@@ -27,7 +27,7 @@ use Rattle.model.specs.Calendar.{Format, ical, xcal, formatOf}
 use Rattle.source.specs.Source.{rest, spell, Reads}
 use Rattle.source.specs.declared.Step.{Step}
 use Rattle.times.specs.Spelling.{Mark, keep, begins, withMarks, withoutMarks, putMark, fits, marks-exact, marks-length}
-use Rattle.times.specs.Pattern.{Followed, reached, lost, passes, tally, along, zeros, digitsAt, followedBy, isMark, areMarks, along-marks, along-digits}
+use Rattle.times.specs.Pattern.{Followed, reached, lost, passes, tally, along, zeros, digitsAt, followedBy, isMark, areMarks, along-marks, along-digits, worth2, worth4}
 use Rattle.times.specs.Time.{isClock}
 use Rattle.times.specs.TimeAlong.{isHms}
 use Rattle.times.specs.MonthRule.{twoDigits}
@@ -90,12 +90,6 @@ six P q (a ∷ b ∷ c ∷ d ∷ []) l = absurd (omega arith)
 six P q (a ∷ b ∷ c ∷ d ∷ e ∷ []) l = absurd (omega arith)
 six P q (a ∷ b ∷ c ∷ d ∷ e ∷ f ∷ []) l = q a b c d e f
 six P q (a ∷ b ∷ c ∷ d ∷ e ∷ f ∷ g ∷ v) l = absurd (omega arith)
-
-abbrev worth2 : ℕ → ℕ → ℕ
-worth2 a b = (0 * 10 + a) * 10 + b
-
-abbrev worth4 : ℕ → ℕ → ℕ → ℕ → ℕ
-worth4 a b c d = (worth2 a b * 10 + c) * 10 + d
 
 abbrev worth6 : ℕ → ℕ → ℕ → ℕ → ℕ → ℕ → ℕ
 worth6 a b c d e f = (worth4 a b c d * 10 + e) * 10 + f
@@ -232,11 +226,7 @@ signed b l = go (eqb b 43) (eqb b 45) refl refl (isShift l) (ltb 0 (value 0 l))
 
 minus-front : (b : ℕ) (l : List ℕ) → isMinus (b ∷ l) ≡ eqb b 45
 unfolding isMinus begins _and_
-minus-front b l = go (eqb b 45)
-  where
-    go : (t : Bool) → (t and true) ≡ t
-    go true = refl
-    go false = refl
+minus-front b l = and-true (eqb b 45)
 
 signed-along : (k : ℕ) (b : ℕ) (l : List ℕ) → whole (along (43 ∷ zeros k []) 0 (b ∷ l)) ≡ pick (eqb b 43 or eqb b 45) (whole (along (zeros k []) 0 l)) none
 unfolding along passes tally whole pick

@@ -4,7 +4,7 @@
 --     along-spell      one character of the pattern
 --     along-marks      a pattern with marks passes what the pattern without them passes when the marks are taken out
 --     along-digits     digits at the front
-use mathlib.Core.Path.{_≡_, refl, sym, ap, _∙_}
+use mathlib.Core.Path.{_≡_, refl, sym, _∙_}
 use mathlib.Core.Bool.{Bool, true, false}
 use mathlib.Core.List.{List, [], _∷_, _++_}
 use mathlib.Core.Option.{Option, none, some}
@@ -19,7 +19,7 @@ use Rattle.octets.specs.Class.{isDigit}
 use Rattle.octets.specs.Decimal.{value, digitOf}
 use Rattle.octets.specs.Reading.{provided, andThen, consRead}
 use Rattle.source.specs.Source.{spell}
-use Rattle.times.specs.Spelling.{Mark, mark, putMark, takeMark, withMarks, withoutMarks, fits}
+use Rattle.times.specs.Spelling.{Mark, mark, putMark, takeMark, withMarks, withoutMarks, fits, put-length}
 
 pub data Followed : Type 0 where
   reached : ℕ → List ℕ → Followed
@@ -32,6 +32,13 @@ passes c b = pick (eqb c 48) (isDigit b) (pick (eqb c 43) (eqb b 43 or eqb b 45)
 -- digits are counted
 unfoldable pub tally : ℕ → ℕ → ℕ → ℕ
 tally c n b = pick (eqb c 48) (n * 10 + digitOf b) n
+
+-- what two digits and four are worth
+abbrev pub worth2 : ℕ → ℕ → ℕ
+worth2 a b = (0 * 10 + a) * 10 + b
+
+abbrev pub worth4 : ℕ → ℕ → ℕ → ℕ → ℕ
+worth4 a b c d = (worth2 a b * 10 + c) * 10 + d
 
 unfoldable pub along : List ℕ → ℕ → List ℕ → Followed
 along [] n s = reached n s
@@ -106,18 +113,12 @@ unfoldable pub areMarks : List Mark → Bool
 areMarks [] = true
 areMarks (m ∷ ms) = isMark (m .sign) and areMarks ms
 
-put-longer : (k c : ℕ) (q : List ℕ) → length (putMark k c q) ≡ suc (length q)
-unfolding putMark
-put-longer zero c q = refl
-put-longer (suc k) c [] = refl
-put-longer (suc k) c (x ∷ q) = ap suc (put-longer k c q)
-
 pub along-marks : (ms : List Mark) (q : List ℕ) (n : ℕ) (s : List ℕ) → areMarks ms ≡ true → fits ms (length q) ≡ true →
     along (withMarks ms q) n s ≡ followedBy (withoutMarks ms s) (along q n)
 unfolding withMarks withoutMarks areMarks fits followedBy andThen
 along-marks [] q n s m h = refl
 along-marks (k ∷ ms) q n s m h =
-    along-marks ms (putMark (k .place) (k .sign) q) n s (and-both _ _ m .1) (rw put-longer (and-both _ _ h .1))
+    along-marks ms (putMark (k .place) (k .sign) q) n s (and-both _ _ m .1) (rw put-length (and-both _ _ h .1))
     ∙ go (withoutMarks ms s)
   where
     go : (o : Option (List ℕ)) → followedBy o (along (putMark (k .place) (k .sign) q) n) ≡ followedBy (andThen o (takeMark (k .place) (k .sign))) (along q n)

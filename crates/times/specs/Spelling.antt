@@ -151,7 +151,7 @@ marked-accepted test o v h = let q = andThen-some o (keep test) v h in keep-acce
 
 -- ---- marks that are put in are taken out, and only those
 
-put-length : (n c : ℕ) (s : List ℕ) → length (putMark n c s) ≡ suc (length s)
+pub put-length : (n c : ℕ) (s : List ℕ) → length (putMark n c s) ≡ suc (length s)
 unfolding putMark
 put-length zero c s = refl
 put-length (suc n) c [] = refl

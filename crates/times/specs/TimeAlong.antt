@@ -14,7 +14,7 @@ use lib.Dec.{eqb, leb}
 use lib.ListN.{length, take, drop}
 use borrow.Author.Tests.{leb-true, le-leb, eq-eqb, ne-eqb}
 use borrow.Author.Needs.{needs}
-use Rattle.octets.specs.Pick.{pick, _and_, _or_, and-no-right, flag-yes, flag-no, and-both}
+use Rattle.octets.specs.Pick.{pick, _and_, _or_, and-no-right, flag-yes, flag-no, and-both, and-true}
 use Rattle.octets.specs.Append.{_⊕_, append-none}
 use Rattle.octets.specs.Scan.{allOf, all-split}
 use Rattle.octets.specs.Ascii.{ascii}
@@ -26,7 +26,7 @@ use Rattle.model.specs.Calendar.{Format, ical, xcal, formatOf}
 use Rattle.source.specs.Source.{rest, spell}
 use Rattle.source.specs.Facts.{spell-byte, spell-end}
 use Rattle.times.specs.Spelling.{Mark, keep, withMarks, withoutMarks, putMark, fits}
-use Rattle.times.specs.Pattern.{Followed, reached, lost, along, zeros, digitsAt, followedBy, isMark, areMarks, along-marks, along-digits}
+use Rattle.times.specs.Pattern.{Followed, reached, lost, along, zeros, digitsAt, followedBy, isMark, areMarks, along-marks, along-digits, worth2}
 use Rattle.times.specs.Time.{isClock, isTime, readTime, timeMarks}
 use Rattle.times.specs.MonthRule.{twoDigits}
 use Rattle.times.specs.Letters.{cased, Spells, cased-empty}
@@ -88,10 +88,6 @@ six P q (a ∷ b ∷ c ∷ []) l = absurd (omega arith)
 six P q (a ∷ b ∷ c ∷ d ∷ []) l = absurd (omega arith)
 six P q (a ∷ b ∷ c ∷ d ∷ e ∷ []) l = absurd (omega arith)
 six P q (a ∷ b ∷ c ∷ d ∷ e ∷ f ∷ r) l = q a b c d e f r
-
--- what digits are worth after a number n, as `value` counts
-abbrev worth2 : ℕ → ℕ → ℕ
-worth2 a b = (0 * 10 + a) * 10 + b
 
 abbrev worth6 : ℕ → ℕ → ℕ → ℕ → ℕ → ℕ → ℕ → ℕ
 worth6 n a b c d e f = (((((n * 10 + a) * 10 + b) * 10 + c) * 10 + d) * 10 + e) * 10 + f
@@ -189,11 +185,6 @@ time-along false s = time-kept (upper s)
 time-along true s = marked (withoutMarks timeMarks s) ∙ ap timed (sym (along-marks timeMarks (zeros 6 []) 0 s refl refl))
 
 -- ---- what follows the digits, by its kind
-
-and-true : (t : Bool) → (t and true) ≡ t
-unfolding _and_
-and-true true = refl
-and-true false = refl
 
 clock-end : (n : ℕ) → clockFrom n [] ≡ clockBy n 0
 unfolding clockFrom clockBy timeOf isZone pick _or_

@@ -1,4 +1,4 @@
-// PERIOD in iCalendar text. See specs/Period.antt and specs/PeriodAt.antt.
+// PERIOD in iCalendar text. See specs/Period.antt, specs/PeriodAlong.antt and specs/PeriodAt.antt.
 ghost use mathlib.Core.Path.{_≡_};
 ghost use mathlib.Core.Bool.{true, false};
 ghost use mathlib.Core.Option.{none};
@@ -10,7 +10,8 @@ ghost use Rattle.times.specs.DateTime.{readDateTime, writeDateTime};
 ghost use Rattle.times.specs.Letters.{cased};
 ghost use Rattle.times.specs.DateTimeAlong.{momentBy};
 ghost use Rattle.times.specs.Period.{readPeriod};
-ghost use Rattle.times.specs.PeriodAt.{Cuts, periodBy, Periods};
+ghost use Rattle.times.specs.PeriodAlong.{periodBy};
+ghost use Rattle.times.specs.PeriodAt.{Cuts, Periods};
 ghost use Rattle.times.specs.PeriodWritten.{startXml, endXml, endBytes};
 use crate::date_time::DateTimeRead;
 use crate::date_time::follow_date_time;

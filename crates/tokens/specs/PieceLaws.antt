@@ -19,10 +19,11 @@ use Rattle.octets.specs.Class.{isAlpha, isNameChar, isSpace, lower, lowerByte}
 use Rattle.octets.specs.Words.{same, starts, same-true}
 use Rattle.octets.specs.Runs.{afterRun}
 use Rattle.octets.specs.Reading.{none-some}
+use Rattle.octets.specs.Letters.{lower-length}
 use Rattle.source.specs.Source.{rest}
 use Rattle.names.specs.Runs.{RunEnds}
 use Rattle.xml.specs.Starting.{starts-inside}
-use Rattle.xml.specs.Pieces.{from, first, exactly, inAnyCase, S, S?, Name}
+use Rattle.xml.specs.Pieces.{from, first, exactly, inAnyCase, S, S?, Name, length-from}
 use Rattle.tokens.specs.Ends.{Ends, ends-found, ends-missing}
 
 pub from-next : (s : List ℕ) (i : ℕ) → i < length s → from i s ≡ getD s i 0 ∷ from (i + 1) s
@@ -32,10 +33,6 @@ from-next s i h = drop-next s i h
 pub from-past : (s : List ℕ) (i : ℕ) → length s ≤ i → from i s ≡ []
 unfolding from
 from-past s i h = drop-of-length-le s h
-
-pub length-from : (i : ℕ) (s : List ℕ) → length (from i s) ≡ length s - i
-unfolding from
-length-from i s = length-drop i s
 
 -- ---- given bytes
 
@@ -82,11 +79,6 @@ module _ (s : List ℕ) (at : ℕ) (w : List ℕ) where
     lowering-end h = let e : length w - i ≡ 0 = omega arith in sym (q .left ∙ rw (e, from-past w i h))
 
 pub ruleset lowering = (lowering-start, lowering-more, lowering-stop, lowering-short, lowering-end, needs)
-
-lower-length : (s : List ℕ) → length (lower s) ≡ length s
-unfolding lower
-lower-length [] = refl
-lower-length (b ∷ s) = ap suc (lower-length s)
 
 take-short : (n : ℕ) (s : List ℕ) → length (take n s) ≤ length s
 take-short zero s = omega arith

@@ -14,7 +14,8 @@ use borrow.Author.Tests.{lt-ltb, le-ltb, le-leb, lt-leb, leb-true, eqb-true, ne-
 use Rattle.octets.specs.Pick.{pick, pick-no, pick-either, within, within-yes, _and_, _or_, and-no-right, or-no, or-left, or-right, and-both, or-cases}
 use Rattle.octets.specs.Scan.{allOf}
 use Rattle.octets.specs.Append.{_⊕_, append-none}
-use Rattle.utf8.specs.Utf8.{isAscii, isTail, more, low, high, highAfter, tails, badFrom, firstBad, ascii-first}
+use Rattle.octets.specs.Class.{isTail}
+use Rattle.utf8.specs.Utf8.{isAscii, more, low, high, highAfter, tails, badFrom, firstBad, ascii-first}
 
 -- the tail byte with the last six bits of n
 abbrev pub tailOf : ℕ → ℕ

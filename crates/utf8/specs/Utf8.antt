@@ -16,16 +16,12 @@ use borrow.Author.Tests.{le-leb, leb-true}
 use Rattle.octets.specs.Pick.{pick, within, within-yes, or-left, pick-either, _and_, _or_, and-both}
 use Rattle.octets.specs.Scan.{allOf}
 use Rattle.octets.specs.Append.{_⊕_}
-use Rattle.octets.specs.Class.{isVisible}
+use Rattle.octets.specs.Class.{isVisible, isTail}
 use Rattle.octets.specs.Reading.{isRead}
 
 -- a character of one byte that is allowed: TAB, LF, CR, and from the space to the tilde
 abbrev pub isAscii : ℕ → Bool
 isAscii a = within 0x20 0x7E a or eqb a 9 or eqb a 10 or eqb a 13
-
--- UTF8-tail = %x80-BF
-abbrev pub isTail : ℕ → Bool
-isTail b = within 0x80 0xBF b
 
 -- how many bytes follow the lead byte a; 4 where no sequence begins with a
 abbrev pub more : ℕ → ℕ
@@ -88,11 +84,11 @@ unfolding wellFormed isRead pick
 good-well-formed s h = rw h
 
 -- the index only moves what is found
-shifted : (s : List ℕ) (k i j : ℕ) → badFrom k i s ≡ none → badFrom k j s ≡ none
+pub good-shifted : (s : List ℕ) (k i j : ℕ) → badFrom k i s ≡ none → badFrom k j s ≡ none
 unfolding badFrom pick
-shifted [] k i j h = refl
-shifted (b ∷ s) (suc k) i j h = shifted s k (i + 1) (j + 1) h
-shifted (a ∷ s) zero i j h = go (isSequence a s) h (shifted s (more a) (i + 1) (j + 1))
+good-shifted [] k i j h = refl
+good-shifted (b ∷ s) (suc k) i j h = good-shifted s k (i + 1) (j + 1) h
+good-shifted (a ∷ s) zero i j h = go (isSequence a s) h (good-shifted s (more a) (i + 1) (j + 1))
   where
     go : (t : Bool) → pick t (badFrom (more a) (i + 1) s) (some i) ≡ none → (badFrom (more a) (i + 1) s ≡ none → badFrom (more a) (j + 1) s ≡ none) →
         pick t (badFrom (more a) (j + 1) s) (some j) ≡ none
@@ -141,13 +137,13 @@ from-append (x ∷ a) b zero i l h = go (isSequence x a) refl h (λ l h. from-ap
     go false e h ih = absurd (let z : _≡_ {A = ℕ} 0 1 = cc in omega arith)
 
 pub bad-append : (a b : List ℕ) (i : ℕ) → firstBad a ≡ none → badFrom 0 i (a ⊕ b) ≡ badFrom 0 (i + length a) b
-bad-append a b i h = from-append a b 0 i (omega arith) (shifted a 0 0 i h)
+bad-append a b i h = from-append a b 0 i (omega arith) (good-shifted a 0 0 i h)
 
 pub good-append : (a b : List ℕ) → firstBad a ≡ none → firstBad b ≡ none → firstBad (a ⊕ b) ≡ none
-good-append a b h k = bad-append a b 0 h ∙ shifted b 0 0 (0 + length a) k
+good-append a b h k = bad-append a b 0 h ∙ good-shifted b 0 0 (0 + length a) k
 
 -- well-formed bytes are well formed on both sides of a place where no tail byte stands
-low-least : (a : ℕ) → 0x80 ≤ low a
+pub low-least : (a : ℕ) → 0x80 ≤ low a
 low-least a = pick-either (λ n. 0x80 ≤ n) _ _ _ (omega arith) (pick-either (λ n. 0x80 ≤ n) _ _ _ (omega arith) (omega arith))
 
 high-most : (a : ℕ) → high a ≤ 0xBF
@@ -185,7 +181,7 @@ from-split (x ∷ a) b zero i l t h = go (isSequence x (a ⊕ b)) refl h (λ l h
 pub good-split : (a b : List ℕ) → tailAt b ≡ false → firstBad (a ⊕ b) ≡ none → (firstBad a ≡ none) × (firstBad b ≡ none)
 good-split a b t h =
     let g : firstBad a ≡ none = from-split a b 0 0 (omega arith) t h in
-    (g, shifted b 0 (0 + length a) 0 (sym (bad-append a b 0 g) ∙ h))
+    (g, good-shifted b 0 (0 + length a) 0 (sym (bad-append a b 0 g) ∙ h))
 
 -- a byte of ASCII is a character
 pub ascii-first : (a i : ℕ) (s : List ℕ) → isAscii a ≡ true → badFrom 0 i (a ∷ s) ≡ badFrom 0 (i + 1) s

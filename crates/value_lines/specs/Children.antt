@@ -11,7 +11,7 @@ use native.Mathlib.Omega.{arith}
 use lib.ListN.{length, take}
 use borrow.Author.Needs.{needs}
 use Rattle.octets.specs.Pick.{pick}
-use Rattle.octets.specs.Words.{same, same-true, same-self, same-swap}
+use Rattle.octets.specs.Words.{same, same-either}
 use Rattle.octets.specs.Reading.{readOr}
 use Rattle.sink.specs.Sink.{Put}
 use Rattle.source.specs.Source.{rest}
@@ -44,13 +44,6 @@ pub record TextAt (n s : List ℕ) (from r : ℕ) : Type 0 where
 
 -- ---- the walk
 
-same-flip : (a b : List ℕ) → same a b ≡ same b a
-same-flip a b = go (same b a) refl
-  where
-    go : (t : Bool) → same b a ≡ t → same a b ≡ t
-    go true e = rw (same-true b a e) (same-self a)
-    go false e = same-swap b a e
-
 child-skips : (n : List ℕ) → Skips (childNamed n)
 unfolding childNamed
 child-skips n = record { over-literal = λ p b m. refl; over-referred = λ p bs m. refl }
@@ -68,7 +61,7 @@ module _ {n s : List ℕ} {from at : ℕ} {r : Node} (w : Naming n s from at) (d
 
   module _ {b : Bool} (q : r .kind ≡ Element) (e : b ≡ same (rest 0 (take (r .«name_end») s) (r .name)) n) where
     named : same n (rest 0 (take (r .«name_end») s) (r .name)) ≡ b
-    named = same-flip n _ ∙ sym e
+    named = same-either n _ ∙ sym e
 
     pub child-here : b ≡ true → ChildAt n s from (Found (r .inside))
     unfolding childNamed pick

@@ -1,5 +1,4 @@
 -- The items of a part of a RECUR from its elements.
---     partWords      the names of the parts' elements;   words-are: as the table of the code
 --     part-named     an element is one of the part's, by its name's place;   part-capitals: the part's name from it
 --     ItemAt         the contract of `find_item`;   Listing: its walk, `search items`
 use Prim.{Unit, tt}
@@ -12,7 +11,6 @@ use lib.Dec.{eqb}
 use lib.ListN.{length, take, getD}
 use borrow.Author.Needs.{needs}
 use borrow.Author.Tests.{eq-eqb, ne-eqb}
-use Rattle.octets.specs.Ascii.{ascii}
 use Rattle.octets.specs.Pick.{pick}
 use Rattle.octets.specs.Class.{upper, lower}
 use Rattle.octets.specs.Words.{same, same-true, isOneOf}
@@ -21,8 +19,8 @@ use Rattle.octets.specs.Reading.{readOr}
 use Rattle.octets.specs.Computing.{octets-compute}
 use Rattle.model.specs.Calendar.{xcal, RuleItem, word}
 use Rattle.source.specs.Source.{rest}
-use Rattle.names.specs.Table.{placeOf, namesIn}
-use Rattle.schema.specs.Numbers.{same-place}
+use Rattle.names.specs.Table.{placeOf}
+use Rattle.names.specs.Places.{same-place}
 use Rattle.schema.specs.Cells.{tabled, tabled-at, column-at, row-at-passes}
 use Rattle.recur.specs.Parts.{partNames}
 use Rattle.recur.specs.Item.{readItem}
@@ -32,29 +30,21 @@ use Rattle.xml.specs.NodesAt.{nodesAt}
 use Rattle.nodes.specs.NodeFound.{NodeAt, node-less, element-onward}
 use Rattle.nodes.specs.declared.Node.{Node}
 use Rattle.nodes.specs.declared.NodeKind.the-variants.{None, Element, Literal, Referred}
+use Rattle.value_nodes.specs.Parts.{recurNames}
 use Rattle.value_lines.specs.Walking.{Skips, Seeking, seek-start, seek-none, seek-element, seek-past, seek-literal, seek-referred}
 use Rattle.value_lines.specs.declared.rule.ItemFound.{ItemFound}
 use Rattle.value_lines.specs.declared.rule.ItemFound.the-variants.{Item, Last}
 
-abbrev pub partWords : List (List ℕ)
-partWords =
-    ascii "freq" ∷ ascii "until" ∷ ascii "count" ∷ ascii "interval" ∷ ascii "bysecond" ∷ ascii "byminute" ∷ ascii "byhour" ∷ ascii "byday"
-    ∷ ascii "bymonthday" ∷ ascii "byyearday" ∷ ascii "byweekno" ∷ ascii "bymonth" ∷ ascii "bysetpos" ∷ ascii "wkst" ∷ []
-
 abbrev pub partName : ℕ → List ℕ
 partName p = getD partNames p []
 
-pub words-are : namesIn (ascii "freq\nuntil\ncount\ninterval\nbysecond\nbyminute\nbyhour\nbyday\nbymonthday\nbyyearday\nbyweekno\nbymonth\nbysetpos\nwkst\n") ≡ partWords
-unfolding namesIn pick
-words-are = refl
-
 -- ---- the part of an element
 
-words-known : every (λ w. isOneOf (lower w) partWords) partNames ≡ true
+words-known : every (λ w. isOneOf (lower w) recurNames) partNames ≡ true
 unfolding octets-compute
 words-known = refl
 
-words-placed : map (λ w. placeOf (lower w) partWords) partNames ≡ tabled (λ i. i) 0 14
+words-placed : map (λ w. placeOf (lower w) recurNames) partNames ≡ tabled (λ i. i) 0 14
 unfolding octets-compute placeOf tabled
 words-placed = refl
 
@@ -62,14 +52,14 @@ names-capital : every (λ w. same (upper (lower w)) w) partNames ≡ true
 unfolding octets-compute
 names-capital = refl
 
-place-again : (p : ℕ) → p < 14 → placeOf (lower (partName p)) partWords ≡ p
+place-again : (p : ℕ) → p < 14 → placeOf (lower (partName p)) recurNames ≡ p
 place-again p h =
-    sym (column-at (λ w. placeOf (lower w) partWords) [] partNames p h) ∙ ap (λ (l : List ℕ). getD l p 0) words-placed ∙ tabled-at (λ i. i) 14 0 p h ∙ omega arith
+    sym (column-at (λ w. placeOf (lower w) recurNames) [] partNames p h) ∙ ap (λ (l : List ℕ). getD l p 0) words-placed ∙ tabled-at (λ i. i) 14 0 p h ∙ omega arith
 
-pub part-named : (p : ℕ) (m : List ℕ) → p < 14 → same m (lower (partName p)) ≡ eqb (placeOf m partWords) p
+pub part-named : (p : ℕ) (m : List ℕ) → p < 14 → same m (lower (partName p)) ≡ eqb (placeOf m recurNames) p
 part-named p m h =
-    same-place m (lower (partName p)) partWords (row-at-passes (λ w. isOneOf (lower w) partWords) [] partNames p words-known h)
-    ∙ ap (eqb (placeOf m partWords)) (place-again p h)
+    same-place m (lower (partName p)) recurNames (row-at-passes (λ w. isOneOf (lower w) recurNames) [] partNames p words-known h)
+    ∙ ap (eqb (placeOf m recurNames)) (place-again p h)
 
 pub part-capitals : (p : ℕ) (m : List ℕ) → p < 14 → m ≡ lower (partName p) → upper m ≡ partName p
 part-capitals p m h e = ap upper e ∙ same-true (upper (lower (partName p))) (partName p) (row-at-passes (λ w. same (upper (lower w)) w) [] partNames p names-capital h)
@@ -106,7 +96,7 @@ module _ {p : ℕ} {s : List ℕ} {from at : ℕ} {r : Node} (w : Listing p s fr
   unfolding itemsOf
   item-none q = record { is = seek-none (w .walk) d q; within = tt }
 
-  module _ {k : ℕ} (h : p < 14) (q : r .kind ≡ Element) (e : k ≡ placeOf (rest 0 (take (r .«name_end») s) (r .name)) partWords) where
+  module _ {k : ℕ} (h : p < 14) (q : r .kind ≡ Element) (e : k ≡ placeOf (rest 0 (take (r .«name_end») s) (r .name)) recurNames) where
     named : same (rest 0 (take (r .«name_end») s) (r .name)) (lower (partName p)) ≡ eqb k p
     named = part-named p (rest 0 (take (r .«name_end») s) (r .name)) h ∙ ap (λ (j : ℕ). eqb j p) (sym e)
 

@@ -4,14 +4,13 @@
 --     Valuing         the invariant of the loop over the values
 --     type-..         the type of a value
 use Prim.{Unit, tt}
-use mathlib.Core.Path.{_≡_, refl, sym, ap, subst, _∙_}
+use mathlib.Core.Path.{_≡_, refl, ap, subst, _∙_}
 use mathlib.Core.Bool.{Bool, true, false}
 use mathlib.Core.List.{List, [], _∷_, map}
 use Prim.Native.Nat.{ℕ, _-_, _*_, _^_, _≤_, _<_}
 use native.Mathlib.Omega.{arith}
-use native.Mathlib.Decide.{decLe}
 use lib.Dec.{eqb}
-use lib.ListN.{length, take, getD}
+use lib.ListN.{length, take}
 use borrow.Author.Needs.{needs}
 use borrow.Author.Tests.{eq-eqb, ne-eqb}
 use Rattle.octets.specs.Ascii.{ascii}
@@ -19,12 +18,12 @@ use Rattle.octets.specs.Pick.{pick}
 use Rattle.octets.specs.Append.{_⊕_}
 use Rattle.octets.specs.Words.{joinedBy}
 use Rattle.octets.specs.Reading.{readOr}
-use Rattle.model.specs.Calendar.{xcal, PERIOD, RECUR, UNKNOWN, Value, text, recur}
+use Rattle.model.specs.Calendar.{xcal, PERIOD, RECUR, Value, text, recur}
 use Rattle.sink.specs.Sink.{Put, put-length, Todo, todo-all, todo-step, todo-done}
 use Rattle.source.specs.Source.{rest}
-use Rattle.schema.specs.Types.{valueTypes, typePlace, sameType}
+use Rattle.schema.specs.Types.{sameType}
 use Rattle.schema.specs.Numbers.{typeAt}
-use Rattle.schema.specs.Cells.{tabled, tabled-at, column-at}
+use Rattle.schema.specs.Places.{type-back}
 use Rattle.recur.specs.Parts.{partNames}
 use Rattle.recur.specs.Rule.{writeRule}
 use Rattle.values.specs.ReadValue.{readValue}
@@ -103,26 +102,13 @@ module _ {s : List ℕ} {at : ℕ} {r : TypedFound} (f : TypedAt s at r) {t i x 
 
 -- ---- PERIOD and RECUR by their numbers
 
-types-placed : map typePlace valueTypes ≡ tabled (λ i. i) 0 14
-unfolding tabled
-types-placed = refl
-
-type-again : (t : ℕ) → t ≤ 14 → typePlace (typeAt t) ≡ t
-type-again t h = go (decLe 14 t)
-  where
-    go : Dec (14 ≤ t) → typePlace (typeAt t) ≡ t
-    go (yes k) = let e : t ≡ 14 = omega arith in rw e
-    go (no k) =
-        let l : t < 14 = omega (arith, k) in
-        sym (column-at typePlace UNKNOWN valueTypes t l) ∙ ap (λ (l : List ℕ). getD l t 0) types-placed ∙ tabled-at (λ i. i) 14 0 t l ∙ omega arith
-
 pub type-period : (t : ℕ) → t ≤ 14 → sameType (typeAt t) PERIOD ≡ eqb t 8
 unfolding sameType
-type-period t h = rw (type-again t h)
+type-period t h = rw (type-back t h)
 
 pub type-recur : (t : ℕ) → t ≤ 14 → sameType (typeAt t) RECUR ≡ eqb t 9
 unfolding sameType
-type-recur t h = rw (type-again t h)
+type-recur t h = rw (type-back t h)
 
 -- a value by the number of its type
 abbrev pub periodFrom : Nodes → Value

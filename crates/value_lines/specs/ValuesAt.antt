@@ -2,7 +2,7 @@
 --     valuesAt         they, by the number;   values-at: those of a name are those of its number
 --     values-named     those of a name are those of its number's name
 --     put-..           the ways of `put_values`;   type-..: of `type_of_values`
-use mathlib.Core.Path.{_≡_, refl, sym, ap, _∙_}
+use mathlib.Core.Path.{_≡_, sym, ap, _∙_}
 use mathlib.Core.List.{List, [], _∷_}
 use Prim.Native.Nat.{ℕ, _≤_}
 use native.Mathlib.Omega.{arith}
@@ -10,18 +10,15 @@ use native.Mathlib.Decide.{decLe}
 use lib.Dec.{eqb}
 use lib.ListN.{List·getD-eq-default}
 use borrow.Author.Tests.{eq-eqb, ne-eqb}
-use Rattle.octets.specs.Ascii.{ascii}
 use Rattle.octets.specs.Pick.{pick}
-use Rattle.octets.specs.Append.{append-none}
-use Rattle.octets.specs.Words.{same, eachAfter, joinedBy}
-use Rattle.octets.specs.Computing.{octets-compute}
 use Rattle.model.specs.Calendar.{Value}
 use Rattle.sink.specs.Sink.{Put}
 use Rattle.names.specs.Table.{placeOf}
 use Rattle.schema.specs.Properties.{propertyNames}
-use Rattle.schema.specs.Numbers.{typeAt, propertyName, same-place}
-use Rattle.schema.specs.Arrays.{place-at}
-use Rattle.values.specs.WriteValue.{writeValue, writeValues, typeOfAll}
+use Rattle.schema.specs.Numbers.{typeAt, propertyName}
+use Rattle.schema.specs.Places.{property-at, no-property}
+use Rattle.schema.specs.Sets.{geo-place, request-status-place}
+use Rattle.values.specs.WriteValue.{writeValue, writeValues, typeOfAll, one-written}
 use Rattle.xml.specs.Nodes.{Nodes}
 use Rattle.xcal.specs.ValueNodes.{readValueNodes, typedValues}
 use Rattle.value_lines.specs.Own.{geoOf, statusOf}
@@ -30,23 +27,11 @@ use Rattle.value_lines.specs.Own.{geoOf, statusOf}
 abbrev pub valuesAt : ℕ → Nodes → List Value
 valuesAt p kids = pick (eqb p 9) (geoOf kids ∷ []) (pick (eqb p 45) (statusOf kids ∷ []) (typedValues kids))
 
-geo-place : (w : List ℕ) → same w (ascii "GEO") ≡ eqb (placeOf w propertyNames) 9
-unfolding octets-compute placeOf
-geo-place w = same-place w (ascii "GEO") propertyNames refl
-
-status-place : (w : List ℕ) → same w (ascii "REQUEST-STATUS") ≡ eqb (placeOf w propertyNames) 45
-unfolding octets-compute placeOf
-status-place w = same-place w (ascii "REQUEST-STATUS") propertyNames refl
-
 pub values-at : (w : List ℕ) (kids : Nodes) → readValueNodes w kids ≡ valuesAt (placeOf w propertyNames) kids
 unfolding readValueNodes
-values-at w kids = rw (geo-place w, status-place w)
+values-at w kids = rw (geo-place w, request-status-place w)
 
 -- ---- the name of a number
-
-no-property : placeOf [] propertyNames ≡ 46
-unfolding octets-compute placeOf
-no-property = refl
 
 pub values-number : (p : ℕ) (kids : Nodes) → readValueNodes (propertyName p) kids ≡ valuesAt p kids
 unfolding pick
@@ -54,17 +39,12 @@ values-number p kids = values-at (propertyName p) kids ∙ go (decLe 46 p)
   where
     go : Dec (46 ≤ p) → valuesAt (placeOf (propertyName p) propertyNames) kids ≡ valuesAt p kids
     go (yes h) = rw (List·getD-eq-default propertyNames [] h, no-property, ne-eqb p 9 (λ e. omega arith), ne-eqb p 45 (λ e. omega arith))
-    go (no h) = ap (λ (q : ℕ). valuesAt q kids) (place-at p (omega (arith, h)))
+    go (no h) = ap (λ (q : ℕ). valuesAt q kids) (property-at p (omega (arith, h)))
 
 pub values-named : (w : List ℕ) (p : ℕ) (kids : Nodes) → p ≡ placeOf w propertyNames → readValueNodes (propertyName p) kids ≡ readValueNodes w kids
 values-named w p kids e = values-number p kids ∙ ap (λ (q : ℕ). valuesAt q kids) e ∙ sym (values-at w kids)
 
 -- ---- the ways of the code
-
--- one value has nothing between values
-one-written : (v : Value) → writeValues (v ∷ []) ≡ writeValue v
-unfolding writeValues joinedBy eachAfter
-one-written v = append-none (writeValue v)
 
 module _ (p : ℕ) (kids : Nodes) where
   values-geo : p ≡ 9 → readValueNodes (propertyName p) kids ≡ geoOf kids ∷ []

@@ -24,7 +24,8 @@ ghost use Rattle.recur.specs.Item.{writeItem};
 ghost use Rattle.recur.specs.Rule.{writeRule};
 ghost use Rattle.xcal.specs.ValueNodes.{itemsOf, partsOf};
 ghost use Rattle.xml.specs.NodesAt.{nodesAt};
-ghost use Rattle.value_lines.specs.Rules.{partWords, ItemAt};
+ghost use Rattle.value_nodes.specs.Parts.{recurNames};
+ghost use Rattle.value_lines.specs.Rules.{ItemAt};
 ghost use Rattle.value_lines.specs.PutRule.{itemText};
 
 // An item's element: where its content begins, the place of the next node, and its name; or there is none.
@@ -36,7 +37,7 @@ pub enum ItemFound {
 // The number of the part that an element's name names, 14 where it names none.
 fn part_number(s: &[u8], name: usize, name_end: usize) -> usize
     requires { ⌜ «name_end» ≤ length (now s) ⌝ }
-    ensures { λ r. ⌜ r ≡ placeOf (rest 0 (take «name_end» (now (s .entry))) name) partWords ⌝ }
+    ensures { λ r. ⌜ r ≡ placeOf (rest 0 (take «name_end» (now (s .entry))) name) recurNames ⌝ }
 {
     find_word(
         true,

@@ -1,5 +1,4 @@
 -- The type that an element's name names, by its number.
---     typeWords         the names, in the types' order, `unknown` last
 --     element-type-is   the type of a name, by the name's place among them
 --     TypeNamed         the contract of `element_type`;   type-there, type-nowhere: its answers
 --     firsts            the rules of a walk to the first child that is named as a type
@@ -7,15 +6,14 @@
 use Prim.{Unit, tt}
 use mathlib.Core.Path.{_≡_, refl, sym, ap, subst, _∙_}
 use mathlib.Core.Bool.{Bool, true, false, false≢true}
-use mathlib.Core.List.{List, [], _∷_, map}
+use mathlib.Core.List.{List, map}
 use mathlib.Core.Option.{Option, none, some}
 use Prim.Native.Nat.{ℕ, zero, suc, _≤_, _<_}
 use native.Mathlib.Omega.{arith}
-use lib.Dec.{eqb, leb}
 use lib.ListN.{length, getD, take}
 use lib.Seq.{take-all, length-take-le}
 use borrow.Author.Needs.{needs}
-use borrow.Author.Tests.{eq-eqb, ne-eqb, leb-true}
+use borrow.Author.Tests.{eq-eqb, ne-eqb}
 use Rattle.octets.specs.Ascii.{ascii}
 use Rattle.octets.specs.Pick.{pick, _or_}
 use Rattle.octets.specs.Class.{upper, lower}
@@ -23,12 +21,14 @@ use Rattle.octets.specs.Words.{same, isOneOf, same-self, same-true}
 use Rattle.octets.specs.Reading.{readOr}
 use Rattle.octets.specs.Computing.{octets-compute}
 use Rattle.source.specs.Source.{rest}
-use Rattle.names.specs.Table.{placeOf, namesIn}
+use Rattle.names.specs.Table.{placeOf}
 use Rattle.names.specs.Known.{by-place, unknown-word}
 use Rattle.model.specs.Calendar.{ValueType}
-use Rattle.schema.specs.Types.{typeName, typeNamed, typePlace, type-named-is, type-passes, place-type}
+use Rattle.schema.specs.Types.{typeName, typeNamed, typePlace, type-named-is, place-type}
 use Rattle.schema.specs.Properties.{PropertyRow, propertyNames, defaultType}
-use Rattle.schema.specs.Numbers.{typeAt, propertyAt, property-place, same-place}
+use Rattle.schema.specs.Numbers.{typeAt, propertyAt, property-place, typeWords}
+use Rattle.schema.specs.Places.{word-known, type-known}
+use Rattle.schema.specs.Sets.{geo-place, request-status-place}
 use Rattle.xml.specs.Nodes.{Nodes}
 use Rattle.xcal.specs.ElementNames.{lower-upper, no-capital}
 use Rattle.xcal.specs.ValueNodes.{elementType, firstType, typeOfNodes}
@@ -40,20 +40,7 @@ use Rattle.nodes.specs.declared.NodeKind.the-variants.{None, Element, Literal, 
 use Rattle.value_nodes.specs.declared.Named.{Named}
 use Rattle.value_nodes.specs.declared.Named.the-variants.{«Type» as Typed, Bad}
 
-abbrev pub typeWords : List (List ℕ)
-typeWords =
-    ascii "binary" ∷ ascii "boolean" ∷ ascii "cal-address" ∷ ascii "date" ∷ ascii "date-time" ∷ ascii "duration" ∷ ascii "float" ∷ ascii "integer"
-    ∷ ascii "period" ∷ ascii "recur" ∷ ascii "text" ∷ ascii "time" ∷ ascii "uri" ∷ ascii "utc-offset" ∷ ascii "unknown" ∷ []
-
-pub words-are : namesIn (ascii "binary\nboolean\ncal-address\ndate\ndate-time\nduration\nfloat\ninteger\nperiod\nrecur\ntext\ntime\nuri\nutc-offset\nunknown\n") ≡ typeWords
-unfolding namesIn pick
-words-are = refl
-
 -- ---- the type of a name
-
-words-known : (t : ValueType) → isOneOf (lower (typeName t)) typeWords ≡ true
-unfolding octets-compute
-words-known t = type-passes (λ u. isOneOf (lower (typeName u)) typeWords) refl t
 
 unknown-known : isOneOf (ascii "unknown") typeWords ≡ true
 unfolding octets-compute
@@ -69,7 +56,7 @@ no-type n h = rw (unknown-word n typeWords (ascii "unknown") h unknown-known) (g
     found (some t) e q =
         let back : lower (upper n) ≡ n = lower-upper n (rw q (no-capital n)) in
         let z : n ≡ lower (typeName t) = sym back ∙ ap lower (sym (type-named-is (upper n) t e)) in
-        absurd (false≢true (sym (unknown-word n typeWords n h (ap (λ (x : List ℕ). isOneOf x typeWords) z ∙ words-known t)) ∙ same-self n))
+        absurd (false≢true (sym (unknown-word n typeWords n h (ap (λ (x : List ℕ). isOneOf x typeWords) z ∙ word-known t)) ∙ same-self n))
 
     go : (b : Bool) → same n (lower n) ≡ b → pick b (typeNamed (upper n)) none ≡ none
     go true e = found (typeNamed (upper n)) refl (same-true n (lower n) e)
@@ -121,28 +108,6 @@ module _ (n : List ℕ) {t : ℕ} (e : t ≡ placeOf n typeWords) where
   pub type-nowhere : 15 ≤ t → TypeNamed n Bad
   type-nowhere h = record { is = no-type n (rw (← e) h); small = tt }
 
-pub place-at : (t : ℕ) → t ≤ 14 → typePlace (typeAt t) ≡ t
-place-at zero h = refl
-place-at (suc zero) h = refl
-place-at (suc (suc zero)) h = refl
-place-at (suc (suc (suc zero))) h = refl
-place-at (suc (suc (suc (suc zero)))) h = refl
-place-at (suc (suc (suc (suc (suc zero))))) h = refl
-place-at (suc (suc (suc (suc (suc (suc zero)))))) h = refl
-place-at (suc (suc (suc (suc (suc (suc (suc zero))))))) h = refl
-place-at (suc (suc (suc (suc (suc (suc (suc (suc zero)))))))) h = refl
-place-at (suc (suc (suc (suc (suc (suc (suc (suc (suc zero))))))))) h = refl
-place-at (suc (suc (suc (suc (suc (suc (suc (suc (suc (suc zero)))))))))) h = refl
-place-at (suc (suc (suc (suc (suc (suc (suc (suc (suc (suc (suc zero))))))))))) h = refl
-place-at (suc (suc (suc (suc (suc (suc (suc (suc (suc (suc (suc (suc zero)))))))))))) h = refl
-place-at (suc (suc (suc (suc (suc (suc (suc (suc (suc (suc (suc (suc (suc zero))))))))))))) h = refl
-place-at (suc (suc (suc (suc (suc (suc (suc (suc (suc (suc (suc (suc (suc (suc zero)))))))))))))) h = refl
-place-at (suc (suc (suc (suc (suc (suc (suc (suc (suc (suc (suc (suc (suc (suc (suc t))))))))))))))) h = absurd (omega arith)
-
-place-known : (t : ValueType) → typePlace t ≤ 14
-unfolding octets-compute
-place-known t = leb-true _ _ (type-passes (λ u. leb (typePlace u) 14) refl t)
-
 -- a name that is cut behind the end of the bytes
 pub cut-whole : (ws : List (List ℕ)) (s : List ℕ) (a e : ℕ) {r : ℕ} → length s < e → r ≡ placeOf (rest 0 s a) ws → r ≡ placeOf (rest 0 (take e s) a) ws
 cut-whole ws s a e h q = q ∙ ap (λ (x : List ℕ). placeOf (rest 0 x a) ws) (sym (take-all e s (omega arith)))
@@ -184,20 +149,12 @@ pub ruleset firsts = (passing-start, first-none, first-literal, first-referred, 
 
 -- ---- the type of a property's value
 
-pub geo-place : (w : List ℕ) → same w (ascii "GEO") ≡ eqb (placeOf w propertyNames) 9
-unfolding octets-compute placeOf
-geo-place w = same-place w (ascii "GEO") propertyNames refl
-
-pub request-status-place : (w : List ℕ) → same w (ascii "REQUEST-STATUS") ≡ eqb (placeOf w propertyNames) 45
-unfolding octets-compute placeOf
-request-status-place w = same-place w (ascii "REQUEST-STATUS") propertyNames refl
-
 module _ (p : ℕ) {t : ℕ} (kids : Nodes) (e : t ≡ typePlace (propertyAt p .default)) where
   default-as : (w : List ℕ) → p ≡ placeOf w propertyNames → typeAt t ≡ defaultType w
   default-as w h = rw (e, place-type (propertyAt p .default), h) (ap (λ (r : PropertyRow). r .default) (sym (property-place w)))
 
   default-known : t ≤ 14
-  default-known = rw e (place-known (propertyAt p .default))
+  default-known = rw e (type-known (propertyAt p .default))
 
   pub of-geo : p ≡ 9 → ((w : List ℕ) → p ≡ placeOf w propertyNames → typeAt t ≡ typeOfNodes w kids) × (t ≤ 14)
   unfolding typeOfNodes pick _or_
@@ -217,4 +174,4 @@ module _ (p : ℕ) {t : ℕ} (kids : Nodes) (e : t ≡ typePlace (propertyAt p .
 
 -- a type has a number up to 14
 pub type-small : {t : ℕ} (u : ValueType) → t ≡ typePlace u → t ≤ 14
-type-small u e = rw e (place-known u)
+type-small u e = rw e (type-known u)

@@ -18,9 +18,9 @@ use Rattle.octets.specs.Reading.{isRead}
 use Rattle.octets.specs.Computing.{octets-compute}
 use Rattle.names.specs.Table.{placeOf}
 use Rattle.names.specs.Known.{word-at}
+use Rattle.names.specs.Places.{same-place}
 use Rattle.model.specs.Calendar.{xcal, DATE-TIME, DURATION, duration, dateTime}
 use Rattle.model.specs.Refusal.{FRAME, Verdict, fine, refuse}
-use Rattle.schema.specs.Numbers.{same-place}
 use Rattle.times.specs.DateTime.{readDateTime}
 use Rattle.times.specs.Duration.{readDuration}
 use Rattle.recur.specs.Parts.{partNames}

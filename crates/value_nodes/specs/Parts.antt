@@ -42,7 +42,7 @@ abbrev pub countOf : Bool → ℕ
 countOf true = 14
 countOf false = 3
 
-recur-names-are : namesIn (ascii "freq\nuntil\ncount\ninterval\nbysecond\nbyminute\nbyhour\nbyday\nbymonthday\nbyyearday\nbyweekno\nbymonth\nbysetpos\nwkst\n") ≡ recurNames
+pub recur-names-are : namesIn (ascii "freq\nuntil\ncount\ninterval\nbysecond\nbyminute\nbyhour\nbyday\nbymonthday\nbyyearday\nbyweekno\nbymonth\nbysetpos\nwkst\n") ≡ recurNames
 unfolding namesIn pick
 recur-names-are = refl
 

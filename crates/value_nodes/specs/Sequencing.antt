@@ -5,7 +5,7 @@
 --     walked                  `sequence`, with these flags in the place of the names seen;   sequence-walked: it is the same
 --     walked-none, walked-space, walked-text, walked-referred, walked-element, walked-outside, walked-child     a walk, by the node at hand
 --     slot-place              the slot of a name, by the name's place in a list of all names
-use mathlib.Core.Path.{_≡_, refl, ap, _∙_}
+use mathlib.Core.Path.{_≡_, refl}
 use mathlib.Core.Bool.{Bool, true, false, not}
 use mathlib.Core.List.{List, [], _∷_, map}
 use mathlib.Core.Option.{Option, none, some}
@@ -13,7 +13,7 @@ use Prim.Native.Nat.{ℕ, suc, _≤_}
 use lib.ListN.{length, getD, drop}
 use Rattle.octets.specs.Pick.{pick, _and_, _or_}
 use Rattle.octets.specs.Class.{isSpace}
-use Rattle.octets.specs.Words.{same, isOneOf, same-self, same-true, same-swap}
+use Rattle.octets.specs.Words.{same, isOneOf, same-either}
 use Rattle.octets.specs.Lists.{every, anyOne, every-both}
 use Rattle.names.specs.Table.{placeOf}
 use Rattle.names.specs.Known.{by-place, unknown-list}
@@ -47,13 +47,6 @@ lacks-short (s ∷ slots) seen = go (s .required) (lacks-short slots seen)
         ((t and not (filled seen s)) or lacks slots seen) ≡ isShort (pick t (filled seen s ∷ fillings slots seen) (fillings slots seen))
     go true ih = rw ih
     go false ih = ih
-
-same-either : (m n : List ℕ) → same m n ≡ same n m
-same-either m n = go (same n m) refl
-  where
-    go : (t : Bool) → same n m ≡ t → same m n ≡ t
-    go true e = ap (λ (x : List ℕ). same m x) (same-true n m e) ∙ same-self m
-    go false e = same-swap n m e
 
 -- one more name, in front
 seen-more : (n : List ℕ) (seen names : List (List ℕ)) → anyOne (λ m. isOneOf m (n ∷ seen)) names ≡ (isOneOf n names or anyOne (λ m. isOneOf m seen) names)

@@ -19,7 +19,8 @@ use Rattle.schema.specs.Components.{componentNames}
 use Rattle.schema.specs.Properties.{propertyNames}
 use Rattle.schema.specs.Numbers.{typeAt}
 use Rattle.schema.specs.Columns.{permitsType, permits-type-place}
-use Rattle.schema.specs.Sets.{wordsAt, isWordOf, words-place}
+use Rattle.schema.specs.Sets.{wordsAt, isWordOf, words-place, geo-place, request-status-place}
+use Rattle.schema.specs.Places.{type-back}
 use Rattle.numbers.specs.Float.{readFloat}
 use Rattle.values.specs.ReadValue.{readValue}
 use Rattle.values.specs.ValueAt.{mapped}
@@ -28,7 +29,7 @@ use Rattle.xcal.specs.Layout.{sequence, leaf}
 use Rattle.xcal.specs.ValueNodes.{periodSlots, periodInside, recurSlots, recurInside, readWordOf, typedVerdict, asTyped, valueVerdict, elementType}
 use Rattle.value_nodes.specs.Leaves.{leafBy}
 use Rattle.nodes.specs.Judging.{judgedAs, is-value}
-use Rattle.value_nodes.specs.ElementTypes.{TypeNamed, place-at, geo-place, request-status-place}
+use Rattle.value_nodes.specs.ElementTypes.{TypeNamed}
 use Rattle.value_nodes.specs.declared.Named.{Named}
 use Rattle.value_nodes.specs.declared.Named.the-variants.{«Type» as Typed, Bad}
 use Rattle.nodes.specs.declared.Judged.the-variants.{Refused}
@@ -44,7 +45,7 @@ typedAt k p t place e kids =
 typed-place : (c w : List ℕ) (u place e : ℕ) (kids : Nodes) → u ≤ 14 →
     typedVerdict c w (typeAt u) place e kids ≡ typedAt (placeOf c componentNames) (placeOf w propertyNames) u place e kids
 unfolding typedVerdict sameType
-typed-place c w u place e kids h = rw (place-at u h, words-place c w)
+typed-place c w u place e kids h = rw (type-back u h, words-place c w)
 
 module _ (c w : List ℕ) (place : ℕ) (n : List ℕ) (e : ℕ) (kids : Nodes) where
   geo-as : (t : ValueType) → placeOf w propertyNames ≡ 9 → valueVerdict c w t place n e kids ≡ leaf (λ l. isRead (readFloat l)) place kids
@@ -63,7 +64,7 @@ module _ (c w : List ℕ) (place : ℕ) (n : List ℕ) (e : ℕ) (kids : Nodes) 
 typed-as : (c w : List ℕ) (place e : ℕ) (kids : Nodes) (u t : ℕ) → u ≤ 14 → t ≤ 14 → asTyped (some (typeAt u)) c w (typeAt t) place e kids ≡
     pick (permitsType (placeOf w propertyNames) u and eqb u t) (typedAt (placeOf c componentNames) (placeOf w propertyNames) u place e kids) (refuse VALUE place)
 unfolding sameType
-typed-as c w place e kids u t h l = rw (permits-type-place w (typeAt u), place-at u h, place-at t l, typed-place c w u place e kids h)
+typed-as c w place e kids u t h l = rw (permits-type-place w (typeAt u), type-back u h, type-back t l, typed-place c w u place e kids h)
 
 -- ---- for code
 

@@ -11,10 +11,10 @@ ghost use lib.ListN.{take};
 ghost use Rattle.source.specs.Source.{rest};
 ghost use Rattle.names.specs.Table.{placeOf};
 ghost use Rattle.schema.specs.Properties.{propertyNames};
-ghost use Rattle.schema.specs.Numbers.{typeAt};
+ghost use Rattle.schema.specs.Numbers.{typeAt, typeWords};
 ghost use Rattle.xcal.specs.ValueNodes.{firstType, typeOfNodes};
 ghost use Rattle.xml.specs.NodesAt.{nodesAt};
-ghost use Rattle.value_nodes.specs.ElementTypes.{typeWords, TypeNamed};
+ghost use Rattle.value_nodes.specs.ElementTypes.{TypeNamed};
 
 // The number of the type that the word from `at` on names, 15 where it names none.
 fn type_word(s: &[u8], at: usize) -> usize

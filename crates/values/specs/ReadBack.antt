@@ -141,7 +141,7 @@ abbrev pub IsOfType : ValueType → Value → Type 0
 IsOfType t v = (isValue v ≡ true) × (isTyped v ≡ true) × (typeOf v ≡ t)
 
 -- a value made of what was read: what holds of each such value holds of it
-made : {A : Type 0} (P : Value → Type 0) (g : A → Value) (o : Option A) (v : Value) → Option·map g o ≡ some v → ((a : A) → o ≡ some a → P (g a)) → P v
+pub made : {A : Type 0} (P : Value → Type 0) (g : A → Value) (o : Option A) (v : Value) → Option·map g o ≡ some v → ((a : A) → o ≡ some a → P (g a)) → P v
 made P g none v h k = none-some h
 made P g (some a) v h k = let q : g a ≡ v = cc in rw (← q) (k a refl)
 

@@ -3,6 +3,7 @@
 --     arePropertyValues   the values of a property in a component: of one permitted type, and words of its closed set where it has one
 --     isProperty          a property of a component: such values, and parameters that it permits, each once; BINARY with ENCODING=BASE64
 -- How often a property stands in a component is no part of this.
+--     chosen-valid, property-value-valid    a value of a parameter or of a property is spelled as its type says
 use mathlib.Core.Path.{_≡_, refl, sym}
 use mathlib.Core.Bool.{Bool, true, false, not, false≢true}
 use mathlib.Core.List.{List, [], _∷_, map}
@@ -178,3 +179,21 @@ own-value P g r (utcOffset s) t h = absurd (false≢true (sym t))
 own-value P g r (unknown s) t h = absurd (false≢true (sym t))
 own-value P g r (geo la lo) t h = let e = and-both (isNormal la) (isNormal lo) h in g la lo (e .0) (e .1)
 own-value P g r (requestStatus c d x) t h = r c d x
+
+-- ---- a value of a parameter or of a property is spelled as its type says
+
+pub chosen-valid : (o : Option (List (List ℕ))) (t : ValueType) (v : Value) → isChosen o t v ≡ true → isValue v ≡ true
+chosen-valid none t v h = and-both _ _ (and-both _ _ h .1) .1
+chosen-valid (some words) t v h = go (textIn v) refl h
+  where
+    go : (x : Option (List ℕ)) → textIn v ≡ x → isWordIn words x ≡ true → isValue v ≡ true
+    go none e k = absurd (false≢true k)
+    go (some s) e k = rw (text-in v s e)
+
+pub property-value-valid : (k n : List ℕ) (t : ValueType) (v : Value) → isPropertyValue k n t v ≡ true → isValue v ≡ true
+unfolding pick
+property-value-valid k n t v h = go (hasOwnValues n) h
+  where
+    go : (b : Bool) → pick b (isOwnValue t v) (isChosen (propertyWords k n) t v) ≡ true → isValue v ≡ true
+    go true h = and-both _ _ (and-both _ _ h .1) .1
+    go false h = chosen-valid (propertyWords k n) t v h

@@ -4,26 +4,22 @@
 --     allChildren, sequence-each          of children in an order: each child passes a test that its own verdict implies
 --     comes, sequence-comes, comes-named  and no slot is left that must be filled
 --     child-good                          of the first child of a name
-use mathlib.Core.Path.{_≡_, refl, ap, _∙_}
+use mathlib.Core.Path.{_≡_, refl, ap, _∙_, sym}
 use mathlib.Core.Bool.{Bool, true, false}
 use mathlib.Core.List.{List, _∷_}
 use mathlib.Core.Option.{Option, none, some}
 use Prim.Native.Nat.{ℕ, suc}
-use native.Mathlib.Omega.{arith}
 use lib.Dec.{ltb}
-use Rattle.octets.specs.Pick.{pick, _and_, _or_, and-both, and-yes}
+use Rattle.octets.specs.Pick.{pick, _and_, _or_, and-both, and-yes, or-false}
 use Rattle.octets.specs.Class.{isSpace}
 use Rattle.octets.specs.Words.{same, same-true, isOneOf}
 use Rattle.octets.specs.Reading.{isRead, none-some}
-use Rattle.model.specs.Refusal.{Refusal, NAME, FRAME, VALUE, Verdict, fine, refuse, _otherwise_}
+use Rattle.model.specs.Refusal.{Refusal, NAME, FRAME, VALUE, Verdict, fine, refuse, _otherwise_, refused-not}
 use Rattle.xml.specs.Nodes.{Nodes, noNodes, element, literal, referred, charactersOf, hasElement}
 use Rattle.xcal.specs.Layout.{hasCapital, unexpected, Slot, slotOf, afterSlot, lacks, admitted, sequence, innerElement, leaf}
 use Rattle.xcal.specs.ValueNodes.{childNamed}
 
 -- ---- verdicts
-
-pub refused-not : {X : Type 0} (r : Refusal) (p : ℕ) → refuse r p ≡ fine → X
-refused-not r p e = let z : _≡_ {A = ℕ} 0 1 = cc in absurd (omega arith)
 
 pub both-fine : (v w : Verdict) → (v otherwise w) ≡ fine → (v ≡ fine) × (w ≡ fine)
 unfolding _otherwise_
@@ -114,11 +110,7 @@ module _ (slots : List Slot) (inside : ℕ → List ℕ → ℕ → Nodes → Ve
 -- a name has come where there is a child of that name
 pub comes-named : (n : List ℕ) (kids : Nodes) (seen : List (List ℕ)) → isOneOf n (comes kids seen) ≡ (isOneOf n seen or isRead (childNamed n kids))
 unfolding comes childNamed isRead isOneOf _or_ pick
-comes-named n noNodes seen = go (isOneOf n seen)
-  where
-    go : (t : Bool) → t ≡ (t or false)
-    go true = refl
-    go false = refl
+comes-named n noNodes seen = sym (or-false (isOneOf n seen))
 comes-named n (literal p b more) seen = comes-named n more seen
 comes-named n (referred p bs more) seen = comes-named n more seen
 comes-named n (element p m x kids more) seen = comes-named n more (m ∷ seen) ∙ turn (same n m) (isOneOf n seen) (childNamed n more)

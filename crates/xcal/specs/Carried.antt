@@ -2,7 +2,7 @@
 --     isValid c            VCALENDAR components as the schema has them, of values that can be written
 --     calendar-sound       the content of such a calendar is sound, within 15 elements inside one another
 use mathlib.Core.Path.{_≡_, refl}
-use mathlib.Core.Bool.{Bool, true, false, not}
+use mathlib.Core.Bool.{Bool, true, not}
 use mathlib.Core.List.{List, [], _∷_}
 use Prim.Native.Nat.{ℕ, zero, suc, _+_, _*_, _≤_, _<_}
 use native.Mathlib.Omega.{arith}
@@ -15,21 +15,19 @@ use Rattle.octets.specs.Words.{same-true, isOneOf, isEmpty}
 use Rattle.octets.specs.Lists.{every, word-passes, every-both, every-weaker}
 use Rattle.octets.specs.Tables.{row-any-passes}
 use Rattle.octets.specs.Computing.{octets-compute}
-use Rattle.model.specs.Calendar.{ValueType, Value, Parameter, Property, Components, noMore, component}
+use Rattle.model.specs.Calendar.{Value, Parameter, Property, Components, noMore, component}
 use Rattle.schema.specs.Components.{ComponentRow, componentTable, componentRow, unknownComponent, subcomponentsOf}
 use Rattle.schema.specs.Parameters.{parameterWords, parameterType}
-use Rattle.schema.specs.Properties.{propertyWords}
 use Rattle.schema.specs.Rows.{known-component-passes, subcomponents-known}
 use Rattle.schema.specs.Computing.{schema-compute}
 use Rattle.values.specs.WriteValue.{typeOfAll}
-use Rattle.values.specs.ReadBack.{isValue, isTyped}
-use Rattle.values.specs.Valid.{hasOwnValues, isOwnValue, isChosen, isPropertyValue, areValuesOf, arePropertyValues}
+use Rattle.values.specs.ReadBack.{isValue}
+use Rattle.values.specs.Valid.{areValuesOf, arePropertyValues, chosen-valid, property-value-valid}
 use Rattle.xml.specs.Reads.{isName}
 use Rattle.xml.specs.Content.{Content, nothing, child}
 use Rattle.xcal.specs.WriteXml.{isNoMore}
 use Rattle.xcal.specs.Contents.{valuesBefore, parametersBefore, parametersPart, propertyInside, propertiesBefore, componentsPart, componentInside, calendarContent}
 use Rattle.xcal.specs.ElementNames.{kept-element}
-use Rattle.xcal.specs.Chosen.{chosen-value}
 use Rattle.xcal.specs.ParametersBack.{isCarriedParameter}
 use Rattle.xcal.specs.ParametersBack
 use Rattle.xcal.specs.PropertiesBack.{isCarriedProperty}
@@ -62,7 +60,7 @@ parameters-sound (p ∷ ps) h k =
     let b = every-both isCleanParameter p ps k in
     let c = ParametersBack.carried p (a .0) in
     child-sound (lower (p .name)) (valuesBefore (p .values) nothing) (parametersBefore ps nothing) 2 (kept-element (p .name) (c .kept))
-    (values-sound (p .values) (every-weaker _ isValue (chosen-value (parameterWords (p .name)) (parameterType (p .name))) (p .values) (c .chosen)) (b .0) nothing 0 refl)
+    (values-sound (p .values) (every-weaker _ isValue (chosen-valid (parameterWords (p .name)) (parameterType (p .name))) (p .values) (c .chosen)) (b .0) nothing 0 refl)
     (parameters-sound ps (a .1) (b .1))
 
 parameters-name : isName (ascii "parameters") ≡ true
@@ -81,17 +79,9 @@ part-sound : (ps : List Parameter) (c : Content) → every isCarriedParameter ps
 part-sound [] c h k s = s
 part-sound (p ∷ ps) c h k s = child-sound (ascii "parameters") (parametersBefore (p ∷ ps) nothing) c 3 parameters-name (parameters-sound (p ∷ ps) h k) s
 
-property-value : (k n : List ℕ) (t : ValueType) (v : Value) → isPropertyValue k n t v ≡ true → isValue v ≡ true
-unfolding pick
-property-value k n t v h = go (hasOwnValues n) h
-  where
-    go : (b : Bool) → pick b (isOwnValue t v) (isChosen (propertyWords k n) t v) ≡ true → isValue v ≡ true
-    go true e = and-both (not (isTyped v)) (isValue v) (and-both _ _ e .1) .1
-    go false e = chosen-value (propertyWords k n) t v e
-
 property-values : (k n : List ℕ) (vs : List Value) → arePropertyValues k n vs ≡ true → every isValue vs ≡ true
 unfolding areValuesOf
-property-values k n vs h = every-weaker _ isValue (property-value k n (typeOfAll vs)) vs (and-both _ _ (and-both _ _ h .1) .1)
+property-values k n vs h = every-weaker _ isValue (property-value-valid k n (typeOfAll vs)) vs (and-both _ _ (and-both _ _ h .1) .1)
 
 properties-sound : (k : List ℕ) (ps : List Property) → every (isCarriedProperty k) ps ≡ true → every isCleanProperty ps ≡ true → isSound (propertiesBefore ps nothing) 5 ≡ true
 unfolding propertiesBefore isSound

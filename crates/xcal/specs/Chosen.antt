@@ -1,7 +1,6 @@
 -- A value of a type, or a word of a closed set, in XML.
 --     plain-value     a value of another type than PERIOD and RECUR is character data
 --     chosen-typed    what is chosen has the type asked for
---     chosen-value    and is a value
 --     chosen-read     its characters are read back, as a value of the type or as a word
 --     chosen-word     and pass the test of a property's value
 use mathlib.Core.Path.{_≡_, refl, sym}
@@ -49,10 +48,6 @@ chosen-typed none t v f h =
 chosen-typed (some words) t v f h =
     let w = word-text words v h in
     rw (w .1) (sym (f words refl), refl, refl)
-
-pub chosen-value : (o : Option (List (List ℕ))) (t : ValueType) (v : Value) → isChosen o t v ≡ true → isValue v ≡ true
-chosen-value none t v h = and-both (isTyped v) (isValue v) (and-both (sameType (typeOf v) t) _ h .1) .1
-chosen-value (some words) t v h = rw (word-text words v h .1)
 
 pub chosen-read : (o : Option (List (List ℕ))) (t : ValueType) (v : Value) → OfText o t → isChosen o t v ≡ true → isCharacterData v ≡ true → readWordIn o t (dataOf v) ≡ some v
 unfolding dataOf

@@ -11,7 +11,7 @@ use Rattle.octets.specs.Words.{same, same-self, same-true, same-swap, isOneOf, 
 use Rattle.octets.specs.Lists.{every}
 use Rattle.octets.specs.Computing.{octets-compute}
 use Rattle.model.specs.Calendar.{Components, component}
-use Rattle.model.specs.Refusal.{FRAME, COUNT, Verdict, fine}
+use Rattle.model.specs.Refusal.{FRAME, COUNT, Verdict, fine, refused-not}
 use Rattle.schema.specs.Components.{subcomponentsOf}
 use Rattle.xml.specs.Reads.{isName}
 use Rattle.xml.specs.Nodes.{Nodes, noNodes, element, literal, referred, hasElement}
@@ -22,7 +22,7 @@ use Rattle.xcal.specs.ComponentNodes.{insideOf, isComplete, Come, endOfC
 use Rattle.xcal.specs.PropertiesBack.{isCarriedProperty}
 use Rattle.xcal.specs.ComponentsBack.{areCarried, areAllCalendars}
 use Rattle.xcal.specs.Carried.{isCleanProperty, areClean}
-use Rattle.xcal.specs.Accepted.{refused-not, unexpected-not, both-fine, test-fine, past-fine}
+use Rattle.xcal.specs.Accepted.{unexpected-not, both-fine, test-fine, past-fine}
 use Rattle.xcal.specs.ValuesAccepted.{isCleanContent}
 use Rattle.xcal.specs.GoodNodes.{isGood}
 use Rattle.xcal.specs.PropertiesAccepted.{properties-accepted}
@@ -48,7 +48,7 @@ has-components (literal p b more) = has-components more
 has-components (referred p bs more) = has-components more
 has-components (element p m x kids more) = refl
 
-inner-components : (kids : Nodes) → readInner kids ≡ readComponents (insideOf (ascii "components") kids)
+pub inner-components : (kids : Nodes) → readInner kids ≡ readComponents (insideOf (ascii "components") kids)
 unfolding readComponents readInner insideOf pick
 inner-components noNodes = refl
 inner-components (literal p b more) = inner-components more

@@ -13,7 +13,7 @@ use Rattle.octets.specs.Ascii.{ascii}
 use Rattle.octets.specs.Pick.{pick-either, _and_, _or_, and-both, and-yes}
 use Rattle.octets.specs.Words.{same, starts}
 use Rattle.model.specs.Calendar.{Calendar}
-use Rattle.model.specs.Refusal.{XML, LENGTH, CHARACTER, Verdict, fine, refuse, accepted, answer, characters}
+use Rattle.model.specs.Refusal.{XML, LENGTH, CHARACTER, Verdict, fine, refuse, accepted, answer, characters, refused-not}
 use Rattle.utf8.specs.Utf8.{tails, firstBad, good-well-formed}
 use Rattle.xml.specs.Pieces.{from, S?, nameOf, _then_}
 use Rattle.xml.specs.Prolog.{prolog}
@@ -28,12 +28,12 @@ use Rattle.xcal.specs.ReadDocument.{documentVerdict, readDocument}
 use Rattle.xcal.specs.SoundContent.{isClean}
 use Rattle.xcal.specs.Carried.{isValid}
 use Rattle.xcal.specs.DocumentBack.{document-back}
-use Rattle.xcal.specs.Accepted.{refused-not, both-fine, test-fine}
+use Rattle.xcal.specs.Accepted.{both-fine, test-fine}
 use Rattle.xcal.specs.ValuesAccepted.{empty-clean}
 use Rattle.xcal.specs.ComponentsAccepted.{one-fine, stream-accepted}
-use Rattle.xcal.specs.GoodMarks.{runBy, runOf, isGoodMark, areGoodMarks, good-nodes}
-use Rattle.xcal.specs.Decoding.{State, step-state, drop-state, Ends, start-by, tag-by, reference-by, name-read}
-use Rattle.xcal.specs.CleanRuns.{Run, run-clean, past-run}
+use Rattle.xcal.specs.GoodMarks.{isGoodMark, areGoodMarks, good-nodes}
+use Rattle.xml.specs.Decoding.{State, step-state, drop-state, Ends, start-by, tag-by, reference-by, name-read}
+use Rattle.xml.specs.CleanRuns.{runBy, runOf, Run, run-clean, past-run}
 
 -- ---- marks
 

@@ -15,7 +15,7 @@ use borrow.Author.Tests.{le-leb, lt-leb}
 use Rattle.octets.specs.Pick.{pick, _and_, _or_, within-yes, within-range, and-yes, and-no-right, or-left, or-right, or-no, and-both, or-neither, pick-second}
 use Rattle.octets.specs.Scan.{allOf, all-split}
 use Rattle.octets.specs.Class.{isDigit, isCapital, isSmall, isAlpha, isNameChar, upperByte, lowerByte, upper, lower}
-use Rattle.octets.specs.Letters.{upper-by-cases, upper-twice}
+use Rattle.octets.specs.Letters.{upper-twice, lower-any-case}
 use Rattle.octets.specs.Words.{same, same-self, same-true}
 use Rattle.lines.specs.ContentLine.{isName}
 use Rattle.lines.specs.Names.{startsOffName, isCarriedName, name-upper, carried-name-upper}
@@ -111,17 +111,13 @@ kept-carried n h = sym (carried-name-upper (lower n)) ∙ ap isCarriedName (kept
 
 -- ---- names that are read
 
-upper-small : (b : ℕ) → isCapital b ≡ false → lowerByte (upperByte b) ≡ b
-unfolding pick
-upper-small b h =
-    upper-by-cases (λ x. lowerByte x ≡ b) b
-    (λ l k. rw (within-yes 65 90 (b - 32) (le-leb 65 (b - 32) (omega arith)) (le-leb (b - 32) 90 (omega arith))) (omega arith))
-    (λ e. rw h)
+small-stays : (m : List ℕ) → hasCapital m ≡ false → lower m ≡ m
+unfolding hasCapital lower pick
+small-stays [] h = refl
+small-stays (b ∷ m) h = let q = or-neither (isCapital b) (hasCapital m) h in rw (q .0, small-stays m (q .1))
 
 pub lower-upper : (m : List ℕ) → hasCapital m ≡ false → lower (upper m) ≡ m
-unfolding hasCapital upper lower
-lower-upper [] h = refl
-lower-upper (b ∷ m) h = let q = or-neither (isCapital b) (hasCapital m) h in rw (upper-small b (q .0), lower-upper m (q .1))
+lower-upper m h = lower-any-case m ∙ small-stays m h
 
 -- names without capitals are the same where they are in capitals
 pub upper-apart : (m w : List ℕ) → hasCapital m ≡ false → same m (lower w) ≡ false → same (upper m) w ≡ false

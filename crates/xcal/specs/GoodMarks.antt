@@ -1,5 +1,4 @@
 -- Marks of a document that can be read: where an element opens, its name is a name, and the characters up to the next tag are clean. Their nodes are good.
---     runOf         the characters of marks up to the next tag
 --     areGoodMarks
 --     good-nodes    the nodes of such marks are good
 use mathlib.Core.Path.{_≡_, refl, sym, ap}
@@ -11,20 +10,10 @@ use Rattle.octets.specs.Append.{_⊕_}
 use Rattle.xml.specs.Reads.{isName}
 use Rattle.xml.specs.Marks.{Mark, opens, closes, char, refers, fault}
 use Rattle.xml.specs.Nodes.{nodesBy, nodes, charactersOf, hasElement}
+use Rattle.xml.specs.CleanRuns.{runBy, runOf}
 use Rattle.xcal.specs.SoundContent.{isClean}
 use Rattle.xcal.specs.ValuesAccepted.{isCleanContent}
 use Rattle.xcal.specs.GoodNodes.{isGood}
-
-unfoldable pub runBy : Mark → List ℕ → List ℕ
-runBy (opens p nm) rest = []
-runBy (closes p nm) rest = []
-runBy (char p b) rest = b ∷ rest
-runBy (refers p bs) rest = bs ⊕ rest
-runBy (fault p) rest = []
-
-unfoldable pub runOf : List Mark → List ℕ
-runOf [] = []
-runOf (m ∷ ms) = runBy m (runOf ms)
 
 unfoldable pub isGoodMark : Mark → List ℕ → Bool
 isGoodMark (opens p nm) run = isName nm and isClean run

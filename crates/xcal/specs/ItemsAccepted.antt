@@ -16,13 +16,13 @@ use Rattle.octets.specs.Lists.{every}
 use Rattle.octets.specs.Reading.{isRead, readOr}
 use Rattle.octets.specs.Computing.{octets-compute}
 use Rattle.model.specs.Calendar.{xcal, RuleItem, word}
-use Rattle.model.specs.Refusal.{FRAME, fine}
+use Rattle.model.specs.Refusal.{FRAME, fine, refused-not}
 use Rattle.recur.specs.Item.{readItem, isItem}
 use Rattle.recur.specs.ItemLaws.{item-accepted}
 use Rattle.xml.specs.Nodes.{Nodes, noNodes, element, literal, referred, charactersOf}
 use Rattle.xcal.specs.Layout.{slotOf, sequence}
 use Rattle.xcal.specs.ValueNodes.{recurSlots, recurInside, childNamed, itemsOf}
-use Rattle.xcal.specs.Accepted.{refused-not, test-fine, admitted-fine, allChildren}
+use Rattle.xcal.specs.Accepted.{test-fine, admitted-fine, allChildren}
 use Rattle.xcal.specs.PeriodAccepted.{read-passes}
 
 -- ---- the items of a part

@@ -28,7 +28,7 @@
 --     ParametersAccepted, EncodingAccepted      parameters
 --     TypedAccepted, OwnAccepted, PropertiesAccepted    properties
 --     ComponentsAccepted                        components
---     GoodMarks, Decoding, CleanRuns            the characters of a document's elements
+--     GoodMarks                                 the characters of a document's elements
 --     DocumentAccepted a calendar that is read from a document is valid
 -- and
 --     Computing        opens all definitions, for examples that compute
@@ -73,8 +73,6 @@ pub mod OwnAccepted
 pub mod PropertiesAccepted
 pub mod ComponentsAccepted
 pub mod GoodMarks
-pub mod Decoding
-pub mod CleanRuns
 pub mod DocumentAccepted
 pub mod Computing
 pub mod Examples

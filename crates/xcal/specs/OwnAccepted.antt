@@ -10,10 +10,10 @@ use Rattle.octets.specs.Pick.{pick, _and_, _or_, and-both, and-yes}
 use Rattle.octets.specs.Class.{isSpace}
 use Rattle.octets.specs.Words.{same, same-true, isOneOf}
 use Rattle.octets.specs.Lists.{every, anyOne, every-weaker, every-both}
-use Rattle.octets.specs.Reading.{isRead, readOr}
+use Rattle.octets.specs.Reading.{isRead, readOr, read-some}
 use Rattle.octets.specs.Computing.{octets-compute}
 use Rattle.model.specs.Calendar.{ValueType, Value}
-use Rattle.model.specs.Refusal.{FRAME, fine}
+use Rattle.model.specs.Refusal.{FRAME, fine, refused-not}
 use Rattle.schema.specs.Types.{isTypeOf}
 use Rattle.schema.specs.Properties.{permittedTypes, isListedProperty, propertyWords}
 use Rattle.schema.specs.Computing.{schema-compute}
@@ -31,8 +31,8 @@ use Rattle.xcal.specs.Chosen.{chosen-typed}
 use Rattle.xcal.specs.PropertyValues.{of-text}
 use Rattle.xcal.specs.SoundContent.{isClean}
 use Rattle.xcal.specs.CleanValues.{isCleanData, isCleanValue}
-use Rattle.xcal.specs.Accepted.{refused-not, test-fine, admitted-fine, leaf-accepted, allChildren, comes, sequence-each, sequence-comes, comes-named, child-good}
-use Rattle.xcal.specs.PeriodAccepted.{read-passes, read-some}
+use Rattle.xcal.specs.Accepted.{test-fine, admitted-fine, leaf-accepted, allChildren, comes, sequence-each, sequence-comes, comes-named, child-good}
+use Rattle.xcal.specs.PeriodAccepted.{read-passes}
 use Rattle.xcal.specs.ValuesAccepted.{isCleanContent, clean-leaf, empty-clean}
 use Rattle.xcal.specs.GoodNodes.{isGood}
 use Rattle.xcal.specs.TypedAccepted.{typed-values-accepted}

@@ -14,15 +14,15 @@ use Rattle.octets.specs.Class.{isSpace, upper, lower}
 use Rattle.octets.specs.Words.{same, same-self, same-true, isOneOf, holds, isEmpty}
 use Rattle.octets.specs.Lists.{every, distinct}
 use Rattle.octets.specs.Reading.{consRead, readOr, none-some, provided-some, andThen-some, consRead-some}
-use Rattle.octets.specs.Tables.{row-any-passes}
 use Rattle.octets.specs.Computing.{octets-compute}
 use Rattle.model.specs.Calendar.{xcal, ValueType, BINARY, BOOLEAN, CAL-ADDRESS, DATE, DATE-TIME, DURATION, FLOAT, INTEGER, PERIOD, RECUR, TEXT, TIME, URI, UTC-OFFSET, UNKNOWN}
 use Rattle.model.specs.Calendar.{Value, boolean, calAddress, text, uri, unknown, Parameter}
-use Rattle.model.specs.Refusal.{NAME, FRAME, PARAMETER, fine}
+use Rattle.model.specs.Refusal.{NAME, FRAME, PARAMETER, fine, refused-not}
 use Rattle.schema.specs.Types.{typeName, isTypeOf}
-use Rattle.schema.specs.Parameters.{parameterTable, unrecognisedParameter, parameterType, isListedParameter, parameterWords}
+use Rattle.schema.specs.Parameters.{parameterType, isListedParameter, parameterWords}
 use Rattle.schema.specs.Properties.{permitsParameter}
 use Rattle.schema.specs.Computing.{schema-compute}
+use Rattle.schema.specs.Rows.{parameterTypes, parameter-type}
 use Rattle.lines.specs.Names.{isCarriedName}
 use Rattle.numbers.specs.Boolean.{readBoolean}
 use Rattle.texts.specs.Uri.{readUri, uri-kept}
@@ -30,6 +30,7 @@ use Rattle.texts.specs.Unknown.{readUnknown, unknown-kept}
 use Rattle.values.specs.ReadValue.{readValue}
 use Rattle.values.specs.WriteValue.{characters as dataOf}
 use Rattle.values.specs.Valid.{isAmount, isChosen, isParameter}
+use Rattle.values.specs.ReadBack.{made}
 use Rattle.xml.specs.Reads.{isName}
 use Rattle.xml.specs.Nodes.{Nodes, noNodes, element, literal, referred, charactersOf, hasElement}
 use Rattle.xcal.specs.Layout.{hasCapital}
@@ -40,18 +41,11 @@ use Rattle.xcal.specs.ParametersFine.{nameIn, isEncoded}
 use Rattle.xcal.specs.CleanValues.{isCleanValue}
 use Rattle.xcal.specs.SoundContent.{isClean}
 use Rattle.xcal.specs.Carried.{isCleanParameter}
-use Rattle.xcal.specs.Accepted.{refused-not, both-fine, test-fine, past-fine}
-use Rattle.xcal.specs.ValuesAccepted.{made, read-typed, isCleanContent, clean-leaf, read-clean}
+use Rattle.xcal.specs.Accepted.{both-fine, test-fine, past-fine}
+use Rattle.xcal.specs.ValuesAccepted.{read-typed, isCleanContent, clean-leaf, read-clean}
 use Rattle.xcal.specs.GoodNodes.{isGood}
 
 -- ---- one value
-
-abbrev parameterTypes : List ValueType
-parameterTypes = TEXT ∷ URI ∷ CAL-ADDRESS ∷ BOOLEAN ∷ UNKNOWN ∷ []
-
-parameter-type : (n : List ℕ) → isTypeOf (parameterType n) parameterTypes ≡ true
-unfolding schema-compute
-parameter-type n = row-any-passes (λ r. r .name) n (λ r. isTypeOf (r .type) parameterTypes) unrecognisedParameter parameterTable refl refl
 
 abbrev Plain : Value → Type 0
 Plain v = isCarriedValue v ≡ true

@@ -10,7 +10,7 @@ use Rattle.octets.specs.Ascii.{ascii}
 use Rattle.octets.specs.Pick.{pick, _and_, _or_, and-yes, or-cases}
 use Rattle.octets.specs.Words.{same, isOneOf}
 use Rattle.octets.specs.Lists.{anyOne}
-use Rattle.octets.specs.Reading.{isRead, readOr}
+use Rattle.octets.specs.Reading.{isRead, readOr, read-some}
 use Rattle.octets.specs.Computing.{octets-compute}
 use Rattle.model.specs.Calendar.{xcal}
 use Rattle.model.specs.Refusal.{fine}
@@ -27,11 +27,6 @@ pub read-passes : {A : Type 0} (d : A) (o : Option A) (good : A → Bool) → is
 unfolding isRead readOr
 read-passes d none good h f = absurd (false≢true h)
 read-passes d (some a) good h f = f a refl
-
-pub read-some : {A : Type 0} (o : Option A) → isRead o ≡ true → (a : A) × (o ≡ some a)
-unfolding isRead
-read-some none h = absurd (false≢true h)
-read-some (some a) h = (a, refl)
 
 -- a child's characters are a duration, or a date-time
 abbrev isPart : List ℕ → Nodes → Bool

@@ -11,8 +11,8 @@ use Rattle.octets.specs.Class.{isSpace, upper, lower}
 use Rattle.octets.specs.Words.{same}
 use Rattle.octets.specs.Lists.{every}
 use Rattle.octets.specs.Computing.{octets-compute}
-use Rattle.model.specs.Calendar.{ValueType, Property}
-use Rattle.model.specs.Refusal.{NAME, FRAME, PARAMETER, fine}
+use Rattle.model.specs.Calendar.{ValueType}
+use Rattle.model.specs.Refusal.{NAME, FRAME, PARAMETER, fine, refused-not}
 use Rattle.schema.specs.Components.{mayStand}
 use Rattle.schema.specs.Properties.{isKnownProperty}
 use Rattle.lines.specs.Names.{isCarriedName}
@@ -21,12 +21,12 @@ use Rattle.xml.specs.Reads.{isName}
 use Rattle.xml.specs.Nodes.{Nodes, noNodes, element, literal, referred}
 use Rattle.xcal.specs.Layout.{hasCapital, slotOf, sequence}
 use Rattle.xcal.specs.ElementNames.{isKeptName, kept-name, upper-apart}
-use Rattle.xcal.specs.ValueNodes.{valueSlots, typeOfNodes, valueVerdict, readValueNodes}
-use Rattle.xcal.specs.ParameterNodes.{parametersVerdict, readParameterNodes}
-use Rattle.xcal.specs.PropertyNodes.{badName, propertySlots, stillBefore, parametersIn, childVerdict, lacksEncoding, propertyVerdict, propertiesVerdict, readProperties}
+use Rattle.xcal.specs.ValueNodes.{valueSlots, typeOfNodes, valueVerdict}
+use Rattle.xcal.specs.ParameterNodes.{parametersVerdict}
+use Rattle.xcal.specs.PropertyNodes.{badName, propertySlots, stillBefore, parametersIn, childVerdict, lacksEncoding, propertyVerdict, propertiesVerdict, readProperties, propertyIn}
 use Rattle.xcal.specs.PropertiesBack.{isCarriedProperty}
 use Rattle.xcal.specs.Carried.{isCleanProperty}
-use Rattle.xcal.specs.Accepted.{refused-not, both-fine, test-fine, past-fine, admitted-fine}
+use Rattle.xcal.specs.Accepted.{both-fine, test-fine, past-fine, admitted-fine}
 use Rattle.xcal.specs.ValuesAccepted.{isCleanContent}
 use Rattle.xcal.specs.GoodNodes.{isGood}
 use Rattle.xcal.specs.ParametersAccepted.{parameters-accepted}
@@ -84,12 +84,8 @@ allowed true true h = refl
 allowed true false h = sym h
 allowed false b h = refl
 
--- the property that the element m with these kids states
-abbrev stated : List ℕ → Nodes → Property
-stated m kids = record { name = upper m; parameters = readParameterNodes (parametersIn (upper m) kids); values = readValueNodes (upper m) kids }
-
 property-accepted : (k : List ℕ) (p : ℕ) (m : List ℕ) (x : ℕ) (kids : Nodes) → isName m ≡ true → isGood kids ≡ true → propertyVerdict k p m x kids ≡ fine →
-    (isCarriedProperty k (stated m kids) ≡ true) × (isCleanProperty (stated m kids) ≡ true)
+    (isCarriedProperty k (propertyIn m kids) ≡ true) × (isCleanProperty (propertyIn m kids) ≡ true)
 unfolding propertyVerdict isCarriedProperty isProperty
 property-accepted k p m x kids w g h =
     let n = upper m in

@@ -1,7 +1,7 @@
 -- The element of a property (RFC 6321, section 3.4): what it states, and where it is refused.
 --     propertyVerdict     the verdict on a property's element
 --     propertiesVerdict   the verdict on the children of `properties`
---     readProperties      the properties that they state
+--     propertyIn          the property that an element states;   readProperties: the properties of the children
 use mathlib.Core.Bool.{Bool, true, false, not}
 use mathlib.Core.List.{List, [], _∷_}
 use mathlib.Core.Option.{Option, none, some}
@@ -65,9 +65,12 @@ propertiesVerdict k (element p m x kids more) = propertyVerdict k p m x kids oth
 
 -- ---- what they state
 
+-- the property that the element m with these children states
+abbrev pub propertyIn : List ℕ → Nodes → Property
+propertyIn m kids = record { name = upper m; parameters = readParameterNodes (parametersIn (upper m) kids); values = readValueNodes (upper m) kids }
+
 unfoldable pub readProperties : Nodes → List Property
 readProperties noNodes = []
 readProperties (literal p b more) = readProperties more
 readProperties (referred p bs more) = readProperties more
-readProperties (element p m x kids more) =
-    record { name = upper m; parameters = readParameterNodes (parametersIn (upper m) kids); values = readValueNodes (upper m) kids } ∷ readProperties more
+readProperties (element p m x kids more) = propertyIn m kids ∷ readProperties more

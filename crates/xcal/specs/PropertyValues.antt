@@ -21,11 +21,11 @@ use Rattle.schema.specs.Properties.{permittedTypes, defaultType, isListedProper
 use Rattle.schema.specs.Closed.{property-words-text}
 use Rattle.schema.specs.Computing.{schema-compute}
 use Rattle.values.specs.ReadBack.{isValue, isTyped}
-use Rattle.values.specs.Valid.{isAmount, isChosen}
+use Rattle.values.specs.Valid.{isAmount, isChosen, hasOwnValues}
 use Rattle.xml.specs.Nodes.{noNodes}
 use Rattle.xml.specs.Content.{Content, nothing, placed}
 use Rattle.xcal.specs.Layout.{Slot, slotOf, lacks, sequence}
-use Rattle.xcal.specs.ValueNodes.{may, typeElements, hasOwnChildren, firstType, valueVerdict, readValueNodes}
+use Rattle.xcal.specs.ValueNodes.{may, typeElements, firstType, valueVerdict, readValueNodes}
 use Rattle.xcal.specs.PropertyNodes.{propertySlots, parametersIn, childVerdict}
 use Rattle.xcal.specs.Contents.{inside, valueBefore, valuesBefore}
 use Rattle.xcal.specs.ValuesBack.{typed-before, typed-fine, element-type, values-back}
@@ -36,7 +36,7 @@ pub record Stands (k n : List ℕ) (t : ValueType) (vs : List Value) : Type 0 wh
   -- they state the values
   pub stated : (q : ℕ) → readValueNodes n (placed (valuesBefore vs nothing) q noNodes) ≡ vs
   -- and their type
-  pub typed : (q : ℕ) → pick (hasOwnChildren n) (defaultType n) (firstType (defaultType n) (placed (valuesBefore vs nothing) q noNodes)) ≡ t
+  pub typed : (q : ℕ) → pick (hasOwnValues n) (defaultType n) (firstType (defaultType n) (placed (valuesBefore vs nothing) q noNodes)) ≡ t
   -- they are no parameters
   pub apart : (q : ℕ) → parametersIn n (placed (valuesBefore vs nothing) q noNodes) ≡ noNodes
   -- and are not refused, where none or `parameters` has come

@@ -16,6 +16,7 @@ use Rattle.model.specs.Calendar.{xcal, RuleItem}
 use Rattle.recur.specs.Parts.{partNames, isListPart}
 use Rattle.recur.specs.Item.{readItem, isItem}
 use Rattle.recur.specs.Rule.{isPart, partNamed, hasPart, afterNamed, isOrdered, isRule}
+use Rattle.recur.specs.RuleLaws.{names-once}
 use Rattle.xml.specs.Nodes.{Nodes}
 use Rattle.xcal.specs.Layout.{slotOf, lacks}
 use Rattle.xcal.specs.ValueNodes.{recurSlots, recurInside, childNamed, itemsOf, onePart, partsOf}
@@ -32,10 +33,6 @@ isSound n = same (upper (lower n)) n and fitsSlot (slotOf (lower n) recurSlots 0
 names-sound : every isSound partNames ≡ true
 unfolding octets-compute
 names-sound = refl
-
-names-once : distinct partNames ≡ true
-unfolding octets-compute
-names-once = refl
 
 part-good : (n : List ℕ) (i : RuleItem) (is : List RuleItem) (l : Bool) → isListPart n ≡ l → (l ≡ false → isEmpty is ≡ true) → every (isItem n) (i ∷ is) ≡ true → isPart (record { part = n; items = i ∷ is }) ≡ true
 unfolding pick

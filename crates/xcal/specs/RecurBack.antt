@@ -18,6 +18,7 @@ use Rattle.recur.specs.Item.{writeItem, isFor, isItem}
 use Rattle.recur.specs.ItemLaws.{item-read-back}
 use Rattle.recur.specs.Rule.{isAmount, isPart, nameOf, partNamed, withPart, inOrder, isOrdered}
 use Rattle.recur.specs.OrderLaws.{once-ordered, order-back}
+use Rattle.recur.specs.RuleLaws.{names-once}
 use Rattle.xml.specs.Nodes.{noNodes}
 use Rattle.xml.specs.Content.{Content, nothing, placed}
 use Rattle.xcal.specs.ElementNames.{lower-same}
@@ -112,10 +113,6 @@ parts-in-order (n ∷ ns) ps q c d h =
     let e = and-both (same (upper n) n) _ c in
     rw (parts-items n (same-true _ _ (e .0)) ps d h q, parts-in-order ns ps q (e .1) d h)
     (one-part n (partNamed n ps) ps (inOrder ns ps) refl h)
-
-names-once : distinct partNames ≡ true
-unfolding octets-compute
-names-once = refl
 
 names-capital : every (λ (n : List ℕ). same (upper n) n) partNames ≡ true
 unfolding octets-compute

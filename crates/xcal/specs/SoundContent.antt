@@ -12,13 +12,13 @@ use native.Mathlib.Omega.{arith}
 use lib.Dec.{eqb, leb}
 use borrow.Author.Tests.{ne-eqb, eqb-true}
 use Rattle.octets.specs.Ascii.{ascii}
-use Rattle.octets.specs.Pick.{pick, _and_, _or_, and-both, and-yes, within, within-range, within-wider, pick-either, or-cases}
+use Rattle.octets.specs.Pick.{pick, _and_, _or_, and-both, and-yes, within, within-range}
 use Rattle.octets.specs.Append.{_⊕_}
 use Rattle.octets.specs.Scan.{allOf, all-weaker}
-use Rattle.octets.specs.Class.{isVisible, isCapital, isSmall, isAlpha, isDigit, isNameChar}
+use Rattle.octets.specs.Class.{isVisible, isNameChar, name-char-visible}
 use Rattle.octets.specs.Words.{holds}
 use Rattle.octets.specs.Reading.{none-some}
-use Rattle.utf8.specs.Utf8.{isAscii, more, low, high, highAfter, tails, isSequence, badFrom, firstBad, wellFormed, well-formed-good, bad-append, good-append, visible-good}
+use Rattle.utf8.specs.Utf8.{isAscii, more, low, high, highAfter, tails, isSequence, badFrom, firstBad, wellFormed, well-formed-good, bad-append, good-append, visible-good, low-least}
 use Rattle.xml.specs.Escape.{escaped, startTag, endTag, elementOf}
 use Rattle.xml.specs.Reads.{isName}
 use Rattle.xml.specs.Content.{Content, nothing, child, characters, written, isWritable}
@@ -73,9 +73,6 @@ escaped-case P b s f g = go (eqb b 38) refl (eqb b 60) refl (eqb b 62) refl
     go false e false k true m = f (rw (eqb-true b 62 m)) (ascii "&gt;") refl
     go false e false k false m = g
 
-pub low-least : (a : ℕ) → 0x80 ≤ low a
-low-least a = pick-either (λ n. 0x80 ≤ n) _ _ _ (omega arith) (pick-either (λ n. 0x80 ≤ n) _ _ _ (omega arith) (omega arith))
-
 -- tail bytes stand as they are
 tails-escaped : (s : List ℕ) (n lo hi : ℕ) (l : Bool) → 0x80 ≤ lo → tails n lo hi l s ≡ true → tails n lo hi l (escaped s) ≡ true
 unfolding tails
@@ -112,10 +109,6 @@ escaped-good s h = from-escaped s 0 0 0 0x80 0x80 false (omega arith) refl h
 
 -- ---- tags
 
-hyphen : isVisible 45 ≡ true
-unfolding _and_
-hyphen = refl
-
 open-good : firstBad (ascii "<") ≡ none
 unfolding badFrom tails pick _and_ _or_
 open-good = refl
@@ -128,19 +121,10 @@ end-good : firstBad (ascii "</") ≡ none
 unfolding badFrom tails pick _and_ _or_
 end-good = refl
 
-name-visible : (b : ℕ) → isNameChar b ≡ true → isVisible b ≡ true
-name-visible b h =
-    or-cases (isAlpha b) _ h
-    (λ e. or-cases (isCapital b) (isSmall b) e (λ f. wider 65 90 f (omega arith) (omega arith)) (λ f. wider 97 122 f (omega arith) (omega arith)))
-    (λ e. or-cases (isDigit b) (eqb b 45) e (λ f. wider 48 57 f (omega arith) (omega arith)) (λ f. rw (eqb-true b 45 f) hyphen))
-  where
-    wider : (lo hi : ℕ) → within lo hi b ≡ true → 33 ≤ lo → hi ≤ 126 → isVisible b ≡ true
-    wider lo hi e l m = within-wider lo hi 33 126 b l m e
-
 name-good : (n : List ℕ) → isName n ≡ true → firstBad n ≡ none
 unfolding isName
 name-good [] h = absurd (false≢true h)
-name-good (b ∷ n) h = visible-good (b ∷ n) (all-weaker isNameChar isVisible name-visible (b ∷ n) (and-both _ _ h .1))
+name-good (b ∷ n) h = visible-good (b ∷ n) (all-weaker isNameChar isVisible name-char-visible (b ∷ n) (and-both _ _ h .1))
 
 element-good : (n s : List ℕ) → isName n ≡ true → firstBad s ≡ none → firstBad (elementOf n s) ≡ none
 element-good n s h k =

@@ -14,7 +14,7 @@ use Rattle.octets.specs.Words.{same, same-true, isOneOf, isEmpty}
 use Rattle.octets.specs.Lists.{every, anyOne}
 use Rattle.octets.specs.Reading.{none-some}
 use Rattle.model.specs.Calendar.{ValueType, Value}
-use Rattle.model.specs.Refusal.{FRAME, VALUE, fine}
+use Rattle.model.specs.Refusal.{FRAME, VALUE, fine, refused-not}
 use Rattle.schema.specs.Types.{sameType, isTypeOf, same-type-true}
 use Rattle.schema.specs.Properties.{permittedTypes, propertyWords}
 use Rattle.schema.specs.Computing.{schema-compute}
@@ -27,7 +27,7 @@ use Rattle.xcal.specs.PropertyNodes.{childVerdict}
 use Rattle.xcal.specs.PropertyValues.{typedSlots, of-text}
 use Rattle.xcal.specs.PropertiesBack.{no-type}
 use Rattle.xcal.specs.CleanValues.{isCleanValue}
-use Rattle.xcal.specs.Accepted.{refused-not, test-fine, past-fine, admitted-fine}
+use Rattle.xcal.specs.Accepted.{test-fine, past-fine, admitted-fine}
 use Rattle.xcal.specs.ValuesAccepted.{typed-accepted, isCleanContent, value-clean}
 use Rattle.xcal.specs.GoodNodes.{isGood}
 

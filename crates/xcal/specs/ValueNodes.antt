@@ -22,6 +22,7 @@ use Rattle.numbers.specs.Float.{readFloat}
 use Rattle.recur.specs.Parts.{partNames, isListPart}
 use Rattle.recur.specs.Item.{readItem}
 use Rattle.values.specs.ReadValue.{readValue}
+use Rattle.values.specs.Valid.{hasOwnValues}
 use Rattle.xml.specs.Nodes.{Nodes, noNodes, element, literal, referred, charactersOf}
 use Rattle.xcal.specs.Layout.{Slot, sequence, leaf}
 
@@ -51,10 +52,6 @@ valueSlots n =
     (pick (same n (ascii "REQUEST-STATUS")) (must (ascii "code") ∷ must (ascii "description") ∷ may (ascii "data") ∷ [])
     (record { names = typeElements; several = isListedProperty n; required = true } ∷ []))
 
--- GEO and REQUEST-STATUS have children of their own, of which none is named as a type
-abbrev pub hasOwnChildren : List ℕ → Bool
-hasOwnChildren n = same n (ascii "GEO") or same n (ascii "REQUEST-STATUS")
-
 -- the type that the first child that is named as a type names, or t
 unfoldable pub firstType : ValueType → Nodes → ValueType
 firstType t noNodes = t
@@ -64,7 +61,7 @@ firstType t (element p m x kids more) = readOr (firstType t more) (elementType m
 
 -- the type of a property's value
 unfoldable pub typeOfNodes : List ℕ → Nodes → ValueType
-typeOfNodes n kids = pick (hasOwnChildren n) (defaultType n) (firstType (defaultType n) kids)
+typeOfNodes n kids = pick (hasOwnValues n) (defaultType n) (firstType (defaultType n) kids)
 
 -- ---- PERIOD (section 3.6.9) and RECUR (section 3.6.10)
 

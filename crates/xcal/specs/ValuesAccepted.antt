@@ -4,7 +4,7 @@
 use mathlib.Core.Path.{_≡_, refl, sym, ap, _∙_}
 use mathlib.Core.Bool.{Bool, true, false, false≢true}
 use mathlib.Core.List.{List, []}
-use mathlib.Core.Option.{Option, none, some, Option·map}
+use mathlib.Core.Option.{Option, none, some}
 use Prim.Native.Nat.{ℕ}
 use Rattle.octets.specs.Ascii.{ascii}
 use Rattle.octets.specs.Pick.{pick, _and_, _or_, and-yes}
@@ -29,7 +29,7 @@ use Rattle.texts.specs.Binary.{readBinary}
 use Rattle.texts.specs.Unknown.{readUnknown, unknown-kept}
 use Rattle.recur.specs.Parts.{partNames}
 use Rattle.values.specs.ReadValue.{readValue}
-use Rattle.values.specs.ReadBack.{isValue, value-accepted}
+use Rattle.values.specs.ReadBack.{isValue, value-accepted, made}
 use Rattle.values.specs.Valid.{isOfType, isChosen}
 use Rattle.xml.specs.Nodes.{Nodes, charactersOf, hasElement}
 use Rattle.xcal.specs.Layout.{sequence, leaf}
@@ -84,11 +84,6 @@ isCleanContent kids = hasElement kids or isClean (charactersOf kids)
 pub clean-leaf : (kids : Nodes) → hasElement kids ≡ false → isCleanContent kids ≡ true → isClean (charactersOf kids) ≡ true
 unfolding _or_
 clean-leaf kids e h = rw e at h
-
--- a value made of what was read
-pub made : {A : Type 0} (P : Value → Type 0) (g : A → Value) (o : Option A) (v : Value) → Option·map g o ≡ some v → ((a : A) → o ≡ some a → P (g a)) → P v
-made P g none v h k = none-some h
-made P g (some a) v h k = let q : g a ≡ v = cc in rw (← q) (k a refl)
 
 abbrev Clean : Value → Type 0
 Clean v = isCleanValue v ≡ true

@@ -15,7 +15,8 @@ use Rattle.xml.specs.Digits.{worthOn, capped}
 use Rattle.xml.specs.Escape.{escaped}
 use Rattle.xml.specs.Reads.{isName, characterMarks}
 use Rattle.xml.specs.Content.{written, isWritable, _beside_, characterNodes, placed, contentMarks}
+use Rattle.xml.specs.CleanRuns.{runBy, runOf}
 
 unfoldable pub xml-compute : ℕ
-unfolding octets-compute _otherwise_ utf8-compute from first exactly inAnyCase S S? Name nameOf both _then_ Eq quoted namespaceAttribute startBy endBy tag rootTag hexValue charRef reference literalByte token VersionInfo EncodingDecl XMLDecl prolog marksBy scan rootMarks documentMarks hasRoom closesTop move followed check xmlVerdict endPlaceBy endPlace nodesBy nodes rootBy rootNode documentNodes charactersOf hasElement marksAt nodesAt charsAt charToken charIn worthOn capped escaped isName characterMarks written isWritable _beside_ characterNodes placed contentMarks
+unfolding octets-compute _otherwise_ utf8-compute from first exactly inAnyCase S S? Name nameOf both _then_ Eq quoted namespaceAttribute startBy endBy tag rootTag hexValue charRef reference literalByte token VersionInfo EncodingDecl XMLDecl prolog marksBy scan rootMarks documentMarks hasRoom closesTop move followed check xmlVerdict endPlaceBy endPlace nodesBy nodes rootBy rootNode documentNodes charactersOf hasElement marksAt nodesAt charsAt charToken charIn worthOn capped escaped isName characterMarks written isWritable _beside_ characterNodes placed contentMarks runBy runOf
 xml-compute = 0

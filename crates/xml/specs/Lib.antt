@@ -15,6 +15,8 @@
 --     Reads         tags and character data that are written are read back as marks
 --     Content       the content of an element as it is written
 --     ReadBack      content that is written is read back as nodes
+--     Decoding      a decoder of UTF-8 beside the tokens of a document
+--     CleanRuns     the characters up to the next tag
 --     Computing     opens all definitions, for examples that compute
 --     DocumentBack  a document that is written is within the profile and is read back
 --     Examples      documents read, and each kind of fault
@@ -34,6 +36,8 @@ pub mod Escape
 pub mod Reads
 pub mod Content
 pub mod ReadBack
+pub mod Decoding
+pub mod CleanRuns
 pub mod Computing
 pub mod DocumentBack
 pub mod Examples

@@ -2,8 +2,8 @@
 --     Starting         the invariant of the loop;   starting: its start, its turn, its ends
 --     starts-inside    bytes that stand at a place end within the length
 --     starts-byte      one byte stands at a place
-use mathlib.Core.Path.{_≡_, refl, sym, _∙_}
-use mathlib.Core.Bool.{Bool, true, false, false≢true}
+use mathlib.Core.Path.{_≡_, sym, _∙_}
+use mathlib.Core.Bool.{true, false}
 use mathlib.Core.List.{List, [], _∷_}
 use Prim.Native.Nat.{ℕ, _+_, _≤_, _<_}
 use native.Mathlib.Nat.{add-zero}
@@ -12,9 +12,9 @@ use lib.Dec.{eqb}
 use lib.ListN.{length, getD, drop, length-drop, drop-of-length-le}
 use borrow.Author.Needs.{needs}
 use borrow.Author.Tests.{eq-eqb, ne-eqb}
-use Rattle.octets.specs.Pick.{_and_, and-both}
+use Rattle.octets.specs.Pick.{_and_, and-true}
 use Rattle.octets.specs.Scan.{drop-next}
-use Rattle.octets.specs.Words.{starts}
+use Rattle.octets.specs.Words.{starts, starts-length}
 
 pub record Starting (w s : List ℕ) (i j : ℕ) : Type 0 where
   pub left : starts w (drop i s) ≡ starts (drop j w) (drop (i + j) s)
@@ -45,19 +45,9 @@ pub ruleset starting = (start-none, start-more, start-other, start-short, start-
 
 -- ---- what stands at a place
 
-starts-length : (w s : List ℕ) → starts w s ≡ true → length w ≤ length s
-unfolding starts
-starts-length [] s h = omega arith
-starts-length (x ∷ w) [] h = absurd (false≢true h)
-starts-length (x ∷ w) (y ∷ s) h = let l = starts-length w s (and-both (eqb x y) (starts w s) h .1) in omega arith
-
 pub starts-inside : (w s : List ℕ) (i : ℕ) → i ≤ length s → starts w (drop i s) ≡ true → i + length w ≤ length s
 starts-inside w s i l h = let k = starts-length w (drop i s) h in omega (arith, length-drop i s, k)
 
 pub starts-byte : (c : ℕ) (s : List ℕ) (i : ℕ) → i < length s → starts (c ∷ []) (drop i s) ≡ eqb c (getD s i 0)
 unfolding starts _and_
 starts-byte c s i l = rw (drop-next s i l) (and-true (eqb c (getD s i 0)))
-  where
-    and-true : (t : Bool) → (t and true) ≡ t
-    and-true true = refl
-    and-true false = refl

@@ -1,6 +1,6 @@
 -- `document::parts::put_name_end` meets its contract.
 use Rattle.sink.specs.Sink.{writing}
-use Rattle.document.specs.Parts.{lower-upper}
+use Rattle.octets.specs.Letters.{lower-any-case}
 use Rattle.document.proofs.parts.put_name_end.Statement.{statement}
 use Rattle.document.proofs.parts.put_name_end.Tie as tie
 
@@ -12,5 +12,5 @@ put-name-end-spec = tie.close (tie.spec
     (λ c. search writing)  -- slice-aggregate-put-all-2
     (λ c κs. search writing)  -- put-all-requires-2
     (λ c. search writing)  -- same-length
-    (λ c. rw lower-upper (search writing))  -- returns
+    (λ c. rw lower-any-case (search writing))  -- returns
     )

@@ -3,9 +3,9 @@ use mathlib.Core.Path.{refl, sym}
 use borrow.Author.Needs.{needs}
 use Rattle.octets.specs.Class.{upper}
 use Rattle.schema.specs.Numbers.{componentName}
+use Rattle.schema.specs.Places.{component-at}
 use Rattle.frame.specs.Kinds.{lineFrom}
 use Rattle.frame.specs.Holding.{property-held, property-faulty, property-not}
-use Rattle.frame.specs.Components.{component-at}
 use Rattle.frame.proofs.line.numbered_line.Statement.{statement}
 use Rattle.frame.proofs.line.numbered_line.Tie as tie
 

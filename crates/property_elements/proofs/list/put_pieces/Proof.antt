@@ -16,7 +16,7 @@ put-pieces-spec = tie.close (tie.spec
     Inv-loop
     μ-loop
     (λ c. search piecing)  -- loop-holds
-    (λ c κs. search piecing)  -- piece-end-requires
+    (λ c κs. search piecing)  -- byte-end-requires
     (λ c κs. search piecing)  -- put-piece-requires
     (λ c κs. search piecing)  -- unit-requires
     (λ c. search piecing)  -- same-length

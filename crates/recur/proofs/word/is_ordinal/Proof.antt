@@ -1,5 +1,5 @@
 -- `recur::is_ordinal` meets its contract.
-use Rattle.recur.specs.Numeral.{fronts-byte, fronts-end}
+use Rattle.numbers.specs.Numeral.{fronts-byte, fronts-end}
 use Rattle.octets.specs.Pick.{or-take, or-skip}
 use borrow.Author.Needs.{needs}
 use Rattle.recur.proofs.word.is_ordinal.Statement.{statement}

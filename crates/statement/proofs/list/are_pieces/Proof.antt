@@ -21,11 +21,11 @@ are-pieces-spec = tie.close (tie.spec
     μ-loop
     (λ c. left-start _ _ _ _ (c .before .pre))  -- loop-holds
     (λ c κs. c .loop .inv .inside)  -- byte-end-requires
-    (λ c. cut-count (c .before .byte-end .ensures))  -- slice-aggregate-is-value
-    (λ c κs. search needs)  -- is-value-requires
+    (λ c. cut-count (c .before .byte-end .ensures))  -- slice-aggregate-is-of-type
+    (λ c κs. search needs)  -- is-of-type-requires
     (λ c κs. search needs)  -- unit-requires
-    (λ c. each-last _ (c .before .before .before .before .before .before .loop .inv) (c .before .before .before .before .before .byte-end .ensures) (c .before .unit .ensures) (flag-yes _ _ (c .before .before .before .is-value .ensures) (c .before .before .if1 .taken)) (c .if2 .taken))  -- returns
+    (λ c. each-last _ (c .before .before .before .before .before .before .loop .inv) (c .before .before .before .before .before .byte-end .ensures) (c .before .unit .ensures) (flag-yes _ _ (c .before .before .before .is-of-type .ensures) (c .before .before .if1 .taken)) (c .if2 .taken))  -- returns
     (λ c. pieces-less (c .before .before .before .before .before .byte-end .ensures) (c .before .unit .ensures) (c .if2 .left))  -- loop-less
-    (λ c. each-more _ (c .before .before .before .before .before .before .loop .inv) (c .before .before .before .before .before .byte-end .ensures) (c .before .unit .ensures) (flag-yes _ _ (c .before .before .before .is-value .ensures) (c .before .before .if1 .taken)) (c .if2 .left))  -- loop-again
-    (λ c. each-bad _ (c .before .before .before .before .loop .inv) (c .before .before .before .byte-end .ensures) (flag-no _ _ (c .before .is-value .ensures) (c .if1 .left)))  -- returns-2
+    (λ c. each-more _ (c .before .before .before .before .before .before .loop .inv) (c .before .before .before .before .before .byte-end .ensures) (c .before .unit .ensures) (flag-yes _ _ (c .before .before .before .is-of-type .ensures) (c .before .before .if1 .taken)) (c .if2 .left))  -- loop-again
+    (λ c. each-bad _ (c .before .before .before .before .loop .inv) (c .before .before .before .byte-end .ensures) (flag-no _ _ (c .before .is-of-type .ensures) (c .if1 .left)))  -- returns-2
     )

@@ -8,6 +8,6 @@ pub are-values-spec : {M : Type 1} → statement M
 are-values-spec = tie.close (tie.spec
     (λ c κs. search needs)  -- are-pieces-requires
     (λ c. search needs)  -- returns
-    (λ c κs. search needs)  -- is-value-requires
+    (λ c κs. search needs)  -- is-of-type-requires
     (λ c. search (each-gone, needs))  -- returns-2
     )

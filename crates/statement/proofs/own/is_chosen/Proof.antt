@@ -9,6 +9,6 @@ is-chosen-spec = tie.close (tie.spec
     (λ c κs. search needs)  -- has-words-requires
     (λ c κs. search needs)  -- is-word-of-requires
     (λ c. chosen-word _ _ _ (c .before .before .has-words .ensures) (c .before .if1 .taken) (c .is-word-of .ensures))  -- returns
-    (λ c κs. search needs)  -- is-value-requires
-    (λ c. chosen-value _ _ _ (c .before .before .has-words .ensures) (c .before .if1 .left) (c .is-value .ensures))  -- returns-2
+    (λ c κs. search needs)  -- is-of-type-requires
+    (λ c. chosen-value _ _ _ (c .before .before .has-words .ensures) (c .before .if1 .left) (c .is-of-type .ensures))  -- returns-2
     )

@@ -1,7 +1,7 @@
 -- `value_nodes::type_word` meets its contract.
 use borrow.Author.Needs.{needs}
 use Rattle.names.specs.Table.{by-table}
-use Rattle.value_nodes.specs.ElementTypes.{words-are}
+use Rattle.schema.specs.Numbers.{type-words-are}
 use Rattle.value_nodes.proofs.types.type_word.Statement.{statement}
 use Rattle.value_nodes.proofs.types.type_word.Tie as tie
 
@@ -9,5 +9,5 @@ pub type-word-spec : {M : Type 1} → statement M
 type-word-spec = tie.close (tie.spec
     (λ c. search needs)  -- slice-aggregate-find-word
     (λ c κs. search needs)  -- find-word-requires
-    (λ c. by-table _ words-are (c .find-word .ensures))  -- returns
+    (λ c. by-table _ type-words-are (c .find-word .ensures))  -- returns
     )

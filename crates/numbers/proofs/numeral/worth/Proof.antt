@@ -1,13 +1,13 @@
--- `recur::worth` meets its contract.
-use Rattle.recur.specs.Numeral.{front, worthTo, worth-end, worth-low, worth-high, worth-more, worth-much, fronts-byte, fronts-end}
+-- `numbers::numeral::worth` meets its contract.
+use Rattle.numbers.specs.Numeral.{front, worthTo, worth-end, worth-low, worth-high, worth-more, worth-much, fronts-byte, fronts-end}
 use Rattle.source.specs.Source.{rest}
 use mathlib.Core.Path.{_≡_, refl, _∙_}
 use Prim.Native.Nat.{_≤_, _-_, _*_}
 use native.Mathlib.Omega.{arith}
 use lib.ListN.{length}
 use borrow.Author.Needs.{needs}
-use Rattle.recur.proofs.number.worth.Statement.{statement}
-use Rattle.recur.proofs.number.worth.Tie as tie
+use Rattle.numbers.proofs.numeral.worth.Statement.{statement}
+use Rattle.numbers.proofs.numeral.worth.Tie as tie
 
 abbrev Inv-loop : tie.InvT-loop
 Inv-loop letters most mode s at c₀ v₀ c v =

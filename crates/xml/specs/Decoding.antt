@@ -19,13 +19,12 @@ use Rattle.octets.specs.Scan.{spanLen, allOf, all-cons}
 use Rattle.octets.specs.Class.{isAlpha, isNameChar}
 use Rattle.octets.specs.Words.{starts}
 use Rattle.octets.specs.Reading.{none-some, provided-some, andThen-some}
-use Rattle.utf8.specs.Utf8.{isAscii, more, low, high, highAfter, tails, isSequence, badFrom, ascii-first}
+use Rattle.utf8.specs.Utf8.{isAscii, more, low, high, highAfter, tails, isSequence, badFrom, ascii-first, low-least}
 use Rattle.utf8.specs.Spell.{isCharacter}
 use Rattle.utf8.specs.Computing.{utf8-compute}
 use Rattle.xml.specs.Pieces.{Piece, from, first, exactly, S?, Name, nameOf, both, _then_}
 use Rattle.xml.specs.Reads.{isName}
-use Rattle.xcal.specs.SoundContent.{low-least}
 use Rattle.xml.specs.Token.{Token, STag, EmptyElemTag, ETag, Reference, Fault, startBy, endBy, tag, charRef, reference}
 
 pub record State (s : List ℕ) : Type 0 where
   pub pending : ℕ

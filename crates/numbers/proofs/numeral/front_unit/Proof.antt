@@ -1,9 +1,9 @@
--- `recur::front_unit` meets its contract.
-use Rattle.recur.specs.Numeral.{front-all, front-byte, front-letter}
+-- `numbers::numeral::front_unit` meets its contract.
+use Rattle.numbers.specs.Numeral.{front-all, front-byte, front-letter}
 use Rattle.octets.specs.Pick.{flag-yes, flag-no}
 use borrow.Author.Needs.{needs}
-use Rattle.recur.proofs.number.front_unit.Statement.{statement}
-use Rattle.recur.proofs.number.front_unit.Tie as tie
+use Rattle.numbers.proofs.numeral.front_unit.Statement.{statement}
+use Rattle.numbers.proofs.numeral.front_unit.Tie as tie
 
 pub front-unit-spec : {M : Type 1} → statement M
 front-unit-spec = tie.close (tie.spec

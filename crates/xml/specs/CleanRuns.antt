@@ -1,4 +1,5 @@
 -- The characters that are read up to the next tag are clean, where the bytes of the document are well formed.
+--     runOf           the characters of marks up to the next tag
 --     Run             characters that go on in the middle of one
 --     run-clean       the characters of a run;   past-run: after a tag or a reference
 use mathlib.Core.Path.{_≡_, refl, sym, ap, subst, _∙_}
@@ -15,14 +16,23 @@ use Rattle.octets.specs.Ascii.{ascii}
 use Rattle.octets.specs.Pick.{pick, pick-case, pick-either, _and_, _or_, and-both, and-yes, within, within-range, eqb-swap, or-no}
 use Rattle.octets.specs.Append.{_⊕_}
 use Rattle.octets.specs.Words.{starts, holds, holds-neither, all-without}
-use Rattle.utf8.specs.Utf8.{isAscii, more, low, high, highAfter, tails, badFrom, ascii-first}
+use Rattle.utf8.specs.Utf8.{isAscii, more, low, high, highAfter, tails, badFrom, ascii-first, low-least}
 use Rattle.utf8.specs.Spell.{spell, isCharacter, spell-ascii, spell-high, spell-first}
 use Rattle.utf8.specs.Computing.{utf8-compute}
 use Rattle.xml.specs.Token.{Token, CharByte, literalByte, token}
-use Rattle.xml.specs.Marks.{marksBy, scan}
-use Rattle.xcal.specs.SoundContent.{low-least}
-use Rattle.xcal.specs.GoodMarks.{runBy, runOf}
-use Rattle.xcal.specs.Decoding.{starts-one, State, begun, step-state, drop-state, after-ascii, Ends, tag-by, reference-by}
+use Rattle.xml.specs.Marks.{marksBy, scan, Mark, opens, closes, char, refers, fault}
+use Rattle.xml.specs.Decoding.{starts-one, State, begun, step-state, drop-state, after-ascii, Ends, tag-by, reference-by}
+
+unfoldable pub runBy : Mark → List ℕ → List ℕ
+runBy (opens p nm) rest = []
+runBy (closes p nm) rest = []
+runBy (char p b) rest = b ∷ rest
+runBy (refers p bs) rest = bs ⊕ rest
+runBy (fault p) rest = []
+
+unfoldable pub runOf : List Mark → List ℕ
+runOf [] = []
+runOf (m ∷ ms) = runBy m (runOf ms)
 
 -- characters that go on in the middle of one, of which j bytes are still to come
 pub record Run (j lo hi : ℕ) (l : Bool) (run : List ℕ) : Type 0 where
