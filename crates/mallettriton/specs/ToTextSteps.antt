@@ -10,8 +10,7 @@ use lib.ListN.{length, take}
 use borrow.Author.Tests.{le-leb, lt-leb}
 use Rattle.octets.specs.Pick.{pick}
 use Rattle.model.specs.Calendar.{Calendar}
-use Rattle.model.specs.Refusal.{XML, Verdict, fine, refuse, answer, characters, _otherwise_}
-use Rattle.frame.specs.Answers.{refusalAt}
+use Rattle.model.specs.Refusal.{XML, Verdict, fine, refuse, answer, characters, refusalAt, _otherwise_}
 use Rattle.utf8.specs.Utf8.{firstBad}
 use Rattle.source.specs.Source.{rest}
 use Rattle.xml.specs.Nodes.{Nodes, noNodes, element, documentNodes}
