@@ -13,8 +13,7 @@ use lib.ListN.{length, drop}
 use borrow.Author.Tests.{le-leb, lt-leb, ne-eqb}
 use Rattle.octets.specs.Pick.{pick}
 use Rattle.octets.specs.Append.{_⊕_}
-use Rattle.model.specs.Refusal.{Refusal, LENGTH, WORK, CHARACTER, LINE, NAME, FRAME, PARAMETER, VALUE, COUNT, ROOM, XML}
-use Rattle.model.specs.Refusal.{refusalAt}
+use Rattle.model.specs.Refusal.{Refusal, LENGTH, WORK, CHARACTER, LINE, NAME, FRAME, PARAMETER, VALUE, COUNT, ROOM, XML, refusalAt}
 use Rattle.sink.specs.Sink.{Put, far, overwrite, overwrite-fits}
 use Rattle.mallettriton.specs.Conversion.{Converted, result, fault, Outcome, written, refusal, numbers, outcome, contents}
 use Rattle.mallettriton.specs.declared.Answer.{Answer}

@@ -11,8 +11,7 @@ use borrow.Author.Tests.{le-leb, lt-leb}
 use Rattle.octets.specs.Pick.{pick}
 use Rattle.octets.specs.Append.{_⊕_}
 use Rattle.model.specs.Calendar.{Calendar}
-use Rattle.model.specs.Refusal.{Refusal, CHARACTER, LENGTH, WORK, Verdict, fine, refuse, answer, characters, _otherwise_, limit}
-use Rattle.model.specs.Refusal.{refusalAt}
+use Rattle.model.specs.Refusal.{Refusal, CHARACTER, LENGTH, WORK, Verdict, fine, refuse, answer, characters, _otherwise_, limit, refusalAt}
 use Rattle.folding.specs.Unfold.{unfolded, origin, Unfolds, unfolded-front, length-unfolded}
 use Rattle.folding.specs.Lines.{lines}
 use Rattle.utf8.specs.Utf8.{firstBad}

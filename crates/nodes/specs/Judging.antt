@@ -9,8 +9,7 @@ use mathlib.Core.List.{List}
 use Prim.Native.Nat.{ℕ}
 use borrow.Author.Needs.{needs}
 use Rattle.octets.specs.Pick.{pick-yes, pick-no}
-use Rattle.model.specs.Refusal.{NAME, FRAME, PARAMETER, VALUE, COUNT, Verdict, fine, refuse, _otherwise_}
-use Rattle.model.specs.Refusal.{refusalAt}
+use Rattle.model.specs.Refusal.{NAME, FRAME, PARAMETER, VALUE, COUNT, Verdict, fine, refuse, _otherwise_, refusalAt}
 use Rattle.xcal.specs.Layout.{hasCapital, unexpected}
 use Rattle.nodes.specs.declared.Judged.{Judged}
 use Rattle.nodes.specs.declared.Judged.the-variants.{Fine, Refused}
