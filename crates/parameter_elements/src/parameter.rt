@@ -9,8 +9,8 @@ ghost use Rattle.sink.specs.Sink.{Put};
 ghost use Rattle.source.specs.Source.{rest};
 ghost use Rattle.lines.specs.Cursor.{valuesAt};
 ghost use Rattle.xml.specs.Escape.{startTag, endTag};
+ghost use Rattle.parameters.specs.Cutting.{paramCut};
 ghost use Rattle.parameter_elements.specs.Shown.{shown, ownShown};
-ghost use Rattle.parameter_elements.specs.Walk.{cutParam};
 
 // The start tag of the name that stands from the cursor on, in small letters.
 fn put_start(out: &mut [u8], o: usize, n: &[u8], at: usize) -> usize
@@ -60,7 +60,7 @@ pub fn put_cut_own(
     end: usize,
     first: usize,
 ) -> usize
-    ensures { λ r. ⌜ Put (now (out .entry)) (now (out .exit)) o r (ownShown (cutParam (now (s .entry)) name end first)) ⌝ }
+    ensures { λ r. ⌜ Put (now (out .entry)) (now (out .exit)) o r (ownShown (paramCut (now (s .entry)) name end first)) ⌝ }
 {
     if end <= s.len() {
         return put_own(out, o, &s[..end], name, s, first);
