@@ -15,3 +15,15 @@ size_t parse_and_print(const char *text)
     icalcomponent_free(calendar);
     return length;
 }
+
+/* It parses the text and finds no error in it. */
+int is_parsed(const char *text)
+{
+    icalcomponent *calendar = icalparser_parse_string(text);
+    if (calendar == NULL) {
+        return 0;
+    }
+    int errors = icalcomponent_count_errors(calendar);
+    icalcomponent_free(calendar);
+    return errors == 0;
+}

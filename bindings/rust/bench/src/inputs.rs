@@ -119,8 +119,8 @@ pub const ROTAS: [Kind; 3] = [
     Kind { name: "time zones", front: calendar!(), piece: zone, back: end_calendar!() },
 ];
 
-/// Texts made to be slow.
-pub const WORST_TEXTS: [Kind; 20] = [
+/// Texts made to be slow. One whose name says so is refused.
+pub const WORST_TEXTS: [Kind; 22] = [
     Kind { name: "parameters on a line", front: concat!(event!(), "A"), piece: |i| format!(";{}=", name(i)), back: concat!(":", end_event!()) },
     Kind { name: "values of a parameter", front: concat!(event!(), "A;B="), piece: |_| String::from(","), back: concat!(":", end_event!()) },
     Kind { name: "members of a parameter", front: concat!(event!(), "ATTENDEE;MEMBER=\"a:\""), piece: |_| String::from(",\"a:\""), back: concat!(":a:", end_event!()) },
@@ -132,8 +132,8 @@ pub const WORST_TEXTS: [Kind; 20] = [
     Kind { name: "dates of EXDATE", front: concat!(event!(), "EXDATE;VALUE=DATE:20240504"), piece: |_| String::from(",20240504"), back: end_event!() },
     Kind { name: "periods of RDATE", front: concat!(event!(), "RDATE;VALUE=PERIOD:20240504T080000/PT1H"), piece: |_| String::from(",20240504T080000/PT1H"), back: end_event!() },
     Kind { name: "digits of a FLOAT", front: concat!(event!(), "GEO:1"), piece: |_| String::from("1"), back: concat!(".5;0", end_event!()) },
-    Kind { name: "zeros of an INTEGER", front: concat!(event!(), "PRIORITY:0"), piece: |_| String::from("0"), back: end_event!() },
     Kind { name: "zeros behind a point", front: concat!(event!(), "GEO:1.0"), piece: |_| String::from("0"), back: concat!(";0", end_event!()) },
+    Kind { name: "zeros of an INTEGER", front: concat!(event!(), "PRIORITY:0"), piece: |_| String::from("0"), back: end_event!() },
     Kind { name: "digits of a DURATION", front: concat!(event!(), "DURATION:P0"), piece: |_| String::from("0"), back: concat!("D", end_event!()) },
     Kind { name: "one long TEXT", front: concat!(event!(), "DESCRIPTION:"), piece: |_| String::from("a"), back: end_event!() },
     Kind { name: "TEXT that grows", front: concat!(event!(), "DESCRIPTION:"), piece: |_| String::from("&"), back: end_event!() },
@@ -141,4 +141,74 @@ pub const WORST_TEXTS: [Kind; 20] = [
     Kind { name: "a fold behind each byte", front: concat!(event!(), "DESCRIPTION:"), piece: |_| String::from("a\r\n "), back: end_event!() },
     Kind { name: "alarms of an event", front: event!(), piece: |_| String::from("BEGIN:VALARM\r\nACTION:AUDIO\r\nTRIGGER:P1D\r\nEND:VALARM\r\n"), back: concat!("END:VEVENT\r\n", end_calendar!()) },
     Kind { name: "empty calendars", front: "", piece: |_| String::from("BEGIN:VCALENDAR\r\nPRODID:\r\nVERSION:2.0\r\nEND:VCALENDAR\r\n"), back: "" },
+    Kind { name: "refused in the last line", front: calendar!(), piece: event, back: "END:VEVENT\r\n" },
+    Kind { name: "refused behind folds", front: concat!(calendar!(), "A:"), piece: |_| String::from("\r\n "), back: "\r\n:\r\n" },
 ];
+
+macro_rules! xml_calendar {
+    () => {
+        concat!(xml_root!(), "<vcalendar><properties><prodid><text/></prodid><version><text>2.0</text></version></properties><components>")
+    };
+}
+macro_rules! xml_root {
+    () => {
+        "<?xml version=\"1.0\" encoding=\"utf-8\"?>\n<icalendar xmlns=\"urn:ietf:params:xml:ns:icalendar-2.0\">"
+    };
+}
+macro_rules! xml_event {
+    () => {
+        concat!(
+            xml_calendar!(),
+            "<vevent><properties><uid><text/></uid><dtstamp><date-time>2024-05-01T06:00:00Z</date-time></dtstamp><dtstart><date-time>2024-05-04T08:00:00</date-time></dtstart>"
+        )
+    };
+}
+macro_rules! end_xml_event {
+    () => {
+        concat!("</properties></vevent>", end_xml_calendar!())
+    };
+}
+macro_rules! end_xml_calendar {
+    () => {
+        "</components></vcalendar></icalendar>\n"
+    };
+}
+
+/// Documents made to be slow.
+pub const WORST_DOCUMENTS: [Kind; 28] = [
+    Kind { name: "parameters of a property", front: concat!(xml_event!(), "<a><parameters>"), piece: |i| format!("<{0}><unknown/></{0}>", small_name(i)), back: concat!("</parameters><unknown/></a>", end_xml_event!()) },
+    Kind { name: "values of a parameter", front: concat!(xml_event!(), "<a><parameters><b>"), piece: |_| String::from("<unknown/>"), back: concat!("</b></parameters><unknown/></a>", end_xml_event!()) },
+    Kind { name: "one-byte properties", front: xml_event!(), piece: |_| String::from("<a><unknown/></a>"), back: end_xml_event!() },
+    Kind { name: "known properties", front: xml_event!(), piece: |_| String::from("<comment><text/></comment>"), back: end_xml_event!() },
+    Kind { name: "items of CATEGORIES", front: concat!(xml_event!(), "<categories>"), piece: |_| String::from("<text/>"), back: concat!("</categories>", end_xml_event!()) },
+    Kind { name: "items of a rule", front: concat!(xml_event!(), "<rrule><recur><freq>DAILY</freq>"), piece: |_| String::from("<byhour>1</byhour>"), back: concat!("</recur></rrule>", end_xml_event!()) },
+    Kind { name: "dates of EXDATE", front: concat!(xml_event!(), "<exdate>"), piece: |_| String::from("<date>2024-05-04</date>"), back: concat!("</exdate>", end_xml_event!()) },
+    Kind { name: "periods of RDATE", front: concat!(xml_event!(), "<rdate>"), piece: |_| String::from("<period><start>2024-05-04T08:00:00</start><duration>PT1H</duration></period>"), back: concat!("</rdate>", end_xml_event!()) },
+    Kind { name: "digits of a FLOAT", front: concat!(xml_event!(), "<geo><latitude>1"), piece: |_| String::from("1"), back: concat!(".5</latitude><longitude>0</longitude></geo>", end_xml_event!()) },
+    Kind { name: "zeros behind a point", front: concat!(xml_event!(), "<geo><latitude>1.0"), piece: |_| String::from("0"), back: concat!("</latitude><longitude>0</longitude></geo>", end_xml_event!()) },
+    Kind { name: "zeros of an INTEGER", front: concat!(xml_event!(), "<priority><integer>0"), piece: |_| String::from("0"), back: concat!("</integer></priority>", end_xml_event!()) },
+    Kind { name: "digits of a DURATION", front: concat!(xml_event!(), "<duration><duration>P0"), piece: |_| String::from("0"), back: concat!("D</duration></duration>", end_xml_event!()) },
+    Kind { name: "one long TEXT", front: concat!(xml_event!(), "<description><text>"), piece: |_| String::from("a"), back: concat!("</text></description>", end_xml_event!()) },
+    Kind { name: "TEXT that grows", front: concat!(xml_event!(), "<description><text>"), piece: |_| String::from(";"), back: concat!("</text></description>", end_xml_event!()) },
+    Kind { name: "references in TEXT", front: concat!(xml_event!(), "<description><text>"), piece: |_| String::from("&#65;"), back: concat!("</text></description>", end_xml_event!()) },
+    Kind { name: "references in a URI", front: concat!(xml_event!(), "<url><uri>a:"), piece: |_| String::from("&#65;"), back: concat!("</uri></url>", end_xml_event!()) },
+    Kind { name: "references in a parameter", front: concat!(xml_event!(), "<a><parameters><b><unknown>"), piece: |_| String::from("&#65;"), back: concat!("</unknown></b></parameters><unknown/></a>", end_xml_event!()) },
+    Kind { name: "references in a number", front: concat!(xml_event!(), "<priority><integer>"), piece: |_| String::from("&#48;"), back: concat!("</integer></priority>", end_xml_event!()) },
+    Kind { name: "one long reference", front: concat!(xml_event!(), "<description><text>&#"), piece: |_| String::from("0"), back: concat!("65;</text></description>", end_xml_event!()) },
+    Kind { name: "long references", front: concat!(xml_event!(), "<description><text>"), piece: |_| format!("&#{:0256};", 65), back: concat!("</text></description>", end_xml_event!()) },
+    Kind { name: "entities in TEXT", front: concat!(xml_event!(), "<description><text>"), piece: |_| String::from("&amp;"), back: concat!("</text></description>", end_xml_event!()) },
+    Kind { name: "one long BINARY", front: concat!(xml_event!(), "<attach><parameters><encoding><text>BASE64</text></encoding></parameters><binary>"), piece: |_| String::from("AAAA"), back: concat!("</binary></attach>", end_xml_event!()) },
+    Kind { name: "white space in BINARY", front: concat!(xml_event!(), "<attach><parameters><encoding><text>BASE64</text></encoding></parameters><binary>"), piece: |_| String::from(" "), back: concat!("</binary></attach>", end_xml_event!()) },
+    Kind { name: "white space between elements", front: xml_event!(), piece: |_| String::from("\n"), back: end_xml_event!() },
+    Kind { name: "white space in a tag", front: concat!(xml_event!(), "<a"), piece: |_| String::from(" "), back: concat!("><unknown/></a>", end_xml_event!()) },
+    Kind { name: "alarms of an event", front: concat!(xml_event!(), "</properties><components>"), piece: |_| String::from(ALARM), back: concat!("</components></vevent>", end_xml_calendar!()) },
+    Kind { name: "empty calendars", front: xml_root!(), piece: |_| String::from(EMPTY), back: "</icalendar>\n" },
+    Kind { name: "refused in the last property", front: xml_event!(), piece: |_| String::from("<comment><text/></comment>"), back: concat!("<comment/>", end_xml_event!()) },
+];
+
+const ALARM: &str = "<valarm><properties><action><text>AUDIO</text></action><trigger><duration>P1D</duration></trigger></properties></valarm>";
+const EMPTY: &str = "<vcalendar><properties><prodid><text/></prodid><version><text>2.0</text></version></properties><components/></vcalendar>";
+
+fn small_name(i: usize) -> String {
+    name(i).to_ascii_lowercase()
+}

@@ -2,13 +2,13 @@
 //!
 //!     cargo run --release --offline --bin bench [PART OF A NAME]
 //!
-//! The buffers are made once and not cleared between calls; every call is on the same input. A time is processor time, the shortest of many runs, each of as many calls as take some
-//! milliseconds, so that other work on the machine counts little. Growth is how much longer a call takes on 64 kB than on 8 kB: 8 is linear.
-//! Where libical was found it parses and prints the same text in the same run, and the ratio of the times is printed.
+//! The buffers are made once and not cleared between calls; every call is on the same input, with room enough. A time is processor time, the shortest of many runs, each of as many calls as
+//! take some milliseconds, so that other work on the machine counts little. Growth is how much longer a call takes on 64 kB than on 8 kB: 8 is linear.
+//! Where libical was found when this was built, it parses and prints the same text in the same run, for the way to text the text of the same calendar; the ratio is its time to ours.
 mod inputs;
 
 use inputs::Kind;
-use mallettriton::{to_xml_into, Answer, LONGEST};
+use mallettriton::{to_text, to_text_into, to_xml_into, Answer, LONGEST};
 use std::hint::black_box;
 
 const SHORT: usize = 8_192;
@@ -45,49 +45,68 @@ fn time_of(mut call: impl FnMut()) -> f64 {
     best
 }
 
-/// The length of the result, or a panic: what is measured is accepted.
-fn written(name: &str, answer: Answer<'_>) -> usize {
-    match answer {
-        Answer::Written(result) => result.len(),
-        other => panic!("{name}: {other:?}"),
-    }
-}
-
+/// The buffers of all calls.
 struct Rooms {
     work: Vec<u8>,
     out: Vec<u8>,
 }
 
-fn time_to_xml(name: &str, input: &[u8], rooms: &mut Rooms) -> f64 {
-    written(name, to_xml_into(input, &mut rooms.work, &mut rooms.out));
-    time_of(|| {
-        black_box(to_xml_into(black_box(input), &mut rooms.work, &mut rooms.out));
-    })
+impl Rooms {
+    fn to_xml(&mut self, input: &[u8]) -> Answer<'_> {
+        to_xml_into(input, &mut self.work, &mut self.out)
+    }
+
+    fn to_text(&mut self, input: &[u8]) -> Answer<'_> {
+        to_text_into(input, &mut self.out)
+    }
+
+    /// How long the XML of a text is.
+    fn xml_length(&mut self, text: &[u8]) -> usize {
+        match self.to_xml(text) {
+            Answer::Written(xml) => xml.len(),
+            other => panic!("{other:?}"),
+        }
+    }
 }
 
-/// A line of the table: the speed on a long input, and how the time grows.
-fn report(name: &str, short: (usize, f64), long: (usize, f64), beside: Option<f64>) {
-    let growth = (long.1 / short.1) * 8.0 * (short.0 as f64 / long.0 as f64);
-    let ratio = beside.map_or(String::new(), |time| format!("{:10.1}", time / long.1));
-    println!("{name:<28}{:>8}{:>12.0}{:>10.2}{growth:>8.1}{ratio}", long.0, long.1 * 1e6, long.0 as f64 / long.1 / 1e6);
+/// What is measured is accepted, or refused if its name says so.
+fn as_named(name: &str, answer: Answer<'_>) {
+    let refused = matches!(answer, Answer::Refused(_));
+    assert!(!matches!(answer, Answer::Needs(_)) && refused == name.starts_with("refused"), "{name}: {answer:?}");
+}
+
+/// The XML of as long a text of the kind as gives at most `length` bytes.
+fn document_of(kind: &Kind, length: usize, rooms: &mut Rooms) -> Vec<u8> {
+    let (mut fits, mut too_long) = (length / 32, length);
+    while too_long - fits > 64 {
+        let middle = (fits + too_long) / 2;
+        if rooms.xml_length(&kind.of_length(middle)) <= length {
+            fits = middle;
+        } else {
+            too_long = middle;
+        }
+    }
+    let xml = rooms.xml_length(&kind.of_length(fits));
+    rooms.out[..xml].to_vec()
 }
 
 #[cfg(libical)]
 fn time_of_libical(text: &[u8]) -> Option<f64> {
-    use std::ffi::{c_char, CString};
+    use std::ffi::{c_char, c_int, CString};
     extern "C" {
         fn parse_and_print(text: *const c_char) -> usize;
+        fn is_parsed(text: *const c_char) -> c_int;
     }
     let text = CString::new(text).expect("no text has a NUL");
     // SAFETY: the text is ended by NUL, and libical does not change it.
-    let call = || unsafe { parse_and_print(black_box(&text).as_ptr()) };
-    // a text that it does not take as a whole is not compared
-    if call() < text.as_bytes().len() / 2 {
-        return None;
+    unsafe {
+        if is_parsed(text.as_ptr()) == 0 {
+            return None;
+        }
+        Some(time_of(|| {
+            black_box(parse_and_print(black_box(&text).as_ptr()));
+        }))
     }
-    Some(time_of(|| {
-        black_box(call());
-    }))
 }
 
 #[cfg(not(libical))]
@@ -95,24 +114,60 @@ fn time_of_libical(_: &[u8]) -> Option<f64> {
     None
 }
 
-fn texts(kinds: &[Kind], only: &str, rooms: &mut Rooms) {
-    for kind in kinds.iter().filter(|kind| kind.name.contains(only)) {
-        let (short, long) = (kind.of_length(SHORT), kind.of_length(LONG));
-        let time_short = time_to_xml(kind.name, &short, rooms);
-        let time_long = time_to_xml(kind.name, &long, rooms);
-        let beside = time_of_libical(&long);
-        report(kind.name, (short.len(), time_short), (long.len(), time_long), beside);
-    }
+fn head(way: &str) {
+    println!("\n{way:<30}{:>8}{:>12}{:>10}{:>8}{:>12}", "bytes", "us", "MB/s", "growth", "x libical");
+}
+
+/// A line of the table, from the lengths and times of a short and a long input.
+fn report(name: &str, short: (usize, f64), long: (usize, f64), libical: Option<f64>) {
+    let growth = (long.1 / short.1) * 8.0 * (short.0 as f64 / long.0 as f64);
+    let ratio = libical.map_or(String::from("-"), |time| format!("{:.1}", time / long.1));
+    println!("{name:<30}{:>8}{:>12.0}{:>10.1}{growth:>8.1}{ratio:>12}", long.0, long.1 * 1e6, long.0 as f64 / long.1 / 1e6);
+}
+
+fn measure_text(kind: &Kind, rooms: &mut Rooms) {
+    let [short, long] = [SHORT, LONG].map(|length| {
+        let text = kind.of_length(length);
+        as_named(kind.name, rooms.to_xml(&text));
+        let time = time_of(|| {
+            black_box(rooms.to_xml(black_box(&text)));
+        });
+        (text.len(), time)
+    });
+    let libical = if kind.name.starts_with("refused") { None } else { time_of_libical(&kind.of_length(LONG)) };
+    report(kind.name, short, long, libical);
+}
+
+fn measure_document(name: &str, documents: [Vec<u8>; 2], rooms: &mut Rooms) {
+    let [short, long] = documents.each_ref().map(|xml| {
+        as_named(name, rooms.to_text(xml));
+        let time = time_of(|| {
+            black_box(rooms.to_text(black_box(xml)));
+        });
+        (xml.len(), time)
+    });
+    let libical = to_text(&documents[1]).ok().and_then(|text| time_of_libical(&text));
+    report(name, short, long, libical);
 }
 
 fn main() {
     let only = std::env::args().nth(1).unwrap_or_default();
+    let chosen = |kind: &&Kind| kind.name.contains(&only);
     let mut rooms = Rooms { work: vec![0; LONGEST], out: vec![0; 32 * LONGEST] };
     match option_env!("LIBICAL_VERSION") {
-        Some(version) => println!("libical {version} parses and prints the same text"),
-        None => println!("libical was not found (pkg-config libical), so it is not measured"),
+        Some(version) => println!("libical {version} parses and prints the same text (-: it finds errors in it, or the input is refused)"),
+        None => println!("libical was not found by pkg-config when this was built, so it is not measured"),
     }
-    println!("{:<28}{:>8}{:>12}{:>10}{:>8}{:>10}", "text to XML", "bytes", "us", "MB/s", "growth", "x libical");
-    texts(&inputs::ROTAS, &only, &mut rooms);
-    texts(&inputs::WORST_TEXTS, &only, &mut rooms);
+    head("text to XML");
+    for kind in inputs::ROTAS.iter().chain(&inputs::WORST_TEXTS).filter(chosen) {
+        measure_text(kind, &mut rooms);
+    }
+    head("XML to text");
+    for kind in inputs::ROTAS.iter().filter(chosen) {
+        let documents = [SHORT, LONG].map(|length| document_of(kind, length, &mut rooms));
+        measure_document(kind.name, documents, &mut rooms);
+    }
+    for kind in inputs::WORST_DOCUMENTS.iter().filter(chosen) {
+        measure_document(kind.name, [SHORT, LONG].map(|length| kind.of_length(length)), &mut rooms);
+    }
 }
