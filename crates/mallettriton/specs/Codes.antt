@@ -1,6 +1,6 @@
--- Every value that `to_xml` answers is below 2 ^ 32, so that its number and its value can be told from the one number that C gets.
---     outcome-small    the value of an outcome
---     code-back        its number and its value from the one number
+-- Every value that a conversion answers is below 2 ^ 32, so that its number and its value can be told from the one number that C gets.
+--     to-xml-small, to-text-small    the value of an outcome
+--     code-back                      its number and its value from the one number
 use mathlib.Core.Path.{_≡_, refl, sym, ap, _∙_}
 use mathlib.Core.Bool.{Bool, true, false}
 use mathlib.Core.List.{List, [], _∷_}
@@ -9,17 +9,24 @@ use native.Mathlib.Decide.{decLe}
 use native.Mathlib.Omega.{arith}
 use lib.Dec.{leb}
 use lib.ListN.{length}
-use borrow.Author.Tests.{leb-true}
+use borrow.Author.Tests.{leb-true, lt-leb}
 use Rattle.octets.specs.Pick.{pick}
 use Rattle.model.specs.Refusal.{Refusal, LENGTH, WORK, CHARACTER, LINE, NAME, FRAME, PARAMETER, VALUE, COUNT, ROOM, XML, numberOf, Verdict, fine, refuse, answer}
 use Rattle.folding.specs.Unfold.{unfolded, origin, origin-inside, origin-past, length-unfolded}
 use Rattle.folding.specs.Lines.{lines}
 use Rattle.ical.specs.Tree.{calendarOf}
 use Rattle.ical.specs.ReadText.{keptVerdict, placed, textVerdict, readCalendar}
+use Rattle.ical.specs.WriteText.{writeCalendar}
+use Rattle.xml.specs.Nodes.{documentNodes}
 use Rattle.xcal.specs.WriteXml.{writeDocument}
+use Rattle.xcal.specs.ComponentNodes.{readRoot}
+use Rattle.xcal.specs.ReadDocument.{documentVerdict, readDocument}
 use Rattle.lengths.specs.Documents.{xml-short}
+use Rattle.text_lengths.specs.Documents.{text-short}
+use Rattle.places.specs.Documents.{document-place}
 use Rattle.mallettriton.specs.Conversion.{Converted, result, fault, converted, Outcome, written, refusal, numbers, outcome}
 use Rattle.mallettriton.specs.ToXml.{toXml, toXmlOutcome}
+use Rattle.mallettriton.specs.ToText.{toText, toTextOutcome}
 use Rattle.mallettriton.specs.Answered.{outcomeOf, codeOf}
 use Rattle.mallettriton.specs.declared.Answer.{Answer}
 
@@ -44,15 +51,27 @@ unfolding placed outcome
 kept-small s fine n h = result-small (writeDocument (calendarOf (lines (unfolded s)))) n (xml-short (unfolded s) (omega (arith, length-unfolded s)))
 kept-small s (refuse r p) n h = omega (arith, origin-within s p)
 
-pub outcome-small : (s w d : List ℕ) → numbers (toXmlOutcome s w d) .1 < 4294967296
+pub to-xml-small : (s w d : List ℕ) → numbers (toXmlOutcome s w d) .1 < 4294967296
 unfolding toXml readCalendar textVerdict pick outcome
-outcome-small s w d = go (leb (length s) 65535) (leb (length s) (length w)) refl
+to-xml-small s w d = go (leb (length s) 65535) (leb (length s) (length w)) refl
   where
     go : (a b : Bool) → leb (length s) 65535 ≡ a →
         numbers (outcome (converted writeDocument (answer (pick a (pick b (placed s (keptVerdict (unfolded s))) (refuse WORK 0)) (refuse LENGTH 0)) (calendarOf (lines (unfolded s))))) (length d)) .1 < 4294967296
     go true true e = kept-small s (keptVerdict (unfolded s)) (length d) (leb-true (length s) 65535 e)
     go true false e = omega arith
     go false b e = omega arith
+
+pub to-text-small : (s d : List ℕ) → numbers (toTextOutcome s d) .1 < 4294967296
+unfolding toText readDocument documentVerdict pick outcome
+to-text-small s d = go (decLe (length s) 65535)
+  where
+    by-verdict : (v : Verdict) → documentVerdict s ≡ v → length s ≤ 65535 → numbers (outcome (converted writeCalendar (answer v (readRoot (documentNodes s)))) (length d)) .1 < 4294967296
+    by-verdict fine e h = result-small (writeCalendar (readRoot (documentNodes s))) (length d) (text-short s h)
+    by-verdict (refuse r p) e h = omega (arith, document-place s e)
+
+    go : Dec (length s ≤ 65535) → numbers (toTextOutcome s d) .1 < 4294967296
+    go (yes h) = by-verdict (documentVerdict s) refl h
+    go (no h) = rw (lt-leb (length s) 65535 (omega (arith, h))) (omega arith)
 
 number-small : (r : Refusal) → numberOf r < 12
 number-small LENGTH = omega arith
@@ -75,8 +94,8 @@ numbers-small (refusal r p) = number-small r
 pub code-of : (a : Answer) {o : Outcome} {n v r : ℕ} → outcomeOf a ≡ o → n ≡ numbers (outcomeOf a) .0 → v ≡ numbers (outcomeOf a) .1 → r ≡ n * 4294967296 + v → r ≡ codeOf o
 code-of a {o} {n} {v} {r} e f g h = h ∙ rw (f, g, e)
 
-pub code-fits : (s w d : List ℕ) (a : Answer) {n v : ℕ} → outcomeOf a ≡ toXmlOutcome s w d → n ≡ numbers (outcomeOf a) .0 → v ≡ numbers (outcomeOf a) .1 → (n < 12) × (v < 4294967296)
-code-fits s w d a {n} {v} e f g = (rw f (numbers-small (outcomeOf a)), rw (g, e) (outcome-small s w d))
+pub code-fits : (a : Answer) {o : Outcome} {n v : ℕ} → numbers o .1 < 4294967296 → outcomeOf a ≡ o → n ≡ numbers (outcomeOf a) .0 → v ≡ numbers (outcomeOf a) .1 → (n < 12) × (v < 4294967296)
+code-fits a h e f g = (rw f (numbers-small (outcomeOf a)), rw (g, e) h)
 
 pub code-back : (o : Outcome) → numbers o .1 < 4294967296 → (codeOf o / 4294967296 ≡ numbers o .0) × (codeOf o % 4294967296 ≡ numbers o .1)
 code-back o h = (omega (arith, h), omega (arith, h))

@@ -3,13 +3,14 @@
 --     ToXml         iCalendar text to canonical XML
 --     ToText        xCal to canonical text
 --     Answered      what the code answers, as an outcome and as one number
---     Steps         laws of the steps of the code
+--     ToXmlSteps, ToTextSteps    laws of the steps of the code
 --     Codes         an answer as one number
 --     Computing     opens all of these, for examples that compute
 pub mod Conversion
 pub mod ToXml
 pub mod ToText
 pub mod Answered
-pub mod Steps
+pub mod ToXmlSteps
+pub mod ToTextSteps
 pub mod Codes
 pub mod Computing

@@ -3,9 +3,11 @@ ghost use mathlib.Core.Path.{_≡_};
 ghost use Prim.Native.Nat.{_+_, _*_, _<_};
 ghost use Rattle.mallettriton.specs.Conversion.{numbers};
 ghost use Rattle.mallettriton.specs.ToXml.{toXmlOutcome, toXmlOutput, toXmlWork};
+ghost use Rattle.mallettriton.specs.ToText.{toTextOutcome, toTextOutput};
 ghost use Rattle.mallettriton.specs.Answered.{outcomeOf, codeOf};
 use crate::Answer;
 use crate::text_to_xml::to_xml;
+use crate::xml_to_text::to_text;
 
 // A number and a value as one number.
 fn joined(n: u64, v: usize) -> u64
@@ -61,6 +63,17 @@ pub extern "C" fn mallettriton_to_xml(input: &[u8], work: &mut [u8], out: &mut [
     ensures { λ r. ⌜ (r ≡ codeOf (toXmlOutcome (now (input .entry)) (now (work .entry)) (now (out .entry)))) × (now (out .exit) ≡ toXmlOutput (now (input .entry)) (now (work .entry)) (now (out .entry))) × (now (work .exit) ≡ toXmlWork (now (input .entry)) (now (work .entry))) ⌝ }
 {
     let a = to_xml(input, work, out);
+    let n = number_of(a);
+    let v = value_of(a);
+    joined(n, v)
+}
+
+// `to_text` for C: the same.
+#[no_mangle]
+pub extern "C" fn mallettriton_to_text(input: &[u8], out: &mut [u8]) -> u64
+    ensures { λ r. ⌜ (r ≡ codeOf (toTextOutcome (now (input .entry)) (now (out .entry)))) × (now (out .exit) ≡ toTextOutput (now (input .entry)) (now (out .entry))) ⌝ }
+{
+    let a = to_text(input, out);
     let n = number_of(a);
     let v = value_of(a);
     joined(n, v)

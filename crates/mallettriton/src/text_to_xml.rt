@@ -9,9 +9,10 @@ ghost use Rattle.ical.specs.ReadText.{linesVerdict, keptVerdict};
 ghost use Rattle.xcal.specs.WriteXml.{writeDocument};
 ghost use Rattle.mallettriton.specs.Conversion.{converted};
 ghost use Rattle.mallettriton.specs.ToXml.{toXmlOutcome, toXmlOutput, toXmlWork};
-ghost use Rattle.mallettriton.specs.Answered.{outcomeOf, answerElse, answerAt, Done};
-ghost use Rattle.mallettriton.specs.Steps.{keptGives};
+ghost use Rattle.mallettriton.specs.Answered.{outcomeOf, Done};
+ghost use Rattle.mallettriton.specs.ToXmlSteps.{keptGives};
 use crate::Answer;
+use crate::refusing::refused;
 use document::put_document;
 use folding::unfolding::place_of;
 use folding::unfolding::unfold;
@@ -19,50 +20,6 @@ use frame::Checked;
 use frame::check;
 use utf8::Found;
 use utf8::first_bad;
-
-// The answer of a refusal's number, at a place: of one that is none of 4 to 9.
-fn refused_else(n: u8, p: usize) -> Answer
-    ensures { λ r. ⌜ r ≡ answerElse n p ⌝ }
-{
-    if n == 2 {
-        return Answer::Work(p);
-    }
-    if n == 3 {
-        return Answer::Character(p);
-    }
-    if n == 10 {
-        return Answer::Room(p);
-    }
-    if n == 11 {
-        return Answer::Xml(p);
-    }
-    Answer::Length(p)
-}
-
-// The same of any number.
-fn refused(n: u8, p: usize) -> Answer
-    ensures { λ r. ⌜ r ≡ answerAt n p ⌝ }
-{
-    if n == 4 {
-        return Answer::Line(p);
-    }
-    if n == 5 {
-        return Answer::Name(p);
-    }
-    if n == 6 {
-        return Answer::Frame(p);
-    }
-    if n == 7 {
-        return Answer::Parameter(p);
-    }
-    if n == 8 {
-        return Answer::Value(p);
-    }
-    if n == 9 {
-        return Answer::Count(p);
-    }
-    refused_else(n, p)
-}
 
 // The XML of an unfolded text: first how long it is, then, if there is room, all of it.
 fn written(kept: &[u8], out: &mut [u8]) -> Answer

@@ -2,7 +2,7 @@
 use mathlib.Core.Path.{_≡_, sym, ap, subst, _∙_}
 use borrow.Author.Needs.{needs}
 use Rattle.frame.specs.Answers.{Checks}
-use Rattle.mallettriton.specs.Steps.{lines-refused, lines-fine}
+use Rattle.mallettriton.specs.ToXmlSteps.{lines-refused, lines-fine}
 use Rattle.mallettriton.proofs.text_to_xml.checked.Statement.{statement}
 use Rattle.mallettriton.proofs.text_to_xml.checked.Tie as tie
 

@@ -1,7 +1,7 @@
 -- `mallettriton::text_to_xml::converted` meets its contract.
 use mathlib.Core.Path.{_≡_, sym, ap, _∙_}
 use borrow.Author.Needs.{needs}
-use Rattle.mallettriton.specs.Steps.{kept-good, kept-bad}
+use Rattle.mallettriton.specs.ToXmlSteps.{kept-good, kept-bad}
 use Rattle.utf8.specs.Automaton.{foundOf}
 use Rattle.mallettriton.proofs.text_to_xml.converted.Statement.{statement}
 use Rattle.mallettriton.proofs.text_to_xml.converted.Tie as tie

@@ -1,7 +1,7 @@
 -- `mallettriton::text_to_xml::to_xml` meets its contract.
 use native.Mathlib.Omega.{arith}
 use borrow.Author.Needs.{needs}
-use Rattle.mallettriton.specs.Steps.{kept-inside, kept-count, kept-limit, too-long, no-room, unfolded-done}
+use Rattle.mallettriton.specs.ToXmlSteps.{kept-inside, kept-count, kept-limit, too-long, no-room, unfolded-done}
 use Rattle.mallettriton.proofs.text_to_xml.to_xml.Statement.{statement}
 use Rattle.mallettriton.proofs.text_to_xml.to_xml.Tie as tie
 

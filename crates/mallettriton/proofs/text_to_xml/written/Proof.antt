@@ -5,7 +5,7 @@ use borrow.Author.Needs.{needs}
 use lib.ListN.{length}
 use Rattle.sink.specs.Sink.{writing}
 use Rattle.mallettriton.specs.Answered.{done-written, done-room}
-use Rattle.mallettriton.specs.Steps.{xml-fits}
+use Rattle.mallettriton.specs.ToXmlSteps.{xml-fits}
 use Rattle.folding.specs.Lines.{lines}
 use Rattle.ical.specs.Tree.{calendarOf}
 use Rattle.xcal.specs.WriteXml.{writeDocument}

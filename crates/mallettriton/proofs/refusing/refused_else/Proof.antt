@@ -1,7 +1,7 @@
--- `mallettriton::text_to_xml::refused_else` meets its contract.
+-- `mallettriton::refusing::refused_else` meets its contract.
 use Rattle.octets.specs.Pick.{branching}
-use Rattle.mallettriton.proofs.text_to_xml.refused_else.Statement.{statement}
-use Rattle.mallettriton.proofs.text_to_xml.refused_else.Tie as tie
+use Rattle.mallettriton.proofs.refusing.refused_else.Statement.{statement}
+use Rattle.mallettriton.proofs.refusing.refused_else.Tie as tie
 
 pub refused-else-spec : {M : Type 1} → statement M
 refused-else-spec = tie.close (tie.spec

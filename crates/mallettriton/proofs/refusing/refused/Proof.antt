@@ -1,7 +1,7 @@
--- `mallettriton::text_to_xml::refused` meets its contract.
+-- `mallettriton::refusing::refused` meets its contract.
 use Rattle.octets.specs.Pick.{pick, branching}
-use Rattle.mallettriton.proofs.text_to_xml.refused.Statement.{statement}
-use Rattle.mallettriton.proofs.text_to_xml.refused.Tie as tie
+use Rattle.mallettriton.proofs.refusing.refused.Statement.{statement}
+use Rattle.mallettriton.proofs.refusing.refused.Tie as tie
 
 pub refused-spec : {M : Type 1} → statement M
 unfolding pick

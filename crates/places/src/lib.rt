@@ -1,0 +1,1 @@
+// Where a document is refused: specifications only.
