@@ -1,7 +1,7 @@
 //! XML to text, and both ways in a row: seeded documents, canonical, written otherwise, and damaged, against simple readings of the rules.
 mod common;
 
-use common::inputs::{calendar, damaged, rewritten, unfolded_text, with_folds, Random, XML_TOKENS};
+use common::inputs::{calendar, damaged, rearranged, rewritten, unfolded_text, with_folds, Random, XML_TOKENS};
 use common::readings::{assert_folded, bad_character, kept_of, BACK, FRONT};
 use common::{ample, in_every_room, to_text_in, Told};
 use mallettriton::{to_text, to_xml, Number, Refusal, LONGEST};
@@ -76,7 +76,7 @@ fn sixteen_elements_are_open_at_once_and_no_more() {
 #[test]
 fn calendars_come_back_unchanged() {
     let mut r = Random::new(4);
-    for _ in 0..1500 {
+    for _ in 0..500 {
         let (text, xml) = document(&mut r);
         let Told::Written(back) = checked(&xml) else {
             panic!("the XML of an accepted text is refused: {}", String::from_utf8_lossy(&xml));
@@ -89,7 +89,7 @@ fn calendars_come_back_unchanged() {
 #[test]
 fn a_calendar_may_be_written_in_many_ways() {
     let mut r = Random::new(5);
-    for _ in 0..1500 {
+    for _ in 0..500 {
         let (_, xml) = document(&mut r);
         let other = rewritten(&mut r, std::str::from_utf8(&xml).unwrap());
         if other.len() <= LONGEST {
@@ -102,10 +102,17 @@ fn a_calendar_may_be_written_in_many_ways() {
 fn damaged_documents_have_an_answer() {
     let mut r = Random::new(6);
     let mut numbers = [0; 12];
-    for _ in 0..4000 {
+    for _ in 0..2000 {
         let (_, xml) = document(&mut r);
-        let whole = if r.one_in(3) { rewritten(&mut r, std::str::from_utf8(&xml).unwrap()).into_bytes() } else { xml };
-        let input = damaged(&mut r, &whole, &XML_TOKENS);
+        let xml = std::str::from_utf8(&xml).unwrap();
+        let input = match r.below(4) {
+            0 => damaged(&mut r, xml.as_bytes(), &XML_TOKENS),
+            1 => {
+                let other = rewritten(&mut r, xml);
+                damaged(&mut r, other.as_bytes(), &XML_TOKENS)
+            }
+            _ => rearranged(&mut r, xml).into_bytes(),
+        };
         let told = checked(&input);
         if let Told::Written(text) = &told {
             let again = to_xml(text).expect("canonical text is accepted");
@@ -116,13 +123,13 @@ fn damaged_documents_have_an_answer() {
             _ => numbers[0] += 1,
         }
     }
-    assert!([0, 3, 6, 7, 8, 9, 11].iter().all(|number| numbers[*number] > 20), "{numbers:?}: the inputs are not what they should be");
+    assert!([0, 3, 5, 6, 7, 8, 9, 11].iter().all(|number| numbers[*number] > 20), "{numbers:?}: the inputs are not what they should be");
 }
 
 #[test]
 fn any_bytes_have_an_answer() {
     let mut r = Random::new(7);
-    for length in 0..600 {
+    for length in 0..400 {
         let alphabet = r.choose(&[256, 128, 8]);
         let bytes: Vec<u8> = (0..length).map(|_| if alphabet == 8 { b"<>/&;a#\""[r.below(8)] } else { r.below(alphabet) as u8 }).collect();
         checked(&bytes);

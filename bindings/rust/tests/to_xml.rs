@@ -104,7 +104,7 @@ fn a_result_much_longer_than_the_text_is_given_whole() {
 fn calendars_are_written_whatever_their_folds_are() {
     let mut r = Random::new(1);
     let mut accepted = 0;
-    for _ in 0..1500 {
+    for _ in 0..1000 {
         let kept = unfolded_text(&calendar(&mut r));
         let told = checked(&kept);
         let folded = with_folds(&mut r, &kept);
@@ -121,14 +121,14 @@ fn calendars_are_written_whatever_their_folds_are() {
             Told::Needs(_) => unreachable!(),
         }
     }
-    assert!(accepted > 1350, "{accepted} of 1500 accepted: the inputs are not what they should be");
+    assert!(accepted > 950, "{accepted} of 1000 accepted: the inputs are not what they should be");
 }
 
 #[test]
 fn damaged_calendars_are_refused_where_they_should_be() {
     let mut r = Random::new(2);
     let mut numbers = [0; 12];
-    for _ in 0..4000 {
+    for _ in 0..3000 {
         let kept = unfolded_text(&calendar(&mut r));
         let folded = if r.one_in(2) { with_folds(&mut r, &kept) } else { kept };
         match checked(&damaged(&mut r, &folded, &TEXT_TOKENS)) {
@@ -142,7 +142,7 @@ fn damaged_calendars_are_refused_where_they_should_be() {
 #[test]
 fn any_bytes_have_an_answer() {
     let mut r = Random::new(3);
-    for length in 0..600 {
+    for length in 0..400 {
         let alphabet = r.choose(&[256, 128, 8]);
         let bytes: Vec<u8> = (0..length).map(|_| if alphabet == 8 { b"\r\n :A;=\""[r.below(8)] } else { r.below(alphabet) as u8 }).collect();
         checked(&bytes);

@@ -1,50 +1,59 @@
 //! What is measured: texts and documents of about a given length, the same in every run.
 
-/// An input of a kind, made of pieces that repeat.
+/// Inputs of a kind, of any length: pieces between a front and a back, and what stands around them.
 pub struct Kind {
     /// What it is.
     pub name: &'static str,
+    around: Around,
     front: &'static str,
-    piece: fn(usize) -> String,
+    piece: Piece,
     back: &'static str,
+}
+
+type Around = (&'static str, &'static str);
+
+enum Piece {
+    Same(&'static str),
+    Numbered(fn(usize) -> String),
+}
+
+/// The same piece again and again.
+const fn same(name: &'static str, around: Around, front: &'static str, piece: &'static str, back: &'static str) -> Kind {
+    Kind { name, around, front, piece: Piece::Same(piece), back }
+}
+
+/// Pieces by their numbers.
+const fn numbered(name: &'static str, around: Around, front: &'static str, piece: fn(usize) -> String, back: &'static str) -> Kind {
+    Kind { name, around, front, piece: Piece::Numbered(piece), back }
 }
 
 impl Kind {
     /// As many pieces as fit into `length` bytes.
     pub fn of_length(&self, length: usize) -> Vec<u8> {
-        let mut input = String::from(self.front);
+        let mut input = format!("{}{}", self.around.0, self.front);
+        let back = format!("{}{}", self.back, self.around.1);
         for i in 0.. {
-            let piece = (self.piece)(i);
-            if input.len() + piece.len() + self.back.len() > length {
+            let piece = match self.piece {
+                Piece::Same(piece) => String::from(piece),
+                Piece::Numbered(piece) => piece(i),
+            };
+            if input.len() + piece.len() + back.len() > length {
                 break;
             }
             input.push_str(&piece);
         }
-        input.push_str(self.back);
+        input.push_str(&back);
         input.into_bytes()
     }
 }
 
-macro_rules! calendar {
-    () => {
-        "BEGIN:VCALENDAR\r\nPRODID:-//Lakewatch//Rota//EN\r\nVERSION:2.0\r\n"
-    };
-}
-macro_rules! event {
-    () => {
-        concat!(calendar!(), "BEGIN:VEVENT\r\nUID:r1\r\nDTSTAMP:20240501T060000Z\r\nDTSTART:20240504T080000\r\n")
-    };
-}
-macro_rules! end_event {
-    () => {
-        concat!("\r\nEND:VEVENT\r\n", end_calendar!())
-    };
-}
-macro_rules! end_calendar {
-    () => {
-        "END:VCALENDAR\r\n"
-    };
-}
+const NOTHING: Around = ("", "");
+const CALENDAR: Around = ("BEGIN:VCALENDAR\r\nPRODID:-//Lakewatch//Rota//EN\r\nVERSION:2.0\r\n", "END:VCALENDAR\r\n");
+const OPEN_CALENDAR: Around = (CALENDAR.0, "");
+const EVENT: Around = (
+    "BEGIN:VCALENDAR\r\nPRODID:-//Lakewatch//Rota//EN\r\nVERSION:2.0\r\nBEGIN:VEVENT\r\nUID:r1\r\nDTSTAMP:20240501T060000Z\r\nDTSTART:20240504T080000\r\n",
+    "END:VEVENT\r\nEND:VCALENDAR\r\n",
+);
 
 const WATCHES: [&str; 4] = ["Read glass", "Row out to the buoy", "Phone <office> & log", "Évaluer la glace\\, lire l’échelle"];
 const PEOPLE: [&str; 5] = ["ada", "bela", "cyr", "dagny", "edda"];
@@ -77,10 +86,10 @@ fn event(i: usize) -> String {
     event += &folded(&format!("ORGANIZER;CN=\"Office, north\";SENT-BY=\"mailto:{who}@lakewatch.example\":mailto:office@lakewatch.example"));
     event += &folded(&format!("ATTENDEE;CN={who};ROLE=REQ-PARTICIPANT;PARTSTAT=ACCEPTED;RSVP=TRUE:mailto:{who}@lakewatch.example"));
     event += &folded(&format!("ATTENDEE;CN={next};ROLE=OPT-PARTICIPANT;PARTSTAT=NEEDS-ACTION:mailto:{next}@lakewatch.example"));
-    if i % 3 == 0 {
+    if i % 3 == 1 {
         event += "RRULE:FREQ=WEEKLY;COUNT=10;INTERVAL=2;BYDAY=MO,WE,FR\r\nEXDATE;TZID=Europe/Lake:20240601T080000,20240615T080000\r\n";
     }
-    if i % 2 == 0 {
+    if i % 2 == 1 {
         event += "BEGIN:VALARM\r\nACTION:DISPLAY\r\nTRIGGER:-PT30M\r\nDESCRIPTION:Watch begins\r\nEND:VALARM\r\n";
     }
     event + "END:VEVENT\r\n"
@@ -114,101 +123,101 @@ fn name(mut i: usize) -> String {
 
 /// Texts such as are met.
 pub const ROTAS: [Kind; 3] = [
-    Kind { name: "rota of events", front: calendar!(), piece: event, back: end_calendar!() },
-    Kind { name: "long folded texts", front: calendar!(), piece: long_text, back: end_calendar!() },
-    Kind { name: "time zones", front: calendar!(), piece: zone, back: end_calendar!() },
+    numbered("rota of events", CALENDAR, "", event, ""),
+    numbered("long folded texts", CALENDAR, "", long_text, ""),
+    numbered("time zones", CALENDAR, "", zone, ""),
 ];
-
 /// Texts made to be slow. One whose name says so is refused.
-pub const WORST_TEXTS: [Kind; 22] = [
-    Kind { name: "parameters on a line", front: concat!(event!(), "A"), piece: |i| format!(";{}=", name(i)), back: concat!(":", end_event!()) },
-    Kind { name: "values of a parameter", front: concat!(event!(), "A;B="), piece: |_| String::from(","), back: concat!(":", end_event!()) },
-    Kind { name: "members of a parameter", front: concat!(event!(), "ATTENDEE;MEMBER=\"a:\""), piece: |_| String::from(",\"a:\""), back: concat!(":a:", end_event!()) },
-    Kind { name: "one-byte properties", front: event!(), piece: |_| String::from("A:\r\n"), back: concat!("B:", end_event!()) },
-    Kind { name: "known properties", front: event!(), piece: |_| String::from("COMMENT:\r\n"), back: concat!("B:", end_event!()) },
-    Kind { name: "items of CATEGORIES", front: concat!(event!(), "CATEGORIES:"), piece: |_| String::from(","), back: end_event!() },
-    Kind { name: "items of a rule", front: concat!(event!(), "RRULE:FREQ=DAILY;BYHOUR=1"), piece: |_| String::from(",1"), back: end_event!() },
-    Kind { name: "items before FREQ", front: concat!(event!(), "RRULE:BYSETPOS=1"), piece: |_| String::from(",1"), back: concat!(";FREQ=DAILY", end_event!()) },
-    Kind { name: "dates of EXDATE", front: concat!(event!(), "EXDATE;VALUE=DATE:20240504"), piece: |_| String::from(",20240504"), back: end_event!() },
-    Kind { name: "periods of RDATE", front: concat!(event!(), "RDATE;VALUE=PERIOD:20240504T080000/PT1H"), piece: |_| String::from(",20240504T080000/PT1H"), back: end_event!() },
-    Kind { name: "digits of a FLOAT", front: concat!(event!(), "GEO:1"), piece: |_| String::from("1"), back: concat!(".5;0", end_event!()) },
-    Kind { name: "zeros behind a point", front: concat!(event!(), "GEO:1.0"), piece: |_| String::from("0"), back: concat!(";0", end_event!()) },
-    Kind { name: "zeros of an INTEGER", front: concat!(event!(), "PRIORITY:0"), piece: |_| String::from("0"), back: end_event!() },
-    Kind { name: "digits of a DURATION", front: concat!(event!(), "DURATION:P0"), piece: |_| String::from("0"), back: concat!("D", end_event!()) },
-    Kind { name: "one long TEXT", front: concat!(event!(), "DESCRIPTION:"), piece: |_| String::from("a"), back: end_event!() },
-    Kind { name: "TEXT that grows", front: concat!(event!(), "DESCRIPTION:"), piece: |_| String::from("&"), back: end_event!() },
-    Kind { name: "one long BINARY", front: concat!(event!(), "ATTACH;VALUE=BINARY;ENCODING=BASE64:"), piece: |_| String::from("AAAA"), back: end_event!() },
-    Kind { name: "a fold behind each byte", front: concat!(event!(), "DESCRIPTION:"), piece: |_| String::from("a\r\n "), back: end_event!() },
-    Kind { name: "alarms of an event", front: event!(), piece: |_| String::from("BEGIN:VALARM\r\nACTION:AUDIO\r\nTRIGGER:P1D\r\nEND:VALARM\r\n"), back: concat!("END:VEVENT\r\n", end_calendar!()) },
-    Kind { name: "empty calendars", front: "", piece: |_| String::from("BEGIN:VCALENDAR\r\nPRODID:\r\nVERSION:2.0\r\nEND:VCALENDAR\r\n"), back: "" },
-    Kind { name: "refused in the last line", front: calendar!(), piece: event, back: "END:VEVENT\r\n" },
-    Kind { name: "refused behind folds", front: concat!(calendar!(), "A:"), piece: |_| String::from("\r\n "), back: "\r\n:\r\n" },
+pub const WORST_TEXTS: [Kind; 27] = [
+    numbered("parameters on a line", EVENT, "A", |i| format!(";{}=", name(i)), ":\r\n"),
+    same("values of a parameter", EVENT, "A;B=", ",", ":\r\n"),
+    same("members of a parameter", EVENT, "ATTENDEE;MEMBER=\"a:\"", ",\"a:\"", ":a:\r\n"),
+    same("one-byte properties", EVENT, "", "A:\r\n", ""),
+    same("known properties", EVENT, "", "COMMENT:\r\n", ""),
+    same("items of CATEGORIES", EVENT, "CATEGORIES:", ",", "\r\n"),
+    same("items of a rule", EVENT, "RRULE:FREQ=DAILY;BYHOUR=1", ",1", "\r\n"),
+    same("items before FREQ", EVENT, "RRULE:BYSETPOS=1", ",1", ";FREQ=DAILY\r\n"),
+    same("dates of EXDATE", EVENT, "EXDATE;VALUE=DATE:20240504", ",20240504", "\r\n"),
+    same("periods of RDATE", EVENT, "RDATE;VALUE=PERIOD:20240504T080000/PT1H", ",20240504T080000/PT1H", "\r\n"),
+    same("digits of a FLOAT", EVENT, "GEO:1", "1", ".5;0\r\n"),
+    same("zeros behind a point", EVENT, "GEO:1.0", "0", ";0\r\n"),
+    same("zeros before a digit", EVENT, "GEO:1.0", "0", "1;0\r\n"),
+    same("zeros of an INTEGER", EVENT, "PRIORITY:0", "0", "\r\n"),
+    same("digits of a DURATION", EVENT, "DURATION:P0", "0", "D\r\n"),
+    same("one long TEXT", EVENT, "DESCRIPTION:", "a", "\r\n"),
+    same("letters of three bytes", EVENT, "DESCRIPTION:", "€", "\r\n"),
+    same("one long name", EVENT, "A", "A", ":\r\n"),
+    same("one long parameter value", EVENT, "A;B=\"", "a", "\":\r\n"),
+    same("one long REQUEST-STATUS", EVENT, "REQUEST-STATUS:2.0;", "\\,", "\r\n"),
+    same("TEXT that grows", EVENT, "DESCRIPTION:", "&", "\r\n"),
+    same("one long BINARY", EVENT, "ATTACH;VALUE=BINARY;ENCODING=BASE64:", "AAAA", "\r\n"),
+    same("a fold behind each byte", EVENT, "DESCRIPTION:", "a\r\n ", "\r\n"),
+    same("alarms of an event", EVENT, "", "BEGIN:VALARM\r\nACTION:AUDIO\r\nTRIGGER:P1D\r\nEND:VALARM\r\n", ""),
+    same("empty calendars", NOTHING, "", "BEGIN:VCALENDAR\r\nPRODID:\r\nVERSION:2.0\r\nEND:VCALENDAR\r\n", ""),
+    numbered("refused in the last line", OPEN_CALENDAR, "", event, "END:VEVENT\r\n"),
+    same("refused behind folds", OPEN_CALENDAR, "A:", "\r\n ", "\r\n:\r\n"),
 ];
 
-macro_rules! xml_calendar {
-    () => {
-        concat!(xml_root!(), "<vcalendar><properties><prodid><text/></prodid><version><text>2.0</text></version></properties><components>")
-    };
-}
-macro_rules! xml_root {
-    () => {
-        "<?xml version=\"1.0\" encoding=\"utf-8\"?>\n<icalendar xmlns=\"urn:ietf:params:xml:ns:icalendar-2.0\">"
-    };
-}
-macro_rules! xml_event {
-    () => {
-        concat!(
-            xml_calendar!(),
-            "<vevent><properties><uid><text/></uid><dtstamp><date-time>2024-05-01T06:00:00Z</date-time></dtstamp><dtstart><date-time>2024-05-04T08:00:00</date-time></dtstart>"
-        )
-    };
-}
-macro_rules! end_xml_event {
-    () => {
-        concat!("</properties></vevent>", end_xml_calendar!())
-    };
-}
-macro_rules! end_xml_calendar {
-    () => {
-        "</components></vcalendar></icalendar>\n"
-    };
-}
+const ROOT: Around = ("<icalendar xmlns=\"urn:ietf:params:xml:ns:icalendar-2.0\">", "</icalendar>\n");
+const XML_EVENT: Around = (
+    "<icalendar xmlns=\"urn:ietf:params:xml:ns:icalendar-2.0\"><vcalendar><properties><prodid><text>r</text></prodid><version><text>2.0</text></version></properties><components><vevent><properties>\
+     <uid><text>r1</text></uid><dtstamp><date-time>2024-05-01T06:00:00Z</date-time></dtstamp><dtstart><date-time>2024-05-04T08:00:00</date-time></dtstart>",
+    "</properties></vevent></components></vcalendar></icalendar>\n",
+);
+const XML_ALARMS: Around = (
+    "<icalendar xmlns=\"urn:ietf:params:xml:ns:icalendar-2.0\"><vcalendar><properties><prodid><text>r</text></prodid><version><text>2.0</text></version></properties><components><vevent><properties>\
+     <uid><text>r1</text></uid><dtstamp><date-time>2024-05-01T06:00:00Z</date-time></dtstamp><dtstart><date-time>2024-05-04T08:00:00</date-time></dtstart></properties><components>",
+    "</components></vevent></components></vcalendar></icalendar>\n",
+);
+const WHOLE_DOCUMENT: Around = (
+    "<icalendar xmlns=\"urn:ietf:params:xml:ns:icalendar-2.0\"><vcalendar><properties><prodid><text/></prodid><version><text>2.0</text></version></properties><components/></vcalendar></icalendar>",
+    "",
+);
 
 /// Documents made to be slow.
-pub const WORST_DOCUMENTS: [Kind; 28] = [
-    Kind { name: "parameters of a property", front: concat!(xml_event!(), "<a><parameters>"), piece: |i| format!("<{0}><unknown/></{0}>", small_name(i)), back: concat!("</parameters><unknown/></a>", end_xml_event!()) },
-    Kind { name: "values of a parameter", front: concat!(xml_event!(), "<a><parameters><b>"), piece: |_| String::from("<unknown/>"), back: concat!("</b></parameters><unknown/></a>", end_xml_event!()) },
-    Kind { name: "one-byte properties", front: xml_event!(), piece: |_| String::from("<a><unknown/></a>"), back: end_xml_event!() },
-    Kind { name: "known properties", front: xml_event!(), piece: |_| String::from("<comment><text/></comment>"), back: end_xml_event!() },
-    Kind { name: "items of CATEGORIES", front: concat!(xml_event!(), "<categories>"), piece: |_| String::from("<text/>"), back: concat!("</categories>", end_xml_event!()) },
-    Kind { name: "items of a rule", front: concat!(xml_event!(), "<rrule><recur><freq>DAILY</freq>"), piece: |_| String::from("<byhour>1</byhour>"), back: concat!("</recur></rrule>", end_xml_event!()) },
-    Kind { name: "dates of EXDATE", front: concat!(xml_event!(), "<exdate>"), piece: |_| String::from("<date>2024-05-04</date>"), back: concat!("</exdate>", end_xml_event!()) },
-    Kind { name: "periods of RDATE", front: concat!(xml_event!(), "<rdate>"), piece: |_| String::from("<period><start>2024-05-04T08:00:00</start><duration>PT1H</duration></period>"), back: concat!("</rdate>", end_xml_event!()) },
-    Kind { name: "digits of a FLOAT", front: concat!(xml_event!(), "<geo><latitude>1"), piece: |_| String::from("1"), back: concat!(".5</latitude><longitude>0</longitude></geo>", end_xml_event!()) },
-    Kind { name: "zeros behind a point", front: concat!(xml_event!(), "<geo><latitude>1.0"), piece: |_| String::from("0"), back: concat!("</latitude><longitude>0</longitude></geo>", end_xml_event!()) },
-    Kind { name: "zeros of an INTEGER", front: concat!(xml_event!(), "<priority><integer>0"), piece: |_| String::from("0"), back: concat!("</integer></priority>", end_xml_event!()) },
-    Kind { name: "digits of a DURATION", front: concat!(xml_event!(), "<duration><duration>P0"), piece: |_| String::from("0"), back: concat!("D</duration></duration>", end_xml_event!()) },
-    Kind { name: "one long TEXT", front: concat!(xml_event!(), "<description><text>"), piece: |_| String::from("a"), back: concat!("</text></description>", end_xml_event!()) },
-    Kind { name: "TEXT that grows", front: concat!(xml_event!(), "<description><text>"), piece: |_| String::from(";"), back: concat!("</text></description>", end_xml_event!()) },
-    Kind { name: "references in TEXT", front: concat!(xml_event!(), "<description><text>"), piece: |_| String::from("&#65;"), back: concat!("</text></description>", end_xml_event!()) },
-    Kind { name: "references in a URI", front: concat!(xml_event!(), "<url><uri>a:"), piece: |_| String::from("&#65;"), back: concat!("</uri></url>", end_xml_event!()) },
-    Kind { name: "references in a parameter", front: concat!(xml_event!(), "<a><parameters><b><unknown>"), piece: |_| String::from("&#65;"), back: concat!("</unknown></b></parameters><unknown/></a>", end_xml_event!()) },
-    Kind { name: "references in a number", front: concat!(xml_event!(), "<priority><integer>"), piece: |_| String::from("&#48;"), back: concat!("</integer></priority>", end_xml_event!()) },
-    Kind { name: "one long reference", front: concat!(xml_event!(), "<description><text>&#"), piece: |_| String::from("0"), back: concat!("65;</text></description>", end_xml_event!()) },
-    Kind { name: "long references", front: concat!(xml_event!(), "<description><text>"), piece: |_| format!("&#{:0256};", 65), back: concat!("</text></description>", end_xml_event!()) },
-    Kind { name: "entities in TEXT", front: concat!(xml_event!(), "<description><text>"), piece: |_| String::from("&amp;"), back: concat!("</text></description>", end_xml_event!()) },
-    Kind { name: "one long BINARY", front: concat!(xml_event!(), "<attach><parameters><encoding><text>BASE64</text></encoding></parameters><binary>"), piece: |_| String::from("AAAA"), back: concat!("</binary></attach>", end_xml_event!()) },
-    Kind { name: "white space in BINARY", front: concat!(xml_event!(), "<attach><parameters><encoding><text>BASE64</text></encoding></parameters><binary>"), piece: |_| String::from(" "), back: concat!("</binary></attach>", end_xml_event!()) },
-    Kind { name: "white space between elements", front: xml_event!(), piece: |_| String::from("\n"), back: end_xml_event!() },
-    Kind { name: "white space in a tag", front: concat!(xml_event!(), "<a"), piece: |_| String::from(" "), back: concat!("><unknown/></a>", end_xml_event!()) },
-    Kind { name: "alarms of an event", front: concat!(xml_event!(), "</properties><components>"), piece: |_| String::from(ALARM), back: concat!("</components></vevent>", end_xml_calendar!()) },
-    Kind { name: "empty calendars", front: xml_root!(), piece: |_| String::from(EMPTY), back: "</icalendar>\n" },
-    Kind { name: "refused in the last property", front: xml_event!(), piece: |_| String::from("<comment><text/></comment>"), back: concat!("<comment/>", end_xml_event!()) },
+pub const WORST_DOCUMENTS: [Kind; 39] = [
+    numbered("parameters of a property", XML_EVENT, "<a><parameters>", |i| format!("<{0}><unknown/></{0}>", small_name(i)), "</parameters><unknown/></a>"),
+    same("values of a parameter", XML_EVENT, "<a><parameters><b>", "<unknown/>", "</b></parameters><unknown/></a>"),
+    same("one-byte properties", XML_EVENT, "", "<a><unknown/></a>", ""),
+    same("known properties", XML_EVENT, "", "<comment><text/></comment>", ""),
+    same("items of CATEGORIES", XML_EVENT, "<categories>", "<text/>", "</categories>"),
+    same("items of a rule", XML_EVENT, "<rrule><recur><freq>DAILY</freq>", "<byhour>1</byhour>", "</recur></rrule>"),
+    same("dates of EXDATE", XML_EVENT, "<exdate>", "<date>2024-05-04</date>", "</exdate>"),
+    same("periods of RDATE", XML_EVENT, "<rdate>", "<period><start>2024-05-04T08:00:00</start><duration>PT1H</duration></period>", "</rdate>"),
+    same("digits of a FLOAT", XML_EVENT, "<geo><latitude>1", "1", ".5</latitude><longitude>0</longitude></geo>"),
+    same("zeros behind a point", XML_EVENT, "<geo><latitude>1.0", "0", "</latitude><longitude>0</longitude></geo>"),
+    same("zeros before a digit", XML_EVENT, "<geo><latitude>1.0", "0", "1</latitude><longitude>0</longitude></geo>"),
+    same("zeros of an INTEGER", XML_EVENT, "<priority><integer>0", "0", "</integer></priority>"),
+    same("digits of a DURATION", XML_EVENT, "<duration><duration>P0", "0", "D</duration></duration>"),
+    same("one long TEXT", XML_EVENT, "<description><text>", "a", "</text></description>"),
+    same("letters of three bytes", XML_EVENT, "<description><text>", "€", "</text></description>"),
+    same("brackets in TEXT", XML_EVENT, "<description><text>", "]", "</text></description>"),
+    same("CR in TEXT", XML_EVENT, "<description><text>", "\r", "</text></description>"),
+    same("one long parameter value", XML_EVENT, "<a><parameters><b><unknown>", "a", "</unknown></b></parameters><unknown/></a>"),
+    same("one long REQUEST-STATUS", XML_EVENT, "<request-status><code>2.0</code><description>", ";", "</description></request-status>"),
+    same("TEXT that grows", XML_EVENT, "<description><text>", ";", "</text></description>"),
+    same("references in TEXT", XML_EVENT, "<description><text>", "&#65;", "</text></description>"),
+    same("references in a URI", XML_EVENT, "<url><uri>a:", "&#65;", "</uri></url>"),
+    same("references in a parameter", XML_EVENT, "<a><parameters><b><unknown>", "&#65;", "</unknown></b></parameters><unknown/></a>"),
+    same("references in a number", XML_EVENT, "<priority><integer>", "&#48;", "</integer></priority>"),
+    same("references to four bytes", XML_EVENT, "<description><text>", "&#65536;", "</text></description>"),
+    same("one long reference", XML_EVENT, "<description><text>&#", "0", "65;</text></description>"),
+    numbered("long references", XML_EVENT, "<description><text>", |_| format!("&#{:0256};", 65), "</text></description>"),
+    same("entities in TEXT", XML_EVENT, "<description><text>", "&amp;", "</text></description>"),
+    same("one long BINARY", XML_EVENT, "<attach><parameters><encoding><text>BASE64</text></encoding></parameters><binary>", "AAAA", "</binary></attach>"),
+    same("white space in BINARY", XML_EVENT, "<attach><parameters><encoding><text>BASE64</text></encoding></parameters><binary>", " ", "</binary></attach>"),
+    same("white space between elements", XML_EVENT, "", "\n", ""),
+    same("white space in a list", XML_EVENT, "<categories>", "\n<text/>", "</categories>"),
+    same("white space in a rule", XML_EVENT, "<rrule><recur><freq>DAILY</freq>", "\n", "<wkst>MO</wkst></recur></rrule>"),
+    same("white space in parameters", XML_EVENT, "<a><parameters>", "\n", "<b><unknown/></b></parameters><unknown/></a>"),
+    same("white space behind the root", WHOLE_DOCUMENT, "", "\n", ""),
+    same("white space in a tag", XML_EVENT, "<a", " ", "><unknown/></a>"),
+    same("alarms of an event", XML_ALARMS, "", ALARM, ""),
+    same("empty calendars", ROOT, "", EMPTY, ""),
+    same("refused in the last property", XML_EVENT, "", "<comment><text/></comment>", "<comment/>"),
 ];
-
 const ALARM: &str = "<valarm><properties><action><text>AUDIO</text></action><trigger><duration>P1D</duration></trigger></properties></valarm>";
 const EMPTY: &str = "<vcalendar><properties><prodid><text/></prodid><version><text>2.0</text></version></properties><components/></vcalendar>";
-
 fn small_name(i: usize) -> String {
     name(i).to_ascii_lowercase()
 }

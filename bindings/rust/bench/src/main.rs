@@ -52,17 +52,17 @@ struct Rooms {
 }
 
 impl Rooms {
-    fn to_xml(&mut self, input: &[u8]) -> Answer<'_> {
+    fn xml_of(&mut self, input: &[u8]) -> Answer<'_> {
         to_xml_into(input, &mut self.work, &mut self.out)
     }
 
-    fn to_text(&mut self, input: &[u8]) -> Answer<'_> {
+    fn text_of(&mut self, input: &[u8]) -> Answer<'_> {
         to_text_into(input, &mut self.out)
     }
 
     /// How long the XML of a text is.
     fn xml_length(&mut self, text: &[u8]) -> usize {
-        match self.to_xml(text) {
+        match self.xml_of(text) {
             Answer::Written(xml) => xml.len(),
             other => panic!("{other:?}"),
         }
@@ -128,9 +128,9 @@ fn report(name: &str, short: (usize, f64), long: (usize, f64), libical: Option<f
 fn measure_text(kind: &Kind, rooms: &mut Rooms) {
     let [short, long] = [SHORT, LONG].map(|length| {
         let text = kind.of_length(length);
-        as_named(kind.name, rooms.to_xml(&text));
+        as_named(kind.name, rooms.xml_of(&text));
         let time = time_of(|| {
-            black_box(rooms.to_xml(black_box(&text)));
+            black_box(rooms.xml_of(black_box(&text)));
         });
         (text.len(), time)
     });
@@ -140,9 +140,9 @@ fn measure_text(kind: &Kind, rooms: &mut Rooms) {
 
 fn measure_document(name: &str, documents: [Vec<u8>; 2], rooms: &mut Rooms) {
     let [short, long] = documents.each_ref().map(|xml| {
-        as_named(name, rooms.to_text(xml));
+        as_named(name, rooms.text_of(xml));
         let time = time_of(|| {
-            black_box(rooms.to_text(black_box(xml)));
+            black_box(rooms.text_of(black_box(xml)));
         });
         (xml.len(), time)
     });

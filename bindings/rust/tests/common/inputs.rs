@@ -32,7 +32,8 @@ impl Random {
 }
 
 const STRAY: [&str; 26] = [
-    "a", "B", "7", " ", "-", ".", "é", "€", "𝄞", "\t", "<", ">", "&", "'", "]]>", "=", "^", "%", "/", "watch", "Seeufer", "\u{80}", "\u{2028}", "\u{feff}", "&amp", "#",
+    "a", "B", "7", " ", "-", ".", "é", "€", "𝄞", "\t", "<", ">", "&", "'", "]]>", "=", "^", "%", "/", "watch", "Seeufer", "\u{80}", "\u{2028}", "\u{feff}",
+    "&amp", "#",
 ];
 
 /// Characters of TEXT, a few or enough for folds.
@@ -86,7 +87,19 @@ fn rule(r: &mut Random) -> String {
         2 => parts.push(format!("until={}", date_time(r))),
         _ => {}
     }
-    for part in ["INTERVAL=002", "BYSECOND=0,60", "BYMINUTE=59", "BYHOUR=1,02,23", "BYDAY=MO,-1su,+2FR", "BYMONTHDAY=-31,1", "BYYEARDAY=366", "BYWEEKNO=-53", "BYMONTH=1,12", "BYSETPOS=+1", "WKST=mo"] {
+    for part in [
+        "INTERVAL=002",
+        "BYSECOND=0,60",
+        "BYMINUTE=59",
+        "BYHOUR=1,02,23",
+        "BYDAY=MO,-1su,+2FR",
+        "BYMONTHDAY=-31,1",
+        "BYYEARDAY=366",
+        "BYWEEKNO=-53",
+        "BYMONTH=1,12",
+        "BYSETPOS=+1",
+        "WKST=mo",
+    ] {
         if r.one_in(4) {
             let at = r.below(parts.len() + 1);
             parts.insert(at, String::from(part));
@@ -279,15 +292,133 @@ pub fn damaged(r: &mut Random, input: &[u8], tokens: &[&str]) -> Vec<u8> {
 
 /// Words that damage a text.
 pub const TEXT_TOKENS: [&str; 24] = [
-    "\r\n", "\r\n ", "\r", "\n", ":", ";", ",", "\"", "=", "\\", "BEGIN:VEVENT\r\n", "END:VEVENT\r\n", "BEGIN:VALARM\r\n", "END:VCALENDAR\r\n", "DUE:20240101\r\n", ";VALUE=DATE", ";X=1;x=2", "XML-A:1\r\n",
-    "-A:1\r\n", "\u{7f}", "\u{ffff}", "\u{fffe}", "\r\n\r\n ", "0",
+    "\r\n",
+    "\r\n ",
+    "\r",
+    "\n",
+    ":",
+    ";",
+    ",",
+    "\"",
+    "=",
+    "\\",
+    "BEGIN:VEVENT\r\n",
+    "END:VEVENT\r\n",
+    "BEGIN:VALARM\r\n",
+    "END:VCALENDAR\r\n",
+    "DUE:20240101\r\n",
+    ";VALUE=DATE",
+    ";X=1;x=2",
+    "XML-A:1\r\n",
+    "-A:1\r\n",
+    "\u{7f}",
+    "\u{ffff}",
+    "\u{fffe}",
+    "\r\n\r\n ",
+    "0",
 ];
 
 /// Words that damage a document.
 pub const XML_TOKENS: [&str; 24] = [
-    "<", ">", "&", "]]>", "&#0;", "&#65;", "&#x10FFFF;", "&#xD800;", "&amp", "<!-- -->", "<![CDATA[x]]>", "<text>", "</text>", "<unknown/>", "<begin><unknown/></begin>", "<value/>", "<X/>", "<components/>",
-    "<parameters/>", " a=\"b\"", "\r", "\u{7f}", "\u{ffff}", "<a><a><a><a><a><a><a><a><a><a><a><a><a><a><a><a></a>",
+    "<",
+    ">",
+    "&",
+    "]]>",
+    "&#0;",
+    "&#65;",
+    "&#x10FFFF;",
+    "&#xD800;",
+    "&amp",
+    "<!-- -->",
+    "<![CDATA[x]]>",
+    "<text>",
+    "</text>",
+    "<unknown/>",
+    "<begin><unknown/></begin>",
+    "<value/>",
+    "<X/>",
+    "<components/>",
+    "<parameters/>",
+    " a=\"b\"",
+    "\r",
+    "\u{7f}",
+    "\u{ffff}",
+    "<a><a><a><a><a><a><a><a><a><a><a><a><a><a><a><a></a>",
 ];
+
+/// Elements that a well-formed document may gain.
+const ELEMENTS: [&str; 16] = [
+    "<begin><unknown></unknown></begin>",
+    "<a><unknown>x</unknown></a>",
+    "<A><unknown></unknown></A>",
+    "<xml-a><unknown></unknown></xml-a>",
+    "<value><text>DATE</text></value>",
+    "<components></components>",
+    "<parameters></parameters>",
+    "<text>x</text>",
+    "<date>2023-02-29</date>",
+    "<uid><text></text></uid>",
+    "<valarm><properties></properties></valarm>",
+    "<due><date>2024-01-01</date></due>",
+    "<b></b>",
+    "<cn><text>\"</text></cn>",
+    "x",
+    " ",
+];
+
+/// Characters that a value may get.
+const VALUES: [&str; 14] =
+    ["", "x", "0", "-0", "2147483648", "2023-02-29", "2024-02-29", "2024-02-29T08:00:60Z", "-00:00", "P1D", "true", "MO", "\n", "a&amp;b"];
+
+/// The piece behind the element, or the tag or characters, at the piece `at`.
+fn behind(all: &[Piece<'_>], at: usize) -> usize {
+    let mut open = 0;
+    for (i, piece) in all.iter().enumerate().skip(at) {
+        match piece {
+            Piece::Start(_) => open += 1,
+            Piece::End(_) => open -= 1,
+            Piece::Characters(_) => {}
+        }
+        if open <= 0 {
+            return i + 1;
+        }
+    }
+    all.len()
+}
+
+/// A well-formed document of a canonical one: an element taken out, said twice, named otherwise or moved behind the next, something put in, or a value changed.
+pub fn rearranged(r: &mut Random, canonical: &str) -> String {
+    let all = pieces(canonical);
+    let place = |piece: usize| FRONT.len() + all[..piece].iter().map(length).sum::<usize>();
+    let at = r.below(all.len());
+    let next = behind(&all, at);
+    let (from, to) = (place(at), place(next));
+    let (before, element, rest) = (&canonical[..from], &canonical[from..to], &canonical[to..]);
+    match (all[at], r.below(5)) {
+        (Piece::Characters(_), _) => format!("{before}{}{rest}", r.choose(&VALUES)),
+        (Piece::Start(_), 0) => format!("{before}{rest}"),
+        (Piece::Start(_), 1) => format!("{before}{element}{element}{rest}"),
+        (Piece::Start(name), 2) => {
+            let other = r.choose(&["a", "text", "unknown", "uri", "date", "uid", "dtend", "comment", "vevent", "cn", "X"]);
+            let inner = &element[name.len() + 2..element.len() - name.len() - 3];
+            format!("{before}<{other}>{inner}</{other}>{rest}")
+        }
+        (Piece::Start(_), 3) if matches!(all.get(next), Some(Piece::Start(_))) => {
+            let (sibling, rest) = rest.split_at(place(behind(&all, next)) - to);
+            format!("{before}{sibling}{element}{rest}")
+        }
+        _ => format!("{before}{}{element}{rest}", r.choose(&ELEMENTS)),
+    }
+}
+
+/// How many bytes a piece has in the document.
+fn length(piece: &Piece<'_>) -> usize {
+    match piece {
+        Piece::Start(name) => name.len() + 2,
+        Piece::End(name) => name.len() + 3,
+        Piece::Characters(characters) => characters.len(),
+    }
+}
 
 fn spaces(r: &mut Random) -> &'static str {
     r.choose(&["", "", "\n", "  ", "\r\n\t", "\r"])
@@ -318,7 +449,11 @@ fn referred(r: &mut Random, c: char) -> String {
 /// The document of a canonical one with white space between elements, empty tags and references: the same calendar.
 pub fn rewritten(r: &mut Random, canonical: &str) -> String {
     let mut xml = String::from(r.choose(&["", "<?xml version='1.0' encoding=\"UTF-8\" ?>\r\n \t", "<?xml version=\"1.0\"\nencoding='utf-8'?>"]));
-    xml += r.choose(&["<icalendar xmlns='urn:ietf:params:xml:ns:icalendar-2.0'>", &FRONT[FRONT.find("<icalendar").unwrap()..], "<icalendar\n xmlns = \"urn:ietf:params:xml:ns:icalendar-2.0\"\t>"]);
+    xml += r.choose(&[
+        "<icalendar xmlns='urn:ietf:params:xml:ns:icalendar-2.0'>",
+        &FRONT[FRONT.find("<icalendar").unwrap()..],
+        "<icalendar\n xmlns = \"urn:ietf:params:xml:ns:icalendar-2.0\"\t>",
+    ]);
     let all = pieces(canonical);
     let mut i = 0;
     while i < all.len() {

@@ -58,16 +58,14 @@ pub fn in_every_room(ample: &Told, convert: impl Fn(usize) -> Told) {
     match ample {
         Told::Written(result) => {
             let length = result.len();
-            for shorter in [0, 1, length / 2, length - 1] {
+            for shorter in [0, length - 1] {
                 assert_eq!(convert(shorter), Told::Needs(length));
             }
-            for enough in [length, length + 1] {
-                assert_eq!(convert(enough), *ample);
-            }
+            assert_eq!(convert(length), *ample);
         }
         Told::Needs(length) => panic!("{length} bytes needed where there was ample room"),
         Told::Refused(..) => {
-            for length in [0, 1, 1000] {
+            for length in [0, 1000] {
                 assert_eq!(convert(length), *ample);
             }
         }
