@@ -3,12 +3,13 @@
 //!     cargo run --release --offline --bin bench [PART OF A NAME]
 //!
 //! The buffers are made once and not cleared between calls; every call is on the same input, with room enough. A time is processor time, the shortest of many runs, each of as many calls as
-//! take some milliseconds, so that other work on the machine counts little. Growth is how much longer a call takes on 64 kB than on 8 kB: 8 is linear.
+//! take some milliseconds, and what is compared takes turns, so that other work on the machine counts little. Growth is how much longer a call takes on 64 kB than on 8 kB: 8 is linear.
 //! Where libical was found when this was built, it parses and prints the same text in the same run, for the way to text the text of the same calendar; the ratio is its time to ours.
 mod inputs;
 
 use inputs::Kind;
 use mallettriton::{to_text, to_text_into, to_xml_into, Answer, LONGEST};
+use std::cell::RefCell;
 use std::hint::black_box;
 
 const SHORT: usize = 8_192;
@@ -26,21 +27,26 @@ fn now() -> f64 {
     time[0] as f64 + time[1] as f64 / 1e9
 }
 
-/// The shortest time of a call, in seconds.
-fn time_of(mut call: impl FnMut()) -> f64 {
-    let mut run = |calls: u32| {
+/// The shortest time of each call, in seconds. They take turns, so that what else the machine does meets all of them.
+fn times_of<const N: usize>(mut calls: [&mut dyn FnMut(); N]) -> [f64; N] {
+    let mut run = |k: usize, count: u32| {
         let start = now();
-        (0..calls).for_each(|_| call());
+        (0..count).for_each(|_| calls[k]());
         now() - start
     };
-    let mut calls = 1;
-    while run(calls) < 0.002 {
-        calls *= 2;
-    }
-    let end = now() + 0.3;
-    let mut best = f64::INFINITY;
+    let counts: [u32; N] = std::array::from_fn(|k| {
+        let mut count = 1;
+        while run(k, count) < 0.002 {
+            count *= 2;
+        }
+        count
+    });
+    let mut best = [f64::INFINITY; N];
+    let end = now() + 0.4 * N as f64;
     while now() < end {
-        best = best.min(run(calls) / f64::from(calls));
+        for k in 0..N {
+            best[k] = best[k].min(run(k, counts[k]) / f64::from(counts[k]));
+        }
     }
     best
 }
@@ -90,8 +96,9 @@ fn document_of(kind: &Kind, length: usize, rooms: &mut Rooms) -> Vec<u8> {
     rooms.out[..xml].to_vec()
 }
 
+/// libical on a text: it parses and prints it. None where it was not found, or finds errors in the text.
 #[cfg(libical)]
-fn time_of_libical(text: &[u8]) -> Option<f64> {
+fn libical_on(text: &[u8]) -> Option<impl FnMut()> {
     use std::ffi::{c_char, c_int, CString};
     extern "C" {
         fn parse_and_print(text: *const c_char) -> usize;
@@ -99,18 +106,15 @@ fn time_of_libical(text: &[u8]) -> Option<f64> {
     }
     let text = CString::new(text).expect("no text has a NUL");
     // SAFETY: the text is ended by NUL, and libical does not change it.
-    unsafe {
-        if is_parsed(text.as_ptr()) == 0 {
-            return None;
-        }
-        Some(time_of(|| {
-            black_box(parse_and_print(black_box(&text).as_ptr()));
-        }))
-    }
+    let good = unsafe { is_parsed(text.as_ptr()) } != 0;
+    good.then_some(move || {
+        // SAFETY: as above.
+        black_box(unsafe { parse_and_print(black_box(&text).as_ptr()) });
+    })
 }
 
 #[cfg(not(libical))]
-fn time_of_libical(_: &[u8]) -> Option<f64> {
+fn libical_on(_: &[u8]) -> Option<fn()> {
     None
 }
 
@@ -118,36 +122,41 @@ fn head(way: &str) {
     println!("\n{way:<30}{:>8}{:>12}{:>10}{:>8}{:>12}", "bytes", "us", "MB/s", "growth", "x libical");
 }
 
-/// A line of the table, from the lengths and times of a short and a long input.
-fn report(name: &str, short: (usize, f64), long: (usize, f64), libical: Option<f64>) {
-    let growth = (long.1 / short.1) * 8.0 * (short.0 as f64 / long.0 as f64);
-    let ratio = libical.map_or(String::from("-"), |time| format!("{:.1}", time / long.1));
-    println!("{name:<30}{:>8}{:>12.0}{:>10.1}{growth:>8.1}{ratio:>12}", long.0, long.1 * 1e6, long.0 as f64 / long.1 / 1e6);
+/// Measures a conversion on a short and a long input, libical on the long one's `text`, and prints a line of the table.
+fn measure(name: &str, inputs: [Vec<u8>; 2], text: Option<Vec<u8>>, convert: impl Fn(&[u8], &mut Rooms), rooms: &mut Rooms) {
+    let [short, long] = inputs;
+    let rooms = RefCell::new(rooms);
+    let on = |input: &[u8]| convert(black_box(input), &mut rooms.borrow_mut());
+    let (mut on_short, mut on_long) = (|| on(&short), || on(&long));
+    let (times, ratio) = match text.and_then(|text| libical_on(&text)) {
+        Some(mut libical) => {
+            let [short, long, libical] = times_of([&mut on_short, &mut on_long, &mut libical]);
+            ([short, long], format!("{:.2}", libical / long))
+        }
+        None => (times_of([&mut on_short, &mut on_long]), String::from("-")),
+    };
+    let length = long.len() as f64;
+    let growth = (times[1] / times[0]) * 8.0 * (short.len() as f64 / length);
+    println!("{name:<30}{:>8}{:>12.0}{:>10.1}{growth:>8.1}{ratio:>12}", long.len(), times[1] * 1e6, length / times[1] / 1e6);
 }
 
 fn measure_text(kind: &Kind, rooms: &mut Rooms) {
-    let [short, long] = [SHORT, LONG].map(|length| {
-        let text = kind.of_length(length);
-        as_named(kind.name, rooms.xml_of(&text));
-        let time = time_of(|| {
-            black_box(rooms.xml_of(black_box(&text)));
-        });
-        (text.len(), time)
-    });
-    let libical = if kind.name.starts_with("refused") { None } else { time_of_libical(&kind.of_length(LONG)) };
-    report(kind.name, short, long, libical);
+    let inputs = [SHORT, LONG].map(|length| kind.of_length(length));
+    inputs.iter().for_each(|text| as_named(kind.name, rooms.xml_of(text)));
+    let text = (!kind.name.starts_with("refused")).then(|| inputs[1].clone());
+    let convert = |text: &[u8], rooms: &mut Rooms| {
+        black_box(rooms.xml_of(text));
+    };
+    measure(kind.name, inputs, text, convert, rooms);
 }
 
-fn measure_document(name: &str, documents: [Vec<u8>; 2], rooms: &mut Rooms) {
-    let [short, long] = documents.each_ref().map(|xml| {
-        as_named(name, rooms.text_of(xml));
-        let time = time_of(|| {
-            black_box(rooms.text_of(black_box(xml)));
-        });
-        (xml.len(), time)
-    });
-    let libical = to_text(&documents[1]).ok().and_then(|text| time_of_libical(&text));
-    report(name, short, long, libical);
+fn measure_document(name: &str, inputs: [Vec<u8>; 2], rooms: &mut Rooms) {
+    inputs.iter().for_each(|xml| as_named(name, rooms.text_of(xml)));
+    let text = to_text(&inputs[1]).ok();
+    let convert = |xml: &[u8], rooms: &mut Rooms| {
+        black_box(rooms.text_of(xml));
+    };
+    measure(name, inputs, text, convert, rooms);
 }
 
 fn main() {
