@@ -1,4 +1,4 @@
-/* Mallettriton for C: iCalendar text (RFC 5545) to xCal (RFC 6321), on buffers that the caller lends.
+/* Mallettriton for C: iCalendar text (RFC 5545) to xCal (RFC 6321) and back, on buffers that the caller lends.
  *
  * Link target/staticlib/libmallettriton.a, which `rt staticlib mallettriton` writes (x86-64 Linux). The library allocates nothing,
  * keeps nothing between calls and makes no system call. docs/FORMAT.md says what is accepted and what is written.
@@ -17,26 +17,35 @@
 extern "C" {
 #endif
 
-/* The longest input in bytes. A work room of this length serves every input. */
+/* The longest input in bytes, both ways. A work room of this length serves every input. */
 #define MALLETTRITON_LONGEST 65535
 
 /* What an answer's number says, and what its value is then. Places count bytes of the input from 0; a line's place is the first of its
- * bytes that unfolding keeps. The lowest number is given that the first faulty line has. */
+ * bytes that unfolding keeps, a tag's place is its `<`.
+ *
+ * To XML all but XML are given: LENGTH, WORK and CHARACTER first, then the lowest number that the first faulty line has. To text all but
+ * WORK and LINE are given: LENGTH, CHARACTER and XML first, over the whole document, then the fault at the smallest place, the lowest
+ * number if there are several. ROOM comes last both ways. */
 enum mallettriton_number {
     MALLETTRITON_WRITTEN = 0,   /* converted                                              value: how many bytes were written   */
     MALLETTRITON_LENGTH = 1,    /* the input is longer than 65,535 bytes                  value: 0                             */
-    MALLETTRITON_WORK = 2,      /* the work room is shorter than the input                value: 0                             */
+    MALLETTRITON_WORK = 2,      /* to XML: the work room is shorter than the input        value: 0                             */
     MALLETTRITON_CHARACTER = 3, /* not UTF-8, or a character that may not stand there     value: place of its first byte       */
-    MALLETTRITON_LINE = 4,      /* no content line, or not ended by CR LF                 value: place of the line             */
-    MALLETTRITON_NAME = 5,      /* a name that can't be carried                           value: place of the line             */
-    MALLETTRITON_FRAME = 6,     /* something where it may not stand, or still open        value: place of the line, the input's
-                                   at the end, or no calendar at all                             length at the end             */
-    MALLETTRITON_PARAMETER = 7, /* a parameter not permitted, repeated, or of bad value   value: place of the line             */
-    MALLETTRITON_VALUE = 8,     /* a value not of a permitted type                        value: place of the line             */
-    MALLETTRITON_COUNT = 9,     /* a property missing or too often, a pair broken, a      value: place of the END line
-                                   VTIMEZONE with nothing in it                                                                */
+    MALLETTRITON_LINE = 4,      /* to XML: no content line, or not ended by CR LF         value: place of the line             */
+    MALLETTRITON_NAME = 5,      /* a name that can't be carried                           value: place of the line or tag      */
+    MALLETTRITON_FRAME = 6,     /* something where it may not stand, something missing,   value: place of the line or tag, of
+                                   still open at the end, or no calendar at all                  characters that may not stand
+                                                                                                 there their first; the text's
+                                                                                                 length at its end             */
+    MALLETTRITON_PARAMETER = 7, /* a parameter not permitted, repeated, or of bad value   value: place of the line or tag      */
+    MALLETTRITON_VALUE = 8,     /* a value not of a permitted type                        value: place of the line or tag      */
+    MALLETTRITON_COUNT = 9,     /* a property missing or too often, a pair broken, a      value: place of the END line or of
+                                   VTIMEZONE with nothing in it                                  the component's end tag       */
     MALLETTRITON_ROOM = 10,     /* the result is longer than the output                   value: the result's exact length     */
-    MALLETTRITON_XML = 11       /* outside the XML that is read: not given by to_xml                                           */
+    MALLETTRITON_XML = 11       /* to text: outside the XML that is read                  value: place of the tag, reference or
+                                                                                                 character; the document's length
+                                                                                                 if an element is still open or
+                                                                                                 there is none                 */
 };
 
 /* An answer is one number: its number times 4294967296, and its value, which is below 4294967296. */
@@ -50,10 +59,24 @@ enum mallettriton_number {
  *                         answer it begins with the input without its folds, and its other bytes are as they were
  *   out, out_length       the output. After WRITTEN it begins with the result, and its other bytes are as they were; after every
  *                         other answer all of it is as it was. With a length of 0 the call tells the length that is needed
+ *
+ * Its answers are 0 to 10. Allow the call 16 kB of stack.
  */
 uint64_t mallettriton_to_xml(const uint8_t *input, size_t input_length,
                              uint8_t *work, size_t work_length,
                              uint8_t *out, size_t out_length);
+
+/* Converts the xCal document `input` to canonical iCalendar text in `out`.
+ *
+ *   input, input_length   the document; it is not changed
+ *   out, out_length       the output. After WRITTEN it begins with the result, and its other bytes are as they were; after every
+ *                         other answer all of it is as it was. With a length of 0 the call tells the length that is needed
+ *
+ * Its answers are 0, 1, 3 and 5 to 11. There is no work room. Allow the call 300 kB of stack: a content line is put together in a room
+ * of 262,144 bytes there, before it is folded into the output.
+ */
+uint64_t mallettriton_to_text(const uint8_t *input, size_t input_length,
+                              uint8_t *out, size_t out_length);
 
 #ifdef __cplusplus
 }

@@ -1,7 +1,7 @@
 #!/usr/bin/env python3
 """Compares the tables of crates/schema/specs with the RELAX NG schema of RFC 6321.
 
-    tools/check-schema.py SCHEMA      SCHEMA: the schema's text, each line with its number in front or without
+    tools/check-schema.py [SCHEMA]      SCHEMA: the schema's text, each line with its number in front or without; tools/schema/xcal.rnc if none is given
 
 Says what differs, or `ok`. Known differences (the rules): PARTSTAT has the seven words everywhere.
 """
@@ -20,10 +20,15 @@ def compare(what, ours, theirs):
 
 # ---- the schema: name of a definition -> (line, text)
 
-def read_schema(path):
+def schema_lines(path):
+    text = Path(path).read_text()
+    text = text[text.find("\n# RELAX NG Schema") + 1:]      # what we say above it is no part of it
+    return [re.sub(rf"^{n}(?!\d)", "", line, count=1) for n, line in enumerate(text.splitlines(), 1)]
+
+
+def read_schema(lines):
     defs, order, name = {}, [], None
-    for n, line in enumerate(Path(path).read_text().splitlines(), 1):
-        line = re.sub(rf"^{n}(?!\d)", "", line, count=1)
+    for n, line in enumerate(lines, 1):
         line = line.split("#")[0] if line.startswith("#") else line
         m = re.match(r"([a-z][\w-]*)\s*=\s*(.*)", line)
         if m and not line.startswith("default"):
@@ -35,7 +40,8 @@ def read_schema(path):
     return defs, order
 
 
-defs, order = read_schema(sys.argv[1])
+schema = schema_lines(sys.argv[1] if len(sys.argv) > 1 else Path(__file__).resolve().parent / "schema/xcal.rnc")
+defs, order = read_schema(schema)
 element = lambda d: re.match(r"element ([\w-]+)", defs[d][1]).group(1).upper()
 words = lambda t: re.findall(r'"([^"]+)"', t)
 
@@ -192,7 +198,6 @@ alarm = re.findall(r'action = ascii "(\w+)"; occurrences = (\w+)', body(comps, "
 compare("alarms", alarm, list(zip(words(defs["property-action"][1]), [lists[u] for u in used])))
 
 # ---- quoted lines: `-- .. line N` beside an entry, in the component lists too
-schema = [re.sub(rf"^{n}(?!\d)", "", l, count=1) for n, l in enumerate(Path(sys.argv[1]).read_text().splitlines(), 1)]
 for n, l in re.findall(r'ascii "([\w-]+)"\) ∷\s+-- line (\d+)', comps):
     at = schema[int(l) - 1]
     near = at + schema[int(l)]

@@ -1,24 +1,24 @@
 #!/usr/bin/env python3
-"""Packs cases for crates/cases_to_xml.
+"""Packs cases for crates/cases.
 
-    tools/pack-cases.py FILE.. > crates/cases_to_xml/stdin
+    tools/pack-cases.py FILE.. > crates/cases/stdin
 
-A FILE has a case a line, or is a JSON list of cases: {"way": "to-xml", "in": INPUT, "answer": ["ok", RESULT] or ["refused", N, P]}, INPUT and
-RESULT in base64. Cases of another "way" are left out. An empty input and inputs as long as the limit and one byte longer are added. The form of
-what is written stands in the program's main.rt.
+A FILE has a case a line, or is a JSON list of cases: {"way": "to-xml" or "to-text", "in": INPUT, "answer": ["ok", RESULT] or ["refused", N, P]},
+INPUT and RESULT in base64. Added are, both ways, an empty input and inputs as long as the limit and one byte longer; and to text, documents
+with 16 and with 17 open elements. The form of what is written stands in the program's main.rt.
 """
 import base64
 import json
 import sys
 
 LIMIT = 65535
-FRONT = b"BEGIN:VCALENDAR\r\nPRODID:%s\r\nVERSION:2.0\r\n"
-BACK = b"END:VCALENDAR\r\n"
-FRONT_XML = (
-    b'<?xml version="1.0" encoding="utf-8"?>\n<icalendar xmlns="urn:ietf:params:xml:ns:icalendar-2.0"><vcalendar><properties>'
-    b"<prodid><text>%s</text></prodid><version><text>2.0</text></version>"
+WAYS = {"to-xml": 1, "to-text": 2}
+ROOT = b'<icalendar xmlns="urn:ietf:params:xml:ns:icalendar-2.0">'
+TEXT = (b"BEGIN:VCALENDAR\r\nPRODID:%s\r\nVERSION:2.0\r\n", b"END:VCALENDAR\r\n")
+XML = (
+    b'<?xml version="1.0" encoding="utf-8"?>\n' + ROOT + b"<vcalendar><properties><prodid><text>%s</text></prodid><version><text>2.0</text></version>",
+    b"</properties><components></components></vcalendar></icalendar>\n",
 )
-BACK_XML = b"</properties><components></components></vcalendar></icalendar>\n"
 
 
 def number(n):
@@ -30,8 +30,8 @@ def parts(front, middle=b"", times=0, back=b""):
     return b"".join(map(number, lengths)) + front + middle + back
 
 
-def record(n, value, given, result):
-    return b"\x01" + number(n) + number(value) + given + result
+def record(way, n, value, given, result=parts(b"")):
+    return bytes([WAYS[way]]) + number(n) + number(value) + given + result
 
 
 def packed(case):
@@ -39,33 +39,60 @@ def packed(case):
     answer = case["answer"]
     if answer[0] == "ok":
         result = base64.b64decode(answer[1])
-        return record(0, len(result), given, parts(result))
-    return record(answer[1], answer[2], given, parts(b""))
+        return record(case["way"], 0, len(result), given, parts(result))
+    return record(case["way"], answer[1], answer[2], given)
 
 
-def long(line, xml, length):
-    """A calendar of `length` bytes: a line many times, and a PRODID that takes what is left."""
-    bare = len(FRONT % b"") + len(BACK)
-    times = (length - bare) // len(line)
-    prodid = b"p" * ((length - bare) % len(line))
-    given = parts(FRONT % prodid, line, times, BACK)
+def long(way, form, unit, result_form, result_unit, length):
+    """A calendar of `length` bytes: a property many times, and a PRODID that takes what is left."""
+    bare = len(form[0] % b"") + len(form[1])
+    times, left = divmod(length - bare, len(unit))
+    given = parts(form[0] % (b"p" * left), unit, times, form[1])
     if length > LIMIT:
-        return record(1, 0, given, parts(b""))
-    front = FRONT_XML % prodid
-    return record(0, len(front) + len(xml) * times + len(BACK_XML), given, parts(front, xml, times, BACK_XML))
+        return record(way, 1, 0, given)
+    front, back = result_form[0] % (b"p" * left), result_form[1]
+    return record(way, 0, len(front) + len(result_unit) * times + len(back), given, parts(front, result_unit, times, back))
+
+
+def long_line(length):
+    """A document of `length` bytes whose PRODID is all semicolons, which its text escapes: 34 in the first line, 37 in each that follows."""
+    bare = len(XML[0] % b"") + len(XML[1])
+    front, back = XML[0].split(b"%s")
+    given = parts(front, b";", length - bare, back + XML[1])
+    times, left = divmod(length - bare - 34, 37)
+    front, back = TEXT[0].split(b"%s")
+    front, middle, back = front + b"\\;" * 34, b"\r\n " + b"\\;" * 37, b"\r\n " + b"\\;" * left + back + TEXT[1]
+    return record("to-text", 0, len(front) + len(middle) * times + len(back), given, parts(front, middle, times, back))
+
+
+def nested(depth, last, end, n, place):
+    """A document with `depth` open elements, the last of them given."""
+    return record("to-text", n, place, parts(ROOT + b"<a>" * (depth - 2) + last + end + b"</a>" * (depth - 2) + b"</icalendar>"))
 
 
 def cases(name):
     text = open(name, encoding="utf-8").read()
-    every = json.loads(text) if text.startswith("[") else map(json.loads, text.splitlines())
-    return [case for case in every if case["way"] == "to-xml"]
+    return json.loads(text) if text.startswith("[") else list(map(json.loads, text.splitlines()))
+
+
+def added():
+    yield record("to-xml", 6, 0, parts(b""))
+    yield record("to-text", 11, 0, parts(b""))
+    for length in (LIMIT, LIMIT + 1):
+        yield long("to-xml", TEXT, b"X-A:b\r\n", XML, b"<x-a><unknown>b</unknown></x-a>", length)
+        yield long("to-xml", TEXT, b"X-A;C=d:b\r\n e&\r\n", XML, b"<x-a><parameters><c><unknown>d</unknown></c></parameters><unknown>be&amp;</unknown></x-a>", length)
+        yield long("to-text", XML, b"<x-a><unknown>b</unknown></x-a>", TEXT, b"X-A:b\r\n", length)
+        yield long("to-text", XML, b"<x-a>\n<date>2024-02-29</date>\r</x-a >", TEXT, b"X-A;VALUE=DATE:20240229\r\n", length)
+    yield long_line(LIMIT)
+    # what stands at the first <a> is 6, unless the document is no XML of the profile
+    yield nested(16, b"<a>", b"</a>", 6, len(ROOT))
+    for last, end in ((b"<a>", b"</a>"), (b"<a/>", b"")):
+        yield nested(17, last, end, 11, len(ROOT) + 15 * len(b"<a>"))
 
 
 out = sys.stdout.buffer
 for name in sys.argv[1:]:
     for case in cases(name):
         out.write(packed(case))
-out.write(record(6, 0, parts(b""), parts(b"")))
-for length in (LIMIT, LIMIT + 1):
-    out.write(long(b"X-A:b\r\n", b"<x-a><unknown>b</unknown></x-a>", length))
-    out.write(long(b"X-A;C=d:b\r\n e&\r\n", b"<x-a><parameters><c><unknown>d</unknown></c></parameters><unknown>be&amp;</unknown></x-a>", length))
+for case in added():
+    out.write(case)

@@ -1,45 +1,13 @@
 // Standard input, an iCalendar text, as canonical XML on standard output; or one line `refused N at P`, of a
 // result that has no room `refused 10 needs L`. One byte more than the limit is read, so that a longer input is refused.
 use libc::STDIN_FILENO;
-use libc::STDOUT_FILENO;
-use mallettriton::number_of;
 use mallettriton::to_xml;
-use mallettriton::value_of;
-
-fn say_number(n: u64) {
-    io::print_decimal(STDOUT_FILENO, n);
-}
-
-// The line of a refusal.
-fn say_refused(number: u64, value: u64) {
-    io::write_all(STDOUT_FILENO, b"refused ");
-    say_number(number);
-    if number == 10 {
-        io::write_all(STDOUT_FILENO, b" needs ");
-    } else {
-        io::write_all(STDOUT_FILENO, b" at ");
-    }
-    say_number(value);
-    io::write_all(STDOUT_FILENO, b"\n");
-}
-
-// The first n bytes of b.
-fn say_front(b: &[u8], n: usize) {
-    if n <= b.len() {
-        io::write_all(STDOUT_FILENO, &b[..n]);
-    }
-}
+use reporting::say_answer;
 
 // What the input becomes, or why it is refused.
 fn convert(input: &[u8], work: &mut [u8], out: &mut [u8]) {
     let a = to_xml(input, work, out);
-    let number = number_of(a);
-    let value = value_of(a);
-    if number == 0 {
-        say_front(out, value);
-    } else {
-        say_refused(number, value as u64);
-    }
+    say_answer(a, out);
 }
 
 // A work room as long as the longest input, and an output with 20 bytes for each byte of it.

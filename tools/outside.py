@@ -1,0 +1,209 @@
+#!/usr/bin/env python3
+"""Outside judges of the project's XML. tools/check-outside installs them and calls this.
+
+    tools/outside.py
+
+Documents: those that the way to XML writes, from crates/cases/stdin and from samples/*.ics (if target/bin/to_xml is built); those that the way to
+text accepts; and those that it refuses for what they say, and not as XML (refusals 5 to 9).
+
+- All must be well-formed for xmllint (libxml2).
+- Those that are written must read in Python's expat as the same tree as in a reading of a few lines, which knows canonical XML only.
+- Those that are written or accepted must be valid by tools/schema/xcal.rnc, for jing and for xmllint (which reads it as trang rewrites it).
+- Each judge must reject a document in which it must find a fault.
+
+A URI may hold nearly any visible ASCII (docs/FORMAT.md); the judges take less. Documents with a URI that a judge does not take are left out there, and counted.
+"""
+import re
+import shutil
+import subprocess
+import sys
+import tempfile
+from pathlib import Path
+from xml.parsers import expat
+
+HERE = Path(__file__).resolve().parent
+TOP = HERE.parent
+SCHEMA = HERE / "schema/xcal.rnc"
+NAMESPACE = "urn:ietf:params:xml:ns:icalendar-2.0"
+HEAD = f'<?xml version="1.0" encoding="utf-8"?>\n<icalendar xmlns="{NAMESPACE}">'
+# URIs that a judge does not take
+JING_URI = re.compile(r"%(?![0-9A-Fa-f]{2})|#.*#|^[^:]*:(#|$)")
+LIBXML_URI = re.compile(r"%(?![0-9A-Fa-f]{2})|#.*#|[\[\]]")
+passed = failed = 0
+
+
+def packed_cases(data):
+    """Way, number of the refusal or 0, input and result of each case; tools/pack-cases.py has the form."""
+    at = 0
+
+    def take(n):
+        nonlocal at
+        at += n
+        return data[at - n:at]
+
+    def number():
+        return int.from_bytes(take(4), "big")
+
+    def parts():
+        front, middle, repeated, back = (number() for _ in range(4))
+        front, middle = take(front), take(middle)
+        return front + (middle * (repeated // len(middle)) if middle else b"") + take(back)
+
+    while at < len(data):
+        way, refusal, _ = take(1)[0], number(), number()
+        yield way, refusal, parts(), parts()
+
+
+def documents():
+    written, accepted, refused = {}, {}, {}
+    for i, (way, refusal, given, result) in enumerate(packed_cases((TOP / "crates/cases/stdin").read_bytes())):
+        name = f"case-{i}.xml"
+        if way == 1 and refusal == 0:
+            written[name] = result
+        elif way == 2 and refusal == 0:
+            accepted[name] = given
+        elif way == 2 and 5 <= refusal <= 9:
+            refused[name] = given
+    program = TOP / "target/bin/to_xml"
+    for sample in sorted((TOP / "samples").iterdir()):
+        if sample.suffix == ".xml":
+            accepted[sample.name] = sample.read_bytes()
+        elif program.exists():
+            written[sample.name + ".xml"] = subprocess.run([program], stdin=sample.open("rb"), capture_output=True, check=True).stdout
+        else:
+            print(f"skipped: {sample.name}, since target/bin/to_xml is not built")
+    return written, accepted, refused
+
+
+def report(judge, names, complaints, note=""):
+    """Counts the documents without a complaint as passed, the others as failed, and lists the first of these."""
+    global passed, failed
+    bad = [n for n in names if complaints.get(n)]
+    passed += len(names) - len(bad)
+    failed += len(bad)
+    for n in bad[:20]:
+        print(f"FAILED {judge}: {n}: {complaints[n][0]}")
+    print(f"{judge}: {len(names) - len(bad)} passed, {len(bad)} failed{note}")
+
+
+# ---- trees, as lists of tags and texts in order
+
+def tree_of_expat(data):
+    items, parser = [], expat.ParserCreate(namespace_separator="|")
+
+    def text(t):
+        if items and items[-1][0] == "text":
+            t = items.pop()[1] + t
+        items.append(("text", t))
+
+    parser.StartElementHandler = lambda name, attributes: items.append(("start", name, *attributes.items()))
+    parser.EndElementHandler = lambda name: items.append(("end", name))
+    parser.CharacterDataHandler = text
+    parser.Parse(data, True)
+    return items
+
+
+def tree_of_canonical(data):
+    text = data.decode("utf-8")
+    if not text.startswith(HEAD) or not text.endswith("</icalendar>\n"):
+        raise ValueError("not in canonical form")
+    items, at = [("start", f"{NAMESPACE}|icalendar")], len(HEAD)
+    for m in re.compile(r"<(/?)([a-z][a-z0-9-]*)>|([^<>]+)").finditer(text, at, len(text) - 1):
+        if m.start() > at:
+            raise ValueError(f"not in canonical form at {at}")
+        at = m.end()
+        slash, name, characters = m.groups()
+        if name:
+            items.append(("end" if slash else "start", f"{NAMESPACE}|{name}"))
+        elif re.search(r"&(?!(amp|lt|gt);)|\r", characters):
+            raise ValueError(f"not in canonical form at {m.start()}")
+        else:
+            items.append(("text", characters.replace("&lt;", "<").replace("&gt;", ">").replace("&amp;", "&")))
+    return items
+
+
+def tree_complaints(data):
+    try:
+        return [] if tree_of_expat(data) == tree_of_canonical(data) else ["another tree"]
+    except (ValueError, expat.ExpatError) as e:
+        return [str(e)]
+
+
+def odd_uris(data, odd):
+    """How many values of the types that hold a URI are of the form that a judge does not take."""
+    items = tree_of_expat(data)
+    named = [f"{NAMESPACE}|uri", f"{NAMESPACE}|cal-address"]
+    return sum(a[0] == "start" and a[1] in named and b[0] == "text" and bool(odd.search(b[1])) for a, b in zip(items, items[1:]))
+
+
+# ---- judges of files
+
+def ask(folder, names, *command):
+    """What a judge prints of each file, by its name. What it says of the schema stands with every file."""
+    run = subprocess.run([*command, *names], cwd=folder, capture_output=True, text=True, errors="replace")
+    said = {n: [] for n in names}
+    for line in (run.stdout + run.stderr).splitlines():
+        name = Path(re.split(r":| validates$", line)[0]).name
+        for n in names if name.startswith("xcal.") else [name]:
+            said.setdefault(n, []).append(line)
+    if run.returncode and not any(said.values()):
+        raise RuntimeError(f"{command[0]} ended with status {run.returncode}")
+    return said
+
+
+def judge_all(folder):
+    written, accepted, refused = documents()
+    print(f"documents: {len(written)} written, {len(accepted)} accepted, {len(refused)} refused for what they say")
+    sample = (TOP / "samples/rota.xml").read_bytes()
+    broken = {"no-end.xml": sample.replace(b"</uid>", b""), "no-uid.xml": re.sub(rb"<uid>.*</uid>", b"", sample)}
+    everything = {**written, **accepted, **refused, **broken}
+    for name, data in everything.items():
+        (folder / name).write_bytes(data)
+    valid = [*written, *accepted]
+
+    def rejects(judge, complaints, name):
+        report(f"{judge} finds the fault in a broken document", [name], {name: [] if complaints[name] else ["it does not"]})
+
+    print(f"\nexpat ({expat.EXPAT_VERSION})")
+    report("the same tree", list(written), {n: tree_complaints(d) for n, d in written.items()})
+    rejects("expat", {"no-end.xml": tree_complaints(broken["no-end.xml"])}, "no-end.xml")
+    report("another tree is found", ["one letter more"], {"one letter more": [] if tree_of_expat(sample.replace(b"r1", b"r12")) != tree_of_canonical(sample) else ["it is not"]})
+
+    if shutil.which("xmllint"):
+        print("\nxmllint")
+        names = [*valid, *refused]
+        said = ask(folder, [*names, "no-end.xml"], "xmllint", "--noout")
+        report("well-formed", names, said)
+        rejects("xmllint", said, "no-end.xml")
+    else:
+        print("\nskipped: xmllint (not installed)")
+
+    if shutil.which("jing"):
+        print("\njing")
+        said = ask(folder, [*valid, *refused, "no-uid.xml"], "jing", "-c", SCHEMA)
+        odd = {n: odd_uris(everything[n], JING_URI) for n in valid}
+        left = [n for n in valid if odd[n]]
+        report("valid", [n for n in valid if not odd[n]], said, f", {len(left)} left out: a URI with a % and no two hexadecimal digits, with two #, or with nothing after the colon")
+        report("valid but for these URIs", left, {n: [] if len(said[n]) == odd[n] and all("must be a URI" in x for x in said[n]) else said[n] or ["no complaint"] for n in left})
+        rejects("jing", said, "no-uid.xml")
+        print(f"for comparison: it finds {sum(bool(said[n]) for n in refused)} of the {len(refused)} refused documents not valid")
+    else:
+        print("\nskipped: jing (not installed)")
+
+    if shutil.which("trang") and shutil.which("xmllint"):
+        print("\nxmllint by the schema")
+        subprocess.run(["trang", SCHEMA, folder / "xcal.rng"], check=True)
+        names = [*valid, "no-uid.xml"]
+        said = ask(folder, names, "xmllint", "--noout", "--relaxng", "xcal.rng")
+        said = {n: [] if said[n] == [n + " validates"] else said[n] or ["it does not validate"] for n in names}
+        left = [n for n in valid if odd_uris(everything[n], LIBXML_URI)]
+        report("valid", [n for n in valid if n not in left], said, f", {len(left)} left out: a URI with a % and no two hexadecimal digits, with two #, or with a square bracket")
+        rejects("xmllint", said, "no-uid.xml")
+    else:
+        print("\nskipped: xmllint by the schema (trang or xmllint is not installed)")
+
+
+with tempfile.TemporaryDirectory() as room:
+    judge_all(Path(room))
+print(f"\n{passed} passed, {failed} failed")
+sys.exit(bool(failed))
