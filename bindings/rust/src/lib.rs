@@ -25,11 +25,12 @@
 //! says, with their contents set, and that the work room and the output overlap with nothing. Rust's slices are all this, which is why the calls here are safe
 //! functions: a slice's pointer is never null, not even that of an empty slice (it dangles, and is not read through), and `&mut` slices overlap with nothing.
 //!
-//! # Stack
+//! # Stack and threads
 //!
-//! [`to_text`] and [`to_text_into`] need about 300 kB of stack, most of it a room for one line; [`to_xml`] and [`to_xml_into`] need a few kB. A main thread and the threads
-//! of `std::thread` (2 MB) have that; a thread with a smaller stack of its own does not, and runs over it. The library keeps nothing between calls: any number of threads may
-//! call it at once.
+//! Allow [`to_text`] and [`to_text_into`] 300 kB of stack, most of it a room for one line, and [`to_xml`] and [`to_xml_into`] 16 kB. A main thread and the threads of `std::thread`
+//! (2 MB) have that. In a thread of a smaller stack the call overflows it, which under `std::thread` ends the process.
+//!
+//! The library keeps nothing between calls: any number of threads may call it at once.
 #![deny(missing_docs)]
 
 use std::error::Error;
@@ -48,7 +49,7 @@ pub enum Number {
     Work = 2,
     /// Not UTF-8, or a character that may not stand there; the place is that of its first byte.
     Character = 3,
-    /// No content line, or one that is not ended by CR LF.
+    /// No content line, or one that is not ended by CR LF. Only the way to XML answers it.
     Line = 4,
     /// A name that can't be carried.
     Name = 5,
@@ -69,7 +70,8 @@ pub enum Number {
 pub struct Refusal {
     /// Why.
     pub number: Number,
-    /// Where: the start of the line, tag or character; the input's length if something is still open there; 0 for [`Number::Length`] and [`Number::Work`].
+    /// Where: the start of the line, tag, reference or character; the input's length if something is open or missing at its end; 0 for [`Number::Length`] and
+    /// [`Number::Work`]. A line starts at the first of its bytes that unfolding keeps.
     pub place: usize,
 }
 
@@ -142,7 +144,7 @@ pub fn to_xml_into<'a>(input: &[u8], work: &mut [u8], out: &'a mut [u8]) -> Answ
 
 /// Converts the xCal document `input` to canonical iCalendar text, at the start of `out`.
 ///
-/// It needs about 300 kB of stack.
+/// Allow it 300 kB of stack.
 pub fn to_text_into<'a>(input: &[u8], out: &'a mut [u8]) -> Answer<'a> {
     // SAFETY: as above.
     let code = unsafe { mallettriton_to_text(input.as_ptr(), input.len(), out.as_mut_ptr(), out.len()) };
@@ -177,7 +179,7 @@ pub fn to_xml(input: &[u8]) -> Result<Vec<u8>, Refusal> {
 
 /// Converts the xCal document `input` to canonical iCalendar text.
 ///
-/// It allocates an output of the input's length, and calls again only where that is too short. It needs about 300 kB of stack. To use a buffer over and over, call [`to_text_into`].
+/// It allocates an output of the input's length, and calls again only where that is too short. Allow it 300 kB of stack. To use a buffer over and over, call [`to_text_into`].
 pub fn to_text(input: &[u8]) -> Result<Vec<u8>, Refusal> {
     let length = if input.len() <= LONGEST { input.len() } else { 0 };
     in_a_vec(length, |out| to_text_into(input, out))

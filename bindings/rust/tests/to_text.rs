@@ -7,6 +7,7 @@ use common::{ample, in_every_room, to_text_in, Told};
 use mallettriton::{to_text, to_xml, Number, Refusal, LONGEST};
 
 const SAMPLE: &[u8] = include_bytes!("../../../samples/rota.ics");
+const SAMPLE_XML: &[u8] = include_bytes!("../../../samples/rota.xml");
 
 /// The call on an input, with outputs of several lengths, against the readings; its answer with ample room.
 fn checked(input: &[u8]) -> Told {
@@ -19,7 +20,7 @@ fn checked(input: &[u8]) -> Told {
             assert!((5..=9).contains(number) || *number == 11, "refused {number} at {place}");
             // a tag, a reference, a character, or the end of the input
             assert!(*place == input.len() || std::str::from_utf8(&input[*place..]).is_ok(), "refused {number} at {place}");
-            if matches!(*number, 5 | 7 | 8 | 9) {
+            if matches!(number, 5 | 7 | 8 | 9) {
                 assert_eq!(input[*place], b'<', "refused {number} at {place}");
             }
         }
@@ -42,10 +43,9 @@ fn document(r: &mut Random) -> (Vec<u8>, Vec<u8>) {
 }
 
 #[test]
-fn the_sample_comes_back() {
-    let xml = to_xml(SAMPLE).unwrap();
-    assert_eq!(checked(&xml), Told::Written(SAMPLE.to_vec()));
-    assert_eq!(to_text(&xml), Ok(SAMPLE.to_vec()));
+fn the_sample_gives_its_text() {
+    assert_eq!(checked(SAMPLE_XML), Told::Written(SAMPLE.to_vec()));
+    assert_eq!(to_text(SAMPLE_XML), Ok(SAMPLE.to_vec()));
 }
 
 #[test]

@@ -1,10 +1,11 @@
 //! How fast the conversions are, and how their time grows with the input.
 //!
 //!     cargo run --release --offline --bin bench [PART OF A NAME]
+//!     valgrind --tool=callgrind --toggle-collect=mallettriton_to_xml target/release/bench --once to-xml "PART OF A NAME" 65535
 //!
 //! The buffers are made once and not cleared between calls; every call is on the same input, with room enough. A time is processor time, the shortest of many runs, each of as many calls as
 //! take some milliseconds, and what is compared takes turns, so that other work on the machine counts little. Growth is how much longer a call takes on 64 kB than on 8 kB: 8 is linear.
-//! Where libical was found when this was built, it parses and prints the same text in the same run, for the way to text the text of the same calendar; the ratio is its time to ours.
+//! Where libical was found when this was built, it parses and prints the same text in the same run, for the way to text the text of the same rota; the ratio is its time to ours.
 mod inputs;
 
 use inputs::Kind;
@@ -150,21 +151,43 @@ fn measure_text(kind: &Kind, rooms: &mut Rooms) {
     measure(kind.name, inputs, text, convert, rooms);
 }
 
-fn measure_document(name: &str, inputs: [Vec<u8>; 2], rooms: &mut Rooms) {
+fn measure_document(name: &str, inputs: [Vec<u8>; 2], text: Option<Vec<u8>>, rooms: &mut Rooms) {
     inputs.iter().for_each(|xml| as_named(name, rooms.text_of(xml)));
-    let text = to_text(&inputs[1]).ok();
     let convert = |xml: &[u8], rooms: &mut Rooms| {
         black_box(rooms.text_of(xml));
     };
     measure(name, inputs, text, convert, rooms);
 }
 
+/// A call on each of the chosen inputs of a length, for a profiler.
+fn once(way: &str, only: &str, length: usize, rooms: &mut Rooms) {
+    let chosen = |kind: &&Kind| kind.name.contains(only);
+    if way == "to-xml" {
+        for kind in inputs::ROTAS.iter().chain(&inputs::WORST_TEXTS).filter(chosen) {
+            as_named(kind.name, rooms.xml_of(&kind.of_length(length)));
+        }
+    } else {
+        for kind in inputs::ROTAS.iter().filter(chosen) {
+            let xml = document_of(kind, length, rooms);
+            as_named(kind.name, rooms.text_of(&xml));
+        }
+        for kind in inputs::WORST_DOCUMENTS.iter().filter(chosen) {
+            as_named(kind.name, rooms.text_of(&kind.of_length(length)));
+        }
+    }
+}
+
 fn main() {
-    let only = std::env::args().nth(1).unwrap_or_default();
-    let chosen = |kind: &&Kind| kind.name.contains(&only);
+    let arguments: Vec<String> = std::env::args().skip(1).collect();
     let mut rooms = Rooms { work: vec![0; LONGEST], out: vec![0; 32 * LONGEST] };
+    if let [flag, way, only, length] = &arguments[..] {
+        assert_eq!(flag, "--once");
+        return once(way, only, length.parse().expect("a length in bytes"), &mut rooms);
+    }
+    let only = arguments.first().map_or("", String::as_str);
+    let chosen = |kind: &&Kind| kind.name.contains(only);
     match option_env!("LIBICAL_VERSION") {
-        Some(version) => println!("libical {version} parses and prints the same text (-: it finds errors in it, or the input is refused)"),
+        Some(version) => println!("libical {version} parses and prints the same text (-: it finds errors in it, or is not asked)"),
         None => println!("libical was not found by pkg-config when this was built, so it is not measured"),
     }
     head("text to XML");
@@ -174,9 +197,10 @@ fn main() {
     head("XML to text");
     for kind in inputs::ROTAS.iter().filter(chosen) {
         let documents = [SHORT, LONG].map(|length| document_of(kind, length, &mut rooms));
-        measure_document(kind.name, documents, &mut rooms);
+        let text = to_text(&documents[1]).ok();
+        measure_document(kind.name, documents, text, &mut rooms);
     }
     for kind in inputs::WORST_DOCUMENTS.iter().filter(chosen) {
-        measure_document(kind.name, [SHORT, LONG].map(|length| kind.of_length(length)), &mut rooms);
+        measure_document(kind.name, [SHORT, LONG].map(|length| kind.of_length(length)), None, &mut rooms);
     }
 }
