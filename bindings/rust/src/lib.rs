@@ -1,0 +1,186 @@
+//! iCalendar text (RFC 5545) to xCal (RFC 6321) and back, by the static library `libmallettriton.a`, which is proved.
+//!
+//! ```
+//! let text = b"BEGIN:VCALENDAR\r\nPRODID:-//A//B//EN\r\nVERSION:2.0\r\nBEGIN:VTODO\r\n\
+//!     UID:1\r\nDTSTAMP:20240501T060000Z\r\nEND:VTODO\r\nEND:VCALENDAR\r\n";
+//! let xml = mallettriton::to_xml(text)?;
+//! assert!(xml.starts_with(b"<?xml version=\"1.0\" encoding=\"utf-8\"?>\n<icalendar "));
+//! assert_eq!(mallettriton::to_text(&xml)?, text);
+//!
+//! let refusal = mallettriton::to_xml(b"BEGIN:VCALENDAR\r\n").unwrap_err();
+//! assert_eq!((refusal.number, refusal.place), (mallettriton::Number::Frame, 17));
+//! # Ok::<(), mallettriton::Refusal>(())
+//! ```
+//!
+//! [`to_xml`] and [`to_text`] take a slice and give a `Vec`. [`to_xml_into`] and [`to_text_into`] work on buffers that the caller lends, allocate nothing,
+//! and tell the exact length that an output which is too short would need. `docs/FORMAT.md` of the repository says what is accepted and what is written.
+//!
+//! # What is proved, and what is not
+//!
+//! Proved, of the two calls of the library: every call ends, on any bytes and any lengths of the buffers; its answer, and what each lent buffer holds
+//! afterwards, is the one that the specification defines; accepted calendars come back unchanged. `docs/CLAIMS.md` has the theorems.
+//!
+//! Not proved: this crate, and the step over the boundary. Nothing checks that the declarations of the two functions below are those of the archive, that the archive
+//! is the one that was proved, or that the compiler and the linker are right. The proof supposes of each buffer a pointer that is not null to as many bytes as its length
+//! says, with their contents set, and that the work room and the output overlap with nothing. Rust's slices are all this, which is why the calls here are safe
+//! functions: a slice's pointer is never null, not even that of an empty slice (it dangles, and is not read through), and `&mut` slices overlap with nothing.
+//!
+//! # Stack and threads
+//!
+//! Allow [`to_text`] and [`to_text_into`] 300 kB of stack, most of it a room for one line, and [`to_xml`] and [`to_xml_into`] 16 kB. A main thread and the threads of `std::thread`
+//! (2 MB) have that. In a thread of a smaller stack the call overflows it, which under `std::thread` ends the process.
+//!
+//! The library keeps nothing between calls: any number of threads may call it at once.
+#![deny(missing_docs)]
+
+use std::error::Error;
+use std::fmt;
+
+/// The longest input in bytes; a longer one is refused ([`Number::Length`]). A work room of this length serves every input.
+pub const LONGEST: usize = 65_535;
+
+/// Why an input is refused. The discriminants are the numbers of `docs/FORMAT.md`.
+#[derive(Clone, Copy, Debug, PartialEq, Eq, PartialOrd, Ord, Hash)]
+#[repr(u8)]
+pub enum Number {
+    /// The input is longer than [`LONGEST`].
+    Length = 1,
+    /// The work room is shorter than the input. Only [`to_xml_into`] answers it.
+    Work = 2,
+    /// Not UTF-8, or a character that may not stand there; the place is that of its first byte.
+    Character = 3,
+    /// No content line, or one that is not ended by CR LF. Only the way to XML answers it.
+    Line = 4,
+    /// A name that can't be carried.
+    Name = 5,
+    /// Something where it may not stand, or something open or missing at the end.
+    Frame = 6,
+    /// A parameter that is not permitted, comes again, or has a bad value.
+    Parameter = 7,
+    /// A value that is not of a permitted type.
+    Value = 8,
+    /// A property missing or too often, a pair broken, a VTIMEZONE with nothing in it.
+    Count = 9,
+    /// Outside the XML that is read. Only the way to text answers it.
+    Xml = 11,
+}
+
+/// A refusal: its number, and its place in the input, counted in bytes from 0.
+#[derive(Clone, Copy, Debug, PartialEq, Eq, Hash)]
+pub struct Refusal {
+    /// Why.
+    pub number: Number,
+    /// Where: the start of the line, tag, reference or character; the input's length if something is open or missing at its end; 0 for [`Number::Length`] and
+    /// [`Number::Work`]. A line starts at the first of its bytes that unfolding keeps.
+    pub place: usize,
+}
+
+impl fmt::Display for Refusal {
+    fn fmt(&self, f: &mut fmt::Formatter<'_>) -> fmt::Result {
+        write!(f, "refused {} at {}", self.number as u8, self.place)
+    }
+}
+
+impl Error for Refusal {}
+
+/// What a call on lent buffers answers.
+#[derive(Clone, Copy, Debug, PartialEq, Eq)]
+pub enum Answer<'a> {
+    /// Converted. The result stands at the output's start; the output's other bytes are as they were.
+    Written(&'a [u8]),
+    /// The input is accepted, but the output is shorter than the result, whose exact length this is. The output is as it was.
+    Needs(usize),
+    /// The input is refused. The output is as it was.
+    Refused(Refusal),
+}
+
+extern "C" {
+    fn mallettriton_to_xml(input: *const u8, input_length: usize, work: *mut u8, work_length: usize, out: *mut u8, out_length: usize) -> u64;
+    fn mallettriton_to_text(input: *const u8, input_length: usize, out: *mut u8, out_length: usize) -> u64;
+}
+
+/// Takes an answer of the library apart: its number times 2 ^ 32, and its value.
+fn answer(code: u64, out: &[u8]) -> Answer<'_> {
+    let value = (code & 0xffff_ffff) as usize;
+    let number = match code >> 32 {
+        0 => return Answer::Written(&out[..value]),
+        1 => Number::Length,
+        2 => Number::Work,
+        3 => Number::Character,
+        4 => Number::Line,
+        5 => Number::Name,
+        6 => Number::Frame,
+        7 => Number::Parameter,
+        8 => Number::Value,
+        9 => Number::Count,
+        10 => return Answer::Needs(value),
+        11 => Number::Xml,
+        other => panic!("libmallettriton.a answered the number {other}, which this crate does not know: they are of different versions"),
+    };
+    Answer::Refused(Refusal { number, place: value })
+}
+
+/// Converts the iCalendar text `input` to canonical XML, at the start of `out`.
+///
+/// `work` is a work room as long as the input, or longer. It is as it was after the refusals [`Number::Length`] and [`Number::Work`]; after every other answer it begins with the input
+/// without its folds, and its other bytes are as they were. Neither buffer has to be cleared between calls.
+///
+/// ```
+/// use mallettriton::{to_xml_into, Answer, LONGEST};
+/// # let text = b"BEGIN:VCALENDAR\r\nPRODID:-//A//B//EN\r\nVERSION:2.0\r\nBEGIN:VTODO\r\nUID:1\r\nDTSTAMP:20240501T060000Z\r\nEND:VTODO\r\nEND:VCALENDAR\r\n";
+/// let mut work = vec![0; LONGEST];
+/// let mut out = vec![0; 1000];
+/// match to_xml_into(text, &mut work, &mut out) {
+///     Answer::Written(xml) => assert!(xml.ends_with(b"</icalendar>\n")),
+///     Answer::Needs(length) => panic!("an output of {length} bytes is needed"),
+///     Answer::Refused(refusal) => panic!("{refusal}"),
+/// }
+/// ```
+pub fn to_xml_into<'a>(input: &[u8], work: &mut [u8], out: &'a mut [u8]) -> Answer<'a> {
+    // SAFETY: the pointers are those of slices, so they are not null and are to as many bytes as the lengths say; `work` and `out` are borrowed alone.
+    let code = unsafe { mallettriton_to_xml(input.as_ptr(), input.len(), work.as_mut_ptr(), work.len(), out.as_mut_ptr(), out.len()) };
+    answer(code, out)
+}
+
+/// Converts the xCal document `input` to canonical iCalendar text, at the start of `out`.
+///
+/// Allow it 300 kB of stack.
+pub fn to_text_into<'a>(input: &[u8], out: &'a mut [u8]) -> Answer<'a> {
+    // SAFETY: as above.
+    let code = unsafe { mallettriton_to_text(input.as_ptr(), input.len(), out.as_mut_ptr(), out.len()) };
+    answer(code, out)
+}
+
+/// An output of the length that is tried first, or, if the result is longer, of its exact length.
+fn in_a_vec(first: usize, convert: impl Fn(&mut [u8]) -> Answer<'_>) -> Result<Vec<u8>, Refusal> {
+    let mut length = first;
+    loop {
+        let mut out = vec![0; length];
+        match convert(&mut out) {
+            Answer::Written(result) => {
+                let written = result.len();
+                out.truncate(written);
+                return Ok(out);
+            }
+            Answer::Needs(needed) => length = needed,
+            Answer::Refused(refusal) => return Err(refusal),
+        }
+    }
+}
+
+/// Converts the iCalendar text `input` to canonical XML.
+///
+/// It allocates the work room and an output of a few times the input's length, and calls again only where that is too short. To use buffers over and over, call [`to_xml_into`].
+pub fn to_xml(input: &[u8]) -> Result<Vec<u8>, Refusal> {
+    // too long an input is refused before either is used
+    let length = if input.len() <= LONGEST { input.len() } else { 0 };
+    in_a_vec(4 * length + 256, |out| to_xml_into(input, &mut vec![0; length], out))
+}
+
+/// Converts the xCal document `input` to canonical iCalendar text.
+///
+/// It allocates an output of the input's length, and calls again only where that is too short. Allow it 300 kB of stack. To use a buffer over and over, call [`to_text_into`].
+pub fn to_text(input: &[u8]) -> Result<Vec<u8>, Refusal> {
+    let length = if input.len() <= LONGEST { input.len() } else { 0 };
+    in_a_vec(length, |out| to_text_into(input, out))
+}
