@@ -1,17 +1,21 @@
 -- The end tag of an open element, and what follows it.
 --     EndedAt     the contract of `element_end`
 --     Closing     the invariant of its loop over tokens: depth elements are open inside the one whose end is sought;   `search closing`
-use mathlib.Core.Path.{_≡_, refl, sym, subst, _∙_}
+use mathlib.Core.Path.{_≡_, refl, sym, ap, subst, _∙_}
+use mathlib.Core.Bool.{Bool, true}
 use mathlib.Core.List.{List, _∷_}
 use Prim.Native.Nat.{ℕ, zero, suc, _+_, _-_, _≤_, _<_}
 use native.Mathlib.Numerals.{add-one, sub-one}
 use native.Mathlib.Omega.{arith}
-use lib.ListN.{length}
+use lib.ListN.{length, drop, getD}
 use borrow.Author.Needs.{needs}
+use Rattle.octets.specs.Scan.{drop-next}
 use Rattle.utf8.specs.Spell.{spell}
+use Rattle.xml.specs.Token.{CharByte, token}
 use Rattle.xml.specs.Marks.{Mark, opens, closes, char, refers}
 use Rattle.xml.specs.Nodes.{nodes, nodesBy, endPlace, endPlaceBy}
-use Rattle.xml.specs.NodesAt.{marksAt, mark-none, nodesAt, nodes-none}
+use Rattle.xml.specs.NodesAt.{marksAt, mark-char, mark-none, nodesAt, nodes-none}
+use Rattle.nodes.specs.Plain.{isPlain, plain-token}
 use Rattle.nodes.specs.Tokens.{Over, over-end, marked, token-onward, start-sound, empty-sound, end-sound, char-sound, reference-sound}
 use Rattle.tokens.specs.TokenAt.{Reads, tokenIn, nameIn}
 use Rattle.nodes.specs.declared.Ended.{Ended}
@@ -98,6 +102,22 @@ module _ {s : List ℕ} {from at depth : ℕ} (c : Closing s from at depth) wher
   pub closing-past : length s ≤ at → EndedAt s from (record { place = 0; next = length s })
   closing-past h = closing-over (rw (mark-none s at h) over-end)
 
+  -- a byte that is a character of its own
+  pub closing-plain : {b : ℕ} {p : Bool} → at < length s → (b ≡ getD s at 0) × (b < 256) → p ≡ isPlain b → p ≡ true → Closing s from (at + 1) depth
+  closing-plain {b} {p} h e q y =
+      let t : token (getD s at 0) (drop (at + 1) s) ≡ CharByte (getD s at 0) 0 = plain-token (getD s at 0) (drop (at + 1) s) (ap isPlain (sym (e .0)) ∙ sym q ∙ y) in
+      let n : at + 1 + 0 ≡ at + 1 = omega arith in
+      let m : marksAt s at ≡ char at (getD s at 0) ∷ marksAt s (at + 1) = mark-char s at _ _ (drop-next s at h) _ _ t ∙ ap (λ (i : ℕ). char at (getD s at 0) ∷ marksAt s i) n in
+      record {
+        low = omega (arith, c .low);
+        high = omega (arith, h);
+        deep = omega (arith, c .deep);
+        left = seeks-on (c .left) (rw m (seeks-char (marksAt s (at + 1)) at (getD s at 0) depth));
+      }
+
+  pub closing-less-plain : at < length s → length s - (at + 1) < length s - at
+  closing-less-plain h = omega arith
+
   module _ {t : TokenAt} (f : Reads tokenIn s at at t) where
     -- a token that leads on
     step : {k : TokenKind} → t .kind ≡ k → (k ≡ Fault → ⊥) → (d : ℕ) → d ≤ depth + 1 → Seeks (marksAt s at) depth (marksAt s (t .next)) d → Closing s from (t .next) d
@@ -155,6 +175,8 @@ module _ {s : List ℕ} {from at depth : ℕ} (c : Closing s from at depth) wher
 pub ruleset closing = (
   closing-start,
   closing-past,
+  closing-plain,
+  closing-less-plain,
   closing-starts,
   closing-empty,
   closing-ends,

@@ -1,5 +1,6 @@
 -- The content of an element, node by node.
 --     Tokens       what a token that was found says of them
+--     Plain        bytes that are characters of their own
 --     Closing      the end tag of an open element
 --     NodeFound    the node at a place
 --     RootFound    the root of a document
@@ -7,6 +8,7 @@
 --     Judging      what readers find, as a verdict
 --     Walks        walks over nodes
 pub mod Tokens
+pub mod Plain
 pub mod Closing
 pub mod NodeFound
 pub mod RootFound

@@ -1,10 +1,32 @@
 // The end of an open element.
 use crate::Ended;
+use octets::wide;
 use tokens::TokenKind;
 use tokens::token_at;
+ghost use mathlib.Core.Path.{_≡_};
 ghost use Prim.Native.Nat.{_≤_};
 ghost use lib.ListN.{length};
+ghost use Rattle.nodes.specs.Plain.{isPlain};
 ghost use Rattle.nodes.specs.Closing.{EndedAt};
+
+// A byte that is a character of its own, whatever follows it: none of `<`, `&`, `]` and CR.
+fn is_plain(b: usize) -> bool
+    ensures { λ r. ⌜ r ≡ isPlain b ⌝ }
+{
+    if b == 60 {
+        return false;
+    }
+    if b == 38 {
+        return false;
+    }
+    if b == 93 {
+        return false;
+    }
+    if b == 13 {
+        return false;
+    }
+    true
+}
 
 // The end tag of the element whose content begins at `from`; without one the place is 0, and nothing follows.
 pub fn element_end(s: &[u8], from: usize) -> Ended
@@ -14,37 +36,43 @@ pub fn element_end(s: &[u8], from: usize) -> Ended
     let mut at = from;
     let mut depth: usize = 0;
     while at < s.len() {
-        let t = token_at(s, at);
-        let kind = t.kind;
-        match kind {
-            TokenKind::Start => {
-                depth += 1;
-                at = t.next;
-            }
-            TokenKind::Empty => {
-                at = t.next;
-            }
-            TokenKind::End => {
-                if depth == 0 {
+        let b = wide(s[at]);
+        let plain = is_plain(b);
+        if plain {
+            at += 1;
+        } else {
+            let t = token_at(s, at);
+            let kind = t.kind;
+            match kind {
+                TokenKind::Start => {
+                    depth += 1;
+                    at = t.next;
+                }
+                TokenKind::Empty => {
+                    at = t.next;
+                }
+                TokenKind::End => {
+                    if depth == 0 {
+                        return Ended {
+                            place: at,
+                            next: t.next,
+                        };
+                    }
+                    depth -= 1;
+                    at = t.next;
+                }
+                TokenKind::Char => {
+                    at = t.next;
+                }
+                TokenKind::Reference => {
+                    at = t.next;
+                }
+                TokenKind::Fault => {
                     return Ended {
-                        place: at,
-                        next: t.next,
+                        place: 0,
+                        next: s.len(),
                     };
                 }
-                depth -= 1;
-                at = t.next;
-            }
-            TokenKind::Char => {
-                at = t.next;
-            }
-            TokenKind::Reference => {
-                at = t.next;
-            }
-            TokenKind::Fault => {
-                return Ended {
-                    place: 0,
-                    next: s.len(),
-                };
             }
         }
     }

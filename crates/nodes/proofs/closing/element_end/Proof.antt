@@ -16,25 +16,31 @@ element-end-spec = tie.close (tie.spec
     Inv-loop
     μ-loop
     (λ c. search closing)  -- loop-holds
+    (λ c. search closing)  -- shared-slice-read-wide
+    (λ c κs. search closing)  -- wide-requires
+    (λ c κs. search closing)  -- is-plain-requires
+    (λ c. search closing)  -- add-at
+    (λ c. search closing)  -- loop-less
+    (λ c. search closing)  -- loop-again
     (λ c κs. search closing)  -- token-at-requires
     (λ c. search closing)  -- enum-told
     (λ c. search closing)  -- add-depth
-    (λ c. search closing)  -- loop-less
-    (λ c. search closing)  -- loop-again
-    (λ c. search closing)  -- enum-told-2
     (λ c. search closing)  -- loop-less-2
     (λ c. search closing)  -- loop-again-2
+    (λ c. search closing)  -- enum-told-2
+    (λ c. search closing)  -- loop-less-3
+    (λ c. search closing)  -- loop-again-3
     (λ c. search closing)  -- enum-told-3
     (λ c. search closing)  -- returns
     (λ c. search closing)  -- sub-depth
-    (λ c. search closing)  -- loop-less-3
-    (λ c. search closing)  -- loop-again-3
-    (λ c. search closing)  -- enum-told-4
     (λ c. search closing)  -- loop-less-4
     (λ c. search closing)  -- loop-again-4
-    (λ c. search closing)  -- enum-told-5
+    (λ c. search closing)  -- enum-told-4
     (λ c. search closing)  -- loop-less-5
     (λ c. search closing)  -- loop-again-5
+    (λ c. search closing)  -- enum-told-5
+    (λ c. search closing)  -- loop-less-6
+    (λ c. search closing)  -- loop-again-6
     (λ c. search closing)  -- enum-told-6
     (λ c. search closing)  -- returns-2
     (λ c. search closing)  -- returns-3

@@ -1,0 +1,13 @@
+-- `nodes::closing::is_plain` meets its contract.
+use Rattle.octets.specs.Pick.{branching}
+use Rattle.nodes.proofs.closing.is_plain.Statement.{statement}
+use Rattle.nodes.proofs.closing.is_plain.Tie as tie
+
+pub is-plain-spec : {M : Type 1} → statement M
+is-plain-spec = tie.close (tie.spec
+    (λ c. search branching)  -- returns
+    (λ c. search branching)  -- returns-2
+    (λ c. search branching)  -- returns-3
+    (λ c. search branching)  -- returns-4
+    (λ c. search branching)  -- returns-5
+    )
