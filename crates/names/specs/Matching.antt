@@ -1,11 +1,12 @@
 -- The walk over a table, a byte at a time: what is left to find, and the laws of a turn.
 --     sought w r ok l    the place of the word w from the name at hand on: l is the end of that name, and the names behind it; r is the end of w, which is to be the same, if ok
 --     Turned             the contract of a turn over a byte of a name, with its rules `turning`
+--     Passes             the contract of passing over the rest of a name that is no match, with its rules `passing`
 --     Seeking            the invariant of the walk, with its rules `seeking`
-use mathlib.Core.Path.{_≡_, refl, sym, _∙_}
+use mathlib.Core.Path.{_≡_, refl, sym, ap, subst, _∙_}
 use mathlib.Core.Bool.{Bool, true, false}
 use mathlib.Core.List.{List, [], _∷_}
-use Prim.Native.Nat.{ℕ, suc, _+_, _≤_, _<_}
+use Prim.Native.Nat.{ℕ, suc, _+_, _-_, _≤_, _<_}
 use native.Mathlib.Omega.{arith}
 use lib.Dec.{eqb}
 use lib.ListN.{length, getD, drop, drop-of-length-le}
@@ -75,6 +76,31 @@ module _ {k : Case} {mode : ℕ} {s : List ℕ} {c t : ℕ} {ok : Bool} where
 
 pub ruleset turning = (turn-missed, turn-other, turn-same, needs)
 
+-- ---- the rest of a name that is no match
+
+pub record Passes (table : List ℕ) (i r : ℕ) : Type 0 where
+  pub onward : i ≤ r
+  pub inside : r ≤ length table
+  pub is : (w x y : List ℕ) → sought w x false (namesIn (drop i table)) ≡ sought w y false (namesIn (drop r table))
+
+sought-either : (w x y : List ℕ) (l : List (List ℕ)) → sought w x false l ≡ sought w y false l
+unfolding sought _and_ pick
+sought-either w x y [] = refl
+sought-either w x y (n ∷ ns) = refl
+
+pub pass-start : (table : List ℕ) (i : ℕ) → i ≤ length table → Passes table i i
+pass-start table i h = record { onward = omega arith; inside = h; is = λ w x y. sought-either w x y (namesIn (drop i table)) }
+
+pub pass-more : {table : List ℕ} {i r : ℕ} → Passes table i r → r < length table → (getD table r 0 ≡ 10 → ⊥) → Passes table i (r + 1)
+unfolding namesIn pick
+pass-more {table} {i} {r} p h e = record {
+  onward = omega (arith, p .onward);
+  inside = omega arith;
+  is = λ w x y. p .is w x y ∙ rw (drop-next table r h, ne-eqb (getD table r 0) 10 e) (sought-missed w y y (namesIn (drop (r + 1) table)) (getD table r 0));
+}
+
+pub ruleset passing = (pass-start, pass-more, needs)
+
 -- ---- the walk: `name` names are passed, c is the cursor in the word, ok that the name at hand matches so far, i bytes of the table are passed
 
 pub record Seeking (k : Case) (mode : ℕ) (s : List ℕ) (at : ℕ) (table : List ℕ) (name c : ℕ) (ok : Bool) (i : ℕ) : Type 0 where
@@ -103,7 +129,7 @@ module _ {k : Case} {mode : ℕ} {s : List ℕ} {at : ℕ} {table : List ℕ} {n
     left = p .left ∙ rw (drop-next table i h, e, sought-nil, f, sought-all) (omega arith);
   }
 
-  pub seek-byte : {m : Matched} → i < length table → (getD table i 0 ≡ 10 → ⊥) → Turned k mode s c ok (getD table i 0) m → Seeking k mode s at table name (m .at) (m .ok) (i + 1)
+  seek-byte : {m : Matched} → i < length table → (getD table i 0 ≡ 10 → ⊥) → Turned k mode s c ok (getD table i 0) m → Seeking k mode s at table name (m .at) (m .ok) (i + 1)
   unfolding namesIn pick
   seek-byte {m} h e f = record {
     inside = omega arith;
@@ -111,4 +137,19 @@ module _ {k : Case} {mode : ℕ} {s : List ℕ} {at : ℕ} {table : List ℕ} {n
     left = p .left ∙ rw (drop-next table i h, ne-eqb (getD table i 0) 10 e, f .is (cased k (rest mode s at)) (namesIn (drop (i + 1) table)));
   }
 
-pub ruleset seeking = (seek-start, seek-end, seek-found, seek-next, seek-byte, flag-yes, flag-no, needs)
+  -- the byte fits, or the rest of its name is passed over
+  pub seek-on : {m : Matched} → i < length table → (getD table i 0 ≡ 10 → ⊥) → Turned k mode s c ok (getD table i 0) m → m .ok ≡ true → Seeking k mode s at table name (m .at) true (i + 1)
+  seek-on {m} h e f y = subst (λ (b : Bool). Seeking k mode s at table name (m .at) b (i + 1)) y (seek-byte h e f)
+
+  pub seek-over : {m : Matched} {r : ℕ} → i < length table → (getD table i 0 ≡ 10 → ⊥) → Turned k mode s c ok (getD table i 0) m → m .ok ≡ false → Passes table (i + 1) r → Seeking k mode s at table name c false r
+  seek-over {m} {r} h e f y q =
+      let b = subst (λ (t : Bool). Seeking k mode s at table name (m .at) t (i + 1)) y (seek-byte h e f) in record {
+        inside = q .inside;
+        small = omega (arith, p .small, q .onward);
+        left = b .left ∙ ap (λ (n : ℕ). name + n) (q .is (cased k (rest mode s at)) (cased k (rest mode s (m .at))) (cased k (rest mode s c)));
+      }
+
+  pub seek-less : {r : ℕ} → i < length table → Passes table (i + 1) r → length table - r < length table - i
+  seek-less h q = omega (arith, q .onward)
+
+pub ruleset seeking = (seek-start, seek-end, seek-found, seek-next, seek-on, seek-over, seek-less, flag-yes, flag-no, needs)

@@ -1,6 +1,8 @@
 // Names and words over a cursor (crate source): compared and written in a given case, looked up in a table.
 // The source is cut at the word's end by the caller: the word is all that stands from the cursor on.
 ghost use mathlib.Core.Path.{_≡_};
+ghost use Prim.Native.Nat.{_≤_};
+ghost use lib.ListN.{length};
 ghost use Rattle.octets.specs.Pick.{_and_};
 ghost use Rattle.octets.specs.Class.{isNameChar, upper, lower};
 ghost use Rattle.octets.specs.Words.{same, isEmpty};
@@ -8,7 +10,7 @@ ghost use Rattle.source.specs.Source.{rest};
 ghost use Rattle.sink.specs.Sink.{Put};
 ghost use Rattle.names.specs.Case.{cased, casedByte, caseOf};
 ghost use Rattle.names.specs.Table.{placeOf, namesIn};
-ghost use Rattle.names.specs.Matching.{Turned};
+ghost use Rattle.names.specs.Matching.{Turned, Passes};
 ghost use Rattle.names.specs.Runs.{RunEnds};
 use octets::is_name_char;
 use octets::lower_unit;
@@ -79,6 +81,21 @@ fn turn(k: Case, mode: usize, s: &[u8], at: usize, ok: bool, t: u8) -> Matched
     Matched { at, ok: false }
 }
 
+// Where the name that stands at `from` in a table is over: at its line feed, or at the end of the table.
+fn name_over(table: &[u8], from: usize) -> usize
+    requires { ⌜ from ≤ length (now table) ⌝ }
+    ensures { λ r. ⌜ Passes (now (table .entry)) from r ⌝ }
+{
+    let mut i = from;
+    while i < table.len() {
+        if table[i] == 10 {
+            return i;
+        }
+        i += 1;
+    }
+    i
+}
+
 // The number of the word in a table of names each ended by a line feed; the number of all names where there is none.
 fn find_cased(k: Case, mode: usize, s: &[u8], at: usize, table: &[u8]) -> usize
     ensures { λ r. ⌜ r ≡ placeOf (cased k (rest mode (now (s .entry)) at)) (namesIn (now (table .entry))) ⌝ }
@@ -100,9 +117,14 @@ fn find_cased(k: Case, mode: usize, s: &[u8], at: usize, table: &[u8]) -> usize
             i += 1;
         } else {
             let m = turn(k, mode, s, c, ok, t);
-            c = m.at;
-            ok = m.ok;
-            i += 1;
+            if m.ok {
+                c = m.at;
+                ok = true;
+                i += 1;
+            } else {
+                ok = false;
+                i = name_over(table, i + 1);
+            }
         }
     }
     name

@@ -27,5 +27,9 @@ find-cased-spec = tie.close (tie.spec
     (λ c. search seeking)  -- add-i-2
     (λ c. search seeking)  -- loop-less-2
     (λ c. search seeking)  -- loop-again-2
+    (λ c. search seeking)  -- add-name-over
+    (λ c κs. search seeking)  -- name-over-requires
+    (λ c. search seeking)  -- loop-less-3
+    (λ c. search seeking)  -- loop-again-3
     (λ c. search seeking)  -- returns-2
     )
