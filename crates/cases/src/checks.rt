@@ -5,15 +5,15 @@ use crate::bytes::begins;
 use crate::bytes::fill;
 use crate::packed::Case;
 use crate::packed::TO_XML;
-use mallettriton::Answer;
+use conversion::Answer;
+use conversion::number_of;
+use conversion::value_of;
 use mallettriton::mallettriton_to_text;
 use mallettriton::mallettriton_to_xml;
-use mallettriton::number_of;
-use mallettriton::to_text;
-use mallettriton::to_xml;
-use mallettriton::value_of;
 use std::num::wrapping_add_usize;
 use std::num::wrapping_sub_usize;
+use text_to_xml::to_xml;
+use xml_to_text::to_text;
 
 const WORK: u8 = 165;
 

@@ -10,9 +10,9 @@ use Prim.Native.Nat.{ℕ}
 use Prim.Native.String.{String}
 use Rattle.octets.specs.Ascii.{ascii}
 use Rattle.model.specs.Refusal.{FRAME, VALUE}
-use Rattle.mallettriton.specs.Conversion.{result, fault}
-use Rattle.mallettriton.specs.ToText.{toText}
-use Rattle.mallettriton.specs.Computing.{conversions-compute}
+use Rattle.conversion.specs.Conversion.{result, fault}
+use Rattle.conversion.specs.ToText.{toText}
+use Rattle.conversion.specs.Computing.{conversions-compute}
 use Rattle.examples.specs.Notation.{given, textLines, xmlLines, canonical}
 use Rattle.examples.specs.MeetingsPage.{meetingsPage}
 

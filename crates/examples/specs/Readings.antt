@@ -14,9 +14,9 @@ use Rattle.model.specs.Refusal.{numberOf, Answer, accepted}
 use Rattle.folding.specs.Unfold.{crlf, unfolded}
 use Rattle.folding.specs.Fold.{foldedLine}
 use Rattle.ical.specs.ReadText.{readCalendar}
-use Rattle.mallettriton.specs.Conversion.{Converted, result, fault}
-use Rattle.mallettriton.specs.ToText.{toText}
-use Rattle.mallettriton.specs.Computing.{conversions-compute}
+use Rattle.conversion.specs.Conversion.{Converted, result, fault}
+use Rattle.conversion.specs.ToText.{toText}
+use Rattle.conversion.specs.Computing.{conversions-compute}
 use Rattle.examples.specs.Notation.{given, inEvent, eventXml}
 
 -- ---- questions and answers

@@ -7,9 +7,9 @@ use Prim.Native.Nat.{ℕ}
 use lib.ListN.{replicate}
 use Rattle.octets.specs.Ascii.{ascii}
 use Rattle.model.specs.Refusal.{numberOf}
-use Rattle.mallettriton.specs.Conversion.{Converted, result, fault}
-use Rattle.mallettriton.specs.ToText.{toText}
-use Rattle.mallettriton.specs.Computing.{conversions-compute}
+use Rattle.conversion.specs.Conversion.{Converted, result, fault}
+use Rattle.conversion.specs.ToText.{toText}
+use Rattle.conversion.specs.Computing.{conversions-compute}
 use Rattle.examples.specs.Notation.{textLines, eventXml}
 use Rattle.examples.specs.Readings.{wholeText, line, Told, refused_at_, octets, Row, _gives_, asked, answered, answerOf}
 

@@ -24,11 +24,11 @@ use Rattle.xcal.specs.ReadDocument.{documentVerdict, readDocument}
 use Rattle.lengths.specs.Documents.{xml-short}
 use Rattle.text_lengths.specs.Documents.{text-short}
 use Rattle.places.specs.Documents.{document-place}
-use Rattle.mallettriton.specs.Conversion.{Converted, result, fault, converted, Outcome, written, refusal, numbers, outcome}
-use Rattle.mallettriton.specs.ToXml.{toXml, toXmlOutcome}
-use Rattle.mallettriton.specs.ToText.{toText, toTextOutcome}
-use Rattle.mallettriton.specs.Answered.{outcomeOf, codeOf}
-use Rattle.mallettriton.specs.declared.Answer.{Answer}
+use Rattle.conversion.specs.Conversion.{Converted, result, fault, converted, Outcome, written, refusal, numbers, outcome}
+use Rattle.conversion.specs.ToXml.{toXml, toXmlOutcome}
+use Rattle.conversion.specs.ToText.{toText, toTextOutcome}
+use Rattle.conversion.specs.Answered.{outcomeOf, codeOf}
+use Rattle.conversion.specs.declared.Answer.{Answer}
 
 -- a place among the lent bytes, or their end
 origin-within : (s : List ℕ) (w : ℕ) → origin s w ≤ length s

@@ -1,16 +1,3 @@
--- The two conversions: the complete answer of each call.
---     Conversion    what a call answers and what it leaves in the lent buffers, of what its input states
---     ToXml         iCalendar text to canonical XML
---     ToText        xCal to canonical text
---     Answered      what the code answers, as an outcome and as one number
---     ToXmlSteps, ToTextSteps    laws of the steps of the code
---     Codes         an answer as one number
---     Computing     opens all of these, for examples that compute
-pub mod Conversion
-pub mod ToXml
-pub mod ToText
-pub mod Answered
-pub mod ToXmlSteps
-pub mod ToTextSteps
+-- An answer as one number.
+--     Codes    its number and its value can be told from it
 pub mod Codes
-pub mod Computing

@@ -1,33 +1,41 @@
-// The conversions on lent buffers. What each call answers, and what it leaves in the buffers, is defined in specs/.
-//     to_xml                 iCalendar text to canonical XML (text_to_xml.rt)
-//     to_text                xCal to canonical iCalendar text (xml_to_text.rt)
-//     number_of, value_of    what an answer says, as two numbers (exported.rt)
-//     mallettriton_to_xml, mallettriton_to_text    the conversions for C, with one number for an answer
-mod exported;
-mod refusing;
-mod text_to_xml;
-mod xml_to_text;
+// The conversions for C: slices are a pointer and a length, and the answer is one number. See include/mallettriton.h.
+// The library for Rattle is in crates text_to_xml (`to_xml`), xml_to_text (`to_text`) and conversion (`Answer`, `number_of`, `value_of`).
+use conversion::number_of;
+use conversion::value_of;
+use text_to_xml::to_xml;
+use xml_to_text::to_text;
+ghost use mathlib.Core.Path.{_≡_};
+ghost use Prim.Native.Nat.{_+_, _*_, _<_};
+ghost use Rattle.conversion.specs.ToXml.{toXmlOutcome, toXmlOutput, toXmlWork};
+ghost use Rattle.conversion.specs.ToText.{toTextOutcome, toTextOutput};
+ghost use Rattle.conversion.specs.Answered.{codeOf};
 
-pub use exported::mallettriton_to_text;
-pub use exported::mallettriton_to_xml;
-pub use exported::number_of;
-pub use exported::value_of;
-pub use text_to_xml::to_xml;
-pub use xml_to_text::to_text;
+// A number and a value as one number.
+fn joined(n: u64, v: usize) -> u64
+    requires { ⌜ (n < 12) × (v < 4294967296) ⌝ }
+    ensures { λ r. ⌜ r ≡ n * 4294967296 + v ⌝ }
+{
+    n * 4294967296 + (v as u64)
+}
 
-// What a call answers: the bytes written, or a refusal with its place, for `Room` the length that the output would need.
-// Their numbers are in specs/Answered.antt: `Written` has 0, the others 1 to 11 in this order.
-pub enum Answer {
-    Written(usize),
-    Length(usize),
-    Work(usize),
-    Character(usize),
-    Line(usize),
-    Name(usize),
-    Frame(usize),
-    Parameter(usize),
-    Value(usize),
-    Count(usize),
-    Room(usize),
-    Xml(usize),
+// `to_xml` for C: the answer's number times 2 ^ 32, and its value.
+#[no_mangle]
+pub extern "C" fn mallettriton_to_xml(input: &[u8], work: &mut [u8], out: &mut [u8]) -> u64
+    ensures { λ r. ⌜ (r ≡ codeOf (toXmlOutcome (now (input .entry)) (now (work .entry)) (now (out .entry)))) × (now (out .exit) ≡ toXmlOutput (now (input .entry)) (now (work .entry)) (now (out .entry))) × (now (work .exit) ≡ toXmlWork (now (input .entry)) (now (work .entry))) ⌝ }
+{
+    let a = to_xml(input, work, out);
+    let n = number_of(a);
+    let v = value_of(a);
+    joined(n, v)
+}
+
+// `to_text` for C: the same.
+#[no_mangle]
+pub extern "C" fn mallettriton_to_text(input: &[u8], out: &mut [u8]) -> u64
+    ensures { λ r. ⌜ (r ≡ codeOf (toTextOutcome (now (input .entry)) (now (out .entry)))) × (now (out .exit) ≡ toTextOutput (now (input .entry)) (now (out .entry))) ⌝ }
+{
+    let a = to_text(input, out);
+    let n = number_of(a);
+    let v = value_of(a);
+    joined(n, v)
 }

@@ -1,8 +1,8 @@
 // What a conversion answered, on standard output, for the programs.
 use libc::STDOUT_FILENO;
-use mallettriton::Answer;
-use mallettriton::number_of;
-use mallettriton::value_of;
+use conversion::Answer;
+use conversion::number_of;
+use conversion::value_of;
 
 fn say_number(n: u64) {
     io::print_decimal(STDOUT_FILENO, n);

@@ -16,7 +16,7 @@ use Rattle.ical.specs.TextBack.{text-back}
 use Rattle.xcal.specs.WriteXml.{writeDocument}
 use Rattle.xcal.specs.ReadDocument.{readDocument}
 use Rattle.xcal.specs.DocumentAccepted.{document-accepted}
-use Rattle.mallettriton.specs.ToText.{toText}
+use Rattle.conversion.specs.ToText.{toText}
 use Rattle.theorems.specs.BridgeBack.{valid-stated}
 use Rattle.theorems.specs.Calls.{Call, isAccepted, xmlOf, States, TextCall, isTextAccepted, textOf, written-read, states-accepted, accepted-same}
 use Rattle.theorems.specs.ThereAndBack.{within-too, there-and-back}

@@ -21,9 +21,9 @@ use Rattle.ical.specs.ReadText.{readCalendar}
 use Rattle.ical.specs.AcceptedText.{accepted-valid}
 use Rattle.xcal.specs.WriteXml.{writeDocument}
 use Rattle.xcal.specs.Carried.{isValid}
-use Rattle.mallettriton.specs.Conversion.{Converted, result, converted, Outcome, written, refusal, outcome, contents}
-use Rattle.mallettriton.specs.ToXml.{toXml, toXmlOutcome, toXmlOutput}
-use Rattle.mallettriton.specs.ToText.{toTextOutcome, toTextOutput}
+use Rattle.conversion.specs.Conversion.{Converted, result, converted, Outcome, written, refusal, outcome, contents}
+use Rattle.conversion.specs.ToXml.{toXml, toXmlOutcome, toXmlOutput}
+use Rattle.conversion.specs.ToText.{toTextOutcome, toTextOutput}
 use Rattle.theorems.specs.Bridge.{stated-valid}
 
 -- ---- answers

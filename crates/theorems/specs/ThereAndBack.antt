@@ -16,9 +16,9 @@ use Rattle.ical.specs.AcceptedText.{accepted-valid, accepted-back}
 use Rattle.xcal.specs.WriteXml.{writeDocument}
 use Rattle.xcal.specs.ReadDocument.{readDocument}
 use Rattle.xcal.specs.DocumentBack.{document-back}
-use Rattle.mallettriton.specs.Conversion.{result, converted}
-use Rattle.mallettriton.specs.ToXml.{toXml}
-use Rattle.mallettriton.specs.ToText.{toText}
+use Rattle.conversion.specs.Conversion.{result, converted}
+use Rattle.conversion.specs.ToXml.{toXml}
+use Rattle.conversion.specs.ToText.{toText}
 use Rattle.theorems.specs.Bridge.{stated-valid}
 use Rattle.theorems.specs.Calls.{Call, isAccepted, xmlOf, States, TextCall, isTextAccepted, textOf, result-given, given, states-one}
 

@@ -1,7 +1,7 @@
 // Standard input, an iCalendar text, as canonical XML on standard output; or one line `refused N at P`, of a
 // result that has no room `refused 10 needs L`. One byte more than the limit is read, so that a longer input is refused.
 use libc::STDIN_FILENO;
-use mallettriton::to_xml;
+use text_to_xml::to_xml;
 use reporting::say_answer;
 
 // What the input becomes, or why it is refused.

@@ -1,0 +1,115 @@
+-- What the code answers, as an outcome, and as one number for C.
+--     outcomeOf       the outcome that an answer stands for
+--     answerAt        the answer of a refusal's number;   answer-refusal: it stands for that refusal
+--     codeOf          an outcome as one number: its number times 2 ^ 32, and its value
+--     Done            the contract of a conversion's last part: what is given is written into d, which is left as e
+use mathlib.Core.Path.{_≡_, refl, sym, _∙_}
+use mathlib.Core.List.{List, [], _∷_, _++_}
+use Prim.Native.Nat.{ℕ, zero, suc, _+_, _*_, _^_, min, max, _≤_, _<_}
+use native.Mathlib.Numerals.{unary-clauses}
+use native.Mathlib.Omega.{arith}
+use lib.Dec.{eqb, leb}
+use lib.ListN.{length, drop}
+use borrow.Author.Tests.{le-leb, lt-leb, ne-eqb}
+use Rattle.octets.specs.Pick.{pick}
+use Rattle.octets.specs.Append.{_⊕_}
+use Rattle.model.specs.Refusal.{Refusal, LENGTH, WORK, CHARACTER, LINE, NAME, FRAME, PARAMETER, VALUE, COUNT, ROOM, XML, refusalAt}
+use Rattle.sink.specs.Sink.{Put, far, overwrite, overwrite-fits}
+use Rattle.conversion.specs.Conversion.{Converted, result, fault, Outcome, written, refusal, numbers, outcome, contents}
+use Rattle.conversion.specs.declared.Answer.{Answer}
+use Rattle.conversion.specs.declared.Answer.the-variants.{Written, Length, Work, Character, Line, Name, Frame, Parameter, Value, Count, Room, Xml}
+
+abbrev pub outcomeOf : Answer → Outcome
+outcomeOf (Written n) = written n
+outcomeOf (Length p) = refusal LENGTH p
+outcomeOf (Work p) = refusal WORK p
+outcomeOf (Character p) = refusal CHARACTER p
+outcomeOf (Line p) = refusal LINE p
+outcomeOf (Name p) = refusal NAME p
+outcomeOf (Frame p) = refusal FRAME p
+outcomeOf (Parameter p) = refusal PARAMETER p
+outcomeOf (Value p) = refusal VALUE p
+outcomeOf (Count p) = refusal COUNT p
+outcomeOf (Room n) = refusal ROOM n
+outcomeOf (Xml p) = refusal XML p
+
+-- the answer of a refusal's number, at a place
+abbrev pub answerElse : ℕ → ℕ → Answer
+answerElse n p = pick (eqb n 2) (Work p) (pick (eqb n 3) (Character p) (pick (eqb n 10) (Room p) (pick (eqb n 11) (Xml p) (Length p))))
+
+abbrev pub answerAt : ℕ → ℕ → Answer
+answerAt n p =
+    pick (eqb n 4) (Line p) (pick (eqb n 5) (Name p) (pick (eqb n 6) (Frame p) (pick (eqb n 7) (Parameter p) (pick (eqb n 8) (Value p) (pick (eqb n 9) (Count p) (answerElse n p))))))
+
+abbrev pub codeOf : Outcome → ℕ
+codeOf o = numbers o .0 * 4294967296 + numbers o .1
+
+pub record Done (c : Converted) (d e : List ℕ) (r : Answer) : Type 0 where
+  pub answer : outcomeOf r ≡ outcome c (length d)
+  pub left : e ≡ contents c d
+
+-- ---- laws
+
+-- the answer of a number stands for the refusal of that number
+other : (n p : ℕ) → 12 ≤ n → outcomeOf (answerAt n p) ≡ refusal LENGTH p
+unfolding pick
+other n p h =
+    rw (
+      ne-eqb n 4 (λ e. omega arith),
+      ne-eqb n 5 (λ e. omega arith),
+      ne-eqb n 6 (λ e. omega arith),
+      ne-eqb n 7 (λ e. omega arith),
+      ne-eqb n 8 (λ e. omega arith),
+      ne-eqb n 9 (λ e. omega arith),
+      ne-eqb n 2 (λ e. omega arith),
+      ne-eqb n 3 (λ e. omega arith),
+      ne-eqb n 10 (λ e. omega arith),
+      ne-eqb n 11 (λ e. omega arith),
+    )
+
+pub answer-refusal : (n p : ℕ) → outcomeOf (answerAt n p) ≡ refusal (refusalAt n) p
+unfolding refusalAt pick
+answer-refusal zero p = refl
+answer-refusal (suc zero) p = refl
+answer-refusal (suc (suc zero)) p = refl
+answer-refusal (suc (suc (suc zero))) p = refl
+answer-refusal (suc (suc (suc (suc zero)))) p = refl
+answer-refusal (suc (suc (suc (suc (suc zero))))) p = refl
+answer-refusal (suc (suc (suc (suc (suc (suc zero)))))) p = refl
+answer-refusal (suc (suc (suc (suc (suc (suc (suc zero))))))) p = refl
+answer-refusal (suc (suc (suc (suc (suc (suc (suc (suc zero)))))))) p = refl
+answer-refusal (suc (suc (suc (suc (suc (suc (suc (suc (suc zero))))))))) p = refl
+answer-refusal (suc (suc (suc (suc (suc (suc (suc (suc (suc (suc zero)))))))))) p = refl
+answer-refusal (suc (suc (suc (suc (suc (suc (suc (suc (suc (suc (suc zero))))))))))) p = refl
+answer-refusal (suc (suc (suc (suc (suc (suc (suc (suc (suc (suc (suc (suc n)))))))))))) p = simp unary-clauses (other (suc (suc (suc (suc (suc (suc (suc (suc (suc (suc (suc (suc n)))))))))))) p (omega arith))
+
+pub done-fault : {x : Refusal} {p : ℕ} (d : List ℕ) {r : Answer} → outcomeOf r ≡ refusal x p → Done (fault x p) d d r
+unfolding outcome contents
+done-fault d e = record { answer = e; left = refl }
+
+-- after a pass over no bytes, what was lent comes back as e₁, in front of the whole d: it is empty
+empty-back : {bs e₁ : List ℕ} {n : ℕ} → Put [] e₁ 0 n bs → e₁ ≡ []
+unfolding overwrite
+empty-back p = p .is
+
+module _ {bs e₁ : List ℕ} {n : ℕ} (short : length bs < 2 ^ 63) (p : Put [] e₁ 0 n bs) where
+  length-learnt : n ≡ length bs
+  unfolding far
+  length-learnt = omega (arith, p .to)
+
+  pub done-written : {d e : List ℕ} {q : ℕ} → n ≤ length (e₁ ++ d) → Put (e₁ ++ d) e 0 q bs → Done (result bs) d e (Written n)
+  unfolding outcome contents pick _⊕_
+  done-written {d} {e} {q} h w =
+      let h₁ : n ≤ length d = rw (empty-back p) at h in
+      let w₁ : Put d e 0 q bs = rw (empty-back p) at w in
+      let k : n ≡ length bs = length-learnt in
+      let f : length bs ≤ length d = omega arith in
+      record { answer = rw (le-leb (length bs) (length d) f, k); left = rw (le-leb (length bs) (length d) f) (w₁ .is ∙ overwrite-fits d bs f) }
+
+  pub done-room : {d : List ℕ} → length (e₁ ++ d) < n → Done (result bs) d (e₁ ++ d) (Room n)
+  unfolding outcome contents pick
+  done-room {d} h =
+      let h₁ : length d < n = rw (empty-back p) at h in
+      let k : n ≡ length bs = length-learnt in
+      let f : length d < length bs = omega arith in
+      record { answer = rw (lt-leb (length bs) (length d) f, k); left = rw (lt-leb (length bs) (length d) f, empty-back p) }

@@ -1,0 +1,77 @@
+// iCalendar text to canonical XML. See specs/ToXml.antt.
+ghost use mathlib.Core.Path.{_≡_};
+ghost use Prim.Native.Nat.{_≤_};
+ghost use lib.ListN.{length};
+ghost use Rattle.model.specs.Refusal.{fine, answer};
+ghost use Rattle.folding.specs.Lines.{lines};
+ghost use Rattle.ical.specs.Tree.{calendarOf};
+ghost use Rattle.ical.specs.ReadText.{linesVerdict, keptVerdict};
+ghost use Rattle.xcal.specs.WriteXml.{writeDocument};
+ghost use Rattle.conversion.specs.Conversion.{converted};
+ghost use Rattle.conversion.specs.ToXml.{toXmlOutcome, toXmlOutput, toXmlWork};
+ghost use Rattle.conversion.specs.Answered.{outcomeOf, Done};
+ghost use Rattle.text_to_xml.specs.Steps.{keptGives};
+use conversion::Answer;
+use conversion::refused;
+use document::put_document;
+use folding::unfolding::place_of;
+use folding::unfolding::unfold;
+use frame::Checked;
+use frame::check;
+use utf8::Found;
+use utf8::first_bad;
+
+// The XML of an unfolded text: first how long it is, then, if there is room, all of it.
+fn written(kept: &[u8], out: &mut [u8]) -> Answer
+    requires { ⌜ length (now kept) ≤ 65535 ⌝ }
+    ensures { λ r. ⌜ Done (converted writeDocument (answer fine (calendarOf (lines (now (kept .entry)))))) (now (out .entry)) (now (out .exit)) r ⌝ }
+{
+    let need = put_document(&mut out[..0], 0, kept);
+    if need <= out.len() {
+        put_document(out, 0, kept);
+        return Answer::Written(need);
+    }
+    Answer::Room(need)
+}
+
+// The first faulty line of an unfolded text, at its place in the text as lent; or its XML.
+fn checked(input: &[u8], kept: &[u8], out: &mut [u8]) -> Answer
+    requires { ⌜ length (now kept) ≤ 65535 ⌝ }
+    ensures { λ r. ⌜ Done (keptGives (now (input .entry)) (now (kept .entry)) (linesVerdict (length (now (kept .entry))) (lines (now (kept .entry))))) (now (out .entry)) (now (out .exit)) r ⌝ }
+{
+    match check(kept) {
+        Checked::Refused(n, p) => {
+            let q = place_of(input, p);
+            refused(n, q)
+        }
+        Checked::Fine => written(kept, out),
+    }
+}
+
+// The first byte of an unfolded text that begins no character; or its first faulty line; or its XML.
+fn converted(input: &[u8], kept: &[u8], out: &mut [u8]) -> Answer
+    requires { ⌜ length (now kept) ≤ 65535 ⌝ }
+    ensures { λ r. ⌜ Done (keptGives (now (input .entry)) (now (kept .entry)) (keptVerdict (now (kept .entry)))) (now (out .entry)) (now (out .exit)) r ⌝ }
+{
+    match first_bad(kept) {
+        Found::At(p) => {
+            let q = place_of(input, p);
+            Answer::Character(q)
+        }
+        Found::Nothing => checked(input, kept, out),
+    }
+}
+
+// Converts the iCalendar text `input` to canonical XML in `out`. `work` is as long as `input` or longer: the text is unfolded there.
+pub fn to_xml(input: &[u8], work: &mut [u8], out: &mut [u8]) -> Answer
+    ensures { λ r. ⌜ (outcomeOf r ≡ toXmlOutcome (now (input .entry)) (now (work .entry)) (now (out .entry))) × (now (out .exit) ≡ toXmlOutput (now (input .entry)) (now (work .entry)) (now (out .entry))) × (now (work .exit) ≡ toXmlWork (now (input .entry)) (now (work .entry))) ⌝ }
+{
+    if input.len() <= 65535 {
+        if input.len() <= work.len() {
+            let n = unfold(input, work);
+            return converted(input, &work[..n], out);
+        }
+        return Answer::Work(0);
+    }
+    Answer::Length(0)
+}

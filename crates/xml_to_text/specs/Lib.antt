@@ -1,0 +1,3 @@
+-- xCal to canonical iCalendar text.
+--     Steps    laws of the steps of the code
+pub mod Steps

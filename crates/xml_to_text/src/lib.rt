@@ -1,0 +1,87 @@
+// xCal to canonical iCalendar text. See specs/ToText.antt.
+ghost use mathlib.Core.Path.{_≡_};
+ghost use Prim.Native.Nat.{_^_, _≤_, _<_};
+ghost use lib.ListN.{length};
+ghost use Rattle.model.specs.Refusal.{fine, answer, _otherwise_};
+ghost use Rattle.xml.specs.WellFormed.{xmlVerdict};
+ghost use Rattle.xml.specs.Nodes.{documentNodes};
+ghost use Rattle.xml.specs.NodesAt.{nodesAt};
+ghost use Rattle.ical.specs.WriteText.{writeCalendar};
+ghost use Rattle.xcal.specs.ComponentNodes.{rootVerdict, readComponents};
+ghost use Rattle.conversion.specs.Conversion.{converted};
+ghost use Rattle.conversion.specs.ToText.{toTextOutcome, toTextOutput};
+ghost use Rattle.conversion.specs.Answered.{outcomeOf, Done};
+ghost use Rattle.xml_to_text.specs.Steps.{nodesGive};
+use conversion::Answer;
+use conversion::refused;
+use component_nodes::root_verdict;
+use nodes::Judged;
+use nodes::root_node;
+use text_lines::put_calendar;
+use tokens::Xml;
+use tokens::well_formed;
+use utf8::Found;
+use utf8::first_bad;
+
+// The text of the components from `from` on: first how long it is, then, if there is room, all of it. `line` is the room for a line.
+fn written(s: &[u8], from: usize, line: &mut [u8], out: &mut [u8]) -> Answer
+    requires { ⌜ (length (now s) ≤ 65535) × (length (now line) ≡ 262144) × (length (writeCalendar (readComponents (nodesAt (now s) from))) < 2 ^ 32) ⌝ }
+    ensures { λ r. ⌜ Done (converted writeCalendar (answer fine (readComponents (nodesAt (now (s .entry)) from)))) (now (out .entry)) (now (out .exit)) r ⌝ }
+{
+    let need = put_calendar(&mut out[..0], 0, line, s, from);
+    if need <= out.len() {
+        put_calendar(out, 0, line, s, from);
+        return Answer::Written(need);
+    }
+    Answer::Room(need)
+}
+
+// The same with a room for a line of its own: a content line of a document within the limit is shorter.
+fn lined(s: &[u8], from: usize, out: &mut [u8]) -> Answer
+    requires { ⌜ (length (now s) ≤ 65535) × (length (writeCalendar (readComponents (nodesAt (now s) from))) < 2 ^ 32) ⌝ }
+    ensures { λ r. ⌜ Done (converted writeCalendar (answer fine (readComponents (nodesAt (now (s .entry)) from)))) (now (out .entry)) (now (out .exit)) r ⌝ }
+{
+    let mut line = [0u8; 262144];
+    written(s, from, &mut line, out)
+}
+
+// The first fault in a document that is within the XML profile; or its text.
+fn judged(s: &[u8], out: &mut [u8]) -> Answer
+    requires { ⌜ (length (now s) ≤ 65535) × (xmlVerdict (now s) ≡ fine) ⌝ }
+    ensures { λ r. ⌜ Done (nodesGive (now (s .entry)) (rootVerdict (documentNodes (now (s .entry))))) (now (out .entry)) (now (out .exit)) r ⌝ }
+{
+    let t = root_node(s);
+    let from = t.inside;
+    match root_verdict(s, t.place, t.name, t.name_end, from, t.end) {
+        Judged::Refused(n, p) => refused(n, p),
+        Judged::Fine => lined(s, from, out),
+    }
+}
+
+// Where a document leaves the XML profile; or its first fault; or its text.
+fn formed(s: &[u8], out: &mut [u8]) -> Answer
+    requires { ⌜ length (now s) ≤ 65535 ⌝ }
+    ensures { λ r. ⌜ Done (nodesGive (now (s .entry)) (xmlVerdict (now (s .entry)) otherwise rootVerdict (documentNodes (now (s .entry))))) (now (out .entry)) (now (out .exit)) r ⌝ }
+{
+    match well_formed(s) {
+        Xml::Refused(p) => Answer::Xml(p),
+        Xml::Fine => judged(s, out),
+    }
+}
+
+// Converts the xCal document `input` to canonical iCalendar text in `out`.
+pub fn to_text(input: &[u8], out: &mut [u8]) -> Answer
+    ensures { λ r. ⌜ (outcomeOf r ≡ toTextOutcome (now (input .entry)) (now (out .entry))) × (now (out .exit) ≡ toTextOutput (now (input .entry)) (now (out .entry))) ⌝ }
+{
+    if input.len() <= 65535 {
+        match first_bad(input) {
+            Found::At(p) => {
+                return Answer::Character(p);
+            }
+            Found::Nothing => {
+                return formed(input, out);
+            }
+        }
+    }
+    Answer::Length(0)
+}
