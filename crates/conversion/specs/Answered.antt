@@ -87,6 +87,13 @@ pub done-fault : {x : Refusal} {p : ℕ} (d : List ℕ) {r : Answer} → outcome
 unfolding outcome contents
 done-fault d e = record { answer = e; left = refl }
 
+-- an output that has room is written at once
+pub done-at-once : {bs d e : List ℕ} {n : ℕ} → length bs < 2 ^ 63 → length bs ≤ length d → Put d e 0 n bs → Done (result bs) d e (Written n)
+unfolding outcome contents pick far _⊕_
+done-at-once {bs} {d} {e} {n} short f w =
+    let k : n ≡ length bs = omega (arith, w .to) in
+    record { answer = rw (le-leb (length bs) (length d) f, k); left = rw (le-leb (length bs) (length d) f) (w .is ∙ overwrite-fits d bs f) }
+
 -- after a pass over no bytes, what was lent comes back as e₁, in front of the whole d: it is empty
 empty-back : {bs e₁ : List ℕ} {n : ℕ} → Put [] e₁ 0 n bs → e₁ ≡ []
 unfolding overwrite

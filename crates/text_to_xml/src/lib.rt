@@ -1,6 +1,6 @@
 // iCalendar text to canonical XML. See specs/ToXml.antt.
 ghost use mathlib.Core.Path.{_≡_};
-ghost use Prim.Native.Nat.{_≤_};
+ghost use Prim.Native.Nat.{_+_, _*_, _≤_};
 ghost use lib.ListN.{length};
 ghost use Rattle.model.specs.Refusal.{fine, answer};
 ghost use Rattle.folding.specs.Lines.{lines};
@@ -21,8 +21,17 @@ use frame::check;
 use utf8::Found;
 use utf8::first_bad;
 
+// The XML of an unfolded text, where there is certainly room for it.
+fn written_at_once(kept: &[u8], out: &mut [u8]) -> Answer
+    requires { ⌜ (length (now kept) ≤ 65535) × (1200 * length (now kept) + 200 ≤ length (now out)) ⌝ }
+    ensures { λ r. ⌜ Done (converted writeDocument (answer fine (calendarOf (lines (now (kept .entry)))))) (now (out .entry)) (now (out .exit)) r ⌝ }
+{
+    let n = put_document(out, 0, kept);
+    Answer::Written(n)
+}
+
 // The XML of an unfolded text: first how long it is, then, if there is room, all of it.
-fn written(kept: &[u8], out: &mut [u8]) -> Answer
+fn measured(kept: &[u8], out: &mut [u8]) -> Answer
     requires { ⌜ length (now kept) ≤ 65535 ⌝ }
     ensures { λ r. ⌜ Done (converted writeDocument (answer fine (calendarOf (lines (now (kept .entry)))))) (now (out .entry)) (now (out .exit)) r ⌝ }
 {
@@ -32,6 +41,18 @@ fn written(kept: &[u8], out: &mut [u8]) -> Answer
         return Answer::Written(need);
     }
     Answer::Room(need)
+}
+
+// The XML of an unfolded text: no text within the limit has more than 1200 bytes of XML for each of its bytes, and 200.
+fn written(kept: &[u8], out: &mut [u8]) -> Answer
+    requires { ⌜ length (now kept) ≤ 65535 ⌝ }
+    ensures { λ r. ⌜ Done (converted writeDocument (answer fine (calendarOf (lines (now (kept .entry)))))) (now (out .entry)) (now (out .exit)) r ⌝ }
+{
+    let most = 1200 * kept.len() + 200;
+    if most <= out.len() {
+        return written_at_once(kept, out);
+    }
+    measured(kept, out)
 }
 
 // The first faulty line of an unfolded text, at its place in the text as lent; or its XML.

@@ -3,7 +3,7 @@ use mathlib.Core.Path.{_≡_, refl, sym, ap, subst, _∙_}
 use mathlib.Core.Bool.{true, false}
 use mathlib.Core.List.{List}
 use mathlib.Core.Option.{Option, none, some}
-use Prim.Native.Nat.{ℕ, _^_, _≤_, _<_}
+use Prim.Native.Nat.{ℕ, _*_, _≤_, _<_}
 use native.Mathlib.Omega.{arith}
 use lib.Dec.{leb}
 use lib.ListN.{length, take}
@@ -19,7 +19,7 @@ use Rattle.xml.specs.WellFormed.{xmlVerdict}
 use Rattle.ical.specs.WriteText.{writeCalendar}
 use Rattle.xcal.specs.ComponentNodes.{rootVerdict, readComponents, readRoot}
 use Rattle.xcal.specs.ReadDocument.{documentVerdict, readDocument}
-use Rattle.text_lengths.specs.Documents.{text-short}
+use Rattle.text_lengths.specs.Documents.{rate, text-bound}
 use Rattle.nodes.specs.RootFound.{RootNode}
 use Rattle.nodes.specs.Judging.{judgedAs}
 use Rattle.nodes.specs.declared.RootElement.{RootElement}
@@ -71,8 +71,8 @@ module _ {s : List ℕ} {t : RootElement} (x : RootNode s t) (f : xmlVerdict s �
   unfolding readRoot
   root-reads = rw (x .is f)
 
-  pub root-short : length s ≤ 65535 → length (writeCalendar (readComponents (nodesAt s (t .inside)))) < 2 ^ 32
-  root-short h = rw (← root-reads) (text-short s h)
+  pub root-bound : length (writeCalendar (readComponents (nodesAt s (t .inside)))) ≤ rate * length s
+  root-bound = rw (← root-reads) (text-bound s)
 
   module _ {j : Judged} (v : RootAt s (t .place) (rest 0 (take (t .«name_end») s) (t .name)) (t .inside) (t .end) j) (d : List ℕ) where
     root-judged : rootVerdict (documentNodes s) ≡ judgedAs j

@@ -1,6 +1,6 @@
 // xCal to canonical iCalendar text. See specs/ToText.antt.
 ghost use mathlib.Core.Path.{_≡_};
-ghost use Prim.Native.Nat.{_^_, _≤_, _<_};
+ghost use Prim.Native.Nat.{_*_, _≤_};
 ghost use lib.ListN.{length};
 ghost use Rattle.model.specs.Refusal.{fine, answer, _otherwise_};
 ghost use Rattle.xml.specs.WellFormed.{xmlVerdict};
@@ -23,9 +23,18 @@ use tokens::well_formed;
 use utf8::Found;
 use utf8::first_bad;
 
-// The text of the components from `from` on: first how long it is, then, if there is room, all of it. `line` is the room for a line.
-fn written(s: &[u8], from: usize, line: &mut [u8], out: &mut [u8]) -> Answer
-    requires { ⌜ (length (now s) ≤ 65535) × (length (now line) ≡ 262144) × (length (writeCalendar (readComponents (nodesAt (now s) from))) < 2 ^ 32) ⌝ }
+// The text of the components from `from` on, where there is certainly room for it. `line` is the room for a line.
+fn written_at_once(s: &[u8], from: usize, line: &mut [u8], out: &mut [u8]) -> Answer
+    requires { ⌜ (length (now s) ≤ 65535) × (length (now line) ≡ 262144) × (length (writeCalendar (readComponents (nodesAt (now s) from))) ≤ 60 * length (now s)) × (60 * length (now s) ≤ length (now out)) ⌝ }
+    ensures { λ r. ⌜ Done (converted writeCalendar (answer fine (readComponents (nodesAt (now (s .entry)) from)))) (now (out .entry)) (now (out .exit)) r ⌝ }
+{
+    let n = put_calendar(out, 0, line, s, from);
+    Answer::Written(n)
+}
+
+// The text of the components from `from` on: first how long it is, then, if there is room, all of it.
+fn measured(s: &[u8], from: usize, line: &mut [u8], out: &mut [u8]) -> Answer
+    requires { ⌜ (length (now s) ≤ 65535) × (length (now line) ≡ 262144) × (length (writeCalendar (readComponents (nodesAt (now s) from))) ≤ 60 * length (now s)) ⌝ }
     ensures { λ r. ⌜ Done (converted writeCalendar (answer fine (readComponents (nodesAt (now (s .entry)) from)))) (now (out .entry)) (now (out .exit)) r ⌝ }
 {
     let need = put_calendar(&mut out[..0], 0, line, s, from);
@@ -36,9 +45,21 @@ fn written(s: &[u8], from: usize, line: &mut [u8], out: &mut [u8]) -> Answer
     Answer::Room(need)
 }
 
+// The text of the components from `from` on: it has no more than 60 bytes for each byte of the document.
+fn written(s: &[u8], from: usize, line: &mut [u8], out: &mut [u8]) -> Answer
+    requires { ⌜ (length (now s) ≤ 65535) × (length (now line) ≡ 262144) × (length (writeCalendar (readComponents (nodesAt (now s) from))) ≤ 60 * length (now s)) ⌝ }
+    ensures { λ r. ⌜ Done (converted writeCalendar (answer fine (readComponents (nodesAt (now (s .entry)) from)))) (now (out .entry)) (now (out .exit)) r ⌝ }
+{
+    let most = 60 * s.len();
+    if most <= out.len() {
+        return written_at_once(s, from, line, out);
+    }
+    measured(s, from, line, out)
+}
+
 // The same with a room for a line of its own: a content line of a document within the limit is shorter.
 fn lined(s: &[u8], from: usize, out: &mut [u8]) -> Answer
-    requires { ⌜ (length (now s) ≤ 65535) × (length (writeCalendar (readComponents (nodesAt (now s) from))) < 2 ^ 32) ⌝ }
+    requires { ⌜ (length (now s) ≤ 65535) × (length (writeCalendar (readComponents (nodesAt (now s) from))) ≤ 60 * length (now s)) ⌝ }
     ensures { λ r. ⌜ Done (converted writeCalendar (answer fine (readComponents (nodesAt (now (s .entry)) from)))) (now (out .entry)) (now (out .exit)) r ⌝ }
 {
     let mut line = [0u8; 262144];

@@ -1,4 +1,4 @@
--- `text_to_xml::written` meets its contract.
+-- `text_to_xml::measured` meets its contract.
 use Prim.Native.Nat.{_^_, _<_}
 use native.Mathlib.Omega.{arith}
 use borrow.Author.Needs.{needs}
@@ -9,11 +9,11 @@ use Rattle.text_to_xml.specs.Steps.{xml-fits}
 use Rattle.folding.specs.Lines.{lines}
 use Rattle.ical.specs.Tree.{calendarOf}
 use Rattle.xcal.specs.WriteXml.{writeDocument}
-use Rattle.text_to_xml.proofs.written.Statement.{statement}
-use Rattle.text_to_xml.proofs.written.Tie as tie
+use Rattle.text_to_xml.proofs.measured.Statement.{statement}
+use Rattle.text_to_xml.proofs.measured.Tie as tie
 
-pub written-spec : {M : Type 1} → statement M
-written-spec = tie.close (tie.spec
+pub measured-spec : {M : Type 1} → statement M
+measured-spec = tie.close (tie.spec
     (λ c. search writing)  -- slice-relend-prefix-put-document
     (λ c. search writing)  -- slice-aggregate-put-document
     (λ c κs. search needs)  -- put-document-requires
