@@ -40,7 +40,7 @@ with-length n t ps =
     pick-either (λ (l : List RawParameter). bytes l ≤ 18 + bytes ps) (sameType t (defaultType n)) ps (valueParameter t ∷ ps) (omega arith)
     (unfold joined in omega (arith, length-both (writeParameter (valueParameter t)) (joined (map writeParameter ps)), value-parameter t))
 
-pub line-length : (m : List ℕ) (kids : Nodes) → length (writeContentLine (contentLineOf (propertyIn m kids))) ≤ length m + 29 + 3 * size kids
+pub line-length : (m : List ℕ) (kids : Nodes) → length (writeContentLine (contentLineOf (propertyIn m kids))) ≤ length m + 26 + 2 * size kids
 unfolding contentLineOf
 line-length m kids =
     let n : List ℕ = upper m in

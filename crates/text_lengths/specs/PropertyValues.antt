@@ -19,7 +19,7 @@ use Rattle.schema.specs.Computing.{schema-compute}
 use Rattle.numbers.specs.Float.{readFloat, writeFloat}
 use Rattle.texts.specs.Text.{writeText}
 use Rattle.texts.specs.RequestStatus.{statusParts, writeRequestStatus}
-use Rattle.values.specs.WriteValue.{writeValue, writeValues}
+use Rattle.values.specs.WriteValue.{writeValue, writeValues, one-written}
 use Rattle.xml.specs.Nodes.{Nodes}
 use Rattle.xcal.specs.ValueNodes.{elementType, childNamed, textOf, zero′, floatOf, typedValues, readValueNodes}
 use Rattle.xcal.specs.PropertyNodes.{parametersIn}
@@ -32,15 +32,15 @@ use Rattle.text_lengths.specs.TypedValues.{typed, typed-length}
 
 -- ---- GEO and REQUEST-STATUS
 
-float-or : (s : List ℕ) → length (writeFloat (readOr zero′ (readFloat s))) ≤ length s + 4
+float-or : (s : List ℕ) → length (writeFloat (readOr zero′ (readFloat s))) ≤ length s + 3
 unfolding readOr
 float-or s = go (readFloat s) refl
   where
-    go : (o : Option Decimal) → readFloat s ≡ o → length (writeFloat (readOr zero′ o)) ≤ length s + 4
+    go : (o : Option Decimal) → readFloat s ≡ o → length (writeFloat (readOr zero′ o)) ≤ length s + 3
     go none e = omega (arith, written-length zero′)
     go (some d) e = float-length s d e
 
-float-part : (n : List ℕ) (ns : Nodes) → length (writeFloat (floatOf n ns)) ≤ part (named n) ns + 4
+float-part : (n : List ℕ) (ns : Nodes) → length (writeFloat (floatOf n ns)) ≤ part (named n) ns + 3
 float-part n ns = omega (arith, float-or (textOf n ns), named-text n ns)
 
 status-length : (c d : List ℕ) (x : Option (List ℕ)) → length (writeRequestStatus c d x) ≤ 2 * (length c + length d + length (readOr [] x)) + 3
@@ -50,13 +50,12 @@ status-length c d (some x) = omega (arith, joined-within 59 (map writeText (stat
 
 -- ---- the values of a property, beside its parameters
 
-one-value : (v : Value) → length (writeValues (v ∷ [])) ≤ length (writeValue v) + 1
-unfolding writeValues weight
-one-value v = omega (arith, joined-within 44 (writeValue v ∷ []))
+one-value : (v : Value) → length (writeValues (v ∷ [])) ≡ length (writeValue v)
+one-value v = ap length (one-written v)
 
 -- values, beside the parameters of the property n that stand there too
 unfoldable Short : List ℕ → Nodes → List Value → Type 0
-Short n ns vs = length (writeValues vs) + 3 * size (parametersIn n ns) ≤ 3 * size ns + 10
+Short n ns vs = length (writeValues vs) + 2 * size (parametersIn n ns) ≤ 2 * size ns + 7
 
 abbrev geoNames : List (List ℕ)
 geoNames = ascii "parameters" ∷ ascii "latitude" ∷ ascii "longitude" ∷ []
@@ -102,7 +101,7 @@ typed-short n ns =
     let apart = part-apart (named (ascii "parameters")) typed no-type ns in
     omega (arith, joined-within 44 (map writeValue (typedValues ns)), typed-length ns, parameters-part n ns, apart, part-size (λ m. named (ascii "parameters") m or typed m) ns)
 
-pub values-length : (n : List ℕ) (ns : Nodes) → length (writeValues (readValueNodes n ns)) + 3 * size (parametersIn n ns) ≤ 3 * size ns + 10
+pub values-length : (n : List ℕ) (ns : Nodes) → length (writeValues (readValueNodes n ns)) + 2 * size (parametersIn n ns) ≤ 2 * size ns + 7
 unfolding readValueNodes Short
 values-length n ns =
     pick-either (Short n ns) (same n (ascii "GEO")) _ _ (geo-short n ns)

@@ -66,15 +66,15 @@ period-length (some s) ns h =
 
 -- ---- a value of a type
 
-or-length : (t : ValueType) (s : List ℕ) → length (writeValue (readOr (text []) (readValue xcal t s))) ≤ 2 * length s + 11
+or-length : (t : ValueType) (s : List ℕ) → length (writeValue (readOr (text []) (readValue xcal t s))) ≤ 2 * length s + 5
 unfolding readOr writeValue
 or-length t s = go (readValue xcal t s) refl
   where
-    go : (o : Option Value) → readValue xcal t s ≡ o → length (writeValue (readOr (text []) o)) ≤ 2 * length s + 11
+    go : (o : Option Value) → readValue xcal t s ≡ o → length (writeValue (readOr (text []) o)) ≤ 2 * length s + 5
     go none e = omega (arith, escaped-most [])
     go (some v) e = value-length t s v e
 
-of-length : (t : ValueType) (ns : Nodes) → length (writeValue (valueOf t ns)) ≤ 3 * size ns + 11
+of-length : (t : ValueType) (ns : Nodes) → length (writeValue (valueOf t ns)) ≤ 2 * size ns + 5
 unfolding valueOf
 of-length t ns =
     pick-either Short (sameType t PERIOD) (periodOf (childNamed (ascii "duration") ns) ns) _
@@ -83,7 +83,7 @@ of-length t ns =
     (omega (arith, or-length t (charactersOf ns), characters-size ns)))
   where
     Short : Value → Type 0
-    Short v = length (writeValue v) ≤ 3 * size ns + 11
+    Short v = length (writeValue v) ≤ 2 * size ns + 5
 
     rule : Short (recur (partsOf partNames ns))
     rule = unfold writeValue in omega (arith, rule-length ns)
@@ -107,14 +107,14 @@ element-least m t h = go (same m (ascii "unknown")) refl (same m (lower m)) h
 abbrev pub typed : List ℕ → Bool
 typed m = isRead (elementType m)
 
-pub typed-length : (ns : Nodes) → weight (map writeValue (typedValues ns)) ≤ 3 * part typed ns
+pub typed-length : (ns : Nodes) → weight (map writeValue (typedValues ns)) ≤ 2 * part typed ns
 unfolding typedValues part pick weight isRead
 typed-length noNodes = omega arith
 typed-length (literal p b more) = typed-length more
 typed-length (referred p bs more) = typed-length more
 typed-length (element p m x kids more) = go (elementType m) refl (typed-length more)
   where
-    go : (o : Option ValueType) → elementType m ≡ o → weight (map writeValue (typedValues more)) ≤ 3 * part typed more →
-        weight (map writeValue (oneOf o kids (typedValues more))) ≤ 3 * (pick (isRead o) (length m + 2 + size kids) 0 + part typed more)
+    go : (o : Option ValueType) → elementType m ≡ o → weight (map writeValue (typedValues more)) ≤ 2 * part typed more →
+        weight (map writeValue (oneOf o kids (typedValues more))) ≤ 2 * (pick (isRead o) (length m + 2 + size kids) 0 + part typed more)
     go none e ih = omega (arith, ih)
     go (some t) e ih = omega (arith, ih, of-length t kids, element-least m t e)
