@@ -23,6 +23,7 @@ use Rattle.xml.specs.Nodes.{Nodes, noNodes, element, literal, referred, charact
 use Rattle.xcal.specs.ParameterNodes.{readWordIn, readParamNode, readParamNodes, readParameterNodes}
 use Rattle.lengths.specs.Pieces.{weight, joined-within}
 use Rattle.lengths.specs.Parameters.{bytes}
+use Rattle.text_lengths.specs.Bytes.{nameBytes, name-length}
 use Rattle.text_lengths.specs.Sizes.{size, characters-size}
 use Rattle.text_lengths.specs.Values.{value-length, parameter-length}
 use Rattle.text_lengths.specs.TypedValues.{type-least}
@@ -71,13 +72,13 @@ nodes-length n (element p m x kids more) vs h = go (same m (lower (typeName (par
     read = andThen (readParamNode n kids) (λ v. consRead v (readParamNodes n more))
 
     go : (b : Bool) → same m (lower (typeName t)) ≡ b → pick b read none ≡ some vs → ((ws : List Value) → readParamNodes n more ≡ some ws → weight (written n ws) ≤ 2 * size more) →
-        weight (written n vs) ≤ 2 * (length m + 2 + size kids + size more)
+        weight (written n vs) ≤ 2 * (nameBytes m + 2 + size kids + size more)
     go true e k ih =
         let f = andThen-some (readParamNode n kids) (λ v. consRead v (readParamNodes n more)) vs k in
         let g = consRead-some (f .0) (readParamNodes n more) vs (f .2) in
         let name = ap length (same-true m (lower (typeName t)) e) in
         rw (← (g .2))
-        (omega (arith, ih (g .0) (g .1), node-length n kids (f .0) (f .1), quoted-length (paramValueOf n (f .0)), name, lower-length (typeName t), type-least t))
+        (omega (arith, ih (g .0) (g .1), node-length n kids (f .0) (f .1), quoted-length (paramValueOf n (f .0)), name, name-length m, lower-length (typeName t), type-least t))
     go false e k ih = none-some k
 
 or-length : (n : List ℕ) (ns : Nodes) → weight (written n (readOr [] (readParamNodes n ns))) ≤ 2 * size ns
@@ -99,4 +100,4 @@ parameters-length (element p m x kids more) =
     let n : List ℕ = upper m in
     let vs : List (List ℕ) = written n (readOr [] (readParamNodes n kids)) in
     let rest : List ℕ = joined (map writeParameter (map rawOf (readParameterNodes more))) in
-    omega (arith, length-both (59 ∷ (n ⊕ 61 ∷ joinedBy 44 vs)) rest, length-both n (61 ∷ joinedBy 44 vs), upper-length m, joined-within 44 vs, or-length n kids, parameters-length more)
+    omega (arith, length-both (59 ∷ (n ⊕ 61 ∷ joinedBy 44 vs)) rest, length-both n (61 ∷ joinedBy 44 vs), upper-length m, name-length m, joined-within 44 vs, or-length n kids, parameters-length more)

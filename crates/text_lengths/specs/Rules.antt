@@ -29,6 +29,7 @@ use Rattle.xml.specs.Nodes.{Nodes, noNodes, element, literal, referred, charact
 use Rattle.xcal.specs.ValueNodes.{itemsOf, onePart, partsOf}
 use Rattle.lengths.specs.Pieces.{weight, joined-within}
 use Rattle.lengths.specs.Rules.{Counted, counting-read, unsigned-read, signed-read, ordinal-read, split-length}
+use Rattle.text_lengths.specs.Bytes.{nameBytes, name-length}
 use Rattle.text_lengths.specs.Sizes.{size, characters-size, part, named, parts, parts-size}
 use Rattle.text_lengths.specs.Values.{date-kept, date-time-kept}
 
@@ -111,8 +112,8 @@ items-length n l (element p m x kids more) = go (same m (lower n)) refl (items-l
     i = readOr (word []) (readItem xcal n (charactersOf kids))
 
     go : (t : Bool) → same m (lower n) ≡ t → spent n (itemsOf n more) ≤ 2 * part (named (lower n)) more →
-        spent n (pick t (i ∷ itemsOf n more) (itemsOf n more)) ≤ 2 * (pick t (length m + 2 + size kids) 0 + part (named (lower n)) more)
-    go true e ih = omega (arith, ih, ap length (same-true m (lower n) e), lower-length n, item-length n (charactersOf kids), characters-size kids)
+        spent n (pick t (i ∷ itemsOf n more) (itemsOf n more)) ≤ 2 * (pick t (nameBytes m + 2 + size kids) 0 + part (named (lower n)) more)
+    go true e ih = omega (arith, ih, ap length (same-true m (lower n) e), lower-length n, name-length m, item-length n (charactersOf kids), characters-size kids)
     go false e ih = omega (arith, ih)
 
 -- ---- a rule
