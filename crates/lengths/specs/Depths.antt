@@ -21,8 +21,7 @@ use Rattle.ical.specs.Statement.{propertyOf}
 use Rattle.ical.specs.Tree.{Entry, begin, end, property, nothing, ownOf, innerOf}
 use Rattle.xml.specs.Escape.{elementOf}
 use Rattle.xcal.specs.WriteXml.{propertyXml, propertiesXml, isNoMore, componentsElement, componentsXml}
-use Rattle.lengths.specs.Elements.{element-length}
-use Rattle.lengths.specs.Values.{rate}
+use Rattle.lengths.specs.Elements.{rate, element-length}
 use Rattle.lengths.specs.Properties.{property-length}
 
 -- ---- a component
@@ -41,7 +40,7 @@ inside-length n empty s = pick-either Short (same n (ascii "VCALENDAR")) x _ mos
     most = omega (arith, element-length (ascii "components") s)
 
 pub component-length : (n : List ℕ) (ps : List Property) (inner next : Components) →
-    length (componentsXml (component n ps inner next)) ≤ 2 * length n + 60 + length (propertiesXml ps) + length (componentsXml inner) + length (componentsXml next)
+    length (componentsXml (component n ps inner next)) ≤ 2 * length n + 55 + length (propertiesXml ps) + length (componentsXml inner) + length (componentsXml next)
 unfolding componentsXml
 component-length n ps inner next =
     let p : List ℕ = elementOf (ascii "properties") (propertiesXml ps) in
@@ -55,9 +54,9 @@ component-length n ps inner next =
 
 -- what a line may come to
 unfoldable pub cost : Entry → ℕ
-cost (begin n) = 2 * length n + 60
+cost (begin n) = 2 * length n + 55
 cost end = 0
-cost (property l) = rate * suc (length (writeContentLine l))
+cost (property l) = rate * (length (writeContentLine l) + 2)
 cost nothing = 0
 
 unfoldable pub costs : List Entry → ℕ

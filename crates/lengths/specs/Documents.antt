@@ -1,19 +1,18 @@
--- The length of an unfolded text's document grows no faster than the text's, whether the text is accepted or not. The bounds are crude: they serve to show that a sink
--- can count it.
---     xml-bound    a fixed number of bytes for each byte of the text, and 200 for the document around it
+-- The length of an unfolded text's document grows no faster than the text's, whether the text is accepted or not.
+--     xml-bound    `rate` bytes for each byte of the text, and 109 for the document around it;   xml-fits: an output that has them is long enough
 --     xml-short    of a text within the limit
 use mathlib.Core.Path.{_≡_, refl}
 use mathlib.Core.Bool.{Bool, true, false}
 use mathlib.Core.List.{List, [], _∷_, map}
 use mathlib.Core.Option.{Option, none, some}
-use Prim.Native.Nat.{ℕ, zero, suc, _+_, _*_, _^_, _≤_, _<_}
+use Prim.Native.Nat.{ℕ, zero, suc, _+_, _-_, _*_, _^_, _≤_, _<_}
 use native.Mathlib.Omega.{arith}
 use lib.ListN.{length}
 use Rattle.octets.specs.Ascii.{ascii}
 use Rattle.octets.specs.Pick.{pick-either}
 use Rattle.octets.specs.Append.{_⊕_, length-both}
 use Rattle.octets.specs.Class.{upper}
-use Rattle.octets.specs.Words.{same, starts}
+use Rattle.octets.specs.Words.{same, starts, starts-length}
 use Rattle.octets.specs.Letters.{upper-length}
 use Rattle.model.specs.Calendar.{Components}
 use Rattle.folding.specs.Unfold.{crlf}
@@ -23,16 +22,16 @@ use Rattle.lines.specs.Write.{writeContentLine}
 use Rattle.lines.specs.Accepted.{content-line-write-back}
 use Rattle.ical.specs.Tree.{Entry, begin, end, property, entryBy, entryOf, calendarOf}
 use Rattle.xcal.specs.WriteXml.{componentsXml, declaration, rootStart, rootEnd, writeDocument}
-use Rattle.lengths.specs.Values.{rate}
-use Rattle.lengths.specs.Properties.{value-within}
+use Rattle.lengths.specs.Elements.{rate}
+use Rattle.lengths.specs.Properties.{line-length}
 use Rattle.lengths.specs.Depths.{cost, costs, nested-length}
 
 -- ---- the lines of a text
 
--- how many bytes the whole lines have, with one for the end of each
+-- how many bytes the whole lines have, with the two that end each
 unfoldable lineBytes : List Line → ℕ
 lineBytes [] = 0
-lineBytes (whole p s ∷ ls) = suc (length s) + lineBytes ls
+lineBytes (whole p s ∷ ls) = length s + 2 + lineBytes ls
 lineBytes (loose p ∷ ls) = lineBytes ls
 
 longer-bytes : (p a : ℕ) (ls : List Line) → lineBytes (longer p a ls) ≤ suc (lineBytes ls)
@@ -41,31 +40,31 @@ longer-bytes p a [] = omega arith
 longer-bytes p a (whole q s ∷ ls) = omega arith
 longer-bytes p a (loose q ∷ ls) = omega arith
 
-after-bytes : (s : List ℕ) (p k : ℕ) → lineBytes (linesAfter s p k) ≤ length s
+after-bytes : (s : List ℕ) (p k : ℕ) → lineBytes (linesAfter s p k) ≤ length s - k
 unfolding linesAfter lineStep lineBytes
 after-bytes [] p k = omega arith
-after-bytes (a ∷ s) p zero = go (starts crlf (a ∷ s)) (after-bytes s (p + 1))
+after-bytes (a ∷ s) p zero = go (starts crlf (a ∷ s)) refl (after-bytes s (p + 1))
   where
-    go : (t : Bool) → ((k : ℕ) → lineBytes (linesAfter s (p + 1) k) ≤ length s) → lineBytes (lineStep t p a (linesAfter s (p + 1))) ≤ suc (length s)
-    go true ih = omega (arith, ih 1)
-    go false ih = omega (arith, ih 0, longer-bytes p a (linesAfter s (p + 1) 0))
+    go : (t : Bool) → starts crlf (a ∷ s) ≡ t → ((k : ℕ) → lineBytes (linesAfter s (p + 1) k) ≤ length s - k) → lineBytes (lineStep t p a (linesAfter s (p + 1))) ≤ suc (length s) - 0
+    go true e ih = omega (arith, ih 1, starts-length crlf (a ∷ s) e)
+    go false e ih = omega (arith, ih 0, longer-bytes p a (linesAfter s (p + 1) 0))
 after-bytes (a ∷ s) p (suc k) = omega (arith, after-bytes s (p + 1) k)
 
 -- ---- what they come to
 
-entry-cost : (s : List ℕ) (o : Option ContentLine) → contentLine s ≡ o → cost (entryBy o) ≤ rate * suc (length s)
+entry-cost : (s : List ℕ) (o : Option ContentLine) → contentLine s ≡ o → cost (entryBy o) ≤ rate * (length s + 2)
 unfolding entryBy
 entry-cost s none e = unfold cost in omega arith
 entry-cost s (some l) e = pick-either Fits (same (upper (l .name)) (ascii "BEGIN")) _ _ begins (pick-either Fits (same (upper (l .name)) (ascii "END")) end (property l) ends states)
   where
     Fits : Entry → Type 0
-    Fits x = cost x ≤ rate * suc (length s)
+    Fits x = cost x ≤ rate * (length s + 2)
 
     as-read : length (writeContentLine l) ≡ length s
     as-read = rw (content-line-write-back s l e)
 
     begins : Fits (begin (upper (l .value)))
-    begins = unfold cost in omega (arith, upper-length (l .value), value-within l, as-read)
+    begins = unfold cost in omega (arith, upper-length (l .value), line-length l, as-read)
 
     ends : Fits end
     ends = unfold cost in omega arith
@@ -81,7 +80,7 @@ lines-cost (loose p ∷ ls) = omega (arith, lines-cost ls)
 
 -- ---- the document
 
-document-length : (c : Components) → length (writeDocument c) ≤ 200 + length (componentsXml c)
+document-length : (c : Components) → length (writeDocument c) ≤ 109 + length (componentsXml c)
 unfolding writeDocument
 document-length c =
     let x : List ℕ = componentsXml c in
@@ -89,11 +88,14 @@ document-length c =
     let front = length-both declaration (z ⊕ rootStart ⊕ x ⊕ rootEnd ⊕ z) in
     omega (arith, front, length-both z (rootStart ⊕ x ⊕ rootEnd ⊕ z), length-both rootStart (x ⊕ rootEnd ⊕ z), length-both x (rootEnd ⊕ z), length-both rootEnd z)
 
-pub xml-bound : (u : List ℕ) → length (writeDocument (calendarOf (lines u))) ≤ rate * length u + 200
+pub xml-bound : (u : List ℕ) → length (writeDocument (calendarOf (lines u))) ≤ rate * length u + 109
 unfolding calendarOf
 xml-bound u =
     let ls : List Line = lines u in
     omega (arith, document-length (calendarOf ls), nested-length (map entryOf ls), lines-cost ls, after-bytes u 0 0)
+
+pub xml-fits : (u : List ℕ) (n : ℕ) → rate * length u + 109 ≤ n → length (writeDocument (calendarOf (lines u))) ≤ n
+xml-fits u n h = omega (arith, xml-bound u, h)
 
 pub xml-short : (u : List ℕ) → length u ≤ 65535 → length (writeDocument (calendarOf (lines u))) < 2 ^ 32
 xml-short u h = omega (arith, xml-bound u, h)

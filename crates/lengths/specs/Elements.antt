@@ -1,4 +1,5 @@
 -- How long elements and character data are.
+--     rate                          how many bytes of XML a byte of text comes to, at most: a comma between parameter values comes to `<unknown></unknown>`
 --     element-length                an element: its name twice, five bytes of tags, its content
 --     escaped-length                an entity is of five bytes at most
 --     text-element-length           an element of character data
@@ -13,6 +14,9 @@ use Rattle.octets.specs.Pick.{pick-either}
 use Rattle.octets.specs.Append.{_⊕_, length-both}
 use Rattle.xml.specs.Escape.{escapedByte, escaped, startTag, endTag, elementOf}
 use Rattle.xcal.specs.WriteXml.{textElement}
+
+abbrev pub rate : ℕ
+rate = 19
 
 pub element-length : (n c : List ℕ) → length (elementOf n c) ≡ 2 * length n + 5 + length c
 element-length n c =

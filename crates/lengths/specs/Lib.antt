@@ -1,5 +1,5 @@
 -- How long the XML of a text is.
---     Elements     elements, character data, letter case
+--     Elements     elements and character data; the bytes of XML for a byte of text
 --     Pieces       the pieces of a text that is cut, and of escaped text
 --     Times, Numbers, Texts, Rules    the values of each kind
 --     Values       a value of any type

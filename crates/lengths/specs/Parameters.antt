@@ -25,9 +25,9 @@ use Rattle.lines.specs.Write.{writeParamValue, writeParameter}
 use Rattle.ical.specs.Parameters.{readTyped, readWord, readParamValue, isSingle, readParameter, isValueParameter, ownParameters, readParameters}
 use Rattle.xml.specs.Escape.{elementOf}
 use Rattle.xcal.specs.WriteXml.{valuesXml, parameterXml, parametersXml, parametersElement}
-use Rattle.lengths.specs.Elements.{element-length}
+use Rattle.lengths.specs.Elements.{rate, element-length}
 use Rattle.lengths.specs.Pieces.{joined-weight}
-use Rattle.lengths.specs.Values.{rate, Short, kept-length, value-length, each-length}
+use Rattle.lengths.specs.Values.{Short, kept-length, value-length, each-length}
 use Rattle.lengths.specs.PropertyValues.{word-short}
 
 typed-short : (t : ValueType) (s : List ℕ) (v : Value) → readTyped t s ≡ some v → Short s v

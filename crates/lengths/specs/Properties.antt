@@ -1,6 +1,6 @@
--- The XML of a property, by the length of its content line.
+-- The XML of a property, by the length of its content line with the two bytes that end it.
 --     property-length    the property that a line states
---     line-length        a content line, by its parts;   value-within: its value is a part of it
+--     line-length        a content line, by its parts
 use mathlib.Core.Path.{_≡_, refl}
 use mathlib.Core.List.{List, [], _∷_, map}
 use mathlib.Core.Option.{Option, none, some}
@@ -18,9 +18,8 @@ use Rattle.ical.specs.Values.{readValues}
 use Rattle.ical.specs.Parameters.{statedType, readParameters}
 use Rattle.ical.specs.Statement.{propertyOf}
 use Rattle.xcal.specs.WriteXml.{valuesXml, parametersXml, parametersElement, propertyXml}
-use Rattle.lengths.specs.Elements.{element-length}
-use Rattle.lengths.specs.Values.{rate}
-use Rattle.lengths.specs.PropertyValues.{values-length}
+use Rattle.lengths.specs.Elements.{rate, element-length}
+use Rattle.lengths.specs.PropertyValues.{Brief, values-length}
 use Rattle.lengths.specs.Parameters.{bytes, parameters-length, wrapped-length}
 
 parameters-or : (rs : List RawParameter) → length (parametersXml (readOr [] (readParameters rs))) ≤ rate * bytes rs
@@ -31,11 +30,11 @@ parameters-or rs = go (readParameters rs) refl
     go none e = omega arith
     go (some ps) e = parameters-length rs ps e
 
-values-or : (k n : List ℕ) (t : ValueType) (s : List ℕ) → length (valuesXml (readOr [] (readValues k n t s))) ≤ rate * suc (length s)
+values-or : (k n : List ℕ) (t : ValueType) (s : List ℕ) → Brief s (readOr [] (readValues k n t s))
 unfolding readOr valuesXml
 values-or k n t s = go (readValues k n t s) refl
   where
-    go : (o : Option (List Value)) → readValues k n t s ≡ o → length (valuesXml (readOr [] o)) ≤ rate * suc (length s)
+    go : (o : Option (List Value)) → readValues k n t s ≡ o → Brief s (readOr [] o)
     go none e = omega arith
     go (some vs) e = values-length k n t s vs e
 
@@ -43,10 +42,7 @@ pub line-length : (l : ContentLine) → length (writeContentLine l) ≡ length (
 unfolding writeContentLine
 line-length l = omega (arith, length-both (l .name) (joined (map writeParameter (l .parameters)) ⊕ 58 ∷ l .value), length-both (joined (map writeParameter (l .parameters))) (58 ∷ l .value))
 
-pub value-within : (l : ContentLine) → length (l .value) ≤ length (writeContentLine l)
-value-within l = omega (arith, line-length l)
-
-pub property-length : (k : List ℕ) (l : ContentLine) → length (propertyXml (propertyOf k l)) ≤ rate * suc (length (writeContentLine l))
+pub property-length : (k : List ℕ) (l : ContentLine) → length (propertyXml (propertyOf k l)) ≤ rate * (length (writeContentLine l) + 2)
 unfolding propertyXml propertyOf
 property-length k l =
     let n : List ℕ = upper (l .name) in

@@ -5,7 +5,7 @@ use mathlib.Core.Path.{_≡_, refl, ap}
 use mathlib.Core.Bool.{Bool, true, false}
 use mathlib.Core.List.{List, [], _∷_, map}
 use mathlib.Core.Option.{Option, none, some, Option·map}
-use Prim.Native.Nat.{ℕ, suc, _*_, _≤_}
+use Prim.Native.Nat.{ℕ, suc, _+_, _*_, _≤_}
 use native.Mathlib.Omega.{arith}
 use lib.ListN.{length}
 use Rattle.octets.specs.Ascii.{ascii}
@@ -25,22 +25,22 @@ use Rattle.texts.specs.RequestStatus.{readRequestStatus}
 use Rattle.values.specs.ReadValue.{readValue}
 use Rattle.ical.specs.Values.{oneValue, readListed, readChosen, readOwn, readValues}
 use Rattle.xcal.specs.WriteXml.{textElement, valueXml, valuesXml}
-use Rattle.lengths.specs.Elements.{text-element-length}
+use Rattle.lengths.specs.Elements.{rate, text-element-length}
 use Rattle.lengths.specs.Pieces.{weight, cut-weight, split-weight}
 use Rattle.lengths.specs.Numbers.{geo-length}
 use Rattle.lengths.specs.Texts.{status-length}
-use Rattle.lengths.specs.Values.{rate, Short, kept-length, value-length, each-length}
+use Rattle.lengths.specs.Values.{Short, kept-length, value-length, each-length}
 
--- the XML of values, whose text is s, is within the bound
-abbrev Brief : List ℕ → List Value → Type 0
-Brief s vs = length (valuesXml vs) ≤ rate * suc (length s)
+-- the XML of values, whose text is s, is within the bound, but that GEO's two elements have eight bytes more
+abbrev pub Brief : List ℕ → List Value → Type 0
+Brief s vs = length (valuesXml vs) ≤ rate * suc (length s) + 8
 
-one-length : (s : List ℕ) (o : Option Value) (vs : List Value) → ((v : Value) → o ≡ some v → Short s v) → oneValue o ≡ some vs → Brief s vs
+one-length : (s : List ℕ) (o : Option Value) (vs : List Value) → ((v : Value) → o ≡ some v → length (valueXml v) ≤ rate * suc (length s) + 8) → oneValue o ≡ some vs → Brief s vs
 unfolding valuesXml
 one-length s none vs f h = none-some h
 one-length s (some v) vs f h = let q : v ∷ [] ≡ vs = cc in rw (← q) (omega (arith, f v refl, length-both (valueXml v) []))
 
-geo-short : (s : List ℕ) (v : Value) → readGeo s ≡ some v → Short s v
+geo-short : (s : List ℕ) (v : Value) → readGeo s ≡ some v → length (valueXml v) ≤ rate * suc (length s) + 8
 unfolding valueXml
 geo-short s v h =
     let g = geo-length s v h in
@@ -48,9 +48,6 @@ geo-short s v h =
     let o : List ℕ = writeFloat (g .longitude) in
     let both = length-both (textElement (ascii "latitude") a) (textElement (ascii "longitude") o) in
     rw (g .is) (omega (arith, g .short, both, text-element-length (ascii "latitude") a, text-element-length (ascii "longitude") o))
-
-status-short : (s : List ℕ) (v : Value) → readRequestStatus s ≡ some v → Short s v
-status-short s v h = omega (arith, status-length s v h)
 
 texts-length : (ps : List (List ℕ)) → length (valuesXml (map text ps)) ≤ rate * weight ps
 unfolding valuesXml weight
@@ -89,11 +86,11 @@ own-length k n t s vs h = go (same n (ascii "GEO")) (same n (ascii "REQUEST-STAT
   where
     go : (a b c : Bool) → pick a (oneValue (readGeo s)) (pick b (oneValue (readRequestStatus s)) (pick c (readListed t s) (oneValue (readChosen (propertyWords k n) t s)))) ≡ some vs → Brief s vs
     go true b c h = one-length s (readGeo s) vs (geo-short s) h
-    go false true c h = one-length s (readRequestStatus s) vs (status-short s) h
+    go false true c h = one-length s (readRequestStatus s) vs (λ v e. omega (arith, status-length s v e)) h
     go false false true h = listed-length t s vs h
-    go false false false h = one-length s (readChosen (propertyWords k n) t s) vs (chosen-short (propertyWords k n) t s) h
+    go false false false h = one-length s (readChosen (propertyWords k n) t s) vs (λ v e. omega (arith, chosen-short (propertyWords k n) t s v e)) h
 
-pub values-length : (k n : List ℕ) (t : ValueType) (s : List ℕ) (vs : List Value) → readValues k n t s ≡ some vs → length (valuesXml vs) ≤ rate * suc (length s)
+pub values-length : (k n : List ℕ) (t : ValueType) (s : List ℕ) (vs : List Value) → readValues k n t s ≡ some vs → Brief s vs
 unfolding readValues pick
 values-length k n t s vs h = go (isTypeOf t (permittedTypes n)) h
   where

@@ -14,7 +14,7 @@ use Rattle.model.specs.Calendar.{Value, requestStatus}
 use Rattle.texts.specs.Text.{splitText, alone, readText}
 use Rattle.texts.specs.RequestStatus.{statusOf, readRequestStatus}
 use Rattle.xcal.specs.WriteXml.{textElement, valueXml}
-use Rattle.lengths.specs.Elements.{text-element-length}
+use Rattle.lengths.specs.Elements.{rate, text-element-length}
 use Rattle.lengths.specs.Pieces.{weight, split-weight}
 
 alone-length : (ps : List (List ℕ)) (v : List ℕ) → alone ps ≡ some v → suc (length v) ≤ weight ps
@@ -37,13 +37,13 @@ parts-length c d x =
     let g : List ℕ = textElement (ascii "data") x in
     omega (arith, length-both e (f ⊕ g), length-both f g, text-element-length (ascii "code") c, text-element-length (ascii "description") d, text-element-length (ascii "data") x)
 
-two-length : (c d : List ℕ) → length (textElement (ascii "code") c ⊕ textElement (ascii "description") d ⊕ []) ≤ 5 * (length c + length d) + 53
+two-length : (c d : List ℕ) → length (textElement (ascii "code") c ⊕ textElement (ascii "description") d ⊕ []) ≤ 5 * (length c + length d) + 40
 two-length c d =
     let e : List ℕ = textElement (ascii "code") c in
     let f : List ℕ = textElement (ascii "description") d in
     omega (arith, length-both e (f ⊕ []), length-both f [], text-element-length (ascii "code") c, text-element-length (ascii "description") d)
 
-of-length : (ps : List (List ℕ)) (v : Value) → statusOf ps ≡ some v → length (valueXml v) ≤ 5 * weight ps + 53
+of-length : (ps : List (List ℕ)) (v : Value) → statusOf ps ≡ some v → length (valueXml v) ≤ rate * weight ps + 2
 unfolding weight valueXml
 of-length [] v h = none-some h
 of-length (c ∷ []) v h = none-some h
@@ -51,7 +51,7 @@ of-length (c ∷ d ∷ []) v h = let q : requestStatus c d none ≡ v = cc in rw
 of-length (c ∷ d ∷ x ∷ []) v h = let q : requestStatus c d (some x) ≡ v = cc in rw (← q) (omega (arith, parts-length c d x))
 of-length (c ∷ d ∷ x ∷ p ∷ ps) v h = none-some h
 
-pub status-length : (s : List ℕ) (v : Value) → readRequestStatus s ≡ some v → length (valueXml v) ≤ 5 * length s + 58
+pub status-length : (s : List ℕ) (v : Value) → readRequestStatus s ≡ some v → length (valueXml v) ≤ rate * suc (length s) + 2
 status-length s v h =
     let q = andThen-some (splitText 59 s) statusOf v h in
     omega (arith, of-length (q .0) v (q .2), split-weight 59 s (q .0) (q .1))

@@ -1,18 +1,20 @@
 -- The bytes that a document's marks take: of a start tag its name and two brackets, of a character its bytes.
+--     nameBytes       the bytes of a name, one at least;   name-some, name-length
 --     bytesOf         the bytes of marks
 --     scan-within     marks have no more bytes than what they are read from
 --     root-within     nor has the root's tag with what follows it
 use mathlib.Core.Path.{_≡_, refl}
+use mathlib.Core.Bool.{true, false≢true}
 use mathlib.Core.List.{List, [], _∷_}
 use mathlib.Core.Option.{Option, none, some}
 use Prim.{Unit, tt}
 use Prim.Native.Nat.{ℕ, zero, suc, _+_, _-_, _≤_}
 use native.Mathlib.Omega.{arith}
 use lib.Dec.{eqb, ltb}
-use lib.ListN.{length, length-take}
+use lib.ListN.{length, take, length-take}
 use borrow.Author.Tests.{ltb-true}
 use Rattle.octets.specs.Ascii.{ascii}
-use Rattle.octets.specs.Pick.{pick, pick-either, pick-case, _and_, and-both}
+use Rattle.octets.specs.Pick.{pick, pick-either, pick-case, _and_, _or_, and-both, or-left}
 use Rattle.octets.specs.Scan.{spanLen}
 use Rattle.octets.specs.Class.{isAlpha, isNameChar, isDigit}
 use Rattle.octets.specs.Words.{starts, starts-length}
@@ -22,9 +24,28 @@ use Rattle.xml.specs.Pieces.{from, first, Piece, S?, Name, nameOf, both, _then_
 use Rattle.xml.specs.Token.{Token, STag, EmptyElemTag, ETag, CharByte, Reference, Fault, namespaceAttribute, startBy, endBy, tag, rootTag, isHexDigit, charRef, reference, literalByte, token}
 use Rattle.xml.specs.Marks.{Mark, opens, closes, char, refers, fault, marksBy, scan, rootMarks}
 
+unfoldable pub nameBytes : List ℕ → ℕ
+nameBytes [] = 1
+nameBytes (b ∷ m) = suc (length m)
+
+pub name-some : (m : List ℕ) → 1 ≤ nameBytes m
+unfolding nameBytes
+name-some [] = omega arith
+name-some (b ∷ m) = omega arith
+
+pub name-length : (m : List ℕ) → length m ≤ nameBytes m
+unfolding nameBytes
+name-length [] = omega arith
+name-length (b ∷ m) = omega arith
+
+name-most : (m : List ℕ) (n : ℕ) → 1 ≤ n → length m ≤ n → nameBytes m ≤ n
+unfolding nameBytes
+name-most [] n l h = l
+name-most (b ∷ m) n l h = h
+
 unfoldable pub bytesOf : List Mark → ℕ
 bytesOf [] = 0
-bytesOf (opens p nm ∷ ms) = length nm + 2 + bytesOf ms
+bytesOf (opens p nm ∷ ms) = nameBytes nm + 2 + bytesOf ms
 bytesOf (closes p nm ∷ ms) = bytesOf ms
 bytesOf (char p b ∷ ms) = suc (bytesOf ms)
 bytesOf (refers p bs ∷ ms) = length bs + bytesOf ms
@@ -34,8 +55,8 @@ bytesOf (fault p ∷ ms) = bytesOf ms
 
 -- what a token states, and the bytes behind it, are no more than the bytes from it on: one, and s
 abbrev Fits : Token → List ℕ → Type 0
-Fits (STag nm k) s = length nm + 2 + (length s - k) ≤ suc (length s)
-Fits (EmptyElemTag nm k) s = length nm + 2 + (length s - k) ≤ suc (length s)
+Fits (STag nm k) s = nameBytes nm + 2 + (length s - k) ≤ suc (length s)
+Fits (EmptyElemTag nm k) s = nameBytes nm + 2 + (length s - k) ≤ suc (length s)
 Fits (ETag nm k) s = Unit {0}
 Fits (CharByte b k) s = Unit {0}
 Fits (Reference v k) s = length (spell v) + (length s - k) ≤ suc (length s)
@@ -46,15 +67,22 @@ unfolding both
 both-most a none n h = none-some h
 both-most a (some m) n h = let q : a + m ≡ n = cc in omega arith
 
+-- a name begins with a letter
+letter-counts : (s : List ℕ) → isAlpha (first s) ≡ true → 1 ≤ spanLen isNameChar s
+unfolding first spanLen
+letter-counts [] h = absurd (false≢true (unfold _and_ _or_ in h))
+letter-counts (b ∷ s) h = rw (or-left (isAlpha b) (isDigit b or eqb b 45) h) (unfold pick in omega arith)
+
 -- a tag that begins with a name has the bytes of the name
-name-within : (rest : Piece) (s : List ℕ) (n : ℕ) → (Name then rest) s ≡ some n → length (nameOf s) ≤ n
+name-within : (rest : Piece) (s : List ℕ) (n : ℕ) → (Name then rest) s ≡ some n → nameBytes (nameOf s) ≤ n
 unfolding _then_ Name nameOf
 name-within rest s n h =
     let q = andThen-some (Name s) (λ n. both n (rest (from n s))) n h in
-    let e = provided-some (isAlpha (first s)) (spanLen isNameChar s) (q .0) (q .1) .1 in
-    omega (arith, e, both-most (q .0) (rest (from (q .0) s)) n (q .2), length-take (spanLen isNameChar s) s)
+    let e = provided-some (isAlpha (first s)) (spanLen isNameChar s) (q .0) (q .1) in
+    let l : spanLen isNameChar s ≤ n = omega (arith, e .1, both-most (q .0) (rest (from (q .0) s)) n (q .2)) in
+    name-most (take (spanLen isNameChar s) s) n (omega (arith, letter-counts s (e .0))) (omega (arith, length-take (spanLen isNameChar s) s))
 
-start-fits : (o : Option ℕ) (s : List ℕ) → ((n : ℕ) → o ≡ some n → length (nameOf s) ≤ n) → Fits (startBy o s) s
+start-fits : (o : Option ℕ) (s : List ℕ) → ((n : ℕ) → o ≡ some n → nameBytes (nameOf s) ≤ n) → Fits (startBy o s) s
 unfolding startBy
 start-fits none s h = tt
 start-fits (some n) s h =

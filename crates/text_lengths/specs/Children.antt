@@ -18,6 +18,7 @@ use Rattle.xcal.specs.ValueNodes.{valueSlots, childNamed, textOf}
 use Rattle.xcal.specs.Layout.{slotOf}
 use Rattle.xcal.specs.PropertyNodes.{stillBefore, parametersIn}
 use Rattle.xcal.specs.ComponentNodes.{insideOf}
+use Rattle.text_lengths.specs.Bytes.{nameBytes}
 use Rattle.text_lengths.specs.Sizes.{size, characters-size, part, part-size, named}
 
 swapped : (n m : List ℕ) → same n m ≡ true → same m n ≡ true
@@ -31,7 +32,7 @@ named-text n (referred p bs more) = named-text n more
 named-text n (element p m x kids more) = go (same n m) refl (named-text n more)
   where
     go : (t : Bool) → same n m ≡ t → length (textOf n more) ≤ part (named n) more →
-        length (readOr [] (pick t (some (charactersOf kids)) (childNamed n more))) ≤ pick (same m n) (length m + 2 + size kids) 0 + part (named n) more
+        length (readOr [] (pick t (some (charactersOf kids)) (childNamed n more))) ≤ pick (same m n) (nameBytes m + 2 + size kids) 0 + part (named n) more
     go true e ih = rw (swapped n m e) (omega (arith, characters-size kids))
     go false e ih = omega (arith, ih)
 
@@ -46,7 +47,7 @@ parameters-part n (referred p bs more) = parameters-part n more
 parameters-part n (element p m x kids more) = go (same m (ascii "parameters")) (stillBefore (slotOf m (valueSlots n) 0)) (parameters-part n more)
   where
     go : (a b : Bool) → size (parametersIn n more) ≤ part (named (ascii "parameters")) more →
-        size (pick a kids (pick b (parametersIn n more) noNodes)) ≤ pick a (length m + 2 + size kids) 0 + part (named (ascii "parameters")) more
+        size (pick a kids (pick b (parametersIn n more) noNodes)) ≤ pick a (nameBytes m + 2 + size kids) 0 + part (named (ascii "parameters")) more
     go true b ih = omega arith
     go false true ih = omega (arith, ih)
     go false false ih = unfold size in omega arith
@@ -58,6 +59,6 @@ inside-size n (literal p b more) = inside-size n more
 inside-size n (referred p bs more) = inside-size n more
 inside-size n (element p m x kids more) = go (same m n) (inside-size n more)
   where
-    go : (t : Bool) → size (insideOf n more) ≤ part (named n) more → size (pick t kids (insideOf n more)) ≤ pick t (length m + 2 + size kids) 0 + part (named n) more
+    go : (t : Bool) → size (insideOf n more) ≤ part (named n) more → size (pick t kids (insideOf n more)) ≤ pick t (nameBytes m + 2 + size kids) 0 + part (named n) more
     go true ih = omega arith
     go false ih = omega (arith, ih)

@@ -1,5 +1,6 @@
 -- The content line of a property, by the size of its element.
---     line-length      its content line
+--     line-length      its content line;   line-short: with less added, but more for each byte
+use mathlib.Core.Path.{_≡_}
 use mathlib.Core.List.{List, [], _∷_, map}
 use Prim.Native.Nat.{ℕ, _+_, _*_, _≤_}
 use native.Mathlib.Omega.{arith}
@@ -13,7 +14,7 @@ use Rattle.octets.specs.Letters.{upper-length}
 use Rattle.model.specs.Calendar.{ValueType}
 use Rattle.schema.specs.Types.{typeName, sameType}
 use Rattle.schema.specs.Properties.{defaultType}
-use Rattle.values.specs.WriteValue.{typeOfAll}
+use Rattle.values.specs.WriteValue.{writeValues, typeOfAll}
 use Rattle.lines.specs.ContentLine.{RawParameter}
 use Rattle.lines.specs.Write.{writeParamValue, writeParameter, writeContentLine}
 use Rattle.ical.specs.WriteText.{rawOf, valueParameter, withValue, contentLineOf}
@@ -24,27 +25,35 @@ use Rattle.xcal.specs.PropertyNodes.{parametersIn, propertyIn}
 use Rattle.lengths.specs.Values.{type-length}
 use Rattle.lengths.specs.Parameters.{bytes}
 use Rattle.lengths.specs.Properties.{line-length as length-of-line}
+use Rattle.text_lengths.specs.Bytes.{nameBytes, name-length}
 use Rattle.text_lengths.specs.Sizes.{size}
-use Rattle.text_lengths.specs.PropertyValues.{values-length}
+use Rattle.text_lengths.specs.PropertyValues.{values-length, named-length}
 use Rattle.text_lengths.specs.Parameters.{parameters-length}
 
 -- ;VALUE= and the name of a type
-value-parameter : (t : ValueType) → length (writeParameter (valueParameter t)) ≤ 18
+value-parameter : (t : ValueType) → length (writeParameter (valueParameter t)) ≡ 7 + length (typeName t)
 unfolding writeParameter writeParamValue joinedBy eachAfter pick
 value-parameter t =
-    omega (arith, length-both (ascii "VALUE") (61 ∷ (typeName t ⊕ [])), length-both (typeName t) [], type-length t)
+    omega (arith, length-both (ascii "VALUE") (61 ∷ (typeName t ⊕ [])), length-both (typeName t) [])
 
-with-length : (n : List ℕ) (t : ValueType) (ps : List RawParameter) → bytes (withValue n t ps) ≤ 18 + bytes ps
+with-length : (n : List ℕ) (t : ValueType) (ps : List RawParameter) → bytes (withValue n t ps) ≤ 7 + length (typeName t) + bytes ps
 unfolding withValue
 with-length n t ps =
-    pick-either (λ (l : List RawParameter). bytes l ≤ 18 + bytes ps) (sameType t (defaultType n)) ps (valueParameter t ∷ ps) (omega arith)
+    pick-either (λ (l : List RawParameter). bytes l ≤ 7 + length (typeName t) + bytes ps) (sameType t (defaultType n)) ps (valueParameter t ∷ ps) (omega arith)
     (unfold joined in omega (arith, length-both (writeParameter (valueParameter t)) (joined (map writeParameter ps)), value-parameter t))
 
-pub line-length : (m : List ℕ) (kids : Nodes) → length (writeContentLine (contentLineOf (propertyIn m kids))) ≤ length m + 29 + 3 * size kids
+-- the line, by its values and its parameters
+parts-length : (m : List ℕ) (kids : Nodes) → length (writeContentLine (contentLineOf (propertyIn m kids))) ≤
+    length m + 8 + length (typeName (typeOfAll (readValueNodes (upper m) kids))) + length (writeValues (readValueNodes (upper m) kids)) + 2 * size (parametersIn (upper m) kids)
 unfolding contentLineOf
-line-length m kids =
+parts-length m kids =
     let n : List ℕ = upper m in
     let ps : List RawParameter = map rawOf (readParameterNodes (parametersIn n kids)) in
     let t : ValueType = typeOfAll (readValueNodes n kids) in
-    let whole = length-of-line (contentLineOf (propertyIn m kids)) in
-    omega (arith, whole, upper-length m, with-length n t ps, parameters-length (parametersIn n kids), values-length n kids)
+    omega (arith, length-of-line (contentLineOf (propertyIn m kids)), upper-length m, with-length n t ps, parameters-length (parametersIn n kids))
+
+pub line-length : (m : List ℕ) (kids : Nodes) → length (writeContentLine (contentLineOf (propertyIn m kids))) ≤ length m + 26 + 2 * size kids
+line-length m kids = omega (arith, parts-length m kids, values-length (upper m) kids, type-length (typeOfAll (readValueNodes (upper m) kids)))
+
+pub line-short : (m : List ℕ) (kids : Nodes) → length (writeContentLine (contentLineOf (propertyIn m kids))) ≤ 5 * nameBytes m + 11 + 3 * size kids
+line-short m kids = omega (arith, parts-length m kids, named-length m kids, name-length m)

@@ -23,22 +23,23 @@ use Rattle.xml.specs.Nodes.{Nodes, noNodes, element, literal, referred, charact
 use Rattle.xcal.specs.ParameterNodes.{readWordIn, readParamNode, readParamNodes, readParameterNodes}
 use Rattle.lengths.specs.Pieces.{weight, joined-within}
 use Rattle.lengths.specs.Parameters.{bytes}
+use Rattle.text_lengths.specs.Bytes.{nameBytes, name-length}
 use Rattle.text_lengths.specs.Sizes.{size, characters-size}
 use Rattle.text_lengths.specs.Values.{value-length, parameter-length}
 use Rattle.text_lengths.specs.TypedValues.{type-least}
 
 -- ---- a value
 
-word-length : (o : Option (List (List ℕ))) (t : ValueType) (s : List ℕ) (v : Value) → readWordIn o t s ≡ some v → length (paramChars v) ≤ 2 * length s + 11
+word-length : (o : Option (List (List ℕ))) (t : ValueType) (s : List ℕ) (v : Value) → readWordIn o t s ≡ some v → length (paramChars v) ≤ 2 * length s + 5
 unfolding readOr
 word-length none t s v h = omega (arith, parameter-length v, value-length t s v h)
 word-length (some ws) t s v h = rw (← (provided-some (isOneOf s ws) (text s) v h .1)) (omega arith)
 
-node-length : (n : List ℕ) (kids : Nodes) (v : Value) → readParamNode n kids ≡ some v → length (paramChars v) ≤ 2 * size kids + 11
+node-length : (n : List ℕ) (kids : Nodes) (v : Value) → readParamNode n kids ≡ some v → length (paramChars v) ≤ 2 * size kids + 5
 unfolding readParamNode pick
 node-length n kids v h = go (hasElement kids or holds 34 (charactersOf kids) or holds 10 (charactersOf kids)) h
   where
-    go : (t : Bool) → pick t none (readWordIn (parameterWords n) (parameterType n) (charactersOf kids)) ≡ some v → length (paramChars v) ≤ 2 * size kids + 11
+    go : (t : Bool) → pick t none (readWordIn (parameterWords n) (parameterType n) (charactersOf kids)) ≡ some v → length (paramChars v) ≤ 2 * size kids + 5
     go true k = none-some k
     go false k = omega (arith, word-length (parameterWords n) (parameterType n) (charactersOf kids) v k, characters-size kids)
 
@@ -53,12 +54,12 @@ quoted-length r =
 abbrev written : List ℕ → List Value → List (List ℕ)
 written n vs = map writeParamValue (map (paramValueOf n) vs)
 
-nodes-length : (n : List ℕ) (ns : Nodes) (vs : List Value) → readParamNodes n ns ≡ some vs → weight (written n vs) ≤ 3 * size ns
+nodes-length : (n : List ℕ) (ns : Nodes) (vs : List Value) → readParamNodes n ns ≡ some vs → weight (written n vs) ≤ 2 * size ns
 unfolding readParamNodes size pick weight
 nodes-length n noNodes vs h = let q : [] ≡ vs = cc in rw (← q) (omega arith)
 nodes-length n (literal p b more) vs h = go (isSpace b) h (nodes-length n more vs)
   where
-    go : (t : Bool) → pick t (readParamNodes n more) none ≡ some vs → (readParamNodes n more ≡ some vs → weight (written n vs) ≤ 3 * size more) → weight (written n vs) ≤ 3 * suc (size more)
+    go : (t : Bool) → pick t (readParamNodes n more) none ≡ some vs → (readParamNodes n more ≡ some vs → weight (written n vs) ≤ 2 * size more) → weight (written n vs) ≤ 2 * suc (size more)
     go true k ih = omega (arith, ih k)
     go false k ih = none-some k
 nodes-length n (referred p bs more) vs h = none-some h
@@ -70,27 +71,27 @@ nodes-length n (element p m x kids more) vs h = go (same m (lower (typeName (par
     read : Option (List Value)
     read = andThen (readParamNode n kids) (λ v. consRead v (readParamNodes n more))
 
-    go : (b : Bool) → same m (lower (typeName t)) ≡ b → pick b read none ≡ some vs → ((ws : List Value) → readParamNodes n more ≡ some ws → weight (written n ws) ≤ 3 * size more) →
-        weight (written n vs) ≤ 3 * (length m + 2 + size kids + size more)
+    go : (b : Bool) → same m (lower (typeName t)) ≡ b → pick b read none ≡ some vs → ((ws : List Value) → readParamNodes n more ≡ some ws → weight (written n ws) ≤ 2 * size more) →
+        weight (written n vs) ≤ 2 * (nameBytes m + 2 + size kids + size more)
     go true e k ih =
         let f = andThen-some (readParamNode n kids) (λ v. consRead v (readParamNodes n more)) vs k in
         let g = consRead-some (f .0) (readParamNodes n more) vs (f .2) in
         let name = ap length (same-true m (lower (typeName t)) e) in
         rw (← (g .2))
-        (omega (arith, ih (g .0) (g .1), node-length n kids (f .0) (f .1), quoted-length (paramValueOf n (f .0)), name, lower-length (typeName t), type-least t))
+        (omega (arith, ih (g .0) (g .1), node-length n kids (f .0) (f .1), quoted-length (paramValueOf n (f .0)), name, name-length m, lower-length (typeName t), type-least t))
     go false e k ih = none-some k
 
-or-length : (n : List ℕ) (ns : Nodes) → weight (written n (readOr [] (readParamNodes n ns))) ≤ 3 * size ns
+or-length : (n : List ℕ) (ns : Nodes) → weight (written n (readOr [] (readParamNodes n ns))) ≤ 2 * size ns
 unfolding readOr weight
 or-length n ns = go (readParamNodes n ns) refl
   where
-    go : (o : Option (List Value)) → readParamNodes n ns ≡ o → weight (written n (readOr [] o)) ≤ 3 * size ns
+    go : (o : Option (List Value)) → readParamNodes n ns ≡ o → weight (written n (readOr [] o)) ≤ 2 * size ns
     go none e = omega arith
     go (some vs) e = nodes-length n ns vs e
 
 -- ---- the parameters
 
-pub parameters-length : (ns : Nodes) → bytes (map rawOf (readParameterNodes ns)) ≤ 3 * size ns
+pub parameters-length : (ns : Nodes) → bytes (map rawOf (readParameterNodes ns)) ≤ 2 * size ns
 unfolding readParameterNodes size joined writeParameter
 parameters-length noNodes = omega arith
 parameters-length (literal p b more) = omega (arith, parameters-length more)
@@ -99,4 +100,4 @@ parameters-length (element p m x kids more) =
     let n : List ℕ = upper m in
     let vs : List (List ℕ) = written n (readOr [] (readParamNodes n kids)) in
     let rest : List ℕ = joined (map writeParameter (map rawOf (readParameterNodes more))) in
-    omega (arith, length-both (59 ∷ (n ⊕ 61 ∷ joinedBy 44 vs)) rest, length-both n (61 ∷ joinedBy 44 vs), upper-length m, joined-within 44 vs, or-length n kids, parameters-length more)
+    omega (arith, length-both (59 ∷ (n ⊕ 61 ∷ joinedBy 44 vs)) rest, length-both n (61 ∷ joinedBy 44 vs), upper-length m, name-length m, joined-within 44 vs, or-length n kids, parameters-length more)

@@ -1,5 +1,5 @@
 -- The text of a property's values, by the size of its children. No child is a value and the parameters too.
---     values-length    the values of any property, beside its parameters
+--     values-length    the values of any property, beside its parameters;   named-length: and the name of their type
 use mathlib.Core.Path.{_≡_, refl, ap}
 use mathlib.Core.Bool.{true, false}
 use mathlib.Core.List.{List, [], _∷_, map}
@@ -8,39 +8,43 @@ use Prim.Native.Nat.{ℕ, _+_, _*_, _≤_}
 use native.Mathlib.Omega.{arith}
 use lib.ListN.{length}
 use Rattle.octets.specs.Ascii.{ascii}
-use Rattle.octets.specs.Pick.{pick-either, _or_}
+use Rattle.octets.specs.Pick.{pick-either, pick-case, _or_}
 use Rattle.octets.specs.Append.{length-both}
+use Rattle.octets.specs.Class.{upper}
 use Rattle.octets.specs.Words.{same, same-true}
 use Rattle.octets.specs.Lists.{distinct}
 use Rattle.octets.specs.Reading.{readOr}
+use Rattle.octets.specs.Letters.{upper-length}
 use Rattle.octets.specs.Computing.{octets-compute}
-use Rattle.model.specs.Calendar.{Decimal, Value, geo, requestStatus}
+use Rattle.model.specs.Calendar.{Decimal, Value, geo, requestStatus, typeOf}
+use Rattle.schema.specs.Types.{typeName}
 use Rattle.schema.specs.Computing.{schema-compute}
 use Rattle.numbers.specs.Float.{readFloat, writeFloat}
 use Rattle.texts.specs.Text.{writeText}
 use Rattle.texts.specs.RequestStatus.{statusParts, writeRequestStatus}
-use Rattle.values.specs.WriteValue.{writeValue, writeValues}
+use Rattle.values.specs.WriteValue.{writeValue, writeValues, typeOfAll, one-written}
 use Rattle.xml.specs.Nodes.{Nodes}
 use Rattle.xcal.specs.ValueNodes.{elementType, childNamed, textOf, zero′, floatOf, typedValues, readValueNodes}
 use Rattle.xcal.specs.PropertyNodes.{parametersIn}
 use Rattle.lengths.specs.Pieces.{weight, joined-within}
 use Rattle.lengths.specs.Numbers.{float-length, written-length}
+use Rattle.text_lengths.specs.Bytes.{nameBytes, name-some, name-length}
 use Rattle.text_lengths.specs.Sizes.{size, part, part-size, part-apart, named, parts, parts-size}
 use Rattle.text_lengths.specs.Values.{escaped-most}
 use Rattle.text_lengths.specs.Children.{named-text, parameters-part}
-use Rattle.text_lengths.specs.TypedValues.{typed, typed-length}
+use Rattle.text_lengths.specs.TypedValues.{typed, typed-length, typed-name}
 
 -- ---- GEO and REQUEST-STATUS
 
-float-or : (s : List ℕ) → length (writeFloat (readOr zero′ (readFloat s))) ≤ length s + 4
+float-or : (s : List ℕ) → length (writeFloat (readOr zero′ (readFloat s))) ≤ length s + 3
 unfolding readOr
 float-or s = go (readFloat s) refl
   where
-    go : (o : Option Decimal) → readFloat s ≡ o → length (writeFloat (readOr zero′ o)) ≤ length s + 4
+    go : (o : Option Decimal) → readFloat s ≡ o → length (writeFloat (readOr zero′ o)) ≤ length s + 3
     go none e = omega (arith, written-length zero′)
     go (some d) e = float-length s d e
 
-float-part : (n : List ℕ) (ns : Nodes) → length (writeFloat (floatOf n ns)) ≤ part (named n) ns + 4
+float-part : (n : List ℕ) (ns : Nodes) → length (writeFloat (floatOf n ns)) ≤ part (named n) ns + 3
 float-part n ns = omega (arith, float-or (textOf n ns), named-text n ns)
 
 status-length : (c d : List ℕ) (x : Option (List ℕ)) → length (writeRequestStatus c d x) ≤ 2 * (length c + length d + length (readOr [] x)) + 3
@@ -50,13 +54,12 @@ status-length c d (some x) = omega (arith, joined-within 59 (map writeText (stat
 
 -- ---- the values of a property, beside its parameters
 
-one-value : (v : Value) → length (writeValues (v ∷ [])) ≤ length (writeValue v) + 1
-unfolding writeValues weight
-one-value v = omega (arith, joined-within 44 (writeValue v ∷ []))
+one-value : (v : Value) → length (writeValues (v ∷ [])) ≡ length (writeValue v)
+one-value v = ap length (one-written v)
 
 -- values, beside the parameters of the property n that stand there too
 unfoldable Short : List ℕ → Nodes → List Value → Type 0
-Short n ns vs = length (writeValues vs) + 3 * size (parametersIn n ns) ≤ 3 * size ns + 10
+Short n ns vs = length (writeValues vs) + 2 * size (parametersIn n ns) ≤ 2 * size ns + 7
 
 abbrev geoNames : List (List ℕ)
 geoNames = ascii "parameters" ∷ ascii "latitude" ∷ ascii "longitude" ∷ []
@@ -102,8 +105,32 @@ typed-short n ns =
     let apart = part-apart (named (ascii "parameters")) typed no-type ns in
     omega (arith, joined-within 44 (map writeValue (typedValues ns)), typed-length ns, parameters-part n ns, apart, part-size (λ m. named (ascii "parameters") m or typed m) ns)
 
-pub values-length : (n : List ℕ) (ns : Nodes) → length (writeValues (readValueNodes n ns)) + 3 * size (parametersIn n ns) ≤ 3 * size ns + 10
+pub values-length : (n : List ℕ) (ns : Nodes) → length (writeValues (readValueNodes n ns)) + 2 * size (parametersIn n ns) ≤ 2 * size ns + 7
 unfolding readValueNodes Short
 values-length n ns =
     pick-either (Short n ns) (same n (ascii "GEO")) _ _ (geo-short n ns)
     (pick-either (Short n ns) (same n (ascii "REQUEST-STATUS")) _ (typedValues ns) (status-short n ns) (typed-short n ns))
+
+-- ---- and the name of their type, by the size of the property's element
+
+unfoldable Brief : List ℕ → Nodes → List Value → Type 0
+Brief m ns vs = length (typeName (typeOfAll vs)) + length (writeValues vs) + 2 * size (parametersIn (upper m) ns) ≤ 4 * nameBytes m + 3 + 3 * size ns
+
+typed-brief : (m : List ℕ) (ns : Nodes) → Brief m ns (typedValues ns)
+unfolding Brief writeValues
+typed-brief m ns =
+    let apart = part-apart (named (ascii "parameters")) typed no-type ns in
+    let all = part-size (λ m. named (ascii "parameters") m or typed m) ns in
+    omega (arith, joined-within 44 (map writeValue (typedValues ns)), typed-length ns, typed-name ns, parameters-part (upper m) ns, apart, all, name-some m)
+
+-- a name that is one of three letters or more, of values whose type has five letters at most
+own-brief : (m w : List ℕ) (ns : Nodes) (v : Value) → same (upper m) w ≡ true → 3 ≤ length w → length (typeName (typeOf v)) ≤ 5 → Short (upper m) ns (v ∷ []) → Brief m ns (v ∷ [])
+unfolding Brief Short
+own-brief m w ns v e l t h = omega (arith, h, ap length (same-true (upper m) w e), upper-length m, name-length m)
+
+pub named-length : (m : List ℕ) (ns : Nodes) → length (typeName (typeOfAll (readValueNodes (upper m) ns))) + length (writeValues (readValueNodes (upper m) ns)) + 2 * size (parametersIn (upper m) ns) ≤ 4 * nameBytes m + 3 + 3 * size ns
+unfolding readValueNodes Brief
+named-length m ns =
+    pick-case (Brief m ns) (same (upper m) (ascii "GEO")) _ _ (λ e. own-brief m (ascii "GEO") ns _ e (omega arith) (omega arith) (geo-short (upper m) ns))
+    (λ d. pick-case (Brief m ns) (same (upper m) (ascii "REQUEST-STATUS")) _ (typedValues ns)
+    (λ e. own-brief m (ascii "REQUEST-STATUS") ns _ e (omega arith) (omega arith) (status-short (upper m) ns)) (λ e. typed-brief m ns))

@@ -28,7 +28,8 @@ use Rattle.recur.specs.Rule.{rulePart, writePart, writeRule}
 use Rattle.xml.specs.Nodes.{Nodes, noNodes, element, literal, referred, charactersOf}
 use Rattle.xcal.specs.ValueNodes.{itemsOf, onePart, partsOf}
 use Rattle.lengths.specs.Pieces.{weight, joined-within}
-use Rattle.lengths.specs.Rules.{whole-length, ordinal-length, from-length}
+use Rattle.lengths.specs.Rules.{Counted, counting-read, unsigned-read, signed-read, ordinal-read, split-length}
+use Rattle.text_lengths.specs.Bytes.{nameBytes, name-length}
 use Rattle.text_lengths.specs.Sizes.{size, characters-size, part, named, parts, parts-size}
 use Rattle.text_lengths.specs.Values.{date-kept, date-time-kept}
 
@@ -48,13 +49,14 @@ enddate-written m = pick-either (λ (l : List ℕ). length l ≡ length m) (isDa
 word-length : (ws : List (List ℕ)) (s w : List ℕ) → readWord xcal ws s ≡ some w → length w ≡ length s
 word-length ws s w h = rw (← (provided-some (isOneOf s ws) s w h .1))
 
-number-length : (o : Option Whole) (s : List ℕ) (i : RuleItem) → andThen o (λ w. some (number w)) ≡ some i → length (writeItem ical i) ≤ length s + 11
-number-length o s i h =
+number-length : (o : Option Whole) (s : List ℕ) (i : RuleItem) → ((w : Whole) → o ≡ some w → Counted s w) → andThen o (λ w. some (number w)) ≡ some i →
+    length (writeItem ical i) ≤ length s + 1
+number-length o s i f h =
     let q = andThen-some o (λ w. some (number w)) i h in
     let e : number (q .0) ≡ i = cc (q .2) in
-    rw (← e) (omega (arith, whole-length (q .0)))
+    rw (← e) (f (q .0) (q .1) .1)
 
-form-length : (k : ItemForm) (s : List ℕ) (i : RuleItem) → readForm xcal k s ≡ some i → length (writeItem ical i) ≤ length s + 11
+form-length : (k : ItemForm) (s : List ℕ) (i : RuleItem) → readForm xcal k s ≡ some i → length (writeItem ical i) ≤ length s + 1
 form-length (wordOf ws) s i h =
     let q = andThen-some (readWord xcal ws s) (λ w. some (word w)) i h in
     let e : word (q .0) ≡ i = cc (q .2) in
@@ -63,20 +65,21 @@ form-length enddate s i h =
     let q = andThen-some (readEnddate xcal s) (λ m. some (moment m)) i h in
     let e : moment (q .0) ≡ i = cc (q .2) in
     rw (← e) (omega (arith, enddate-kept s (q .0) (q .1), enddate-written (q .0)))
-form-length counting s i h = number-length (readCounting s) s i h
-form-length (unsigned d lo hi) s i h = number-length (readUnsigned d lo hi s) s i h
-form-length (signed d hi) s i h = number-length (readSigned d hi s) s i h
+form-length counting s i h = number-length (readCounting s) s i (counting-read s) h
+form-length (unsigned d lo hi) s i h = number-length (readUnsigned d lo hi s) s i (unsigned-read d lo hi s) h
+form-length (signed d hi) s i h = number-length (readSigned d hi s) s i (signed-read d hi s) h
 form-length weekdaynum s i h =
     let p = andThen-some (readOrdinal (upTo isAlpha s)) (λ o. andThen (readWord xcal weekdays (fromOn isAlpha s)) (λ d. some (weekday o d))) i h in
     let q = andThen-some (readWord xcal weekdays (fromOn isAlpha s)) (λ d. some (weekday (p .0) d)) i (p .2) in
     let e : weekday (p .0) (q .0) ≡ i = cc (q .2) in
-    rw (← e) (omega (arith, length-both (writeOrdinal (p .0)) (q .0), ordinal-length (p .0), word-length weekdays (fromOn isAlpha s) (q .0) (q .1), from-length isAlpha s))
+    let word = word-length weekdays (fromOn isAlpha s) (q .0) (q .1) in
+    rw (← e) (omega (arith, length-both (writeOrdinal (p .0)) (q .0), ordinal-read (upTo isAlpha s) (p .0) (p .1), word, split-length isAlpha s))
 
-pub item-length : (n s : List ℕ) → length (writeItem ical (readOr (word []) (readItem xcal n s))) ≤ length s + 11
+pub item-length : (n s : List ℕ) → length (writeItem ical (readOr (word []) (readItem xcal n s))) ≤ length s + 1
 unfolding readOr
 item-length n s = go (readItem xcal n s) refl
   where
-    go : (o : Option RuleItem) → readItem xcal n s ≡ o → length (writeItem ical (readOr (word []) o)) ≤ length s + 11
+    go : (o : Option RuleItem) → readItem xcal n s ≡ o → length (writeItem ical (readOr (word []) o)) ≤ length s + 1
     go none e = omega arith
     go (some i) e = let q = andThen-some (partOf n) (λ r. readForm xcal (r .form) s) i e in form-length (q .0 .form) s i (q .2)
 
@@ -98,7 +101,7 @@ part-length n i is =
     let l : List ℕ = joinedBy 44 (map (writeItem ical) (i ∷ is)) in
     omega (arith, length-both n (61 ∷ l), joined-within 44 (map (writeItem ical) (i ∷ is)), items-weight n is)
 
-items-length : (n : List ℕ) → 4 ≤ length n → (ns : Nodes) → spent n (itemsOf n ns) ≤ 3 * part (named (lower n)) ns
+items-length : (n : List ℕ) → 4 ≤ length n → (ns : Nodes) → spent n (itemsOf n ns) ≤ 2 * part (named (lower n)) ns
 unfolding itemsOf part spent pick
 items-length n l noNodes = omega arith
 items-length n l (literal p b more) = items-length n l more
@@ -108,9 +111,9 @@ items-length n l (element p m x kids more) = go (same m (lower n)) refl (items-l
     i : RuleItem
     i = readOr (word []) (readItem xcal n (charactersOf kids))
 
-    go : (t : Bool) → same m (lower n) ≡ t → spent n (itemsOf n more) ≤ 3 * part (named (lower n)) more →
-        spent n (pick t (i ∷ itemsOf n more) (itemsOf n more)) ≤ 3 * (pick t (length m + 2 + size kids) 0 + part (named (lower n)) more)
-    go true e ih = omega (arith, ih, ap length (same-true m (lower n) e), lower-length n, item-length n (charactersOf kids), characters-size kids)
+    go : (t : Bool) → same m (lower n) ≡ t → spent n (itemsOf n more) ≤ 2 * part (named (lower n)) more →
+        spent n (pick t (i ∷ itemsOf n more) (itemsOf n more)) ≤ 2 * (pick t (nameBytes m + 2 + size kids) 0 + part (named (lower n)) more)
+    go true e ih = omega (arith, ih, ap length (same-true m (lower n) e), lower-length n, name-length m, item-length n (charactersOf kids), characters-size kids)
     go false e ih = omega (arith, ih)
 
 -- ---- a rule
@@ -120,7 +123,7 @@ unfolding weight
 one-length n [] ps = omega arith
 one-length n (i ∷ is) ps = omega (arith, part-length n i is)
 
-parts-length : (names : List (List ℕ)) → every (λ n. leb 4 (length n)) names ≡ true → (ns : Nodes) → weight (map writePart (partsOf names ns)) ≤ 3 * parts (map lower names) ns
+parts-length : (names : List (List ℕ)) → every (λ n. leb 4 (length n)) names ≡ true → (ns : Nodes) → weight (map writePart (partsOf names ns)) ≤ 2 * parts (map lower names) ns
 unfolding partsOf parts
 parts-length [] h ns = unfold weight in omega arith
 parts-length (n ∷ names) h ns =
@@ -135,6 +138,6 @@ distinct-names : distinct (map lower partNames) ≡ true
 unfolding octets-compute
 distinct-names = refl
 
-pub rule-length : (ns : Nodes) → length (writeRule (partsOf partNames ns)) ≤ 3 * size ns
+pub rule-length : (ns : Nodes) → length (writeRule (partsOf partNames ns)) ≤ 2 * size ns
 rule-length ns =
     omega (arith, joined-within 59 (map writePart (partsOf partNames ns)), parts-length partNames long-names ns, parts-size (map lower partNames) distinct-names ns)

@@ -18,11 +18,11 @@ use Rattle.xml.specs.Pieces.{from}
 use Rattle.xml.specs.Prolog.{prolog}
 use Rattle.xml.specs.Marks.{Mark, opens, closes, char, refers, fault, scan, rootMarks, documentMarks}
 use Rattle.xml.specs.Nodes.{Nodes, noNodes, element, literal, referred, nodesBy, nodes, rootBy, rootNode, documentNodes, charactersOf}
-use Rattle.text_lengths.specs.Bytes.{bytesOf, scan-within, root-within}
+use Rattle.text_lengths.specs.Bytes.{nameBytes, bytesOf, scan-within, root-within}
 
 unfoldable pub size : Nodes → ℕ
 size noNodes = 0
-size (element p m x kids more) = length m + 2 + size kids + size more
+size (element p m x kids more) = nameBytes m + 2 + size kids + size more
 size (literal p b more) = suc (size more)
 size (referred p bs more) = length bs + size more
 
@@ -110,7 +110,7 @@ document-size s =
 
 unfoldable pub part : (List ℕ → Bool) → Nodes → ℕ
 part p noNodes = 0
-part p (element q m x kids more) = pick (p m) (length m + 2 + size kids) 0 + part p more
+part p (element q m x kids more) = pick (p m) (nameBytes m + 2 + size kids) 0 + part p more
 part p (literal q b more) = part p more
 part p (referred q bs more) = part p more
 
@@ -118,7 +118,7 @@ pub part-size : (p : List ℕ → Bool) (ns : Nodes) → part p ns ≤ size ns
 unfolding part size
 part-size p noNodes = omega arith
 part-size p (element q m x kids more) =
-    pick-either (λ (n : ℕ). n + part p more ≤ length m + 2 + size kids + size more) (p m) (length m + 2 + size kids) 0
+    pick-either (λ (n : ℕ). n + part p more ≤ nameBytes m + 2 + size kids + size more) (p m) (nameBytes m + 2 + size kids) 0
     (omega (arith, part-size p more)) (omega (arith, part-size p more))
 part-size p (literal q b more) = omega (arith, part-size p more)
 part-size p (referred q bs more) = omega (arith, part-size p more)
@@ -130,7 +130,7 @@ part-apart p q h noNodes = omega arith
 part-apart p q h (element y m x kids more) = go (p m) (q m) (h m) (part-apart p q h more)
   where
     go : (a b : Bool) → (a ≡ true → b ≡ false) → part p more + part q more ≤ part (λ m. p m or q m) more →
-        pick a (length m + 2 + size kids) 0 + part p more + (pick b (length m + 2 + size kids) 0 + part q more) ≤ pick (a or b) (length m + 2 + size kids) 0 + part (λ m. p m or q m) more
+        pick a (nameBytes m + 2 + size kids) 0 + part p more + (pick b (nameBytes m + 2 + size kids) 0 + part q more) ≤ pick (a or b) (nameBytes m + 2 + size kids) 0 + part (λ m. p m or q m) more
     go true true k ih = absurd (false≢true (sym (k refl)))
     go true false k ih = omega (arith, ih)
     go false true k ih = omega (arith, ih)

@@ -1,7 +1,7 @@
 -- The text of values whose elements are named as types, by the size of the elements.
 --     type-least      the name of a type has three letters at least
 --     typed           a name that is a type's
---     typed-length    the values of the children that have such names
+--     typed-length    the values of the children that have such names;   typed-name: the name of their type
 use mathlib.Core.Path.{_≡_, refl, ap}
 use mathlib.Core.Bool.{Bool, true, false}
 use mathlib.Core.List.{List, [], _∷_, map}
@@ -18,7 +18,7 @@ use Rattle.octets.specs.Class.{upper, lower}
 use Rattle.octets.specs.Words.{same, same-true}
 use Rattle.octets.specs.Reading.{readOr, isRead, none-some}
 use Rattle.octets.specs.Letters.{upper-length}
-use Rattle.model.specs.Calendar.{xcal, ValueType, PERIOD, RECUR, UNKNOWN, Value, text, recur}
+use Rattle.model.specs.Calendar.{xcal, ValueType, PERIOD, RECUR, UNKNOWN, Value, text, recur, typeOf}
 use Rattle.schema.specs.Types.{typeName, typeNamed, sameType, type-named-is, type-passes}
 use Rattle.schema.specs.Computing.{schema-compute}
 use Rattle.times.specs.DateTime.{readDateTime}
@@ -26,10 +26,12 @@ use Rattle.times.specs.Duration.{readDuration}
 use Rattle.times.specs.Period.{writePeriod}
 use Rattle.recur.specs.Parts.{partNames}
 use Rattle.values.specs.ReadValue.{readValue}
-use Rattle.values.specs.WriteValue.{writeValue}
+use Rattle.values.specs.WriteValue.{writeValue, typeOfAll}
 use Rattle.xml.specs.Nodes.{Nodes, noNodes, element, literal, referred, charactersOf}
 use Rattle.xcal.specs.ValueNodes.{elementType, childNamed, textOf, momentOf, periodOf, partsOf, valueOf, oneOf, typedValues}
 use Rattle.lengths.specs.Pieces.{weight}
+use Rattle.lengths.specs.Values.{type-length}
+use Rattle.text_lengths.specs.Bytes.{nameBytes, name-length}
 use Rattle.text_lengths.specs.Sizes.{size, characters-size, part}
 use Rattle.text_lengths.specs.Values.{escaped-most, date-time-kept, duration-length, value-length}
 use Rattle.text_lengths.specs.Rules.{rule-length}
@@ -66,15 +68,15 @@ period-length (some s) ns h =
 
 -- ---- a value of a type
 
-or-length : (t : ValueType) (s : List ℕ) → length (writeValue (readOr (text []) (readValue xcal t s))) ≤ 2 * length s + 11
+or-length : (t : ValueType) (s : List ℕ) → length (writeValue (readOr (text []) (readValue xcal t s))) ≤ 2 * length s + 5
 unfolding readOr writeValue
 or-length t s = go (readValue xcal t s) refl
   where
-    go : (o : Option Value) → readValue xcal t s ≡ o → length (writeValue (readOr (text []) o)) ≤ 2 * length s + 11
+    go : (o : Option Value) → readValue xcal t s ≡ o → length (writeValue (readOr (text []) o)) ≤ 2 * length s + 5
     go none e = omega (arith, escaped-most [])
     go (some v) e = value-length t s v e
 
-of-length : (t : ValueType) (ns : Nodes) → length (writeValue (valueOf t ns)) ≤ 3 * size ns + 11
+of-length : (t : ValueType) (ns : Nodes) → length (writeValue (valueOf t ns)) ≤ 2 * size ns + 5
 unfolding valueOf
 of-length t ns =
     pick-either Short (sameType t PERIOD) (periodOf (childNamed (ascii "duration") ns) ns) _
@@ -83,7 +85,7 @@ of-length t ns =
     (omega (arith, or-length t (charactersOf ns), characters-size ns)))
   where
     Short : Value → Type 0
-    Short v = length (writeValue v) ≤ 3 * size ns + 11
+    Short v = length (writeValue v) ≤ 2 * size ns + 5
 
     rule : Short (recur (partsOf partNames ns))
     rule = unfold writeValue in omega (arith, rule-length ns)
@@ -107,14 +109,27 @@ element-least m t h = go (same m (ascii "unknown")) refl (same m (lower m)) h
 abbrev pub typed : List ℕ → Bool
 typed m = isRead (elementType m)
 
-pub typed-length : (ns : Nodes) → weight (map writeValue (typedValues ns)) ≤ 3 * part typed ns
+pub typed-length : (ns : Nodes) → weight (map writeValue (typedValues ns)) ≤ 2 * part typed ns
 unfolding typedValues part pick weight isRead
 typed-length noNodes = omega arith
 typed-length (literal p b more) = typed-length more
 typed-length (referred p bs more) = typed-length more
 typed-length (element p m x kids more) = go (elementType m) refl (typed-length more)
   where
-    go : (o : Option ValueType) → elementType m ≡ o → weight (map writeValue (typedValues more)) ≤ 3 * part typed more →
-        weight (map writeValue (oneOf o kids (typedValues more))) ≤ 3 * (pick (isRead o) (length m + 2 + size kids) 0 + part typed more)
+    go : (o : Option ValueType) → elementType m ≡ o → weight (map writeValue (typedValues more)) ≤ 2 * part typed more →
+        weight (map writeValue (oneOf o kids (typedValues more))) ≤ 2 * (pick (isRead o) (nameBytes m + 2 + size kids) 0 + part typed more)
     go none e ih = omega (arith, ih)
-    go (some t) e ih = omega (arith, ih, of-length t kids, element-least m t e)
+    go (some t) e ih = omega (arith, ih, of-length t kids, element-least m t e, name-length m)
+
+-- the type of the values, or `unknown`
+pub typed-name : (ns : Nodes) → length (typeName (typeOfAll (typedValues ns))) ≤ 7 + part typed ns
+unfolding typedValues part pick isRead
+typed-name noNodes = omega arith
+typed-name (literal p b more) = typed-name more
+typed-name (referred p bs more) = typed-name more
+typed-name (element p m x kids more) = go (elementType m) refl (typed-name more)
+  where
+    go : (o : Option ValueType) → elementType m ≡ o → length (typeName (typeOfAll (typedValues more))) ≤ 7 + part typed more →
+        length (typeName (typeOfAll (oneOf o kids (typedValues more)))) ≤ 7 + (pick (isRead o) (nameBytes m + 2 + size kids) 0 + part typed more)
+    go none e ih = omega (arith, ih)
+    go (some t) e ih = omega (arith, type-length (typeOf (valueOf t kids)), element-least m t e, name-length m)

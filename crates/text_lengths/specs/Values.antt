@@ -1,4 +1,4 @@
--- A value's text, by the length of the character data that it is read from: TEXT doubles at most, a number has eleven bytes at most, others do not grow.
+-- A value's text, by the length of the character data that it is read from: TEXT doubles at most, `0` becomes `FALSE`, a number may have a sign, a zero and a point more, others do not grow.
 --     escaped-least, escaped-most    escaped TEXT
 --     date-kept, date-time-kept      what is kept of a date, and of a date with its time
 --     value-length                   the text of a value of any type
@@ -97,7 +97,7 @@ truth-length b = pick-either (λ (l : List ℕ). length l ≤ 5) b (ascii "TRUE"
 -- ---- a value of any type
 
 abbrev pub Brief : List ℕ → Value → Type 0
-Brief s v = length (writeValue v) ≤ 2 * length s + 11
+Brief s v = length (writeValue v) ≤ 2 * length s + 5
 
 mapped : {A : Type 0} (s : List ℕ) (g : A → Value) (o : Option A) (v : Value) → ((a : A) → o ≡ some a → Brief s (g a)) → Option·map g o ≡ some v → Brief s v
 mapped s g none v f h = none-some h
@@ -112,7 +112,7 @@ value-length DATE s v = mapped s date (readDate xcal s) v (λ a e. omega (arith,
 value-length DATE-TIME s v = mapped s dateTime (readDateTime xcal s) v (λ a e. omega (arith, date-time-kept s a e))
 value-length DURATION s v = mapped s duration (readDuration xcal s) v (λ a e. omega (arith, duration-length s a e))
 value-length FLOAT s v = mapped s float (readFloat s) v (λ d e. omega (arith, float-length s d e))
-value-length INTEGER s v = mapped s integer (readInteger s) v (λ w e. omega (arith, integer-length w))
+value-length INTEGER s v = mapped s integer (readInteger s) v (λ w e. omega (arith, integer-length s w e))
 value-length PERIOD s v = λ h. none-some h
 value-length RECUR s v = λ h. none-some h
 value-length TEXT s v = mapped s text (some s) v (λ a e. let q : s ≡ a = cc in rw (← q) (omega (arith, escaped-most s)))
