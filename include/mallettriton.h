@@ -20,6 +20,11 @@ extern "C" {
 /* The longest input in bytes, both ways. A work room of this length serves every input. */
 #define MALLETTRITON_LONGEST 65535
 
+/* How long the result of an input of n bytes can be. An output of this length is never refused with ROOM, and the call is then faster: it
+ * does not measure the result before it writes it. */
+#define MALLETTRITON_XML_MOST(n) (19 * (size_t)(n) + 109)
+#define MALLETTRITON_TEXT_MOST(n) (6 * (size_t)(n))
+
 /* What an answer's number says, and what its value is then. Places count bytes of the input from 0; a line's place is the first of its
  * bytes that unfolding keeps, a tag's place is its `<`.
  *

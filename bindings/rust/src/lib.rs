@@ -39,6 +39,16 @@ use std::fmt;
 /// The longest input in bytes; a longer one is refused ([`Number::Length`]). A work room of this length serves every input.
 pub const LONGEST: usize = 65_535;
 
+/// How long the XML of a text of `length` bytes can be. An output of this length always has room, and the call is then faster: it does not measure the result before it writes it.
+pub const fn longest_xml(length: usize) -> usize {
+    19 * length + 109
+}
+
+/// How long the text of a document of `length` bytes can be; as [`longest_xml`].
+pub const fn longest_text(length: usize) -> usize {
+    6 * length
+}
+
 /// Why an input is refused. The discriminants are the numbers of `docs/FORMAT.md`.
 #[derive(Clone, Copy, Debug, PartialEq, Eq, PartialOrd, Ord, Hash)]
 #[repr(u8)]
@@ -151,36 +161,34 @@ pub fn to_text_into<'a>(input: &[u8], out: &'a mut [u8]) -> Answer<'a> {
     answer(code, out)
 }
 
-/// An output of the length that is tried first, or, if the result is longer, of its exact length.
-fn in_a_vec(first: usize, convert: impl Fn(&mut [u8]) -> Answer<'_>) -> Result<Vec<u8>, Refusal> {
-    let mut length = first;
-    loop {
-        let mut out = vec![0; length];
-        match convert(&mut out) {
-            Answer::Written(result) => {
-                let written = result.len();
-                out.truncate(written);
-                return Ok(out);
-            }
-            Answer::Needs(needed) => length = needed,
-            Answer::Refused(refusal) => return Err(refusal),
+/// An output of the length that always has room, cut to the result.
+fn in_a_vec(length: usize, convert: impl Fn(&mut [u8]) -> Answer<'_>) -> Result<Vec<u8>, Refusal> {
+    let mut out = vec![0; length];
+    match convert(&mut out) {
+        Answer::Written(result) => {
+            let written = result.len();
+            out.truncate(written);
+            out.shrink_to_fit();
+            Ok(out)
         }
+        Answer::Needs(needed) => panic!("libmallettriton.a needs {needed} bytes where {length} are proved to be enough: it is of another version"),
+        Answer::Refused(refusal) => Err(refusal),
     }
 }
 
 /// Converts the iCalendar text `input` to canonical XML.
 ///
-/// It allocates the work room and an output of a few times the input's length, and calls again only where that is too short. To use buffers over and over, call [`to_xml_into`].
+/// It allocates the work room and an output of [`longest_xml`] bytes, and gives back what the result does not fill. To use buffers over and over, call [`to_xml_into`].
 pub fn to_xml(input: &[u8]) -> Result<Vec<u8>, Refusal> {
     // too long an input is refused before either is used
     let length = if input.len() <= LONGEST { input.len() } else { 0 };
-    in_a_vec(4 * length + 256, |out| to_xml_into(input, &mut vec![0; length], out))
+    in_a_vec(longest_xml(length), |out| to_xml_into(input, &mut vec![0; length], out))
 }
 
 /// Converts the xCal document `input` to canonical iCalendar text.
 ///
-/// It allocates an output of the input's length, and calls again only where that is too short. Allow it 300 kB of stack. To use a buffer over and over, call [`to_text_into`].
+/// It allocates an output of [`longest_text`] bytes, and gives back what the result does not fill. Allow it 300 kB of stack. To use a buffer over and over, call [`to_text_into`].
 pub fn to_text(input: &[u8]) -> Result<Vec<u8>, Refusal> {
     let length = if input.len() <= LONGEST { input.len() } else { 0 };
-    in_a_vec(length, |out| to_text_into(input, out))
+    in_a_vec(longest_text(length), |out| to_text_into(input, out))
 }

@@ -3,7 +3,7 @@ use mathlib.Core.Path.{_≡_, refl, sym, ap, _∙_}
 use mathlib.Core.Bool.{true, false}
 use mathlib.Core.List.{List, [], _∷_, _++_}
 use mathlib.Core.Option.{Option, none, some}
-use Prim.Native.Nat.{ℕ, _+_, _*_, _^_, _≤_, _<_}
+use Prim.Native.Nat.{ℕ, _+_, _^_, _≤_, _<_}
 use native.Mathlib.Omega.{arith}
 use lib.Dec.{leb}
 use lib.ListN.{length, drop, take, length-append}
@@ -18,8 +18,7 @@ use Rattle.utf8.specs.Utf8.{firstBad}
 use Rattle.ical.specs.Tree.{calendarOf}
 use Rattle.ical.specs.ReadText.{linesVerdict, keptVerdict, placed, textVerdict, readCalendar}
 use Rattle.xcal.specs.WriteXml.{writeDocument}
-use Rattle.lengths.specs.Values.{rate}
-use Rattle.lengths.specs.Documents.{xml-bound, xml-short}
+use Rattle.lengths.specs.Documents.{xml-short}
 use Rattle.conversion.specs.Conversion.{Converted, converted, Outcome, refusal, outcome, contents}
 use Rattle.conversion.specs.ToXml.{toXml, toXmlOutcome, toXmlOutput, toXmlWork}
 use Rattle.conversion.specs.Answered.{outcomeOf, answerAt, answer-refusal, Done, done-fault}
@@ -91,9 +90,5 @@ module _ (s w d : List ℕ) where
       (g .answer ∙ rw (e, f), g .left ∙ rw (e, f), u .is ∙ rw (e, f))
 
 -- an index of the sink counts the XML of a text within the limit
-pub xml-fits : (u : List ℕ) → length u ≤ 65535 → length (writeDocument (calendarOf (lines u))) < 2 ^ 63
-xml-fits u h = omega (arith, xml-short u h)
-
--- an output of so many bytes has room for it
-pub xml-room : (u : List ℕ) {n : ℕ} → rate * length u + 200 ≤ n → length (writeDocument (calendarOf (lines u))) ≤ n
-xml-room u h = omega (arith, xml-bound u, h)
+pub xml-counted : (u : List ℕ) → length u ≤ 65535 → length (writeDocument (calendarOf (lines u))) < 2 ^ 63
+xml-counted u h = omega (arith, xml-short u h)

@@ -23,7 +23,7 @@ use utf8::first_bad;
 
 // The XML of an unfolded text, where there is certainly room for it.
 fn written_at_once(kept: &[u8], out: &mut [u8]) -> Answer
-    requires { ⌜ (length (now kept) ≤ 65535) × (1200 * length (now kept) + 200 ≤ length (now out)) ⌝ }
+    requires { ⌜ (length (now kept) ≤ 65535) × (19 * length (now kept) + 109 ≤ length (now out)) ⌝ }
     ensures { λ r. ⌜ Done (converted writeDocument (answer fine (calendarOf (lines (now (kept .entry)))))) (now (out .entry)) (now (out .exit)) r ⌝ }
 {
     let n = put_document(out, 0, kept);
@@ -43,12 +43,12 @@ fn measured(kept: &[u8], out: &mut [u8]) -> Answer
     Answer::Room(need)
 }
 
-// The XML of an unfolded text: no text within the limit has more than 1200 bytes of XML for each of its bytes, and 200.
+// The XML of an unfolded text: it has no more than 19 bytes for each byte of the text, and 109.
 fn written(kept: &[u8], out: &mut [u8]) -> Answer
     requires { ⌜ length (now kept) ≤ 65535 ⌝ }
     ensures { λ r. ⌜ Done (converted writeDocument (answer fine (calendarOf (lines (now (kept .entry)))))) (now (out .entry)) (now (out .exit)) r ⌝ }
 {
-    let most = 1200 * kept.len() + 200;
+    let most = 19 * kept.len() + 109;
     if most <= out.len() {
         return written_at_once(kept, out);
     }

@@ -1,8 +1,8 @@
 // Standard input, an xCal document, as canonical iCalendar text on standard output; or one line `refused N at P`, of a
 // result that has no room `refused 10 needs L`. One byte more than the limit is read, so that a longer input is refused.
 use libc::STDIN_FILENO;
-use xml_to_text::to_text;
 use reporting::say_answer;
+use xml_to_text::to_text;
 
 // What the input becomes, or why it is refused.
 fn convert(input: &[u8], out: &mut [u8]) {
@@ -10,9 +10,9 @@ fn convert(input: &[u8], out: &mut [u8]) {
     say_answer(a, out);
 }
 
-// An output with 4 bytes for each byte of the longest input: an escape has 2 for 1, a fold adds 3 to 71 or more, and tags are longer than what they become.
+// An output with 6 bytes for each byte of the longest input: no text is longer (text_lengths/specs/Documents.antt).
 fn with_room(input: &[u8]) {
-    let mut out = [0u8; 262144];
+    let mut out = [0u8; 393216];
     convert(input, &mut out);
 }
 

@@ -1,8 +1,8 @@
 // Standard input, an iCalendar text, as canonical XML on standard output; or one line `refused N at P`, of a
 // result that has no room `refused 10 needs L`. One byte more than the limit is read, so that a longer input is refused.
 use libc::STDIN_FILENO;
-use text_to_xml::to_xml;
 use reporting::say_answer;
+use text_to_xml::to_xml;
 
 // What the input becomes, or why it is refused.
 fn convert(input: &[u8], work: &mut [u8], out: &mut [u8]) {
@@ -10,7 +10,7 @@ fn convert(input: &[u8], work: &mut [u8], out: &mut [u8]) {
     say_answer(a, out);
 }
 
-// A work room as long as the longest input, and an output with 20 bytes for each byte of it.
+// A work room as long as the longest input, and an output with 20 bytes for each byte of it: no XML is longer (lengths/specs/Documents.antt).
 fn with_rooms(input: &[u8]) {
     let mut work = io::large_buffer();
     let mut out = [0u8; 1310720];

@@ -25,7 +25,7 @@ use utf8::first_bad;
 
 // The text of the components from `from` on, where there is certainly room for it. `line` is the room for a line.
 fn written_at_once(s: &[u8], from: usize, line: &mut [u8], out: &mut [u8]) -> Answer
-    requires { ⌜ (length (now s) ≤ 65535) × (length (now line) ≡ 262144) × (length (writeCalendar (readComponents (nodesAt (now s) from))) ≤ 60 * length (now s)) × (60 * length (now s) ≤ length (now out)) ⌝ }
+    requires { ⌜ (length (now s) ≤ 65535) × (length (now line) ≡ 262144) × (length (writeCalendar (readComponents (nodesAt (now s) from))) ≤ 6 * length (now s)) × (6 * length (now s) ≤ length (now out)) ⌝ }
     ensures { λ r. ⌜ Done (converted writeCalendar (answer fine (readComponents (nodesAt (now (s .entry)) from)))) (now (out .entry)) (now (out .exit)) r ⌝ }
 {
     let n = put_calendar(out, 0, line, s, from);
@@ -34,7 +34,7 @@ fn written_at_once(s: &[u8], from: usize, line: &mut [u8], out: &mut [u8]) -> An
 
 // The text of the components from `from` on: first how long it is, then, if there is room, all of it.
 fn measured(s: &[u8], from: usize, line: &mut [u8], out: &mut [u8]) -> Answer
-    requires { ⌜ (length (now s) ≤ 65535) × (length (now line) ≡ 262144) × (length (writeCalendar (readComponents (nodesAt (now s) from))) ≤ 60 * length (now s)) ⌝ }
+    requires { ⌜ (length (now s) ≤ 65535) × (length (now line) ≡ 262144) × (length (writeCalendar (readComponents (nodesAt (now s) from))) ≤ 6 * length (now s)) ⌝ }
     ensures { λ r. ⌜ Done (converted writeCalendar (answer fine (readComponents (nodesAt (now (s .entry)) from)))) (now (out .entry)) (now (out .exit)) r ⌝ }
 {
     let need = put_calendar(&mut out[..0], 0, line, s, from);
@@ -45,12 +45,12 @@ fn measured(s: &[u8], from: usize, line: &mut [u8], out: &mut [u8]) -> Answer
     Answer::Room(need)
 }
 
-// The text of the components from `from` on: it has no more than 60 bytes for each byte of the document.
+// The text of the components from `from` on: it has no more than 6 bytes for each byte of the document.
 fn written(s: &[u8], from: usize, line: &mut [u8], out: &mut [u8]) -> Answer
-    requires { ⌜ (length (now s) ≤ 65535) × (length (now line) ≡ 262144) × (length (writeCalendar (readComponents (nodesAt (now s) from))) ≤ 60 * length (now s)) ⌝ }
+    requires { ⌜ (length (now s) ≤ 65535) × (length (now line) ≡ 262144) × (length (writeCalendar (readComponents (nodesAt (now s) from))) ≤ 6 * length (now s)) ⌝ }
     ensures { λ r. ⌜ Done (converted writeCalendar (answer fine (readComponents (nodesAt (now (s .entry)) from)))) (now (out .entry)) (now (out .exit)) r ⌝ }
 {
-    let most = 60 * s.len();
+    let most = 6 * s.len();
     if most <= out.len() {
         return written_at_once(s, from, line, out);
     }
@@ -59,7 +59,7 @@ fn written(s: &[u8], from: usize, line: &mut [u8], out: &mut [u8]) -> Answer
 
 // The same with a room for a line of its own: a content line of a document within the limit is shorter.
 fn lined(s: &[u8], from: usize, out: &mut [u8]) -> Answer
-    requires { ⌜ (length (now s) ≤ 65535) × (length (writeCalendar (readComponents (nodesAt (now s) from))) ≤ 60 * length (now s)) ⌝ }
+    requires { ⌜ (length (now s) ≤ 65535) × (length (writeCalendar (readComponents (nodesAt (now s) from))) ≤ 6 * length (now s)) ⌝ }
     ensures { λ r. ⌜ Done (converted writeCalendar (answer fine (readComponents (nodesAt (now (s .entry)) from)))) (now (out .entry)) (now (out .exit)) r ⌝ }
 {
     let mut line = [0u8; 262144];
