@@ -1,8 +1,8 @@
 // What a conversion answered, on standard output, for the programs.
-use libc::STDOUT_FILENO;
 use conversion::Answer;
 use conversion::number_of;
 use conversion::value_of;
+use libc::STDOUT_FILENO;
 
 fn say_number(n: u64) {
     io::print_decimal(STDOUT_FILENO, n);
