@@ -1,6 +1,9 @@
 // Names and words over a cursor (crate source): compared and written in a given case, looked up in a table.
 // The source is cut at the word's end by the caller: the word is all that stands from the cursor on.
+mod keys;
+
 ghost use mathlib.Core.Path.{_≡_};
+ghost use mathlib.Core.Bool.{true};
 ghost use Prim.Native.Nat.{_≤_};
 ghost use lib.ListN.{length};
 ghost use Rattle.octets.specs.Pick.{_and_};
@@ -10,8 +13,10 @@ ghost use Rattle.source.specs.Source.{rest};
 ghost use Rattle.sink.specs.Sink.{Put};
 ghost use Rattle.names.specs.Case.{cased, casedByte, caseOf};
 ghost use Rattle.names.specs.Table.{placeOf, namesIn};
+ghost use Rattle.names.specs.Keys.{keyed};
 ghost use Rattle.names.specs.Matching.{Turned, Passes};
 ghost use Rattle.names.specs.Runs.{RunEnds};
+use keys::place_by_key;
 use octets::is_name_char;
 use octets::lower_unit;
 use octets::upper_unit;
@@ -135,6 +140,23 @@ pub fn find_name(mode: usize, s: &[u8], at: usize, table: &[u8]) -> usize
     ensures { λ r. ⌜ r ≡ placeOf (upper (rest mode (now (s .entry)) at)) (namesIn (now (table .entry))) ⌝ }
 {
     find_cased(Case::Capital, mode, s, at, table)
+}
+
+// The same by a key, where the names of the table have one: `slots` has a number for each key, `starts` where the name of each number stands in the table.
+pub fn find_keyed(
+    mode: usize,
+    s: &[u8],
+    at: usize,
+    table: &[u8],
+    slots: &[u8; 256],
+    starts: &[usize],
+) -> usize
+    ensures { λ r. ⌜ (keyed (now (slots .entry)) (now (starts .entry)) (now (table .entry)) ≡ true → r ≡ placeOf (upper (rest mode (now (s .entry)) at)) (namesIn (now (table .entry)))) ⌝ }
+{
+    if mode == 0 {
+        return place_by_key(Case::Capital, s, at, table, slots, starts);
+    }
+    find_name(mode, s, at, table)
 }
 
 // The number of a word, in any case in text, as it stands in XML.
