@@ -1,32 +1,23 @@
 -- The loops of a lookup by key, over bytes as they stand: the key of a word is made, the word is compared with a name of a table.
---     cased-next, cased-over     the word at a cursor, by the byte that stands there, and behind the last byte
 --     Keying                     the invariant of the loop that makes a key, with its rules `keying`
 --     Spelling                   the invariant of the loop that compares a word with a name, with its rules `spelling`
-use mathlib.Core.Path.{_≡_, refl, sym, ap, _∙_}
-use mathlib.Core.Bool.{Bool, true, false}
-use mathlib.Core.List.{List, [], _∷_}
+use mathlib.Core.Path.{_≡_, refl, sym, _∙_}
+use mathlib.Core.Bool.{false}
+use mathlib.Core.List.{List}
 use Prim.Native.Nat.{ℕ, _+_, _*_, _/_, _%_, _≤_, _<_}
 use native.Mathlib.Omega.{arith}
 use lib.Dec.{eqb, leb}
 use lib.ListN.{length, drop, getD, drop-of-length-le}
 use borrow.Author.Needs.{needs}
-use borrow.Author.Tests.{eq-eqb, ne-eqb, le-leb, lt-leb, leb-true, leb-false}
+use borrow.Author.Tests.{eq-eqb, ne-eqb}
 use Rattle.octets.specs.Pick.{pick, _and_}
 use Rattle.octets.specs.Scan.{drop-next}
 use Rattle.octets.specs.Words.{same}
 use Rattle.source.specs.Source.{rest}
-use Rattle.names.specs.Case.{cased, casedByte, cased-none, cased-more, cased-small}
+use Rattle.names.specs.Case.{cased, casedByte}
+use Rattle.names.specs.Plain.{cased-next, cased-over, cased-ended}
 use Rattle.names.specs.Keys.{keyFrom, keyOf, front, nameAt}
 use Rattle.names.specs.declared.Case.{Case}
-
-module _ (k : Case) (s : List ℕ) (c : ℕ) where
-  pub cased-next : c < length s → cased k (rest 0 s c) ≡ casedByte k (getD s c 0) ∷ cased k (rest 0 s (c + 1))
-  unfolding rest pick
-  cased-next h = ap (cased k) (drop-next s c h) ∙ cased-more k (getD s c 0) (drop (c + 1) s)
-
-  pub cased-over : length s ≤ c → cased k (rest 0 s c) ≡ []
-  unfolding rest pick
-  cased-over h = ap (cased k) (drop-of-length-le s h) ∙ cased-none k
 
 -- ---- the key: the bytes before c made h
 
@@ -56,20 +47,14 @@ pub record Spelling (k : Case) (s : List ℕ) (c₀ : ℕ) (table : List ℕ) (a
 pub spelling-start : (k : Case) (s : List ℕ) (c : ℕ) (table : List ℕ) (a : ℕ) → Spelling k s c table a c a
 spelling-start k s c table a = record { left = refl }
 
--- a word is at its end
-ended : (k : Case) (s : List ℕ) (c : ℕ) (t : Bool) → leb (length s) c ≡ t → t ≡ same (cased k (rest 0 s c)) []
-unfolding same
-ended k s c true e = rw (cased-over k s c (leb-true (length s) c e))
-ended k s c false e = rw (cased-next k s c (omega (arith, leb-false (length s) c e)))
-
 module _ {k : Case} {s : List ℕ} {c₀ : ℕ} {table : List ℕ} {a c i : ℕ} (q : Spelling k s c₀ table a c i) where
   pub spelling-feed : i < length table → getD table i 0 ≡ 10 → leb (length s) c ≡ same (cased k (rest 0 s c₀)) (nameAt table a)
   unfolding front pick
-  spelling-feed h e = ended k s c (leb (length s) c) refl ∙ sym (q .left ∙ rw (drop-next table i h, e))
+  spelling-feed h e = cased-ended k s c ∙ sym (q .left ∙ rw (drop-next table i h, e))
 
   pub spelling-end : length table ≤ i → leb (length s) c ≡ same (cased k (rest 0 s c₀)) (nameAt table a)
   unfolding front
-  spelling-end h = ended k s c (leb (length s) c) refl ∙ sym (q .left ∙ rw (drop-of-length-le table h))
+  spelling-end h = cased-ended k s c ∙ sym (q .left ∙ rw (drop-of-length-le table h))
 
   module _ (h : i < length table) (f : getD table i 0 ≡ 10 → ⊥) where
     pub spelling-short : length s ≤ c → false ≡ same (cased k (rest 0 s c₀)) (nameAt table a)

@@ -3,19 +3,21 @@
 --     Table      a table of names, the place of a name in it, and the row of a list by that place
 --     Known      what is said of a word, by its place in a list of known words
 --     Places     words compared by their places, the word at a place
---     Keys       names found by a key
---     Keying     the loops of such a lookup
 --     Matching   the walk over a table
 --     Runs       a run of bytes, and the loops that compare and write a word
+--     Plain      the same loops over bytes as they stand
+--     Keys       names found by a key
+--     Keying     the loops of such a lookup
 --     Computing  one name that opens all of them
 --     Examples   lookups that compute
 pub mod Case
 pub mod Table
 pub mod Known
 pub mod Places
-pub mod Keys
-pub mod Keying
 pub mod Matching
 pub mod Runs
+pub mod Plain
+pub mod Keys
+pub mod Keying
 pub mod Computing
 pub mod Examples

@@ -1,6 +1,7 @@
 // Names and words over a cursor (crate source): compared and written in a given case, looked up in a table.
 // The source is cut at the word's end by the caller: the word is all that stands from the cursor on.
 mod keys;
+mod plain;
 
 ghost use mathlib.Core.Path.{_≡_};
 ghost use mathlib.Core.Bool.{true};
@@ -21,6 +22,9 @@ use octets::is_name_char;
 use octets::lower_unit;
 use octets::upper_unit;
 use octets::wide;
+use plain::is_cased_plain;
+use plain::name_end_plain;
+use plain::put_plain;
 use sink::put;
 use source::unit;
 
@@ -171,6 +175,9 @@ pub fn find_word(xcal: bool, mode: usize, s: &[u8], at: usize, table: &[u8]) -> 
 fn is_cased(k: Case, mode: usize, s: &[u8], at: usize, w: &[u8]) -> bool
     ensures { λ r. ⌜ r ≡ same (cased k (rest mode (now (s .entry)) at)) (now (w .entry)) ⌝ }
 {
+    if mode == 0 {
+        return is_cased_plain(k, s, at, w);
+    }
     let mut c = at;
     let mut i = 0;
     while i < w.len() {
@@ -205,6 +212,9 @@ pub fn is_word_any_case(mode: usize, s: &[u8], at: usize, w: &[u8]) -> bool
 fn put_cased(out: &mut [u8], o: usize, k: Case, mode: usize, s: &[u8], at: usize) -> usize
     ensures { λ r. ⌜ Put (now (out .entry)) (now (out .exit)) o r (cased k (rest mode (now (s .entry)) at)) ⌝ }
 {
+    if mode == 0 {
+        return put_plain(out, o, k, s, at);
+    }
     let mut p = o;
     let mut c = at;
     loop {
@@ -241,6 +251,9 @@ pub fn put_lower(out: &mut [u8], o: usize, mode: usize, s: &[u8], at: usize) -> 
 pub fn name_end(mode: usize, s: &[u8], at: usize) -> usize
     ensures { λ r. ⌜ RunEnds isNameChar mode (now (s .entry)) at r ⌝ }
 {
+    if mode == 0 {
+        return name_end_plain(s, at);
+    }
     let mut c = at;
     loop {
         let n = unit(mode, s, c);

@@ -1,7 +1,7 @@
 -- `names::find_keyed` meets its contract.
-use Rattle.names.specs.Keys.{keyed-place}
 use mathlib.Core.Path.{_∙_}
 use borrow.Author.Needs.{needs}
+use Rattle.names.specs.Keys.{keyed-place}
 use Rattle.names.proofs.find_keyed.Statement.{statement}
 use Rattle.names.proofs.find_keyed.Tie as tie
 

@@ -1,8 +1,7 @@
 -- `names::keys::is_name_at` meets its contract.
-use Rattle.names.specs.Keying.{spelling-other}
 use Prim.Native.Nat.{_-_}
 use lib.ListN.{length}
-use Rattle.names.specs.Keying.{Spelling, spelling}
+use Rattle.names.specs.Keying.{Spelling, spelling-other, spelling}
 use Rattle.names.proofs.keys.is_name_at.Statement.{statement}
 use Rattle.names.proofs.keys.is_name_at.Tie as tie
 

@@ -1,10 +1,9 @@
 -- `names::keys::key` meets its contract.
-use Rattle.names.specs.Keying.{keying-end}
-use native.Mathlib.Omega.{arith}
 use Prim.Native.Nat.{_-_}
+use native.Mathlib.Omega.{arith}
 use lib.ListN.{length}
 use Rattle.names.specs.Case.{cased-small}
-use Rattle.names.specs.Keying.{Keying, keying}
+use Rattle.names.specs.Keying.{Keying, keying-end, keying}
 use Rattle.names.proofs.keys.key.Statement.{statement}
 use Rattle.names.proofs.keys.key.Tie as tie
 
