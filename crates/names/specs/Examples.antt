@@ -10,6 +10,7 @@ use Rattle.octets.specs.Words.{isOneOf}
 use Rattle.source.specs.Source.{rest}
 use Rattle.names.specs.Case.{cased, caseOf}
 use Rattle.names.specs.Table.{placeOf, namesIn}
+use Rattle.names.specs.Keys.{keyOf}
 use Rattle.names.specs.Known.{by-place, unknown-list}
 use Rattle.names.specs.Computing.{names-compute}
 
@@ -23,6 +24,11 @@ places :
     ≡ (0 ∷ 1 ∷ 2 ∷ 3 ∷ 3 ∷ 3 ∷ [])
 unfolding names-compute
 places = refl
+
+-- keys of two names and of a word that is none
+keys : map keyOf (ascii "VEVENT" ∷ ascii "VTODO" ∷ ascii "VTODOS" ∷ []) ≡ (9 ∷ 91 ∷ 17 ∷ [])
+unfolding names-compute
+keys = refl
 
 -- in XML a word stands as it is
 by-format : map (λ xcal. placeOf (cased (caseOf xcal) (ascii "daily")) (namesIn (ascii "WEEKLY\nDAILY\n"))) (true ∷ false ∷ []) ≡ (2 ∷ 1 ∷ [])

@@ -5,6 +5,9 @@
 --     Places     words compared by their places, the word at a place
 --     Matching   the walk over a table
 --     Runs       a run of bytes, and the loops that compare and write a word
+--     Plain      the same loops over bytes as they stand
+--     Keys       names found by a key
+--     Keying     the loops of such a lookup
 --     Computing  one name that opens all of them
 --     Examples   lookups that compute
 pub mod Case
@@ -13,5 +16,8 @@ pub mod Known
 pub mod Places
 pub mod Matching
 pub mod Runs
+pub mod Plain
+pub mod Keys
+pub mod Keying
 pub mod Computing
 pub mod Examples

@@ -53,6 +53,18 @@ run-start p m s c = record { left = refl; onward = omega arith; inside = omega a
 no-end : (p : ℕ → Bool) (u : ℕ) → p 256 ≡ false → p u ≡ true → u ≡ 256 → ⊥
 no-end p u z h e = let q : true ≡ false = sym h ∙ rw e z in absurd (false≢true (sym q))
 
+-- a run goes on with no byte
+pub run-ends : {p : ℕ → Bool} {m : ℕ} {s : List ℕ} {c₀ c : ℕ} → Running p m s c₀ c → spanLen p (rest m s c) ≡ 0 → RunEnds p m s c₀ c
+unfolding afterRun
+run-ends {p} {m} {s} {c₀} {c} t h =
+    let e : rest m s c ≡ afterRun p (rest m s c₀) = sym (t .left ∙ rw h) in record {
+      is = rw e (sym (run-joined p (rest m s c₀)));
+      left = e;
+      onward = t .onward;
+      inside = t .inside;
+      plain = t .plain;
+    }
+
 module _ {p : ℕ → Bool} {m : ℕ} {s : List ℕ} {c₀ c : ℕ} {n : Step} (t : Running p m s c₀ c) (q : Reads m s c n) where
   pub run-more : p 256 ≡ false → p (n .u) ≡ true → Running p m s c₀ (n .next)
   unfolding afterRun spanLen pick
@@ -76,15 +88,7 @@ module _ {p : ℕ → Bool} {m : ℕ} {s : List ℕ} {c₀ c : ℕ} {n : Step} (
       go false = rw h
 
   pub run-stop : p (n .u) ≡ false → RunEnds p m s c₀ c
-  unfolding afterRun
-  run-stop h =
-      let e : rest m s c ≡ afterRun p (rest m s c₀) = sym (t .left ∙ rw (run-none h)) in record {
-        is = rw e (sym (run-joined p (rest m s c₀)));
-        left = e;
-        onward = t .onward;
-        inside = t .inside;
-        plain = t .plain;
-      }
+  run-stop h = run-ends t (run-none h)
 
 pub name-end : isNameChar 256 ≡ false
 unfolding _or_ _and_

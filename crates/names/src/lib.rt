@@ -1,6 +1,10 @@
 // Names and words over a cursor (crate source): compared and written in a given case, looked up in a table.
 // The source is cut at the word's end by the caller: the word is all that stands from the cursor on.
+mod keys;
+mod plain;
+
 ghost use mathlib.Core.Path.{_≡_};
+ghost use mathlib.Core.Bool.{true};
 ghost use Prim.Native.Nat.{_≤_};
 ghost use lib.ListN.{length};
 ghost use Rattle.octets.specs.Pick.{_and_};
@@ -10,12 +14,17 @@ ghost use Rattle.source.specs.Source.{rest};
 ghost use Rattle.sink.specs.Sink.{Put};
 ghost use Rattle.names.specs.Case.{cased, casedByte, caseOf};
 ghost use Rattle.names.specs.Table.{placeOf, namesIn};
+ghost use Rattle.names.specs.Keys.{keyed};
 ghost use Rattle.names.specs.Matching.{Turned, Passes};
 ghost use Rattle.names.specs.Runs.{RunEnds};
+use keys::place_by_key;
 use octets::is_name_char;
 use octets::lower_unit;
 use octets::upper_unit;
 use octets::wide;
+use plain::is_cased_plain;
+use plain::name_end_plain;
+use plain::put_plain;
 use sink::put;
 use source::unit;
 
@@ -137,6 +146,23 @@ pub fn find_name(mode: usize, s: &[u8], at: usize, table: &[u8]) -> usize
     find_cased(Case::Capital, mode, s, at, table)
 }
 
+// The same by a key, where the names of the table have one: `slots` has a number for each key, `starts` where the name of each number stands in the table.
+pub fn find_keyed(
+    mode: usize,
+    s: &[u8],
+    at: usize,
+    table: &[u8],
+    slots: &[u8; 256],
+    starts: &[usize],
+) -> usize
+    ensures { λ r. ⌜ (keyed (now (slots .entry)) (now (starts .entry)) (now (table .entry)) ≡ true → r ≡ placeOf (upper (rest mode (now (s .entry)) at)) (namesIn (now (table .entry)))) ⌝ }
+{
+    if mode == 0 {
+        return place_by_key(Case::Capital, s, at, table, slots, starts);
+    }
+    find_name(mode, s, at, table)
+}
+
 // The number of a word, in any case in text, as it stands in XML.
 pub fn find_word(xcal: bool, mode: usize, s: &[u8], at: usize, table: &[u8]) -> usize
     ensures { λ r. ⌜ r ≡ placeOf (cased (caseOf xcal) (rest mode (now (s .entry)) at)) (namesIn (now (table .entry))) ⌝ }
@@ -149,6 +175,9 @@ pub fn find_word(xcal: bool, mode: usize, s: &[u8], at: usize, table: &[u8]) -> 
 fn is_cased(k: Case, mode: usize, s: &[u8], at: usize, w: &[u8]) -> bool
     ensures { λ r. ⌜ r ≡ same (cased k (rest mode (now (s .entry)) at)) (now (w .entry)) ⌝ }
 {
+    if mode == 0 {
+        return is_cased_plain(k, s, at, w);
+    }
     let mut c = at;
     let mut i = 0;
     while i < w.len() {
@@ -183,6 +212,9 @@ pub fn is_word_any_case(mode: usize, s: &[u8], at: usize, w: &[u8]) -> bool
 fn put_cased(out: &mut [u8], o: usize, k: Case, mode: usize, s: &[u8], at: usize) -> usize
     ensures { λ r. ⌜ Put (now (out .entry)) (now (out .exit)) o r (cased k (rest mode (now (s .entry)) at)) ⌝ }
 {
+    if mode == 0 {
+        return put_plain(out, o, k, s, at);
+    }
     let mut p = o;
     let mut c = at;
     loop {
@@ -219,6 +251,9 @@ pub fn put_lower(out: &mut [u8], o: usize, mode: usize, s: &[u8], at: usize) -> 
 pub fn name_end(mode: usize, s: &[u8], at: usize) -> usize
     ensures { λ r. ⌜ RunEnds isNameChar mode (now (s .entry)) at r ⌝ }
 {
+    if mode == 0 {
+        return name_end_plain(s, at);
+    }
     let mut c = at;
     loop {
         let n = unit(mode, s, c);

@@ -3,6 +3,7 @@
 // Definitions are in specs/, the tables of the code are theirs by computation.
 mod columns;
 mod counts;
+mod keys;
 mod numbers;
 mod words;
 

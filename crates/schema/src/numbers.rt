@@ -7,17 +7,27 @@ ghost use Rattle.schema.specs.Numbers.{typeNames};
 ghost use Rattle.schema.specs.Components.{componentNames};
 ghost use Rattle.schema.specs.Properties.{propertyNames};
 ghost use Rattle.schema.specs.Parameters.{parameterNames};
-use names::find_name;
+use crate::keys::COMPONENT_SLOTS;
+use crate::keys::COMPONENT_STARTS;
+use crate::keys::PARAMETER_SLOTS;
+use crate::keys::PARAMETER_STARTS;
+use crate::keys::PROPERTY_SLOTS;
+use crate::keys::PROPERTY_STARTS;
+use crate::keys::TYPE_SLOTS;
+use crate::keys::TYPE_STARTS;
+use names::find_keyed;
 
 // The number of a value type, 14 where there is none of that name.
 pub fn type_number(mode: usize, s: &[u8], at: usize) -> usize
     ensures { λ r. ⌜ r ≡ placeOf (upper (rest mode (now (s .entry)) at)) typeNames ⌝ }
 {
-    find_name(
+    find_keyed(
         mode,
         s,
         at,
         b"BINARY\nBOOLEAN\nCAL-ADDRESS\nDATE\nDATE-TIME\nDURATION\nFLOAT\nINTEGER\nPERIOD\nRECUR\nTEXT\nTIME\nURI\nUTC-OFFSET\n",
+        &TYPE_SLOTS,
+        &TYPE_STARTS,
     )
 }
 
@@ -25,11 +35,13 @@ pub fn type_number(mode: usize, s: &[u8], at: usize) -> usize
 pub fn component_number(mode: usize, s: &[u8], at: usize) -> usize
     ensures { λ r. ⌜ r ≡ placeOf (upper (rest mode (now (s .entry)) at)) componentNames ⌝ }
 {
-    find_name(
+    find_keyed(
         mode,
         s,
         at,
         b"VCALENDAR\nVEVENT\nVTODO\nVJOURNAL\nVFREEBUSY\nVTIMEZONE\nSTANDARD\nDAYLIGHT\nVALARM\n",
+        &COMPONENT_SLOTS,
+        &COMPONENT_STARTS,
     )
 }
 
@@ -37,11 +49,13 @@ pub fn component_number(mode: usize, s: &[u8], at: usize) -> usize
 pub fn property_number(mode: usize, s: &[u8], at: usize) -> usize
     ensures { λ r. ⌜ r ≡ placeOf (upper (rest mode (now (s .entry)) at)) propertyNames ⌝ }
 {
-    find_name(
+    find_keyed(
         mode,
         s,
         at,
         b"CALSCALE\nMETHOD\nPRODID\nVERSION\nATTACH\nCATEGORIES\nCLASS\nCOMMENT\nDESCRIPTION\nGEO\nLOCATION\nPERCENT-COMPLETE\nPRIORITY\nRESOURCES\nSTATUS\nSUMMARY\nCOMPLETED\nDTEND\nDUE\nDTSTART\nDURATION\nFREEBUSY\nTRANSP\nTZID\nTZNAME\nTZOFFSETFROM\nTZOFFSETTO\nTZURL\nATTENDEE\nCONTACT\nORGANIZER\nRECURRENCE-ID\nRELATED-TO\nURL\nUID\nEXDATE\nRDATE\nRRULE\nACTION\nREPEAT\nTRIGGER\nCREATED\nDTSTAMP\nLAST-MODIFIED\nSEQUENCE\nREQUEST-STATUS\n",
+        &PROPERTY_SLOTS,
+        &PROPERTY_STARTS,
     )
 }
 
@@ -49,10 +63,12 @@ pub fn property_number(mode: usize, s: &[u8], at: usize) -> usize
 pub fn parameter_number(mode: usize, s: &[u8], at: usize) -> usize
     ensures { λ r. ⌜ r ≡ placeOf (upper (rest mode (now (s .entry)) at)) parameterNames ⌝ }
 {
-    find_name(
+    find_keyed(
         mode,
         s,
         at,
         b"ALTREP\nCN\nCUTYPE\nDELEGATED-FROM\nDELEGATED-TO\nDIR\nENCODING\nFMTTYPE\nFBTYPE\nLANGUAGE\nMEMBER\nPARTSTAT\nRANGE\nRELATED\nRELTYPE\nROLE\nRSVP\nSENT-BY\nTZID\n",
+        &PARAMETER_SLOTS,
+        &PARAMETER_STARTS,
     )
 }

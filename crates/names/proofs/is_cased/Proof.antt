@@ -16,6 +16,8 @@ pub is-cased-spec : {M : Type 1} → statement M
 is-cased-spec = tie.close (tie.spec
     Inv-loop
     μ-loop
+    (λ c κs. search comparing)  -- is-cased-plain-requires
+    (λ c. rw (c .before .if1 .taken) (c .is-cased-plain .ensures))  -- returns
     (λ c. search comparing)  -- loop-holds
     (λ c κs. search comparing)  -- unit-requires
     (λ c κs. search comparing)  -- cased-unit-requires
@@ -24,7 +26,7 @@ is-cased-spec = tie.close (tie.spec
     (λ c. search comparing)  -- add-i
     (λ c. search comparing)  -- loop-less
     (λ c. search comparing)  -- loop-again
-    (λ c. comparing-stop (c .before .before .before .before .before .before .loop .inv) (omega arith) (c .before .before .before .before .unit .ensures) (c .before .before .before .cased-unit .ensures) (c .before .wide .ensures) (c .if1 .left))  -- returns
+    (λ c. comparing-stop (c .before .before .before .before .before .before .loop .inv) (omega arith) (c .before .before .before .before .unit .ensures) (c .before .before .before .cased-unit .ensures) (c .before .wide .ensures) (c .if2 .left))  -- returns-2
     (λ c κs. search comparing)  -- is-end-requires
-    (λ c. search comparing)  -- returns-2
+    (λ c. search comparing)  -- returns-3
     )

@@ -1,13 +1,17 @@
 -- `schema::numbers::parameter_number` meets its contract.
+use mathlib.Core.Path.{refl}
 use borrow.Author.Needs.{needs}
+use Rattle.names.specs.Keys.{keys-compute}
 use Rattle.names.specs.Table.{by-table}
 use Rattle.schema.specs.Numbers.{parameters-are}
 use Rattle.schema.proofs.numbers.parameter_number.Statement.{statement}
 use Rattle.schema.proofs.numbers.parameter_number.Tie as tie
 
 pub parameter-number-spec : {M : Type 1} → statement M
+unfolding keys-compute
 parameter-number-spec = tie.close (tie.spec
-    (λ c. search needs)  -- slice-aggregate-find-name
-    (λ c κs. search needs)  -- find-name-requires
-    (λ c. by-table _ parameters-are (c .find-name .ensures))  -- returns
+    (λ c. search needs)  -- slice-aggregate-find-keyed
+    (λ c. search needs)  -- slice-aggregate-find-keyed-2
+    (λ c κs. search needs)  -- find-keyed-requires
+    (λ c. by-table _ parameters-are (c .find-keyed .ensures refl))  -- returns
     )
