@@ -20,7 +20,7 @@ use Rattle.model.specs.Calendar.{Components, noMore, component}
 use Rattle.xml.specs.Escape.{startTag, endTag, elementOf}
 use Rattle.ical.specs.Tree.{Entry, begin, innerOf}
 use Rattle.xcal.specs.WriteXml.{isNoMore, propertiesXml, componentsElement, componentsXml}
-use Rattle.document.specs.Walks.{ownXml, innerXml, own-place}
+use Rattle.document.specs.Walks.{ownXml, innerXml, behind, inner-deeper, own-place}
 
 abbrev pub elementThere : List ℕ → Bool → Bool
 elementThere n empty = pick (same n (ascii "VCALENDAR")) true (pick empty false true)
@@ -29,7 +29,7 @@ abbrev pub hasComponents : List ℕ → List Entry → Bool
 hasComponents n es = elementThere n (isNoMore (innerOf es 0))
 
 abbrev pub headXml : List ℕ → List Entry → List ℕ
-headXml n es = startTag (lower n) ⊕ elementOf (ascii "properties") (ownXml n es 0) ⊕ pick (hasComponents n es) (startTag (ascii "components")) []
+headXml n es = startTag (lower n) ⊕ elementOf (ascii "properties") (ownXml n es) ⊕ pick (hasComponents n es) (startTag (ascii "components")) []
 
 abbrev pub tailXml : List ℕ → List Entry → List ℕ
 tailXml n es = pick (hasComponents n es) (endTag (ascii "components")) [] ⊕ endTag (lower n)
@@ -51,17 +51,17 @@ element-parts n c = go (same n (ascii "VCALENDAR")) c
 regroup : (a b c x d e f : List ℕ) → (a ⊕ (b ⊕ (c ⊕ x ⊕ d)) ⊕ e) ⊕ f ≡ ((a ⊕ b ⊕ c) ⊕ x ⊕ (d ⊕ e)) ⊕ f
 regroup a b c x d e f = simp append-regroup
 
-pub component-parts : (n : List ℕ) (es : List Entry) → innerXml (begin n ∷ es) 0 ≡ (headXml n es ⊕ innerXml es 0 ⊕ tailXml n es) ⊕ innerXml es 1
+pub component-parts : (n : List ℕ) (es : List Entry) → innerXml (begin n ∷ es) ≡ (headXml n es ⊕ innerXml es ⊕ tailXml n es) ⊕ innerXml (behind es 0)
 unfolding innerOf componentsXml
-component-parts n es = rw (element-parts n (innerOf es 0)) (regroup (startTag (lower n)) (elementOf (ascii "properties") (ownXml n es 0)) _ _ _ _ _)
+component-parts n es = rw (element-parts n (innerOf es 0), inner-deeper es 0) (regroup (startTag (lower n)) (elementOf (ascii "properties") (ownXml n es)) _ _ _ _ _)
 
 -- ---- for code
 
 module _ (n : List ℕ) (es : List Entry) {there : Bool} (h : there ≡ hasComponents n es) {d e f : List ℕ} {o a r : ℕ} where
-  pub head-put : {g : List ℕ} {b : ℕ} (k : ℕ) → k ≡ placeOf n componentNames → Put d e o a (startTag (lower n)) → Put e f a b (elementOf (ascii "properties") (ownXml (componentName k) es 0)) →
+  pub head-put : {g : List ℕ} {b : ℕ} (k : ℕ) → k ≡ placeOf n componentNames → Put d e o a (startTag (lower n)) → Put e f a b (elementOf (ascii "properties") (ownXml (componentName k) es)) →
       Put f g b r (pick there (startTag (ascii "components")) []) → Put d g o r (headXml n es)
   head-put k q u v w =
-      let q′ : ownXml (componentName k) es 0 ≡ ownXml n es 0 = ap (λ (k : ℕ). ownXml (componentName k) es 0) q ∙ ap propertiesXml (own-place n es 0) in
+      let q′ : ownXml (componentName k) es ≡ ownXml n es = ap (λ (k : ℕ). ownXml (componentName k) es) q ∙ ap propertiesXml (own-place n es 0) in
       u ▷ (rw q′ at v) ▷ (rw h at w)
 
   pub tail-put : Put d e o a (pick there (endTag (ascii "components")) []) → Put e f a r (endTag (lower n)) → Put d f o r (tailXml n es)

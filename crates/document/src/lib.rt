@@ -3,6 +3,7 @@ mod components;
 mod document;
 mod entry;
 mod parts;
+mod passing;
 mod properties;
 
 pub use document::put_document;

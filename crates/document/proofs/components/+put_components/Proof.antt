@@ -37,10 +37,10 @@ abbrev claims : ℕ → put-components-lts.Claims
 claims t = (entry-at-reads.Asked, entry-at-reads.Learnt, put-head-reads.Asked, put-head-reads.Learnt, put-components-below t, put-components.Post, put-tail-reads.Asked, put-tail-reads.Learnt)
 
 abbrev put-components-Inv-loop : put-components-lts.InvT-loop
-put-components-Inv-loop out₀ o s from p₀ at₀ depth₀ out p at depth = Walking inner s from out₀ o out p at depth
+put-components-Inv-loop out₀ o s from p₀ at₀ out p at = Walking inner s from out₀ o out p at
 
 abbrev put-components-μ-loop : put-components-lts.MeasureT-loop
-put-components-μ-loop out₀ o s from p₀ at₀ depth₀ out p at depth = length s - at
+put-components-μ-loop out₀ o s from p₀ at₀ out p at = length s - at
 
 pub +put-components-spec : {M : Type 1} → statement M
 +put-components-spec = close μ-put-components
@@ -58,21 +58,15 @@ pub +put-components-spec : {M : Type 1} → statement M
     (λ c κs. search inners)  -- put-tail-requires
     (λ c. search inners)  -- loop-less
     (λ c. search inners)  -- loop-again
-    (λ c. search inners)  -- add-depth
-    (λ c. search inners)  -- loop-less-2
-    (λ c. search inners)  -- loop-again-2
     (λ c. search inners)  -- enum-told-2
     (λ c. search inners)  -- same-length
     (λ c. search inners)  -- returns
-    (λ c. search inners)  -- sub-depth
+    (λ c. search inners)  -- enum-told-3
+    (λ c. search inners)  -- loop-less-2
+    (λ c. search inners)  -- loop-again-2
+    (λ c. search inners)  -- enum-told-4
     (λ c. search inners)  -- loop-less-3
     (λ c. search inners)  -- loop-again-3
-    (λ c. search inners)  -- enum-told-3
-    (λ c. search inners)  -- loop-less-4
-    (λ c. search inners)  -- loop-again-4
-    (λ c. search inners)  -- enum-told-4
-    (λ c. search inners)  -- loop-less-5
-    (λ c. search inners)  -- loop-again-5
     (λ c. search inners)  -- same-length-2
     (λ c. search inners)  -- returns-2
     )
