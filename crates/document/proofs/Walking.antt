@@ -3,6 +3,7 @@
 --     Walking          the invariant: what is left to write from the line at hand on, and that the component ends where it did
 --     owns, inners     the rules of the two walks, for `search`
 use mathlib.Core.Path.{_≡_, refl, sym, ap, subst, _∙_}
+use mathlib.Core.Bool.{true}
 use mathlib.Core.List.{List, [], _∷_}
 use Prim.Native.Nat.{ℕ, _+_, _-_, _*_, _^_, _≤_, _<_}
 use native.Mathlib.Omega.{arith}
@@ -11,18 +12,20 @@ use borrow.Author.Needs.{needs}
 use Rattle.octets.specs.Append.{_⊕_, append-is}
 use Rattle.octets.specs.Class.{upper}
 use Rattle.octets.specs.Reading.{orNothing}
-use Rattle.sink.specs.Sink.{Put, put-length, _▷_, Todo, todo-all, todo-step, todo-done}
+use Rattle.sink.specs.Sink.{Put, put-none, put-length, _▷_, Todo, todo-all, todo-step, todo-done}
 use Rattle.source.specs.Source.{rest}
+use Rattle.model.specs.Calendar.{Components}
 use Rattle.lines.specs.ContentLine.{contentLine}
 use Rattle.ical.specs.Statement.{propertyOf}
 use Rattle.ical.specs.Tree.{Entry, begin}
-use Rattle.xcal.specs.WriteXml.{propertyXml}
+use Rattle.xcal.specs.WriteXml.{propertyXml, componentsXml}
 use Rattle.document.specs.declared.components.Reached.{Reached}
 use Rattle.document.specs.declared.entry.Found.{Found}
 use Rattle.document.specs.declared.entry.Kind.the-variants.{Begin, End, Property, Nothing}
+use Rattle.document.specs.declared.properties.Walked.{Walked}
 use Rattle.document.specs.Entries.{entriesAt, First, FoundAt, by-kind, entries-past}
-use Rattle.document.specs.Walks.{ownXml, innerXml, behind, behind-none, behind-begin, behind-close, behind-property, behind-pass, behind-deeper, own-none, own-begin, own-close, own-property, own-pass, inner-none, inner-close, inner-property, inner-pass}
-use Rattle.document.specs.Places.{Passed, ComponentsPut}
+use Rattle.document.specs.Walks.{ownXml, innerXml, behind, behind-none, behind-begin, behind-close, behind-property, behind-pass, behind-deeper, own-none, own-begin, own-close, own-property, own-pass, inner-none, inner-empty, inner-close, inner-property, inner-pass}
+use Rattle.document.specs.Places.{Passed, ComponentsPut, PropertiesPut}
 use Rattle.document.specs.Parts.{headXml, tailXml, component-parts}
 
 pub data Walk : Type 0 where
@@ -78,6 +81,13 @@ module _ {w : Walk} {s : List ℕ} {from : ℕ} {d : List ℕ} {o : ℕ} {e : Li
   walk-end : length s ≤ at → Put d e o p (walkXml w (entriesAt s from))
   walk-end h = walk-stop [] (entries-past s at h) (walk-none w)
 
+  -- it comes to the end of the text, or of the component
+  pub walk-passed : length s ≤ at → Passed s from at
+  walk-passed h = record { onward = m .low; rest = entries-past s at h ∙ sym (behind-none 0) ∙ ap (λ (es : List Entry). behind es 0) (sym (entries-past s at h)) ∙ m .over }
+
+  pub walk-closed : {r : Found} → FoundAt s at r → r .kind ≡ End → Passed s from (r .next)
+  walk-closed f q = record { onward = omega (arith, m .low, f .onward); rest = sym (behind-close _ 0 refl) ∙ ap (λ (es : List Entry). behind es 0) (sym (by-kind f End q)) ∙ m .over }
+
   pub walk-length : length e ≡ length d
   walk-length = m .kept
 
@@ -114,28 +124,30 @@ pub ruleset owns = (walk-start, walk-length, own-end, own-at-begin, own-over, ow
 
 module _ {s : List ℕ} {from : ℕ} {d : List ℕ} {o : ℕ} {e : List ℕ} {p at : ℕ} (m : Walking inner s from d o e p at) where
   pub inner-end : length s ≤ at → ComponentsPut d e o s from (record { to = p; next = at })
-  inner-end h = record {
-    put = walk-end m h;
-    passed = record { onward = m .low; rest = entries-past s at h ∙ sym (behind-none 0) ∙ ap (λ (es : List Entry). behind es 0) (sym (entries-past s at h)) ∙ m .over };
-  }
+  inner-end h = record { put = walk-end m h; passed = walk-passed m h }
 
   module _ {r : Found} (f : FoundAt s at r) where
-    -- a component whose parts were put
-    pub inner-at-component : {a p′ : ℕ} {b : Reached} {g h i : List ℕ} → r .kind ≡ Begin →
-        Put e g p a (headXml (upper (rest 0 (take (r .end) s) (r .value))) (entriesAt s (r .next))) →
-        ComponentsPut g h a s (r .next) b →
-        Put h i (b .to) p′ (tailXml (upper (rest 0 (take (r .end) s) (r .value))) (entriesAt s (r .next))) →
-        Walking inner s from d o i p′ (b .next)
-    inner-at-component {b = b} q u v t =
-        let j = by-kind f Begin q in
-        walk-put m (b .next) _ (omega (arith, f .onward, v .passed .onward)) (ap innerXml j ∙ component-parts _ _ ∙ rw (v .passed .rest)) (behind-passed at _ j (v .passed)) (u ▷ v .put ▷ t)
-
     pub inner-over : r .kind ≡ End → ComponentsPut d e o s from (record { to = p; next = r .next })
-    inner-over q =
-        let i = by-kind f End q in record {
-          put = walk-stop m _ i (inner-close _);
-          passed = record { onward = omega (arith, m .low, f .onward); rest = sym (behind-close _ 0 refl) ∙ ap (λ (es : List Entry). behind es 0) (sym i) ∙ m .over };
-        }
+    inner-over q = record { put = walk-stop m _ (by-kind f End q) (inner-close _); passed = walk-closed m f q }
+
+    -- a component whose parts were put
+    module _ {w : Walked} {g h i : List ℕ} (q : r .kind ≡ Begin) (u : PropertiesPut e g p (headXml (upper (rest 0 (take (r .end) s) (r .value))) (w .bare) (entriesAt s (r .next))) s (r .next) w) where
+      component : {b p′ n : ℕ} → Put g h (w .to) b (innerXml (entriesAt s (r .next))) → Put h i b p′ (tailXml (upper (rest 0 (take (r .end) s) (r .value))) (w .bare)) →
+          Passed s (r .next) n → Walking inner s from d o i p′ n
+      component {n = n} v t z =
+          let j = by-kind f Begin q in
+          walk-put m n _ (omega (arith, f .onward, z .onward)) (ap innerXml j ∙ component-parts _ _ ∙ rw (z .rest, u .ahead .empty)) (behind-passed at _ j z) (u .put ▷ v ▷ t)
+
+      pub inner-at-component : {p′ : ℕ} {b : Reached} → ComponentsPut g h (w .to) s (w .inner) b →
+          Put h i (b .to) p′ (tailXml (upper (rest 0 (take (r .end) s) (r .value))) (w .bare)) → Walking inner s from d o i p′ (b .next)
+      inner-at-component {b = b} v t =
+          component (subst (λ (c : Components). Put g h (w .to) (b .to) (componentsXml c)) (u .ahead .components) (v .put)) t (record { onward = omega (arith, u .ahead .onward, v .passed .onward); rest = v .passed .rest ∙ u .ahead .rest })
+
+    pub inner-at-bare : {w : Walked} {g i : List ℕ} {p′ : ℕ} → r .kind ≡ Begin →
+        PropertiesPut e g p (headXml (upper (rest 0 (take (r .end) s) (r .value))) (w .bare) (entriesAt s (r .next))) s (r .next) w → w .bare ≡ true →
+        Put g i (w .to) p′ (tailXml (upper (rest 0 (take (r .end) s) (r .value))) (w .bare)) → Walking inner s from d o i p′ (w .next)
+    inner-at-bare q u h t =
+        component q u (rw (inner-empty _ (sym (u .ahead .empty) ∙ h)) (put-none _ _ (t .sized))) t (u .ahead .passed h)
 
     pub inner-at-property : r .kind ≡ Property → Walking inner s from d o e p (r .next)
     inner-at-property q =
@@ -147,4 +159,4 @@ module _ {s : List ℕ} {from : ℕ} {d : List ℕ} {o : ℕ} {e : List ℕ} {p 
         let i = by-kind f Nothing q in
         walk-skip m (r .next) (f .onward) (ap innerXml i ∙ inner-pass _) (sym (ap (λ (es : List Entry). behind es 0) i ∙ behind-pass _ 0))
 
-pub ruleset inners = (walk-start, walk-length, inner-end, inner-at-component, inner-over, inner-at-property, inner-at-nothing, needs)
+pub ruleset inners = (walk-start, walk-length, inner-end, inner-at-component, inner-at-bare, inner-over, inner-at-property, inner-at-nothing, needs)

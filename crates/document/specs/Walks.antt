@@ -4,6 +4,7 @@
 --     own-begin ..      by the entry at hand
 --     own-place         of a component's name only its number matters
 use mathlib.Core.Path.{_≡_, refl, ap}
+use mathlib.Core.Bool.{Bool, true, false≢true}
 use mathlib.Core.List.{List, [], _∷_}
 use Prim.Native.Nat.{ℕ, zero, suc, _+_, _-_}
 use native.Mathlib.Numerals.{add-one, sub-one}
@@ -12,10 +13,11 @@ use Rattle.octets.specs.Append.{_⊕_}
 use Rattle.names.specs.Table.{placeOf}
 use Rattle.schema.specs.Components.{componentNames}
 use Rattle.schema.specs.Numbers.{componentName}
+use Rattle.model.specs.Calendar.{Components, noMore, component}
 use Rattle.lines.specs.ContentLine.{ContentLine}
 use Rattle.ical.specs.Statement.{propertyOf}
 use Rattle.ical.specs.Tree.{Entry, begin, end, property, nothing, ownOf, innerOf}
-use Rattle.xcal.specs.WriteXml.{propertyXml, propertiesXml, componentsXml}
+use Rattle.xcal.specs.WriteXml.{isNoMore, propertyXml, propertiesXml, componentsXml}
 use Rattle.property_elements.specs.Placed.{property-of-place}
 
 abbrev pub ownXml : List ℕ → List Entry → List ℕ
@@ -126,6 +128,14 @@ module _ (k : List ℕ) where
 pub inner-none : innerXml [] ≡ []
 unfolding innerOf componentsXml
 inner-none = refl
+
+pub inner-empty : (es : List Entry) → isNoMore (innerOf es 0) ≡ true → innerXml es ≡ []
+unfolding componentsXml
+inner-empty es h = go (innerOf es 0) h
+  where
+    go : (c : Components) → isNoMore c ≡ true → componentsXml c ≡ []
+    go noMore h = refl
+    go (component n ps inner next) h = absurd (false≢true h)
 
 module _ (es : List Entry) where
   pub inner-close : innerXml (end ∷ es) ≡ []

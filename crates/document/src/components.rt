@@ -22,10 +22,16 @@ pub fn put_components(out: &mut [u8], o: usize, s: &[u8], from: usize) -> Reache
         let kind = f.kind;
         match kind {
             Kind::Begin => {
-                let a = put_head(out, p, s, f.value, f.end, f.next);
-                let b = put_components(out, a, s, f.next);
-                p = put_tail(out, b.to, s, f.value, f.end, f.next);
-                at = b.next;
+                let h = put_head(out, p, s, f.value, f.end, f.next);
+                let end = f.end;
+                if h.bare {
+                    p = put_tail(out, h.to, &s[..end], f.value, h.bare);
+                    at = h.next;
+                } else {
+                    let b = put_components(out, h.to, s, h.inner);
+                    p = put_tail(out, b.to, &s[..end], f.value, h.bare);
+                    at = b.next;
+                }
             }
             Kind::End => {
                 return Reached {

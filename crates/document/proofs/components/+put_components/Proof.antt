@@ -1,6 +1,8 @@
 -- `document::components::put_components`, which calls itself, meets its contract. The measure is what is left of the text.
 use Prim.Native.Nat.{ℕ, _-_, _<_}
 use lib.ListN.{length}
+use lib.Seq.{length-take-le}
+use borrow.Author.Needs.{needs}
 use Rattle.document.proofs.Walking.{Walking, inner, inners}
 use borrow.Fn.Kinds.{In}
 use borrow.Fn.PlainCycle.{Measures, is, falls, and}
@@ -34,7 +36,7 @@ put-components-below t =
 
 -- what the calls ask and give
 abbrev claims : ℕ → put-components-lts.Claims
-claims t = (entry-at-reads.Asked, entry-at-reads.Learnt, put-head-reads.Asked, put-head-reads.Learnt, put-components-below t, put-components.Post, put-tail-reads.Asked, put-tail-reads.Learnt)
+claims t = (entry-at-reads.Asked, entry-at-reads.Learnt, put-head-reads.Asked, put-head-reads.Learnt, put-tail-reads.Asked, put-tail-reads.Learnt, put-components-below t, put-components.Post)
 
 abbrev put-components-Inv-loop : put-components-lts.InvT-loop
 put-components-Inv-loop out₀ o s from p₀ at₀ out p at = Walking inner s from out₀ o out p at
@@ -54,19 +56,24 @@ pub +put-components-spec : {M : Type 1} → statement M
     (λ c κs. search inners)  -- entry-at-requires
     (λ c. search inners)  -- enum-told
     (λ c κs. search inners)  -- put-head-requires
-    (λ c κs. search inners)  -- put-components-requires
+    (λ c. search (length-take-le, needs))  -- slice-aggregate-put-tail
     (λ c κs. search inners)  -- put-tail-requires
     (λ c. search inners)  -- loop-less
     (λ c. search inners)  -- loop-again
+    (λ c κs. search inners)  -- put-components-requires
+    (λ c. search (length-take-le, needs))  -- slice-aggregate-put-tail-2
+    (λ c κs. search inners)  -- put-tail-requires-2
+    (λ c. search inners)  -- loop-less-2
+    (λ c. search inners)  -- loop-again-2
     (λ c. search inners)  -- enum-told-2
     (λ c. search inners)  -- same-length
     (λ c. search inners)  -- returns
     (λ c. search inners)  -- enum-told-3
-    (λ c. search inners)  -- loop-less-2
-    (λ c. search inners)  -- loop-again-2
-    (λ c. search inners)  -- enum-told-4
     (λ c. search inners)  -- loop-less-3
     (λ c. search inners)  -- loop-again-3
+    (λ c. search inners)  -- enum-told-4
+    (λ c. search inners)  -- loop-less-4
+    (λ c. search inners)  -- loop-again-4
     (λ c. search inners)  -- same-length-2
     (λ c. search inners)  -- returns-2
     )
