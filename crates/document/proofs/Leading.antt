@@ -59,7 +59,7 @@ module _ {k s : List ℕ} {from : ℕ} {d : List ℕ} {o : ℕ} {e : List ℕ} {
 
     pub leading-over : r .kind ≡ End → LeadingPut d e o k s from (record { to = p; inner = at; bare = true; next = r .next })
     unfolding innerOf
-    leading-over q = stopped _ true (r .next) (omega (arith, f .onward)) (by-kind f End q) refl (λ x. own-close k _) (λ x. walk-closed (m .walking) f q)
+    leading-over q = stopped _ true (r .next) (omega (arith, f .onward)) (by-kind f End q) refl (λ x. own-close k _) (λ x. walk-closed (m .walking) (r .next) (f .onward) (by-kind f End q))
 
     pub leading-property : {g : List ℕ} {p′ : ℕ} → r .kind ≡ Property →
         Put e g p p′ (orNothing (λ l. propertyXml (propertyOf k l)) (contentLine (rest 0 (take (r .end) s) at))) → Leading k s from d o g p′ (r .next)

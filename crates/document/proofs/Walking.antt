@@ -17,14 +17,15 @@ use Rattle.source.specs.Source.{rest}
 use Rattle.model.specs.Calendar.{Components}
 use Rattle.lines.specs.ContentLine.{contentLine}
 use Rattle.ical.specs.Statement.{propertyOf}
-use Rattle.ical.specs.Tree.{Entry, begin}
+use Rattle.ical.specs.Tree.{Entry, begin, end, property, nothing}
 use Rattle.xcal.specs.WriteXml.{propertyXml, componentsXml}
 use Rattle.document.specs.declared.components.Reached.{Reached}
 use Rattle.document.specs.declared.entry.Found.{Found}
 use Rattle.document.specs.declared.entry.Kind.the-variants.{Begin, End, Property, Nothing}
 use Rattle.document.specs.declared.properties.Walked.{Walked}
 use Rattle.document.specs.Entries.{entriesAt, First, FoundAt, by-kind, entries-past}
-use Rattle.document.specs.Walks.{ownXml, innerXml, behind, behind-none, behind-begin, behind-close, behind-property, behind-pass, behind-deeper, own-none, own-begin, own-close, own-property, own-pass, inner-none, inner-empty, inner-close, inner-property, inner-pass}
+use Rattle.document.specs.Walks.{ownXml, innerXml, behind, behind-none, behind-begin, behind-close, behind-aside, behind-deeper, own-none, own-begin, own-close, own-property, own-pass, inner-none, inner-empty, inner-close, inner-aside}
+use Rattle.document.specs.Bounds.{Aside, BoundAt, bound-kind}
 use Rattle.document.specs.Places.{Passed, ComponentsPut, PropertiesPut}
 use Rattle.document.specs.Parts.{headXml, tailXml, component-parts}
 
@@ -85,8 +86,8 @@ module _ {w : Walk} {s : List ℕ} {from : ℕ} {d : List ℕ} {o : ℕ} {e : Li
   pub walk-passed : length s ≤ at → Passed s from at
   walk-passed h = record { onward = m .low; rest = entries-past s at h ∙ sym (behind-none 0) ∙ ap (λ (es : List Entry). behind es 0) (sym (entries-past s at h)) ∙ m .over }
 
-  pub walk-closed : {r : Found} → FoundAt s at r → r .kind ≡ End → Passed s from (r .next)
-  walk-closed f q = record { onward = omega (arith, m .low, f .onward); rest = sym (behind-close _ 0 refl) ∙ ap (λ (es : List Entry). behind es 0) (sym (by-kind f End q)) ∙ m .over }
+  pub walk-closed : (next : ℕ) → at < next → First s at end next → Passed s from next
+  walk-closed next h i = record { onward = omega (arith, m .low); rest = sym (behind-close _ 0 refl) ∙ ap (λ (es : List Entry). behind es 0) (sym i) ∙ m .over }
 
   pub walk-length : length e ≡ length d
   walk-length = m .kept
@@ -111,12 +112,12 @@ module _ {k : List ℕ} {s : List ℕ} {from : ℕ} {d : List ℕ} {o : ℕ} {e 
     own-at-property q b =
         let i = by-kind f Property q in
         walk-put m (r .next) (propertyXml (propertyOf k (i .line))) (f .onward) (ap (ownXml k) (i .first) ∙ own-property k _ (i .line))
-        (sym (ap (λ (es : List Entry). behind es 0) (i .first) ∙ behind-property _ (i .line) 0)) (rw (i .is) at b)
+        (sym (ap (λ (es : List Entry). behind es 0) (i .first) ∙ behind-aside _ (property (i .line)) 0 refl)) (rw (i .is) at b)
 
     pub own-at-nothing : r .kind ≡ Nothing → Walking (own k) s from d o e p (r .next)
     own-at-nothing q =
         let i = by-kind f Nothing q in
-        walk-skip m (r .next) (f .onward) (ap (ownXml k) i ∙ own-pass k _) (sym (ap (λ (es : List Entry). behind es 0) i ∙ behind-pass _ 0))
+        walk-skip m (r .next) (f .onward) (ap (ownXml k) i ∙ own-pass k _) (sym (ap (λ (es : List Entry). behind es 0) i ∙ behind-aside _ nothing 0 refl))
 
 pub ruleset owns = (walk-start, walk-length, own-end, own-at-begin, own-over, own-at-property, own-at-nothing, needs)
 
@@ -126,16 +127,16 @@ module _ {s : List ℕ} {from : ℕ} {d : List ℕ} {o : ℕ} {e : List ℕ} {p 
   pub inner-end : length s ≤ at → ComponentsPut d e o s from (record { to = p; next = at })
   inner-end h = record { put = walk-end m h; passed = walk-passed m h }
 
-  module _ {r : Found} (f : FoundAt s at r) where
+  module _ {r : Found} (f : BoundAt s at r) where
     pub inner-over : r .kind ≡ End → ComponentsPut d e o s from (record { to = p; next = r .next })
-    inner-over q = record { put = walk-stop m _ (by-kind f End q) (inner-close _); passed = walk-closed m f q }
+    inner-over q = record { put = walk-stop m _ (bound-kind f End q) (inner-close _); passed = walk-closed m (r .next) (f .onward) (bound-kind f End q) }
 
     -- a component whose parts were put
     module _ {w : Walked} {g h i : List ℕ} (q : r .kind ≡ Begin) (u : PropertiesPut e g p (headXml (upper (rest 0 (take (r .end) s) (r .value))) (w .bare) (entriesAt s (r .next))) s (r .next) w) where
       component : {b p′ n : ℕ} → Put g h (w .to) b (innerXml (entriesAt s (r .next))) → Put h i b p′ (tailXml (upper (rest 0 (take (r .end) s) (r .value))) (w .bare)) →
           Passed s (r .next) n → Walking inner s from d o i p′ n
       component {n = n} v t z =
-          let j = by-kind f Begin q in
+          let j = bound-kind f Begin q in
           walk-put m n _ (omega (arith, f .onward, z .onward)) (ap innerXml j ∙ component-parts _ _ ∙ rw (z .rest, u .ahead .empty)) (behind-passed at _ j z) (u .put ▷ v ▷ t)
 
       pub inner-at-component : {p′ : ℕ} {b : Reached} → ComponentsPut g h (w .to) s (w .inner) b →
@@ -149,14 +150,14 @@ module _ {s : List ℕ} {from : ℕ} {d : List ℕ} {o : ℕ} {e : List ℕ} {p 
     inner-at-bare q u h t =
         component q u (rw (inner-empty _ (sym (u .ahead .empty) ∙ h)) (put-none _ _ (t .sized))) t (u .ahead .passed h)
 
+    inner-aside-at : Aside s at (r .next) → Walking inner s from d o e p (r .next)
+    inner-aside-at i =
+        walk-skip m (r .next) (f .onward) (ap innerXml (i .first) ∙ inner-aside _ (i .entry) (i .aside)) (sym (ap (λ (es : List Entry). behind es 0) (i .first) ∙ behind-aside _ (i .entry) 0 (i .aside)))
+
     pub inner-at-property : r .kind ≡ Property → Walking inner s from d o e p (r .next)
-    inner-at-property q =
-        let i = by-kind f Property q in
-        walk-skip m (r .next) (f .onward) (ap innerXml (i .first) ∙ inner-property _ (i .line)) (sym (ap (λ (es : List Entry). behind es 0) (i .first) ∙ behind-property _ (i .line) 0))
+    inner-at-property q = inner-aside-at (bound-kind f Property q)
 
     pub inner-at-nothing : r .kind ≡ Nothing → Walking inner s from d o e p (r .next)
-    inner-at-nothing q =
-        let i = by-kind f Nothing q in
-        walk-skip m (r .next) (f .onward) (ap innerXml i ∙ inner-pass _) (sym (ap (λ (es : List Entry). behind es 0) i ∙ behind-pass _ 0))
+    inner-at-nothing q = inner-aside-at (bound-kind f Nothing q)
 
 pub ruleset inners = (walk-start, walk-length, inner-end, inner-at-component, inner-at-bare, inner-over, inner-at-property, inner-at-nothing, needs)

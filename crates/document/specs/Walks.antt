@@ -1,10 +1,11 @@
 -- What is written of the entries of a component, one by one.
 --     ownXml k es       the XML of the properties of a component k, of which es are the entries behind its BEGIN;   innerXml es: that of its subcomponents
 --     behind es d       the entries behind the END of a component, from those inside it on, d components being open there
+--     isAside x         an entry that is neither BEGIN nor END
 --     own-begin ..      by the entry at hand
 --     own-place         of a component's name only its number matters
 use mathlib.Core.Path.{_≡_, refl, ap}
-use mathlib.Core.Bool.{Bool, true, false≢true}
+use mathlib.Core.Bool.{Bool, true, false, false≢true}
 use mathlib.Core.List.{List, [], _∷_}
 use Prim.Native.Nat.{ℕ, zero, suc, _+_, _-_}
 use native.Mathlib.Numerals.{add-one, sub-one}
@@ -34,6 +35,13 @@ behind (end ∷ es) (suc d) = behind es d
 behind (property l ∷ es) d = behind es d
 behind (nothing ∷ es) d = behind es d
 
+-- neither BEGIN nor END
+abbrev pub isAside : Entry → Bool
+isAside (begin n) = false
+isAside end = false
+isAside (property l) = true
+isAside nothing = true
+
 -- ---- behind a component
 
 pub behind-none : (d : ℕ) → behind [] d ≡ []
@@ -55,15 +63,14 @@ module _ (es : List Entry) where
   behind-up zero e = absurd (e refl)
   behind-up (suc d) e = rw sub-one
 
-  pub behind-property : (l : ContentLine) (d : ℕ) → behind (property l ∷ es) d ≡ behind es d
+  pub behind-aside : (x : Entry) (d : ℕ) → isAside x ≡ true → behind (x ∷ es) d ≡ behind es d
   unfolding behind
-  behind-property l zero = refl
-  behind-property l (suc d) = refl
-
-  pub behind-pass : (d : ℕ) → behind (nothing ∷ es) d ≡ behind es d
-  unfolding behind
-  behind-pass zero = refl
-  behind-pass (suc d) = refl
+  behind-aside (begin n) d h = absurd (false≢true h)
+  behind-aside end d h = absurd (false≢true h)
+  behind-aside (property l) zero h = refl
+  behind-aside (property l) (suc d) h = refl
+  behind-aside nothing zero h = refl
+  behind-aside nothing (suc d) h = refl
 
 -- what stands a component deeper goes on behind its END
 pub behind-deeper : (es : List Entry) (d : ℕ) → behind es (suc d) ≡ behind (behind es d) 0
@@ -142,13 +149,12 @@ module _ (es : List Entry) where
   unfolding innerOf componentsXml
   inner-close = refl
 
-  pub inner-property : (l : ContentLine) → innerXml (property l ∷ es) ≡ innerXml es
+  pub inner-aside : (x : Entry) → isAside x ≡ true → innerXml (x ∷ es) ≡ innerXml es
   unfolding innerOf
-  inner-property l = refl
-
-  pub inner-pass : innerXml (nothing ∷ es) ≡ innerXml es
-  unfolding innerOf
-  inner-pass = refl
+  inner-aside (begin n) h = absurd (false≢true h)
+  inner-aside end h = absurd (false≢true h)
+  inner-aside (property l) h = refl
+  inner-aside nothing h = refl
 
 -- ---- the component's number
 

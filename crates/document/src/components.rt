@@ -1,6 +1,6 @@
 // The components of a text, or of a component. See specs/Walks.antt.
+use crate::bound::bound_at;
 use crate::entry::Kind;
-use crate::entry::entry_at;
 use crate::parts::put_head;
 use crate::parts::put_tail;
 ghost use Rattle.document.specs.Places.{ComponentsPut};
@@ -18,18 +18,17 @@ pub fn put_components(out: &mut [u8], o: usize, s: &[u8], from: usize) -> Reache
     let mut p = o;
     let mut at = from;
     while at < s.len() {
-        let f = entry_at(s, at);
+        let f = bound_at(s, at);
         let kind = f.kind;
         match kind {
             Kind::Begin => {
                 let h = put_head(out, p, s, f.value, f.end, f.next);
-                let end = f.end;
                 if h.bare {
-                    p = put_tail(out, h.to, &s[..end], f.value, h.bare);
+                    p = put_tail(out, h.to, &s[..f.end], f.value, h.bare);
                     at = h.next;
                 } else {
                     let b = put_components(out, h.to, s, h.inner);
-                    p = put_tail(out, b.to, &s[..end], f.value, h.bare);
+                    p = put_tail(out, b.to, &s[..f.end], f.value, h.bare);
                     at = b.next;
                 }
             }

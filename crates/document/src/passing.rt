@@ -1,6 +1,6 @@
 // The way past a component. See specs/Places.antt.
+use crate::bound::bound_at;
 use crate::entry::Kind;
-use crate::entry::entry_at;
 ghost use Rattle.document.specs.Places.{Passed};
 
 // The index behind the END of the component whose lines begin at `from`, or the text's end where there is none.
@@ -10,7 +10,7 @@ pub fn pass_component(s: &[u8], from: usize) -> usize
     let mut at = from;
     let mut depth: usize = 0;
     while at < s.len() {
-        let f = entry_at(s, at);
+        let f = bound_at(s, at);
         let kind = f.kind;
         match kind {
             Kind::Begin => {

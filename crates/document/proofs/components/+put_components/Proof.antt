@@ -9,7 +9,7 @@ use borrow.Fn.PlainCycle.{Measures, is, falls, and}
 use Rattle.document.proofs.components.put_components.Reads as put-components
 use Rattle.document.proofs.components.put_components.Kinds as put-components-kinds
 use Rattle.document.proofs.components.+put_components.Lts-put_components as put-components-lts
-use Rattle.document.proofs.entry.entry_at.Reads as entry-at-reads
+use Rattle.document.proofs.bound.bound_at.Reads as bound-at-reads
 use Rattle.document.proofs.parts.put_head.Reads as put-head-reads
 use Rattle.document.proofs.parts.put_tail.Reads as put-tail-reads
 use Rattle.document.proofs.components.+put_components.{statement}
@@ -36,7 +36,7 @@ put-components-below t =
 
 -- what the calls ask and give
 abbrev claims : ℕ → put-components-lts.Claims
-claims t = (entry-at-reads.Asked, entry-at-reads.Learnt, put-head-reads.Asked, put-head-reads.Learnt, put-tail-reads.Asked, put-tail-reads.Learnt, put-components-below t, put-components.Post)
+claims t = (bound-at-reads.Asked, bound-at-reads.Learnt, put-head-reads.Asked, put-head-reads.Learnt, put-tail-reads.Asked, put-tail-reads.Learnt, put-components-below t, put-components.Post)
 
 abbrev put-components-Inv-loop : put-components-lts.InvT-loop
 put-components-Inv-loop out₀ o s from p₀ at₀ out p at = Walking inner s from out₀ o out p at
@@ -53,7 +53,7 @@ pub +put-components-spec : {M : Type 1} → statement M
     put-components-Inv-loop
     put-components-μ-loop
     (λ c. search inners)  -- loop-holds
-    (λ c κs. search inners)  -- entry-at-requires
+    (λ c κs. search inners)  -- bound-at-requires
     (λ c. search inners)  -- enum-told
     (λ c κs. search inners)  -- put-head-requires
     (λ c. search (length-take-le, needs))  -- slice-aggregate-put-tail

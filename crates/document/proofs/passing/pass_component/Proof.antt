@@ -16,7 +16,7 @@ pass-component-spec = tie.close (tie.spec
     Inv-loop
     μ-loop
     (λ c. search passings)  -- loop-holds
-    (λ c κs. search passings)  -- entry-at-requires
+    (λ c κs. search passings)  -- bound-at-requires
     (λ c. search passings)  -- enum-told
     (λ c. search passings)  -- add-depth
     (λ c. search passings)  -- loop-less
