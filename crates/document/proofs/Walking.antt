@@ -15,10 +15,11 @@ use Rattle.octets.specs.Reading.{orNothing}
 use Rattle.sink.specs.Sink.{Put, put-none, put-length, _▷_, Todo, todo-all, todo-step, todo-done}
 use Rattle.source.specs.Source.{rest}
 use Rattle.model.specs.Calendar.{Components}
-use Rattle.lines.specs.ContentLine.{contentLine}
+use Rattle.schema.specs.Numbers.{componentName}
 use Rattle.ical.specs.Statement.{propertyOf}
 use Rattle.ical.specs.Tree.{Entry, begin, end, property, nothing}
 use Rattle.xcal.specs.WriteXml.{propertyXml, componentsXml}
+use Rattle.property_elements.specs.Property.{partsXml, property-xml}
 use Rattle.document.specs.declared.components.Reached.{Reached}
 use Rattle.document.specs.declared.entry.Found.{Found}
 use Rattle.document.specs.declared.entry.Kind.the-variants.{Begin, End, Property, Nothing}
@@ -30,11 +31,11 @@ use Rattle.document.specs.Places.{Passed, ComponentsPut, PropertiesPut}
 use Rattle.document.specs.Parts.{headXml, tailXml, component-parts}
 
 pub data Walk : Type 0 where
-  own : List ℕ → Walk
+  own : ℕ → Walk
   inner : Walk
 
 abbrev pub walkXml : Walk → List Entry → List ℕ
-walkXml (own k) es = ownXml k es
+walkXml (own k) es = ownXml (componentName k) es
 walkXml inner es = innerXml es
 
 -- it began at the line at `from` with d and o, and has come with e and p to the line at `at`
@@ -49,7 +50,7 @@ walk-start w s from d o h = record { low = omega arith; todo = todo-all d o (wal
 
 -- no line, no bytes
 walk-none : (w : Walk) → walkXml w [] ≡ []
-walk-none (own k) = own-none k
+walk-none (own k) = own-none (componentName k)
 walk-none inner = inner-none
 
 -- behind a component that is passed
@@ -94,30 +95,30 @@ module _ {w : Walk} {s : List ℕ} {from : ℕ} {d : List ℕ} {o : ℕ} {e : Li
 
 -- ---- the properties
 
-module _ {k : List ℕ} {s : List ℕ} {from : ℕ} {d : List ℕ} {o : ℕ} {e : List ℕ} {p at : ℕ} (m : Walking (own k) s from d o e p at) where
-  pub own-end : length s ≤ at → Put d e o p (ownXml k (entriesAt s from))
+module _ {k : ℕ} {s : List ℕ} {from : ℕ} {d : List ℕ} {o : ℕ} {e : List ℕ} {p at : ℕ} (m : Walking (own k) s from d o e p at) where
+  pub own-end : length s ≤ at → Put d e o p (ownXml (componentName k) (entriesAt s from))
   own-end h = walk-end m h
 
   module _ {r : Found} (f : FoundAt s at r) where
     pub own-at-begin : {n : ℕ} → r .kind ≡ Begin → Passed s (r .next) n → Walking (own k) s from d o e p n
     own-at-begin {n} q z =
         let i = by-kind f Begin q in
-        walk-skip m n (omega (arith, f .onward, z .onward)) (ap (ownXml k) i ∙ own-begin k _ _ ∙ ap (ownXml k) (sym (z .rest))) (behind-passed at _ i z)
+        walk-skip m n (omega (arith, f .onward, z .onward)) (ap (ownXml (componentName k)) i ∙ own-begin (componentName k) _ _ ∙ ap (ownXml (componentName k)) (sym (z .rest))) (behind-passed at _ i z)
 
-    pub own-over : r .kind ≡ End → Put d e o p (ownXml k (entriesAt s from))
-    own-over q = walk-stop m _ (by-kind f End q) (own-close k _)
+    pub own-over : r .kind ≡ End → Put d e o p (ownXml (componentName k) (entriesAt s from))
+    own-over q = walk-stop m _ (by-kind f End q) (own-close (componentName k) _)
 
-    pub own-at-property : {g : List ℕ} {p′ : ℕ} → r .kind ≡ Property →
-        Put e g p p′ (orNothing (λ l. propertyXml (propertyOf k l)) (contentLine (rest 0 (take (r .end) s) at))) → Walking (own k) s from d o g p′ (r .next)
-    own-at-property q b =
+    pub own-at-property : {g : List ℕ} {p′ : ℕ} → r .kind ≡ Property → Put e g p p′ (partsXml k (take (r .end) s) at (r .name) (r .value)) → Walking (own k) s from d o g p′ (r .next)
+    own-at-property {g} {p′} q b =
         let i = by-kind f Property q in
-        walk-put m (r .next) (propertyXml (propertyOf k (i .line))) (f .onward) (ap (ownXml k) (i .first) ∙ own-property k _ (i .line))
-        (sym (ap (λ (es : List Entry). behind es 0) (i .first) ∙ behind-aside _ (property (i .line)) 0 refl)) (rw (i .is) at b)
+        walk-put m (r .next) (propertyXml (propertyOf (componentName k) (i .line))) (f .onward) (ap (ownXml (componentName k)) (i .first) ∙ own-property (componentName k) _ (i .line))
+        (sym (ap (λ (es : List Entry). behind es 0) (i .first) ∙ behind-aside _ (property (i .line)) 0 refl))
+        (subst (Put e g p p′) (sym (property-xml (i .parts) k) ∙ ap (orNothing (λ l. propertyXml (propertyOf (componentName k) l))) (i .is)) b)
 
     pub own-at-nothing : r .kind ≡ Nothing → Walking (own k) s from d o e p (r .next)
     own-at-nothing q =
         let i = by-kind f Nothing q in
-        walk-skip m (r .next) (f .onward) (ap (ownXml k) i ∙ own-pass k _) (sym (ap (λ (es : List Entry). behind es 0) i ∙ behind-aside _ nothing 0 refl))
+        walk-skip m (r .next) (f .onward) (ap (ownXml (componentName k)) i ∙ own-pass (componentName k) _) (sym (ap (λ (es : List Entry). behind es 0) i ∙ behind-aside _ nothing 0 refl))
 
 pub ruleset owns = (walk-start, walk-length, own-end, own-at-begin, own-over, own-at-property, own-at-nothing, needs)
 

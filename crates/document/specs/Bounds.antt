@@ -55,14 +55,14 @@ bound-kind {s} {at} {r} f k q = subst (λ (x : Kind). BoundBy x s at (r .value) 
 
 -- ---- a line that is read whole
 
-found-by : (k : Kind) (s : List ℕ) (at v e next : ℕ) → FoundBy k s at v e next → BoundBy k s at v e next
-found-by Begin s at v e next h = h
-found-by End s at v e next h = h
-found-by Property s at v e next h = record { entry = property (h .line); aside = refl; first = h .first }
-found-by Nothing s at v e next h = record { entry = nothing; aside = refl; first = h }
+found-by : (k : Kind) (s : List ℕ) (at n v e next : ℕ) → FoundBy k s at n v e next → BoundBy k s at v e next
+found-by Begin s at n v e next h = h
+found-by End s at n v e next h = h
+found-by Property s at n v e next h = record { entry = property (h .line); aside = refl; first = h .first }
+found-by Nothing s at n v e next h = record { entry = nothing; aside = refl; first = h }
 
 pub found-bound : {s : List ℕ} {at : ℕ} {r : Found} → FoundAt s at r → BoundAt s at r
-found-bound {s} {at} {r} f = record { onward = f .onward; inside = f .inside; ends = f .ends; found = found-by (r .kind) s at (r .value) (r .end) (r .next) (f .found) }
+found-bound {s} {at} {r} f = record { onward = f .onward; inside = f .inside; ends = f .ends; found = found-by (r .kind) s at (r .name) (r .value) (r .end) (r .next) (f .found) }
 
 -- ---- a line by its first byte
 
@@ -112,10 +112,10 @@ content-aside l h = pick-either (λ (o : Option ContentLine). isAside (entryBy o
 -- ---- for code
 
 module _ (s : List ℕ) (at : ℕ) (h : at < length s) where
-  pub loose-aside : FirstLine s at Loose → BoundAt s at (record { kind = Nothing; value = at; end = at; next = length s })
-  loose-aside f = found-bound (found-loose s at at h f)
+  pub loose-aside : FirstLine s at Loose → BoundAt s at (record { kind = Nothing; name = at; value = at; end = at; next = length s })
+  loose-aside f = found-bound (found-loose s at at at h f)
 
-  pub whole-aside : (e : ℕ) → FirstLine s at (Whole e) → opensBound (getD s at 0) ≡ false → BoundAt s at (record { kind = Nothing; value = e; end = e; next = e + 2 })
+  pub whole-aside : (e : ℕ) → FirstLine s at (Whole e) → opensBound (getD s at 0) ≡ false → BoundAt s at (record { kind = Nothing; name = e; value = e; end = e; next = e + 2 })
   unfolding entriesAt entryOf
   whole-aside e f q = record {
     onward = omega (arith, f .0);

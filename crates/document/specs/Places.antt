@@ -11,6 +11,7 @@ use mathlib.Core.List.{List, [], append-nil}
 use Prim.Native.Nat.{ℕ, _≤_}
 use Rattle.sink.specs.Sink.{Put, _▷_, Todo, todo-step, todo-done}
 use Rattle.xml.specs.Escape.{startTag, endTag, elementOf}
+use Rattle.schema.specs.Numbers.{componentName}
 use Rattle.ical.specs.Tree.{innerOf}
 use Rattle.xcal.specs.WriteXml.{isNoMore}
 use Rattle.document.specs.declared.components.Reached.{Reached}
@@ -38,19 +39,19 @@ pub record PropertiesPut (d e : List ℕ) (o : ℕ) (bs s : List ℕ) (from : �
   pub put : Put d e o (r .to) bs
   pub ahead : Ahead s from (r .inner) (r .bare) (r .next)
 
-pub record LeadingPut (d e : List ℕ) (o : ℕ) (k s : List ℕ) (from : ℕ) (r : Walked) : Type 0 where
-  pub todo : Todo d o (ownXml k (entriesAt s from)) e (r .to) (ownXml k (entriesAt s (r .inner)))
-  pub all : r .bare ≡ true → ownXml k (entriesAt s (r .inner)) ≡ []
+pub record LeadingPut (d e : List ℕ) (o k : ℕ) (s : List ℕ) (from : ℕ) (r : Walked) : Type 0 where
+  pub todo : Todo d o (ownXml (componentName k) (entriesAt s from)) e (r .to) (ownXml (componentName k) (entriesAt s (r .inner)))
+  pub all : r .bare ≡ true → ownXml (componentName k) (entriesAt s (r .inner)) ≡ []
   pub ahead : Ahead s from (r .inner) (r .bare) (r .next)
 
 -- ---- laws
 
-module _ {d e : List ℕ} {o : ℕ} {k s : List ℕ} {from : ℕ} {r : Walked} (l : LeadingPut d e o k s from r) where
-  pub leading-bare : r .bare ≡ true → PropertiesPut d e o (ownXml k (entriesAt s from)) s from r
+module _ {d e : List ℕ} {o k : ℕ} {s : List ℕ} {from : ℕ} {r : Walked} (l : LeadingPut d e o k s from r) where
+  pub leading-bare : r .bare ≡ true → PropertiesPut d e o (ownXml (componentName k) (entriesAt s from)) s from r
   leading-bare h = record { put = todo-done (l .todo) (l .all h); ahead = l .ahead }
 
-  pub leading-more : {f : List ℕ} {p : ℕ} → Put e f (r .to) p (ownXml k (entriesAt s (r .inner))) →
-      PropertiesPut d f o (ownXml k (entriesAt s from)) s from (record { to = p; inner = r .inner; bare = r .bare; next = r .next })
+  pub leading-more : {f : List ℕ} {p : ℕ} → Put e f (r .to) p (ownXml (componentName k) (entriesAt s (r .inner))) →
+      PropertiesPut d f o (ownXml (componentName k) (entriesAt s from)) s from (record { to = p; inner = r .inner; bare = r .bare; next = r .next })
   leading-more b = record { put = todo-done (todo-step (l .todo) b (sym (append-nil _))) refl; ahead = l .ahead }
 
 -- between the tags of an element

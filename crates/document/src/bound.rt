@@ -34,12 +34,14 @@ fn line_aside(s: &[u8], at: usize) -> Found
     match line_end(s, at) {
         Ending::Loose => Found {
             kind: Kind::Nothing,
+            name: at,
             value: at,
             end: at,
             next: s.len(),
         },
         Ending::Whole(e) => Found {
             kind: Kind::Nothing,
+            name: e,
             value: e,
             end: e,
             next: e + 2,

@@ -24,7 +24,7 @@ pub struct Walked {
 
 // The properties of the component of the number `k` whose lines begin at `from`, up to its first subcomponent.
 fn put_leading(out: &mut [u8], o: usize, k: usize, s: &[u8], from: usize) -> Walked
-    ensures { λ r. ⌜ LeadingPut (now (out .entry)) (now (out .exit)) o (componentName k) (now (s .entry)) from r ⌝ }
+    ensures { λ r. ⌜ LeadingPut (now (out .entry)) (now (out .exit)) o k (now (s .entry)) from r ⌝ }
 {
     let mut p = o;
     let mut at = from;
@@ -49,7 +49,7 @@ fn put_leading(out: &mut [u8], o: usize, k: usize, s: &[u8], from: usize) -> Wal
                 };
             }
             Kind::Property => {
-                p = put_property(out, p, k, &s[..f.end], at);
+                p = put_property(out, p, k, &s[..f.end], at, f.name, f.value);
                 at = f.next;
             }
             Kind::Nothing => {
@@ -82,7 +82,7 @@ fn put_following(out: &mut [u8], o: usize, k: usize, s: &[u8], from: usize) -> u
                 return p;
             }
             Kind::Property => {
-                p = put_property(out, p, k, &s[..f.end], at);
+                p = put_property(out, p, k, &s[..f.end], at, f.name, f.value);
                 at = f.next;
             }
             Kind::Nothing => {

@@ -3,13 +3,13 @@ use Prim.Native.Nat.{_-_}
 use lib.ListN.{length}
 use lib.Seq.{length-take-le}
 use borrow.Author.Needs.{needs}
-use Rattle.schema.specs.Numbers.{componentName}
+use Rattle.document.specs.Entries.{property-inside}
 use Rattle.document.proofs.Walking.{Walking, own, owns}
 use Rattle.document.proofs.properties.put_following.Statement.{statement}
 use Rattle.document.proofs.properties.put_following.Tie as tie
 
 abbrev Inv-loop : tie.InvT-loop
-Inv-loop out₀ o k s from p₀ at₀ out p at = Walking (own (componentName k)) s from out₀ o out p at
+Inv-loop out₀ o k s from p₀ at₀ out p at = Walking (own k) s from out₀ o out p at
 
 abbrev μ-loop : tie.MeasureT-loop
 μ-loop out₀ o k s from p₀ at₀ out p at = length s - at
@@ -29,7 +29,7 @@ put-following-spec = tie.close (tie.spec
     (λ c. search owns)  -- returns
     (λ c. search owns)  -- enum-told-3
     (λ c. search (length-take-le, needs))  -- slice-aggregate-put-property
-    (λ c κs. search needs)  -- put-property-requires
+    (λ c κs. search (property-inside, needs))  -- put-property-requires
     (λ c. search owns)  -- loop-less-2
     (λ c. search owns)  -- loop-again-2
     (λ c. search owns)  -- enum-told-4

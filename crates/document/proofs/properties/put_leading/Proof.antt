@@ -3,13 +3,13 @@ use Prim.Native.Nat.{_-_}
 use lib.ListN.{length}
 use lib.Seq.{length-take-le}
 use borrow.Author.Needs.{needs}
-use Rattle.schema.specs.Numbers.{componentName}
+use Rattle.document.specs.Entries.{property-inside}
 use Rattle.document.proofs.Leading.{Leading, leadings}
 use Rattle.document.proofs.properties.put_leading.Statement.{statement}
 use Rattle.document.proofs.properties.put_leading.Tie as tie
 
 abbrev Inv-loop : tie.InvT-loop
-Inv-loop out₀ o k s from p₀ at₀ out p at = Leading (componentName k) s from out₀ o out p at
+Inv-loop out₀ o k s from p₀ at₀ out p at = Leading k s from out₀ o out p at
 
 abbrev μ-loop : tie.MeasureT-loop
 μ-loop out₀ o k s from p₀ at₀ out p at = length s - at
@@ -28,7 +28,7 @@ put-leading-spec = tie.close (tie.spec
     (λ c. search leadings)  -- returns-2
     (λ c. search leadings)  -- enum-told-3
     (λ c. search (length-take-le, needs))  -- slice-aggregate-put-property
-    (λ c κs. search needs)  -- put-property-requires
+    (λ c κs. search (property-inside, needs))  -- put-property-requires
     (λ c. search leadings)  -- loop-less
     (λ c. search leadings)  -- loop-again
     (λ c. search leadings)  -- enum-told-4
