@@ -1,5 +1,7 @@
 -- Laws of the loops.
 --     Walking    a walk over the lines of a component that writes
---     Bare       the look for a subcomponent
+--     Past       the way past a component
+--     Leading    a walk over the properties before the first subcomponent
 pub mod Walking
-pub mod Bare
+pub mod Past
+pub mod Leading

@@ -1,8 +1,9 @@
 -- A walk over the lines of a component that writes: what holds before each line, and what each line does to it.
 --     Walk, walkXml    what is written: a component's own properties, or its subcomponents
---     Walking          the invariant: what is left to write from the line at hand on, at its depth
+--     Walking          the invariant: what is left to write from the line at hand on, and that the component ends where it did
 --     owns, inners     the rules of the two walks, for `search`
-use mathlib.Core.Path.{_≡_, refl, ap, subst, _∙_}
+use mathlib.Core.Path.{_≡_, refl, sym, ap, subst, _∙_}
+use mathlib.Core.Bool.{true}
 use mathlib.Core.List.{List, [], _∷_}
 use Prim.Native.Nat.{ℕ, _+_, _-_, _*_, _^_, _≤_, _<_}
 use native.Mathlib.Omega.{arith}
@@ -11,132 +12,153 @@ use borrow.Author.Needs.{needs}
 use Rattle.octets.specs.Append.{_⊕_, append-is}
 use Rattle.octets.specs.Class.{upper}
 use Rattle.octets.specs.Reading.{orNothing}
-use Rattle.sink.specs.Sink.{Put, put-length, _▷_, Todo, todo-all, todo-step, todo-done}
+use Rattle.sink.specs.Sink.{Put, put-none, put-length, _▷_, Todo, todo-all, todo-step, todo-done}
 use Rattle.source.specs.Source.{rest}
-use Rattle.lines.specs.ContentLine.{contentLine}
+use Rattle.model.specs.Calendar.{Components}
+use Rattle.schema.specs.Numbers.{componentName}
 use Rattle.ical.specs.Statement.{propertyOf}
-use Rattle.ical.specs.Tree.{Entry, begin}
-use Rattle.xcal.specs.WriteXml.{propertyXml}
+use Rattle.ical.specs.Tree.{Entry, begin, end, property, nothing}
+use Rattle.xcal.specs.WriteXml.{propertyXml, componentsXml}
+use Rattle.property_elements.specs.Property.{partsXml, property-xml}
+use Rattle.document.specs.declared.components.Reached.{Reached}
 use Rattle.document.specs.declared.entry.Found.{Found}
 use Rattle.document.specs.declared.entry.Kind.the-variants.{Begin, End, Property, Nothing}
+use Rattle.document.specs.declared.properties.Walked.{Walked}
 use Rattle.document.specs.Entries.{entriesAt, First, FoundAt, by-kind, entries-past}
-use Rattle.document.specs.Walks.{ownXml, innerXml, own-none, own-begin, own-close, own-up, own-here, own-deeper, own-pass, inner-none, inner-begin, inner-close, inner-up, inner-property, inner-pass}
+use Rattle.document.specs.Walks.{ownXml, innerXml, behind, behind-none, behind-begin, behind-close, behind-aside, behind-deeper, own-none, own-begin, own-close, own-property, own-pass, inner-none, inner-empty, inner-close, inner-aside}
+use Rattle.document.specs.Bounds.{Aside, BoundAt, bound-kind}
+use Rattle.document.specs.Places.{Passed, ComponentsPut, PropertiesPut}
 use Rattle.document.specs.Parts.{headXml, tailXml, component-parts}
 
 pub data Walk : Type 0 where
-  own : List ℕ → Walk
+  own : ℕ → Walk
   inner : Walk
 
-abbrev pub walkXml : Walk → List Entry → ℕ → List ℕ
-walkXml (own k) es d = ownXml k es d
-walkXml inner es d = innerXml es d
+abbrev pub walkXml : Walk → List Entry → List ℕ
+walkXml (own k) es = ownXml (componentName k) es
+walkXml inner es = innerXml es
 
 -- it began at the line at `from` with d and o, and has come with e and p to the line at `at`
-pub record Walking (w : Walk) (s : List ℕ) (from : ℕ) (d : List ℕ) (o : ℕ) (e : List ℕ) (p at depth : ℕ) : Type 0 where
+pub record Walking (w : Walk) (s : List ℕ) (from : ℕ) (d : List ℕ) (o : ℕ) (e : List ℕ) (p at : ℕ) : Type 0 where
   pub low : from ≤ at
-  pub deep : depth ≤ at
-  pub todo : Todo d o (walkXml w (entriesAt s from) 0) e p (walkXml w (entriesAt s at) depth)
+  pub todo : Todo d o (walkXml w (entriesAt s from)) e p (walkXml w (entriesAt s at))
+  pub over : behind (entriesAt s at) 0 ≡ behind (entriesAt s from) 0
   pub kept : length e ≡ length d
 
-pub walk-start : (w : Walk) (s : List ℕ) (from : ℕ) (d : List ℕ) (o : ℕ) → length d * 1 < 2 ^ 63 → Walking w s from d o d o from 0
-walk-start w s from d o h = record { low = omega arith; deep = omega arith; todo = todo-all d o (walkXml w (entriesAt s from) 0) h; kept = refl }
+pub walk-start : (w : Walk) (s : List ℕ) (from : ℕ) (d : List ℕ) (o : ℕ) → length d * 1 < 2 ^ 63 → Walking w s from d o d o from
+walk-start w s from d o h = record { low = omega arith; todo = todo-all d o (walkXml w (entriesAt s from)) h; over = refl; kept = refl }
 
 -- no line, no bytes
-walk-none : (w : Walk) (depth : ℕ) → walkXml w [] depth ≡ []
-walk-none (own k) depth = own-none k depth
-walk-none inner depth = inner-none depth
+walk-none : (w : Walk) → walkXml w [] ≡ []
+walk-none (own k) = own-none (componentName k)
+walk-none inner = inner-none
 
-module _ {w : Walk} {s : List ℕ} {from : ℕ} {d : List ℕ} {o : ℕ} {e : List ℕ} {p at depth : ℕ} (m : Walking w s from d o e p at depth) where
-  -- the line at hand gives the bytes bs, which were put, or none
-  walk-put : (x : Entry) (next depth′ : ℕ) (bs : List ℕ) {f : List ℕ} {p′ : ℕ} → at < next → depth′ ≤ next → First s at x next →
-      walkXml w (x ∷ entriesAt s next) depth ≡ bs ⊕ walkXml w (entriesAt s next) depth′ → Put e f p p′ bs → Walking w s from d o f p′ next depth′
-  walk-put x next depth′ bs h l i q b = record {
+-- behind a component that is passed
+behind-passed : (at : ℕ) {s : List ℕ} {next n : ℕ} (v : List ℕ) → First s at (begin v) next → Passed s next n → behind (entriesAt s n) 0 ≡ behind (entriesAt s at) 0
+behind-passed at {s} {next} v i p = rw (p .rest) (sym (ap (λ (es : List Entry). behind es 0) i ∙ behind-begin (entriesAt s next) v 0 ∙ behind-deeper (entriesAt s next) 0))
+
+module _ {w : Walk} {s : List ℕ} {from : ℕ} {d : List ℕ} {o : ℕ} {e : List ℕ} {p at : ℕ} (m : Walking w s from d o e p at) where
+  -- what is at hand gives the bytes bs, which were put, or none; and it goes on at `next`
+  walk-put : (next : ℕ) (bs : List ℕ) {f : List ℕ} {p′ : ℕ} → at < next → walkXml w (entriesAt s at) ≡ bs ⊕ walkXml w (entriesAt s next) →
+      behind (entriesAt s next) 0 ≡ behind (entriesAt s at) 0 → Put e f p p′ bs → Walking w s from d o f p′ next
+  walk-put next bs h q z b = record {
     low = omega (arith, m .low);
-    deep = l;
-    todo = todo-step (m .todo) b (ap (λ (es : List Entry). walkXml w es depth) i ∙ q ∙ append-is bs _);
+    todo = todo-step (m .todo) b (q ∙ append-is bs _);
+    over = z ∙ m .over;
     kept = put-length b ∙ m .kept;
   }
 
-  walk-skip : (x : Entry) (next depth′ : ℕ) → at < next → depth′ ≤ next → First s at x next →
-      walkXml w (x ∷ entriesAt s next) depth ≡ walkXml w (entriesAt s next) depth′ → Walking w s from d o e p next depth′
-  walk-skip x next depth′ h l i q = record {
+  walk-skip : (next : ℕ) → at < next → walkXml w (entriesAt s at) ≡ walkXml w (entriesAt s next) → behind (entriesAt s next) 0 ≡ behind (entriesAt s at) 0 → Walking w s from d o e p next
+  walk-skip next h q z = record {
     low = omega (arith, m .low);
-    deep = l;
-    todo = subst (λ (bs : List ℕ). Todo d o (walkXml w (entriesAt s from) 0) e p bs) (ap (λ (es : List Entry). walkXml w es depth) i ∙ q) (m .todo);
+    todo = subst (λ (bs : List ℕ). Todo d o (walkXml w (entriesAt s from)) e p bs) q (m .todo);
+    over = z ∙ m .over;
     kept = m .kept;
   }
 
   -- the line at hand gives nothing more, or there is none
-  walk-stop : (x : Entry) (next : ℕ) → First s at x next → walkXml w (x ∷ entriesAt s next) depth ≡ [] → Put d e o p (walkXml w (entriesAt s from) 0)
-  walk-stop x next i q = todo-done (m .todo) (ap (λ (es : List Entry). walkXml w es depth) i ∙ q)
+  walk-stop : (es : List Entry) → entriesAt s at ≡ es → walkXml w es ≡ [] → Put d e o p (walkXml w (entriesAt s from))
+  walk-stop es i q = todo-done (m .todo) (ap (walkXml w) i ∙ q)
 
-  walk-end : length s ≤ at → Put d e o p (walkXml w (entriesAt s from) 0)
-  walk-end h = todo-done (m .todo) (ap (λ (es : List Entry). walkXml w es depth) (entries-past s at h) ∙ walk-none w depth)
+  walk-end : length s ≤ at → Put d e o p (walkXml w (entriesAt s from))
+  walk-end h = walk-stop [] (entries-past s at h) (walk-none w)
+
+  -- it comes to the end of the text, or of the component
+  pub walk-passed : length s ≤ at → Passed s from at
+  walk-passed h = record { onward = m .low; rest = entries-past s at h ∙ sym (behind-none 0) ∙ ap (λ (es : List Entry). behind es 0) (sym (entries-past s at h)) ∙ m .over }
+
+  pub walk-closed : (next : ℕ) → at < next → First s at end next → Passed s from next
+  walk-closed next h i = record { onward = omega (arith, m .low); rest = sym (behind-close _ 0 refl) ∙ ap (λ (es : List Entry). behind es 0) (sym i) ∙ m .over }
 
   pub walk-length : length e ≡ length d
   walk-length = m .kept
 
 -- ---- the properties
 
-module _ {k : List ℕ} {s : List ℕ} {from : ℕ} {d : List ℕ} {o : ℕ} {e : List ℕ} {p at depth : ℕ} (m : Walking (own k) s from d o e p at depth) where
-  pub own-end : length s ≤ at → Put d e o p (ownXml k (entriesAt s from) 0)
+module _ {k : ℕ} {s : List ℕ} {from : ℕ} {d : List ℕ} {o : ℕ} {e : List ℕ} {p at : ℕ} (m : Walking (own k) s from d o e p at) where
+  pub own-end : length s ≤ at → Put d e o p (ownXml (componentName k) (entriesAt s from))
   own-end h = walk-end m h
 
   module _ {r : Found} (f : FoundAt s at r) where
-    pub own-at-begin : r .kind ≡ Begin → Walking (own k) s from d o e p (r .next) (depth + 1)
-    own-at-begin q = walk-skip m _ (r .next) (depth + 1) (f .onward) (omega (arith, m .deep, f .onward)) (by-kind f Begin q) (own-begin k _ _ depth)
+    pub own-at-begin : {n : ℕ} → r .kind ≡ Begin → Passed s (r .next) n → Walking (own k) s from d o e p n
+    own-at-begin {n} q z =
+        let i = by-kind f Begin q in
+        walk-skip m n (omega (arith, f .onward, z .onward)) (ap (ownXml (componentName k)) i ∙ own-begin (componentName k) _ _ ∙ ap (ownXml (componentName k)) (sym (z .rest))) (behind-passed at _ i z)
 
-    pub own-at-end : r .kind ≡ End → (depth ≡ 0 → ⊥) → Walking (own k) s from d o e p (r .next) (depth - 1)
-    own-at-end q h = walk-skip m _ (r .next) (depth - 1) (f .onward) (omega (arith, m .deep, f .onward)) (by-kind f End q) (own-up k _ depth h)
+    pub own-over : r .kind ≡ End → Put d e o p (ownXml (componentName k) (entriesAt s from))
+    own-over q = walk-stop m _ (by-kind f End q) (own-close (componentName k) _)
 
-    pub own-over : r .kind ≡ End → depth ≡ 0 → Put d e o p (ownXml k (entriesAt s from) 0)
-    own-over q h = walk-stop m _ (r .next) (by-kind f End q) (own-close k _ depth h)
-
-    pub own-at-property : {g : List ℕ} {p′ : ℕ} → r .kind ≡ Property → depth ≡ 0 →
-        Put e g p p′ (orNothing (λ l. propertyXml (propertyOf k l)) (contentLine (rest 0 (take (r .end) s) at))) → Walking (own k) s from d o g p′ (r .next) depth
-    own-at-property q h b =
+    pub own-at-property : {g : List ℕ} {p′ : ℕ} → r .kind ≡ Property → Put e g p p′ (partsXml k (take (r .end) s) at (r .name) (r .value)) → Walking (own k) s from d o g p′ (r .next)
+    own-at-property {g} {p′} q b =
         let i = by-kind f Property q in
-        walk-put m _ (r .next) depth (propertyXml (propertyOf k (i .line))) (f .onward) (omega (arith, m .deep, f .onward)) (i .first) (own-here k _ (i .line) depth h)
-        (rw (i .is) at b)
+        walk-put m (r .next) (propertyXml (propertyOf (componentName k) (i .line))) (f .onward) (ap (ownXml (componentName k)) (i .first) ∙ own-property (componentName k) _ (i .line))
+        (sym (ap (λ (es : List Entry). behind es 0) (i .first) ∙ behind-aside _ (property (i .line)) 0 refl))
+        (subst (Put e g p p′) (sym (property-xml (i .parts) k) ∙ ap (orNothing (λ l. propertyXml (propertyOf (componentName k) l))) (i .is)) b)
 
-    pub own-at-deeper : r .kind ≡ Property → (depth ≡ 0 → ⊥) → Walking (own k) s from d o e p (r .next) depth
-    own-at-deeper q h = let i = by-kind f Property q in walk-skip m _ (r .next) depth (f .onward) (omega (arith, m .deep, f .onward)) (i .first) (own-deeper k _ (i .line) depth h)
+    pub own-at-nothing : r .kind ≡ Nothing → Walking (own k) s from d o e p (r .next)
+    own-at-nothing q =
+        let i = by-kind f Nothing q in
+        walk-skip m (r .next) (f .onward) (ap (ownXml (componentName k)) i ∙ own-pass (componentName k) _) (sym (ap (λ (es : List Entry). behind es 0) i ∙ behind-aside _ nothing 0 refl))
 
-    pub own-at-nothing : r .kind ≡ Nothing → Walking (own k) s from d o e p (r .next) depth
-    own-at-nothing q = walk-skip m _ (r .next) depth (f .onward) (omega (arith, m .deep, f .onward)) (by-kind f Nothing q) (own-pass k _ depth)
-
-pub ruleset owns = (walk-start, walk-length, own-end, own-at-begin, own-at-end, own-over, own-at-property, own-at-deeper, own-at-nothing, needs)
+pub ruleset owns = (walk-start, walk-length, own-end, own-at-begin, own-over, own-at-property, own-at-nothing, needs)
 
 -- ---- the subcomponents
 
-module _ {s : List ℕ} {from : ℕ} {d : List ℕ} {o : ℕ} {e : List ℕ} {p at depth : ℕ} (m : Walking inner s from d o e p at depth) where
-  pub inner-end : length s ≤ at → Put d e o p (innerXml (entriesAt s from) 0)
-  inner-end h = walk-end m h
+module _ {s : List ℕ} {from : ℕ} {d : List ℕ} {o : ℕ} {e : List ℕ} {p at : ℕ} (m : Walking inner s from d o e p at) where
+  pub inner-end : length s ≤ at → ComponentsPut d e o s from (record { to = p; next = at })
+  inner-end h = record { put = walk-end m h; passed = walk-passed m h }
 
-  module _ {r : Found} (f : FoundAt s at r) where
+  module _ {r : Found} (f : BoundAt s at r) where
+    pub inner-over : r .kind ≡ End → ComponentsPut d e o s from (record { to = p; next = r .next })
+    inner-over q = record { put = walk-stop m _ (bound-kind f End q) (inner-close _); passed = walk-closed m (r .next) (f .onward) (bound-kind f End q) }
+
     -- a component whose parts were put
-    pub inner-at-component : {a b p′ : ℕ} {g h i : List ℕ} → r .kind ≡ Begin → depth ≡ 0 →
-        Put e g p a (headXml (upper (rest 0 (take (r .end) s) (r .value))) (entriesAt s (r .next))) →
-        Put g h a b (innerXml (entriesAt s (r .next)) 0) →
-        Put h i b p′ (tailXml (upper (rest 0 (take (r .end) s) (r .value))) (entriesAt s (r .next))) →
-        Walking inner s from d o i p′ (r .next) 1
-    inner-at-component q z u v t =
-        walk-put m _ (r .next) 1 _ (f .onward) (omega (arith, f .onward)) (by-kind f Begin q)
-        (ap (innerXml (begin (upper (rest 0 (take (r .end) s) (r .value))) ∷ entriesAt s (r .next))) z ∙ component-parts _ _) (u ▷ v ▷ t)
+    module _ {w : Walked} {g h i : List ℕ} (q : r .kind ≡ Begin) (u : PropertiesPut e g p (headXml (upper (rest 0 (take (r .end) s) (r .value))) (w .bare) (entriesAt s (r .next))) s (r .next) w) where
+      component : {b p′ n : ℕ} → Put g h (w .to) b (innerXml (entriesAt s (r .next))) → Put h i b p′ (tailXml (upper (rest 0 (take (r .end) s) (r .value))) (w .bare)) →
+          Passed s (r .next) n → Walking inner s from d o i p′ n
+      component {n = n} v t z =
+          let j = bound-kind f Begin q in
+          walk-put m n _ (omega (arith, f .onward, z .onward)) (ap innerXml j ∙ component-parts _ _ ∙ rw (z .rest, u .ahead .empty)) (behind-passed at _ j z) (u .put ▷ v ▷ t)
 
-    pub inner-at-begin : r .kind ≡ Begin → (depth ≡ 0 → ⊥) → Walking inner s from d o e p (r .next) (depth + 1)
-    inner-at-begin q h = walk-skip m _ (r .next) (depth + 1) (f .onward) (omega (arith, m .deep, f .onward)) (by-kind f Begin q) (inner-begin _ _ depth h)
+      pub inner-at-component : {p′ : ℕ} {b : Reached} → ComponentsPut g h (w .to) s (w .inner) b →
+          Put h i (b .to) p′ (tailXml (upper (rest 0 (take (r .end) s) (r .value))) (w .bare)) → Walking inner s from d o i p′ (b .next)
+      inner-at-component {b = b} v t =
+          component (subst (λ (c : Components). Put g h (w .to) (b .to) (componentsXml c)) (u .ahead .components) (v .put)) t (record { onward = omega (arith, u .ahead .onward, v .passed .onward); rest = v .passed .rest ∙ u .ahead .rest })
 
-    pub inner-at-end : r .kind ≡ End → (depth ≡ 0 → ⊥) → Walking inner s from d o e p (r .next) (depth - 1)
-    inner-at-end q h = walk-skip m _ (r .next) (depth - 1) (f .onward) (omega (arith, m .deep, f .onward)) (by-kind f End q) (inner-up _ depth h)
+    pub inner-at-bare : {w : Walked} {g i : List ℕ} {p′ : ℕ} → r .kind ≡ Begin →
+        PropertiesPut e g p (headXml (upper (rest 0 (take (r .end) s) (r .value))) (w .bare) (entriesAt s (r .next))) s (r .next) w → w .bare ≡ true →
+        Put g i (w .to) p′ (tailXml (upper (rest 0 (take (r .end) s) (r .value))) (w .bare)) → Walking inner s from d o i p′ (w .next)
+    inner-at-bare q u h t =
+        component q u (rw (inner-empty _ (sym (u .ahead .empty) ∙ h)) (put-none _ _ (t .sized))) t (u .ahead .passed h)
 
-    pub inner-over : r .kind ≡ End → depth ≡ 0 → Put d e o p (innerXml (entriesAt s from) 0)
-    inner-over q h = walk-stop m _ (r .next) (by-kind f End q) (inner-close _ depth h)
+    inner-aside-at : Aside s at (r .next) → Walking inner s from d o e p (r .next)
+    inner-aside-at i =
+        walk-skip m (r .next) (f .onward) (ap innerXml (i .first) ∙ inner-aside _ (i .entry) (i .aside)) (sym (ap (λ (es : List Entry). behind es 0) (i .first) ∙ behind-aside _ (i .entry) 0 (i .aside)))
 
-    pub inner-at-property : r .kind ≡ Property → Walking inner s from d o e p (r .next) depth
-    inner-at-property q = let i = by-kind f Property q in walk-skip m _ (r .next) depth (f .onward) (omega (arith, m .deep, f .onward)) (i .first) (inner-property _ (i .line) depth)
+    pub inner-at-property : r .kind ≡ Property → Walking inner s from d o e p (r .next)
+    inner-at-property q = inner-aside-at (bound-kind f Property q)
 
-    pub inner-at-nothing : r .kind ≡ Nothing → Walking inner s from d o e p (r .next) depth
-    inner-at-nothing q = walk-skip m _ (r .next) depth (f .onward) (omega (arith, m .deep, f .onward)) (by-kind f Nothing q) (inner-pass _ depth)
+    pub inner-at-nothing : r .kind ≡ Nothing → Walking inner s from d o e p (r .next)
+    inner-at-nothing q = inner-aside-at (bound-kind f Nothing q)
 
-pub ruleset inners = (walk-start, walk-length, inner-end, inner-at-component, inner-at-begin, inner-at-end, inner-over, inner-at-property, inner-at-nothing, needs)
+pub ruleset inners = (walk-start, walk-length, inner-end, inner-at-component, inner-at-bare, inner-over, inner-at-property, inner-at-nothing, needs)

@@ -1,6 +1,6 @@
 -- The parts of a component's element around its subcomponents.
---     hasComponents n es    the component n, of which es are the entries behind its BEGIN, has an element `components`
---     headXml, tailXml      what stands before the subcomponents, and behind them
+--     hasComponents n empty    the component n, which has no subcomponents if it is empty, has an element `components`
+--     headXml, tailXml      what stands before the subcomponents, and behind them; es are the entries behind its BEGIN
 --     component-parts       the element is made of these
 --     head-put, tail-put    for code
 use mathlib.Core.Path.{_≡_, refl, sym, ap, _∙_}
@@ -20,25 +20,25 @@ use Rattle.model.specs.Calendar.{Components, noMore, component}
 use Rattle.xml.specs.Escape.{startTag, endTag, elementOf}
 use Rattle.ical.specs.Tree.{Entry, begin, innerOf}
 use Rattle.xcal.specs.WriteXml.{isNoMore, propertiesXml, componentsElement, componentsXml}
-use Rattle.document.specs.Walks.{ownXml, innerXml, own-place}
+use Rattle.document.specs.declared.properties.Walked.{Walked}
+use Rattle.document.specs.Entries.{entriesAt}
+use Rattle.document.specs.Walks.{ownXml, innerXml, behind, inner-deeper, own-place}
+use Rattle.document.specs.Places.{PropertiesPut}
 
-abbrev pub elementThere : List ℕ → Bool → Bool
-elementThere n empty = pick (same n (ascii "VCALENDAR")) true (pick empty false true)
+abbrev pub hasComponents : List ℕ → Bool → Bool
+hasComponents n empty = pick (same n (ascii "VCALENDAR")) true (pick empty false true)
 
-abbrev pub hasComponents : List ℕ → List Entry → Bool
-hasComponents n es = elementThere n (isNoMore (innerOf es 0))
+abbrev pub headXml : List ℕ → Bool → List Entry → List ℕ
+headXml n empty es = startTag (lower n) ⊕ elementOf (ascii "properties") (ownXml n es) ⊕ pick (hasComponents n empty) (startTag (ascii "components")) []
 
-abbrev pub headXml : List ℕ → List Entry → List ℕ
-headXml n es = startTag (lower n) ⊕ elementOf (ascii "properties") (ownXml n es 0) ⊕ pick (hasComponents n es) (startTag (ascii "components")) []
-
-abbrev pub tailXml : List ℕ → List Entry → List ℕ
-tailXml n es = pick (hasComponents n es) (endTag (ascii "components")) [] ⊕ endTag (lower n)
+abbrev pub tailXml : List ℕ → Bool → List ℕ
+tailXml n empty = pick (hasComponents n empty) (endTag (ascii "components")) [] ⊕ endTag (lower n)
 
 -- ---- laws
 
 -- `components` by its tags and what stands between them
 element-parts : (n : List ℕ) (c : Components) → componentsElement n (isNoMore c) (componentsXml c) ≡
-    pick (elementThere n (isNoMore c)) (startTag (ascii "components")) [] ⊕ componentsXml c ⊕ pick (elementThere n (isNoMore c)) (endTag (ascii "components")) []
+    pick (hasComponents n (isNoMore c)) (startTag (ascii "components")) [] ⊕ componentsXml c ⊕ pick (hasComponents n (isNoMore c)) (endTag (ascii "components")) []
 unfolding componentsElement componentsXml pick
 element-parts n c = go (same n (ascii "VCALENDAR")) c
   where
@@ -51,18 +51,21 @@ element-parts n c = go (same n (ascii "VCALENDAR")) c
 regroup : (a b c x d e f : List ℕ) → (a ⊕ (b ⊕ (c ⊕ x ⊕ d)) ⊕ e) ⊕ f ≡ ((a ⊕ b ⊕ c) ⊕ x ⊕ (d ⊕ e)) ⊕ f
 regroup a b c x d e f = simp append-regroup
 
-pub component-parts : (n : List ℕ) (es : List Entry) → innerXml (begin n ∷ es) 0 ≡ (headXml n es ⊕ innerXml es 0 ⊕ tailXml n es) ⊕ innerXml es 1
+pub component-parts : (n : List ℕ) (es : List Entry) → innerXml (begin n ∷ es) ≡ (headXml n (isNoMore (innerOf es 0)) es ⊕ innerXml es ⊕ tailXml n (isNoMore (innerOf es 0))) ⊕ innerXml (behind es 0)
 unfolding innerOf componentsXml
-component-parts n es = rw (element-parts n (innerOf es 0)) (regroup (startTag (lower n)) (elementOf (ascii "properties") (ownXml n es 0)) _ _ _ _ _)
+component-parts n es = rw (element-parts n (innerOf es 0), inner-deeper es 0) (regroup (startTag (lower n)) (elementOf (ascii "properties") (ownXml n es)) _ _ _ _ _)
 
 -- ---- for code
 
-module _ (n : List ℕ) (es : List Entry) {there : Bool} (h : there ≡ hasComponents n es) {d e f : List ℕ} {o a r : ℕ} where
-  pub head-put : {g : List ℕ} {b : ℕ} (k : ℕ) → k ≡ placeOf n componentNames → Put d e o a (startTag (lower n)) → Put e f a b (elementOf (ascii "properties") (ownXml (componentName k) es 0)) →
-      Put f g b r (pick there (startTag (ascii "components")) []) → Put d g o r (headXml n es)
-  head-put k q u v w =
-      let q′ : ownXml (componentName k) es 0 ≡ ownXml n es 0 = ap (λ (k : ℕ). ownXml (componentName k) es 0) q ∙ ap propertiesXml (own-place n es 0) in
-      u ▷ (rw q′ at v) ▷ (rw h at w)
+pub head-put : (n s : List ℕ) {from : ℕ} {w : Walked} {there : Bool} {d e f g : List ℕ} {o a r : ℕ} (k : ℕ) → k ≡ placeOf n componentNames → Put d e o a (startTag (lower n)) →
+    PropertiesPut e f a (elementOf (ascii "properties") (ownXml (componentName k) (entriesAt s from))) s from w → there ≡ hasComponents n (w .bare) →
+    Put f g (w .to) r (pick there (startTag (ascii "components")) []) →
+    PropertiesPut d g o (headXml n (w .bare) (entriesAt s from)) s from (record { to = r; inner = w .inner; bare = w .bare; next = w .next })
+head-put n s {from} k q u v h z =
+    let es : List Entry = entriesAt s from in
+    let q′ : ownXml (componentName k) es ≡ ownXml n es = ap (λ (k : ℕ). ownXml (componentName k) es) q ∙ ap propertiesXml (own-place n es 0) in
+    record { put = u ▷ (rw q′ at v .put) ▷ (rw h at z); ahead = v .ahead }
 
-  pub tail-put : Put d e o a (pick there (endTag (ascii "components")) []) → Put e f a r (endTag (lower n)) → Put d f o r (tailXml n es)
-  tail-put u v = (rw h at u) ▷ v
+pub tail-put : (n : List ℕ) (empty : Bool) {there : Bool} {d e f : List ℕ} {o a r : ℕ} → there ≡ hasComponents n empty →
+    Put d e o a (pick there (endTag (ascii "components")) []) → Put e f a r (endTag (lower n)) → Put d f o r (tailXml n empty)
+tail-put n empty h u v = (rw h at u) ▷ v

@@ -1,8 +1,11 @@
--- What is written of the entries of a component, one by one. A depth counts the components that are open inside it.
---     ownXml k es d     the XML of the properties of a component k;   innerXml es d: that of its subcomponents
+-- What is written of the entries of a component, one by one.
+--     ownXml k es       the XML of the properties of a component k, of which es are the entries behind its BEGIN;   innerXml es: that of its subcomponents
+--     behind es d       the entries behind the END of a component, from those inside it on, d components being open there
+--     isAside x         an entry that is neither BEGIN nor END
 --     own-begin ..      by the entry at hand
 --     own-place         of a component's name only its number matters
-use mathlib.Core.Path.{_≡_, refl}
+use mathlib.Core.Path.{_≡_, refl, ap}
+use mathlib.Core.Bool.{Bool, true, false, false≢true}
 use mathlib.Core.List.{List, [], _∷_}
 use Prim.Native.Nat.{ℕ, zero, suc, _+_, _-_}
 use native.Mathlib.Numerals.{add-one, sub-one}
@@ -11,86 +14,147 @@ use Rattle.octets.specs.Append.{_⊕_}
 use Rattle.names.specs.Table.{placeOf}
 use Rattle.schema.specs.Components.{componentNames}
 use Rattle.schema.specs.Numbers.{componentName}
+use Rattle.model.specs.Calendar.{Components, noMore, component}
 use Rattle.lines.specs.ContentLine.{ContentLine}
 use Rattle.ical.specs.Statement.{propertyOf}
 use Rattle.ical.specs.Tree.{Entry, begin, end, property, nothing, ownOf, innerOf}
-use Rattle.xcal.specs.WriteXml.{propertyXml, propertiesXml, componentsXml}
+use Rattle.xcal.specs.WriteXml.{isNoMore, propertyXml, propertiesXml, componentsXml}
 use Rattle.property_elements.specs.Placed.{property-of-place}
 
-abbrev pub ownXml : List ℕ → List Entry → ℕ → List ℕ
-ownXml k es d = propertiesXml (ownOf k es d)
+abbrev pub ownXml : List ℕ → List Entry → List ℕ
+ownXml k es = propertiesXml (ownOf k es 0)
 
-abbrev pub innerXml : List Entry → ℕ → List ℕ
-innerXml es d = componentsXml (innerOf es d)
+abbrev pub innerXml : List Entry → List ℕ
+innerXml es = componentsXml (innerOf es 0)
+
+unfoldable pub behind : List Entry → ℕ → List Entry
+behind [] d = []
+behind (begin n ∷ es) d = behind es (suc d)
+behind (end ∷ es) zero = es
+behind (end ∷ es) (suc d) = behind es d
+behind (property l ∷ es) d = behind es d
+behind (nothing ∷ es) d = behind es d
+
+-- neither BEGIN nor END
+abbrev pub isAside : Entry → Bool
+isAside (begin n) = false
+isAside end = false
+isAside (property l) = true
+isAside nothing = true
+
+-- ---- behind a component
+
+pub behind-none : (d : ℕ) → behind [] d ≡ []
+unfolding behind
+behind-none d = refl
+
+module _ (es : List Entry) where
+  pub behind-begin : (n : List ℕ) (d : ℕ) → behind (begin n ∷ es) d ≡ behind es (d + 1)
+  unfolding behind
+  behind-begin n d = rw add-one
+
+  pub behind-close : (d : ℕ) → d ≡ 0 → behind (end ∷ es) d ≡ es
+  unfolding behind
+  behind-close zero e = refl
+  behind-close (suc d) e = absurd (omega arith)
+
+  pub behind-up : (d : ℕ) → (d ≡ 0 → ⊥) → behind (end ∷ es) d ≡ behind es (d - 1)
+  unfolding behind
+  behind-up zero e = absurd (e refl)
+  behind-up (suc d) e = rw sub-one
+
+  pub behind-aside : (x : Entry) (d : ℕ) → isAside x ≡ true → behind (x ∷ es) d ≡ behind es d
+  unfolding behind
+  behind-aside (begin n) d h = absurd (false≢true h)
+  behind-aside end d h = absurd (false≢true h)
+  behind-aside (property l) zero h = refl
+  behind-aside (property l) (suc d) h = refl
+  behind-aside nothing zero h = refl
+  behind-aside nothing (suc d) h = refl
+
+-- what stands a component deeper goes on behind its END
+pub behind-deeper : (es : List Entry) (d : ℕ) → behind es (suc d) ≡ behind (behind es d) 0
+unfolding behind
+behind-deeper [] d = refl
+behind-deeper (begin n ∷ es) d = behind-deeper es (suc d)
+behind-deeper (end ∷ es) zero = refl
+behind-deeper (end ∷ es) (suc d) = behind-deeper es d
+behind-deeper (property l ∷ es) zero = behind-deeper es zero
+behind-deeper (property l ∷ es) (suc d) = behind-deeper es (suc d)
+behind-deeper (nothing ∷ es) zero = behind-deeper es zero
+behind-deeper (nothing ∷ es) (suc d) = behind-deeper es (suc d)
+
+own-deeper : (k : List ℕ) (es : List Entry) (d : ℕ) → ownOf k es (suc d) ≡ ownOf k (behind es d) 0
+unfolding ownOf behind
+own-deeper k [] d = refl
+own-deeper k (begin n ∷ es) d = own-deeper k es (suc d)
+own-deeper k (end ∷ es) zero = refl
+own-deeper k (end ∷ es) (suc d) = own-deeper k es d
+own-deeper k (property l ∷ es) zero = own-deeper k es zero
+own-deeper k (property l ∷ es) (suc d) = own-deeper k es (suc d)
+own-deeper k (nothing ∷ es) zero = own-deeper k es zero
+own-deeper k (nothing ∷ es) (suc d) = own-deeper k es (suc d)
+
+pub inner-deeper : (es : List Entry) (d : ℕ) → innerOf es (suc d) ≡ innerOf (behind es d) 0
+unfolding innerOf behind
+inner-deeper [] d = refl
+inner-deeper (begin n ∷ es) d = inner-deeper es (suc d)
+inner-deeper (end ∷ es) zero = refl
+inner-deeper (end ∷ es) (suc d) = inner-deeper es d
+inner-deeper (property l ∷ es) zero = inner-deeper es zero
+inner-deeper (property l ∷ es) (suc d) = inner-deeper es (suc d)
+inner-deeper (nothing ∷ es) zero = inner-deeper es zero
+inner-deeper (nothing ∷ es) (suc d) = inner-deeper es (suc d)
 
 -- ---- the properties
 
 module _ (k : List ℕ) where
-  pub own-none : (d : ℕ) → ownXml k [] d ≡ []
+  pub own-none : ownXml k [] ≡ []
   unfolding ownOf propertiesXml
-  own-none d = refl
+  own-none = refl
 
   module _ (es : List Entry) where
-    pub own-begin : (n : List ℕ) (d : ℕ) → ownXml k (begin n ∷ es) d ≡ ownXml k es (d + 1)
+    pub own-begin : (n : List ℕ) → ownXml k (begin n ∷ es) ≡ ownXml k (behind es 0)
     unfolding ownOf
-    own-begin n d = rw add-one
+    own-begin n = ap propertiesXml (own-deeper k es 0)
 
-    pub own-close : (d : ℕ) → d ≡ 0 → ownXml k (end ∷ es) d ≡ []
+    pub own-close : ownXml k (end ∷ es) ≡ []
     unfolding ownOf propertiesXml
-    own-close zero e = refl
-    own-close (suc d) e = absurd (omega arith)
+    own-close = refl
 
-    pub own-up : (d : ℕ) → (d ≡ 0 → ⊥) → ownXml k (end ∷ es) d ≡ ownXml k es (d - 1)
-    unfolding ownOf
-    own-up zero e = absurd (e refl)
-    own-up (suc d) e = rw sub-one
-
-    pub own-here : (l : ContentLine) (d : ℕ) → d ≡ 0 → ownXml k (property l ∷ es) d ≡ propertyXml (propertyOf k l) ⊕ ownXml k es d
+    pub own-property : (l : ContentLine) → ownXml k (property l ∷ es) ≡ propertyXml (propertyOf k l) ⊕ ownXml k es
     unfolding ownOf propertiesXml
-    own-here l zero e = refl
-    own-here l (suc d) e = absurd (omega arith)
+    own-property l = refl
 
-    pub own-deeper : (l : ContentLine) (d : ℕ) → (d ≡ 0 → ⊥) → ownXml k (property l ∷ es) d ≡ ownXml k es d
+    pub own-pass : ownXml k (nothing ∷ es) ≡ ownXml k es
     unfolding ownOf
-    own-deeper l zero e = absurd (e refl)
-    own-deeper l (suc d) e = refl
-
-    pub own-pass : (d : ℕ) → ownXml k (nothing ∷ es) d ≡ ownXml k es d
-    unfolding ownOf
-    own-pass zero = refl
-    own-pass (suc d) = refl
+    own-pass = refl
 
 -- ---- the subcomponents
 
-pub inner-none : (d : ℕ) → innerXml [] d ≡ []
+pub inner-none : innerXml [] ≡ []
 unfolding innerOf componentsXml
-inner-none d = refl
+inner-none = refl
+
+pub inner-empty : (es : List Entry) → isNoMore (innerOf es 0) ≡ true → innerXml es ≡ []
+unfolding componentsXml
+inner-empty es h = go (innerOf es 0) h
+  where
+    go : (c : Components) → isNoMore c ≡ true → componentsXml c ≡ []
+    go noMore h = refl
+    go (component n ps inner next) h = absurd (false≢true h)
 
 module _ (es : List Entry) where
-  pub inner-begin : (n : List ℕ) (d : ℕ) → (d ≡ 0 → ⊥) → innerXml (begin n ∷ es) d ≡ innerXml es (d + 1)
-  unfolding innerOf
-  inner-begin n zero e = absurd (e refl)
-  inner-begin n (suc d) e = rw add-one
-
-  pub inner-close : (d : ℕ) → d ≡ 0 → innerXml (end ∷ es) d ≡ []
+  pub inner-close : innerXml (end ∷ es) ≡ []
   unfolding innerOf componentsXml
-  inner-close zero e = refl
-  inner-close (suc d) e = absurd (omega arith)
+  inner-close = refl
 
-  pub inner-up : (d : ℕ) → (d ≡ 0 → ⊥) → innerXml (end ∷ es) d ≡ innerXml es (d - 1)
+  pub inner-aside : (x : Entry) → isAside x ≡ true → innerXml (x ∷ es) ≡ innerXml es
   unfolding innerOf
-  inner-up zero e = absurd (e refl)
-  inner-up (suc d) e = rw sub-one
-
-  pub inner-property : (l : ContentLine) (d : ℕ) → innerXml (property l ∷ es) d ≡ innerXml es d
-  unfolding innerOf
-  inner-property l zero = refl
-  inner-property l (suc d) = refl
-
-  pub inner-pass : (d : ℕ) → innerXml (nothing ∷ es) d ≡ innerXml es d
-  unfolding innerOf
-  inner-pass zero = refl
-  inner-pass (suc d) = refl
+  inner-aside (begin n) h = absurd (false≢true h)
+  inner-aside end h = absurd (false≢true h)
+  inner-aside (property l) h = refl
+  inner-aside nothing h = refl
 
 -- ---- the component's number
 

@@ -23,6 +23,6 @@ written-is c = regroup declaration (10 ∷ []) rootStart (componentsXml c ⊕ ro
 calendar-at : (s : List ℕ) → innerOf (entriesAt s 0) 0 ≡ calendarOf (lines s)
 calendar-at s = entries-start s ∙ ap calendarOf (lines-start s)
 
-pub document-put : (s : List ℕ) {d e f g : List ℕ} {o a b r : ℕ} → Put d e o a (declaration ⊕ (10 ∷ []) ⊕ rootStart) → Put e f a b (innerXml (entriesAt s 0) 0) →
+pub document-put : (s : List ℕ) {d e f g : List ℕ} {o a b r : ℕ} → Put d e o a (declaration ⊕ (10 ∷ []) ⊕ rootStart) → Put e f a b (innerXml (entriesAt s 0)) →
     Put f g b r (rootEnd ⊕ (10 ∷ [])) → Put d g o r (writeDocument (calendarOf (lines s)))
 document-put s {d} {g = g} {o} {r = r} u v w = subst (Put d g o r) (written-is (innerOf (entriesAt s 0) 0) ∙ ap writeDocument (calendar-at s)) (u ▷ v ▷ w)

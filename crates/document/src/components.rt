@@ -1,41 +1,42 @@
 // The components of a text, or of a component. See specs/Walks.antt.
+use crate::bound::bound_at;
 use crate::entry::Kind;
-use crate::entry::entry_at;
 use crate::parts::put_head;
 use crate::parts::put_tail;
-ghost use Rattle.sink.specs.Sink.{Put};
-ghost use Rattle.document.specs.Entries.{entriesAt};
-ghost use Rattle.document.specs.Walks.{innerXml};
+ghost use Rattle.document.specs.Places.{ComponentsPut};
 
-// The components that the lines from `from` on begin at depth 0, up to the end of the one that they stand in.
-pub fn put_components(out: &mut [u8], o: usize, s: &[u8], from: usize) -> usize
-    ensures { λ r. ⌜ Put (now (out .entry)) (now (out .exit)) o r (innerXml (entriesAt (now (s .entry)) from) 0) ⌝ }
+// How far a walk has come: the index in the sink, and that in the text, behind the END that ended it or at the text's end.
+pub struct Reached {
+    pub to: usize,
+    pub next: usize,
+}
+
+// The components that the lines from `from` on begin, up to the end of the one that they stand in.
+pub fn put_components(out: &mut [u8], o: usize, s: &[u8], from: usize) -> Reached
+    ensures { λ r. ⌜ ComponentsPut (now (out .entry)) (now (out .exit)) o (now (s .entry)) from r ⌝ }
 {
     let mut p = o;
     let mut at = from;
-    let mut depth: usize = 0;
     while at < s.len() {
-        let f = entry_at(s, at);
+        let f = bound_at(s, at);
         let kind = f.kind;
         match kind {
             Kind::Begin => {
-                if depth == 0 {
-                    let a = put_head(out, p, s, f.value, f.end, f.next);
-                    let b = put_components(out, a, s, f.next);
-                    p = put_tail(out, b, s, f.value, f.end, f.next);
-                    depth = 1;
-                    at = f.next;
+                let h = put_head(out, p, s, f.value, f.end, f.next);
+                if h.bare {
+                    p = put_tail(out, h.to, &s[..f.end], f.value, h.bare);
+                    at = h.next;
                 } else {
-                    depth += 1;
-                    at = f.next;
+                    let b = put_components(out, h.to, s, h.inner);
+                    p = put_tail(out, b.to, &s[..f.end], f.value, h.bare);
+                    at = b.next;
                 }
             }
             Kind::End => {
-                if depth == 0 {
-                    return p;
-                }
-                depth -= 1;
-                at = f.next;
+                return Reached {
+                    to: p,
+                    next: f.next,
+                };
             }
             Kind::Property => {
                 at = f.next;
@@ -45,5 +46,5 @@ pub fn put_components(out: &mut [u8], o: usize, s: &[u8], from: usize) -> usize
             }
         }
     }
-    p
+    Reached { to: p, next: at }
 }

@@ -34,5 +34,5 @@ pub fn put_document(out: &mut [u8], o: usize, s: &[u8]) -> usize
 {
     let a = put_front(out, o);
     let b = put_components(out, a, s, 0);
-    put_back(out, b)
+    put_back(out, b.to)
 }

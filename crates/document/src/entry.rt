@@ -19,9 +19,10 @@ pub enum Kind {
     Nothing,
 }
 
-// A line: what it is, the cursor of its value, the index where it ends, and that of the next line.
+// A line: what it is, the cursors of its name's end and of its value, the index where it ends, and that of the next line.
 pub struct Found {
     pub kind: Kind,
+    pub name: usize,
     pub value: usize,
     pub end: usize,
     pub next: usize,
@@ -50,6 +51,7 @@ pub fn entry_at(s: &[u8], at: usize) -> Found
     match line_end(s, at) {
         Ending::Loose => Found {
             kind: Kind::Nothing,
+            name: at,
             value: at,
             end: at,
             next: s.len(),
@@ -57,12 +59,14 @@ pub fn entry_at(s: &[u8], at: usize) -> Found
         Ending::Whole(e) => match line_at(0, &s[..e], at) {
             LineRead::Bad => Found {
                 kind: Kind::Nothing,
+                name: e,
                 value: e,
                 end: e,
                 next: e + 2,
             },
             LineRead::Line(n, v) => Found {
                 kind: kind_of(&s[..n], at),
+                name: n,
                 value: v,
                 end: e,
                 next: e + 2,

@@ -1,6 +1,7 @@
 // The properties of a component. See specs/Walks.antt.
 use crate::entry::Kind;
 use crate::entry::entry_at;
+use crate::passing::pass_component;
 use markup::put_end_tag;
 use markup::put_start_tag;
 use property_elements::put_property;
@@ -10,36 +11,79 @@ ghost use Rattle.xml.specs.Escape.{elementOf};
 ghost use Rattle.schema.specs.Numbers.{componentName};
 ghost use Rattle.document.specs.Entries.{entriesAt};
 ghost use Rattle.document.specs.Walks.{ownXml};
+ghost use Rattle.document.specs.Places.{PropertiesPut, LeadingPut};
 
-// The properties of the component of the number `k` whose lines begin at `from`: those at depth 0, up to its end.
-fn put_properties(out: &mut [u8], o: usize, k: usize, s: &[u8], from: usize) -> usize
-    ensures { λ r. ⌜ Put (now (out .entry)) (now (out .exit)) o r (ownXml (componentName k) (entriesAt (now (s .entry)) from) 0) ⌝ }
+// How far a walk over a component's lines has come: the index in the sink, that of the first subcomponent; or there is none, and the component
+// ends before `next`.
+pub struct Walked {
+    pub to: usize,
+    pub inner: usize,
+    pub bare: bool,
+    pub next: usize,
+}
+
+// The properties of the component of the number `k` whose lines begin at `from`, up to its first subcomponent.
+fn put_leading(out: &mut [u8], o: usize, k: usize, s: &[u8], from: usize) -> Walked
+    ensures { λ r. ⌜ LeadingPut (now (out .entry)) (now (out .exit)) o k (now (s .entry)) from r ⌝ }
 {
     let mut p = o;
     let mut at = from;
-    let mut depth: usize = 0;
     while at < s.len() {
         let f = entry_at(s, at);
         let kind = f.kind;
         match kind {
             Kind::Begin => {
-                depth += 1;
-                at = f.next;
+                return Walked {
+                    to: p,
+                    inner: at,
+                    bare: false,
+                    next: at,
+                };
             }
             Kind::End => {
-                if depth == 0 {
-                    return p;
-                }
-                depth -= 1;
-                at = f.next;
+                return Walked {
+                    to: p,
+                    inner: at,
+                    bare: true,
+                    next: f.next,
+                };
             }
             Kind::Property => {
-                if depth == 0 {
-                    p = put_property(out, p, k, &s[..f.end], at);
-                    at = f.next;
-                } else {
-                    at = f.next;
-                }
+                p = put_property(out, p, k, &s[..f.end], at, f.name, f.value);
+                at = f.next;
+            }
+            Kind::Nothing => {
+                at = f.next;
+            }
+        }
+    }
+    Walked {
+        to: p,
+        inner: at,
+        bare: true,
+        next: at,
+    }
+}
+
+// Those from `from` on, between and behind its subcomponents too.
+fn put_following(out: &mut [u8], o: usize, k: usize, s: &[u8], from: usize) -> usize
+    ensures { λ r. ⌜ Put (now (out .entry)) (now (out .exit)) o r (ownXml (componentName k) (entriesAt (now (s .entry)) from)) ⌝ }
+{
+    let mut p = o;
+    let mut at = from;
+    while at < s.len() {
+        let f = entry_at(s, at);
+        let kind = f.kind;
+        match kind {
+            Kind::Begin => {
+                at = pass_component(s, f.next);
+            }
+            Kind::End => {
+                return p;
+            }
+            Kind::Property => {
+                p = put_property(out, p, k, &s[..f.end], at, f.name, f.value);
+                at = f.next;
             }
             Kind::Nothing => {
                 at = f.next;
@@ -49,11 +93,34 @@ fn put_properties(out: &mut [u8], o: usize, k: usize, s: &[u8], from: usize) -> 
     p
 }
 
+// All of them.
+fn put_properties(out: &mut [u8], o: usize, k: usize, s: &[u8], from: usize) -> Walked
+    ensures { λ r. ⌜ PropertiesPut (now (out .entry)) (now (out .exit)) o (ownXml (componentName k) (entriesAt (now (s .entry)) from)) (now (s .entry)) from r ⌝ }
+{
+    let a = put_leading(out, o, k, s, from);
+    if a.bare {
+        return a;
+    }
+    let b = put_following(out, a.to, k, s, a.inner);
+    Walked {
+        to: b,
+        inner: a.inner,
+        bare: a.bare,
+        next: a.next,
+    }
+}
+
 // The same, as the element `properties`.
-pub fn put_properties_element(out: &mut [u8], o: usize, k: usize, s: &[u8], from: usize) -> usize
-    ensures { λ r. ⌜ Put (now (out .entry)) (now (out .exit)) o r (elementOf (ascii "properties") (ownXml (componentName k) (entriesAt (now (s .entry)) from) 0)) ⌝ }
+pub fn put_properties_element(out: &mut [u8], o: usize, k: usize, s: &[u8], from: usize) -> Walked
+    ensures { λ r. ⌜ PropertiesPut (now (out .entry)) (now (out .exit)) o (elementOf (ascii "properties") (ownXml (componentName k) (entriesAt (now (s .entry)) from))) (now (s .entry)) from r ⌝ }
 {
     let a = put_start_tag(out, o, b"properties");
     let b = put_properties(out, a, k, s, from);
-    put_end_tag(out, b, b"properties")
+    let c = put_end_tag(out, b.to, b"properties");
+    Walked {
+        to: c,
+        inner: b.inner,
+        bare: b.bare,
+        next: b.next,
+    }
 }

@@ -2,11 +2,11 @@
 --     nameIn         the name
 --     statedXml      the elements of its values, of the type that it states
 --     contentXml     those of its parameters and its values
---     partsXml       the whole element;   property-xml: what is written of the line
+--     partsXml       the whole element;   property-xml: what is written of the line;   name-inside: where its name ends
 use mathlib.Core.Path.{_≡_, refl, sym, ap, _∙_}
 use mathlib.Core.List.{List, []}
 use mathlib.Core.Option.{none}
-use Prim.Native.Nat.{ℕ, _-_, _*_, _^_, _≤_, _<_}
+use Prim.Native.Nat.{ℕ, _≤_}
 use native.Mathlib.Omega.{arith}
 use native.Mathlib.Decide.{decLe}
 use lib.ListN.{length, take, drop-of-length-le}
@@ -19,7 +19,7 @@ use Rattle.octets.specs.Scan.{spanLen}
 use Rattle.octets.specs.Reading.{readOr, orNothing, none-some}
 use Rattle.names.specs.Table.{placeOf}
 use Rattle.model.specs.Calendar.{TEXT}
-use Rattle.sink.specs.Sink.{Put, put-none}
+use Rattle.sink.specs.Sink.{Put}
 use Rattle.source.specs.Source.{rest}
 use Rattle.schema.specs.Properties.{propertyNames}
 use Rattle.schema.specs.Numbers.{typeAt, componentName, propertyName}
@@ -28,8 +28,7 @@ use Rattle.lines.specs.ContentLine.{contentLine}
 use Rattle.lines.specs.Cursor.{paramsAt}
 use Rattle.lines.specs.Params.{name-chars}
 use Rattle.lines.specs.Line.{LineAt}
-use Rattle.lines.specs.declared.LineRead.{LineRead}
-use Rattle.lines.specs.declared.LineRead.the-variants.{Line, Bad}
+use Rattle.lines.specs.declared.LineRead.the-variants.{Line}
 use Rattle.ical.specs.Parameters.{statedType, readParameters}
 use Rattle.ical.specs.Values.{readValues}
 use Rattle.ical.specs.Statement.{propertyOf}
@@ -77,17 +76,6 @@ module _ {s : List ℕ} {c e v : ℕ} (a : LineAt 0 s c (Line e v)) where
       ∙ rw (name-chars (a .parts .name), lower-any-case (runOf isNameChar (rest 0 s c)))
 
 -- ---- for the code
-
-module _ {s : List ℕ} {c : ℕ} {r : LineRead} (a : LineAt 0 s c r) where
-  pub parts-inside : (e v : ℕ) → r ≡ Line e v → e ≤ length s
-  parts-inside e v h = let b : LineAt 0 s c (Line e v) = rw h at a in name-inside b
-
-  pub put-parts : {d f : List ℕ} {at o : ℕ} (k e v : ℕ) → r ≡ Line e v → Put d f at o (partsXml k s c e v) →
-      Put d f at o (orNothing (λ l. propertyXml (propertyOf (componentName k) l)) (contentLine (rest 0 s c)))
-  put-parts k e v h w = let b : LineAt 0 s c (Line e v) = rw h at a in rw (property-xml b k) w
-
-  pub put-no-line : {d : List ℕ} {at : ℕ} (k : ℕ) → r ≡ Bad → length d * 1 < 2 ^ 63 → Put d d at at (orNothing (λ l. propertyXml (propertyOf (componentName k) l)) (contentLine (rest 0 s c)))
-  put-no-line {d} {at} k h z = let b : LineAt 0 s c Bad = rw h at a in rw (b .is) (put-none d at z)
 
 -- the values, by the number of the line's name and by the type that was found
 module _ {d f : List ℕ} {at o : ℕ} (k : ℕ) {p : ℕ} {s : List ℕ} (c : ℕ) {e : ℕ} (v : ℕ) {r : TypeRead} (h : p ≡ placeOf (upper (nameIn s c e)) propertyNames) (a : StatedAt p s e r) where

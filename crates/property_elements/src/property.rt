@@ -1,7 +1,5 @@
 // A content line written as the element of its property. See specs/Property.antt.
 use crate::shown::put_values;
-use lines::LineRead;
-use lines::line_at;
 use names::put_lower;
 use parameter_elements::put_parameters;
 use parameters::TypeRead;
@@ -11,14 +9,9 @@ use sink::put_all;
 ghost use Prim.Native.Nat.{_≤_};
 ghost use lib.ListN.{length};
 ghost use Rattle.octets.specs.Class.{lower};
-ghost use Rattle.octets.specs.Reading.{orNothing};
 ghost use Rattle.sink.specs.Sink.{Put};
 ghost use Rattle.source.specs.Source.{rest};
 ghost use Rattle.xml.specs.Escape.{startTag, endTag};
-ghost use Rattle.lines.specs.ContentLine.{contentLine};
-ghost use Rattle.schema.specs.Numbers.{componentName};
-ghost use Rattle.ical.specs.Statement.{propertyOf};
-ghost use Rattle.xcal.specs.WriteXml.{propertyXml};
 ghost use Rattle.property_elements.specs.Property.{statedXml, contentXml, partsXml};
 
 // The start tag of a name in small letters.
@@ -59,21 +52,21 @@ fn put_content(out: &mut [u8], o: usize, k: usize, s: &[u8], at: usize, e: usize
     put_stated(out, a, k, s, at, e, v)
 }
 
-fn put_parts(out: &mut [u8], o: usize, k: usize, s: &[u8], at: usize, e: usize, v: usize) -> usize
+// The property of the component `k` that the content line from the cursor `at` on states: its name ends at the cursor `e`, and its value stands from the
+// cursor `v` on.
+pub fn put_property(
+    out: &mut [u8],
+    o: usize,
+    k: usize,
+    s: &[u8],
+    at: usize,
+    e: usize,
+    v: usize,
+) -> usize
     requires { ⌜ e ≤ length (now s) ⌝ }
     ensures { λ r. ⌜ Put (now (out .entry)) (now (out .exit)) o r (partsXml k (now (s .entry)) at e v) ⌝ }
 {
     let a = put_small_start(out, o, &s[..e], at);
     let b = put_content(out, a, k, s, at, e, v);
     put_small_end(out, b, &s[..e], at)
-}
-
-// The property of the component `k` that the line from the cursor on states; nothing where it is no content line.
-pub fn put_property(out: &mut [u8], o: usize, k: usize, s: &[u8], at: usize) -> usize
-    ensures { λ r. ⌜ Put (now (out .entry)) (now (out .exit)) o r (orNothing (λ l. propertyXml (propertyOf (componentName k) l)) (contentLine (rest 0 (now (s .entry)) at))) ⌝ }
-{
-    let LineRead::Line(e, v) = line_at(0, s, at) else {
-        return o;
-    };
-    put_parts(out, o, k, s, at, e, v)
 }

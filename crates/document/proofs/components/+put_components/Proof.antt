@@ -1,13 +1,15 @@
 -- `document::components::put_components`, which calls itself, meets its contract. The measure is what is left of the text.
 use Prim.Native.Nat.{ℕ, _-_, _<_}
 use lib.ListN.{length}
+use lib.Seq.{length-take-le}
+use borrow.Author.Needs.{needs}
 use Rattle.document.proofs.Walking.{Walking, inner, inners}
 use borrow.Fn.Kinds.{In}
 use borrow.Fn.PlainCycle.{Measures, is, falls, and}
 use Rattle.document.proofs.components.put_components.Reads as put-components
 use Rattle.document.proofs.components.put_components.Kinds as put-components-kinds
 use Rattle.document.proofs.components.+put_components.Lts-put_components as put-components-lts
-use Rattle.document.proofs.entry.entry_at.Reads as entry-at-reads
+use Rattle.document.proofs.bound.bound_at.Reads as bound-at-reads
 use Rattle.document.proofs.parts.put_head.Reads as put-head-reads
 use Rattle.document.proofs.parts.put_tail.Reads as put-tail-reads
 use Rattle.document.proofs.components.+put_components.{statement}
@@ -34,13 +36,13 @@ put-components-below t =
 
 -- what the calls ask and give
 abbrev claims : ℕ → put-components-lts.Claims
-claims t = (entry-at-reads.Asked, entry-at-reads.Learnt, put-head-reads.Asked, put-head-reads.Learnt, put-components-below t, put-components.Post, put-tail-reads.Asked, put-tail-reads.Learnt)
+claims t = (bound-at-reads.Asked, bound-at-reads.Learnt, put-head-reads.Asked, put-head-reads.Learnt, put-tail-reads.Asked, put-tail-reads.Learnt, put-components-below t, put-components.Post)
 
 abbrev put-components-Inv-loop : put-components-lts.InvT-loop
-put-components-Inv-loop out₀ o s from p₀ at₀ depth₀ out p at depth = Walking inner s from out₀ o out p at depth
+put-components-Inv-loop out₀ o s from p₀ at₀ out p at = Walking inner s from out₀ o out p at
 
 abbrev put-components-μ-loop : put-components-lts.MeasureT-loop
-put-components-μ-loop out₀ o s from p₀ at₀ depth₀ out p at depth = length s - at
+put-components-μ-loop out₀ o s from p₀ at₀ out p at = length s - at
 
 pub +put-components-spec : {M : Type 1} → statement M
 +put-components-spec = close μ-put-components
@@ -51,28 +53,27 @@ pub +put-components-spec : {M : Type 1} → statement M
     put-components-Inv-loop
     put-components-μ-loop
     (λ c. search inners)  -- loop-holds
-    (λ c κs. search inners)  -- entry-at-requires
+    (λ c κs. search inners)  -- bound-at-requires
     (λ c. search inners)  -- enum-told
     (λ c κs. search inners)  -- put-head-requires
-    (λ c κs. search inners)  -- put-components-requires
+    (λ c. search (length-take-le, needs))  -- slice-aggregate-put-tail
     (λ c κs. search inners)  -- put-tail-requires
     (λ c. search inners)  -- loop-less
     (λ c. search inners)  -- loop-again
-    (λ c. search inners)  -- add-depth
+    (λ c κs. search inners)  -- put-components-requires
+    (λ c. search (length-take-le, needs))  -- slice-aggregate-put-tail-2
+    (λ c κs. search inners)  -- put-tail-requires-2
     (λ c. search inners)  -- loop-less-2
     (λ c. search inners)  -- loop-again-2
     (λ c. search inners)  -- enum-told-2
     (λ c. search inners)  -- same-length
     (λ c. search inners)  -- returns
-    (λ c. search inners)  -- sub-depth
+    (λ c. search inners)  -- enum-told-3
     (λ c. search inners)  -- loop-less-3
     (λ c. search inners)  -- loop-again-3
-    (λ c. search inners)  -- enum-told-3
+    (λ c. search inners)  -- enum-told-4
     (λ c. search inners)  -- loop-less-4
     (λ c. search inners)  -- loop-again-4
-    (λ c. search inners)  -- enum-told-4
-    (λ c. search inners)  -- loop-less-5
-    (λ c. search inners)  -- loop-again-5
     (λ c. search inners)  -- same-length-2
     (λ c. search inners)  -- returns-2
     )

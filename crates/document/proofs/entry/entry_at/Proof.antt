@@ -21,7 +21,7 @@ entry-at-spec = tie.close (tie.spec
     (λ c. let f = subst (First (c .before .before .before .before .before .before .before .before .before .before .before .args .s .now) (c .before .before .before .before .before .before .before .before .before .before .before .args .at)) (c .before .before .before .before .before .before .before .e .given .1) (c .before .before .before .before .before .before .before .before .before .line-end .ensures) in let b = line-within (c .before .before .before .before .before .before .before .before .before .before .before .args .s .now) (c .before .before .before .before .before .before .before .before .before .before .before .args .at) _ f in let n = name-within (c .before .before .before .before .before .before .before .before .before .before .before .args .s .now) (c .before .before .before .before .before .before .before .before .before .before .before .args .at) _ f (c .before .before .before .before .line-at .ensures) (c .before .before .n .given .1) in simp length-take (omega (arith, b, n)))  -- slice-aggregate-kind-of
     (λ c κs. search needs)  -- kind-of-requires
     (λ c. let b = line-within (c .before .before .before .before .before .before .before .before .before .before .before .before .args .s .now) (c .before .before .before .before .before .before .before .before .before .before .before .before .args .at) _ (subst (First (c .before .before .before .before .before .before .before .before .before .before .before .before .args .s .now) (c .before .before .before .before .before .before .before .before .before .before .before .before .args .at)) (c .before .before .before .before .before .before .before .before .e .given .1) (c .before .before .before .before .before .before .before .before .before .before .line-end .ensures)) in search (b, needs))  -- add-t19
-    (λ c. found-loose (c .before .before .before .before .args .s .now) (c .before .before .before .before .args .at) _ (c .before .before .before .before .pre) (subst (First (c .before .before .before .before .args .s .now) (c .before .before .before .before .args .at)) (c .enum-told .given .1) (c .before .before .line-end .ensures)))  -- returns
-    (λ c. found-bad (c .before .before .before .before .before .before .before .before .before .args .s .now) (c .before .before .before .before .before .before .before .before .before .args .at) _ (subst (First (c .before .before .before .before .before .before .before .before .before .args .s .now) (c .before .before .before .before .before .before .before .before .before .args .at)) (c .before .before .before .before .before .e .given .1) (c .before .before .before .before .before .before .before .line-end .ensures)) (c .before .before .line-at .ensures) _ (c .enum-told2 .given .1))  -- returns-2
+    (λ c. found-loose (c .before .before .before .before .args .s .now) (c .before .before .before .before .args .at) _ _ (c .before .before .before .before .pre) (subst (First (c .before .before .before .before .args .s .now) (c .before .before .before .before .args .at)) (c .enum-told .given .1) (c .before .before .line-end .ensures)))  -- returns
+    (λ c. found-bad (c .before .before .before .before .before .before .before .before .before .args .s .now) (c .before .before .before .before .before .before .before .before .before .args .at) _ (subst (First (c .before .before .before .before .before .before .before .before .before .args .s .now) (c .before .before .before .before .before .before .before .before .before .args .at)) (c .before .before .before .before .before .e .given .1) (c .before .before .before .before .before .before .before .line-end .ensures)) (c .before .before .line-at .ensures) _ _ (c .enum-told2 .given .1))  -- returns-2
     (λ c. found-named (c .before .before .before .before .before .before .before .before .before .before .before .before .args .s .now) (c .before .before .before .before .before .before .before .before .before .before .before .before .args .at) _ (subst (First (c .before .before .before .before .before .before .before .before .before .before .before .before .args .s .now) (c .before .before .before .before .before .before .before .before .before .before .before .before .args .at)) (c .before .before .before .before .before .before .before .before .e .given .1) (c .before .before .before .before .before .before .before .before .before .before .line-end .ensures)) (c .before .before .before .before .before .line-at .ensures) (c .before .before .before .n .given .1) (c .kind-of .ensures))  -- returns-3
     )

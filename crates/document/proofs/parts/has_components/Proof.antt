@@ -1,5 +1,4 @@
 -- `document::parts::has_components` meets its contract.
-use lib.Seq.{length-take-le}
 use borrow.Author.Needs.{needs}
 use Rattle.octets.specs.Pick.{branching}
 use Rattle.document.proofs.parts.has_components.Statement.{statement}
@@ -7,11 +6,9 @@ use Rattle.document.proofs.parts.has_components.Tie as tie
 
 pub has-components-spec : {M : Type 1} → statement M
 has-components-spec = tie.close (tie.spec
-    (λ c. search (length-take-le, needs))  -- slice-aggregate-is-word-any-case
-    (λ c. search needs)  -- slice-aggregate-is-word-any-case-2
+    (λ c. search needs)  -- slice-aggregate-is-word-any-case
     (λ c κs. search needs)  -- is-word-any-case-requires
     (λ c. search branching)  -- returns
-    (λ c κs. search needs)  -- is-bare-requires
     (λ c. search branching)  -- returns-2
     (λ c. search branching)  -- returns-3
     )

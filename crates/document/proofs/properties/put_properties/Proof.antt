@@ -1,45 +1,15 @@
 -- `document::properties::put_properties` meets its contract.
-use Prim.Native.Nat.{_-_}
-use lib.ListN.{length}
-use lib.Seq.{length-take-le}
 use borrow.Author.Needs.{needs}
-use Rattle.schema.specs.Numbers.{componentName}
-use Rattle.document.proofs.Walking.{Walking, own, owns}
+use Rattle.document.specs.Places.{leading-bare, leading-more}
 use Rattle.document.proofs.properties.put_properties.Statement.{statement}
 use Rattle.document.proofs.properties.put_properties.Tie as tie
 
-abbrev Inv-loop : tie.InvT-loop
-Inv-loop out₀ o k s from p₀ at₀ depth₀ out p at depth = Walking (own (componentName k)) s from out₀ o out p at depth
-
-abbrev μ-loop : tie.MeasureT-loop
-μ-loop out₀ o k s from p₀ at₀ depth₀ out p at depth = length s - at
-
 pub put-properties-spec : {M : Type 1} → statement M
 put-properties-spec = tie.close (tie.spec
-    Inv-loop
-    μ-loop
-    (λ c. search owns)  -- loop-holds
-    (λ c κs. search owns)  -- entry-at-requires
-    (λ c. search owns)  -- enum-told
-    (λ c. search owns)  -- add-depth
-    (λ c. search owns)  -- loop-less
-    (λ c. search owns)  -- loop-again
-    (λ c. search owns)  -- enum-told-2
-    (λ c. search owns)  -- same-length
-    (λ c. search owns)  -- returns
-    (λ c. search owns)  -- sub-depth
-    (λ c. search owns)  -- loop-less-2
-    (λ c. search owns)  -- loop-again-2
-    (λ c. search owns)  -- enum-told-3
-    (λ c. search (length-take-le, needs))  -- slice-aggregate-put-property
-    (λ c κs. search needs)  -- put-property-requires
-    (λ c. search owns)  -- loop-less-3
-    (λ c. search owns)  -- loop-again-3
-    (λ c. search owns)  -- loop-less-4
-    (λ c. search owns)  -- loop-again-4
-    (λ c. search owns)  -- enum-told-4
-    (λ c. search owns)  -- loop-less-5
-    (λ c. search owns)  -- loop-again-5
-    (λ c. search owns)  -- same-length-2
-    (λ c. search owns)  -- returns-2
+    (λ c κs. search needs)  -- put-leading-requires
+    (λ c. search needs)  -- same-length
+    (λ c. search (leading-bare, needs))  -- returns
+    (λ c κs. search needs)  -- put-following-requires
+    (λ c. search needs)  -- same-length-2
+    (λ c. search (leading-more, needs))  -- returns-2
     )

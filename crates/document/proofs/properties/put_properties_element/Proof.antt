@@ -1,5 +1,7 @@
 -- `document::properties::put_properties_element` meets its contract.
+use borrow.Author.Needs.{needs}
 use Rattle.sink.specs.Sink.{writing}
+use Rattle.document.specs.Places.{element-put}
 use Rattle.document.proofs.properties.put_properties_element.Statement.{statement}
 use Rattle.document.proofs.properties.put_properties_element.Tie as tie
 
@@ -11,5 +13,5 @@ put-properties-element-spec = tie.close (tie.spec
     (λ c. search writing)  -- slice-aggregate-put-end-tag
     (λ c κs. search writing)  -- put-end-tag-requires
     (λ c. search writing)  -- same-length
-    (λ c. search writing)  -- returns
+    (λ c. search (element-put, needs))  -- returns
     )

@@ -1,0 +1,54 @@
+-- The way past a component, line by line.
+--     Passing    the invariant;   `search passings`
+use mathlib.Core.Path.{_≡_, refl, sym, ap, _∙_}
+use mathlib.Core.List.{List, [], _∷_}
+use Prim.Native.Nat.{ℕ, _+_, _-_, _≤_, _<_}
+use native.Mathlib.Omega.{arith}
+use lib.ListN.{length}
+use borrow.Author.Needs.{needs}
+use Rattle.ical.specs.Tree.{Entry}
+use Rattle.document.specs.declared.entry.Found.{Found}
+use Rattle.document.specs.declared.entry.Kind.the-variants.{Begin, End, Property, Nothing}
+use Rattle.document.specs.Entries.{entriesAt, First, entries-past}
+use Rattle.document.specs.Bounds.{Aside, BoundAt, bound-kind}
+use Rattle.document.specs.Walks.{behind, behind-none, behind-begin, behind-close, behind-up, behind-aside}
+use Rattle.document.specs.Places.{Passed}
+
+pub record Passing (s : List ℕ) (from at depth : ℕ) : Type 0 where
+  pub low : from ≤ at
+  pub deep : depth ≤ at
+  pub is : behind (entriesAt s at) depth ≡ behind (entriesAt s from) 0
+
+pub passing-start : (s : List ℕ) (from : ℕ) → Passing s from from 0
+passing-start s from = record { low = omega arith; deep = omega arith; is = refl }
+
+module _ {s : List ℕ} {from at depth : ℕ} (m : Passing s from at depth) where
+  pub passing-end : length s ≤ at → Passed s from at
+  passing-end h = record { onward = m .low; rest = entries-past s at h ∙ sym (behind-none depth) ∙ ap (λ (es : List Entry). behind es depth) (sym (entries-past s at h)) ∙ m .is }
+
+  passing-on : (x : Entry) (next depth′ : ℕ) → at < next → depth′ ≤ next → First s at x next → behind (x ∷ entriesAt s next) depth ≡ behind (entriesAt s next) depth′ → Passing s from next depth′
+  passing-on x next depth′ h l i q = record { low = omega (arith, m .low); deep = l; is = sym q ∙ ap (λ (es : List Entry). behind es depth) (sym i) ∙ m .is }
+
+  module _ {r : Found} (f : BoundAt s at r) where
+    pub passing-begin : r .kind ≡ Begin → Passing s from (r .next) (depth + 1)
+    passing-begin q = passing-on _ (r .next) (depth + 1) (f .onward) (omega (arith, m .deep, f .onward)) (bound-kind f Begin q) (behind-begin _ _ depth)
+
+    pub passing-up : r .kind ≡ End → (depth ≡ 0 → ⊥) → Passing s from (r .next) (depth - 1)
+    passing-up q h = passing-on _ (r .next) (depth - 1) (f .onward) (omega (arith, m .deep, f .onward)) (bound-kind f End q) (behind-up _ depth h)
+
+    pub passing-over : r .kind ≡ End → depth ≡ 0 → Passed s from (r .next)
+    passing-over q h = record {
+      onward = omega (arith, m .low, f .onward);
+      rest = sym (behind-close _ depth h) ∙ ap (λ (es : List Entry). behind es depth) (sym (bound-kind f End q)) ∙ m .is;
+    }
+
+    passing-aside : Aside s at (r .next) → Passing s from (r .next) depth
+    passing-aside i = passing-on _ (r .next) depth (f .onward) (omega (arith, m .deep, f .onward)) (i .first) (behind-aside _ (i .entry) depth (i .aside))
+
+    pub passing-property : r .kind ≡ Property → Passing s from (r .next) depth
+    passing-property q = passing-aside (bound-kind f Property q)
+
+    pub passing-nothing : r .kind ≡ Nothing → Passing s from (r .next) depth
+    passing-nothing q = passing-aside (bound-kind f Nothing q)
+
+pub ruleset passings = (passing-start, passing-end, passing-begin, passing-up, passing-over, passing-property, passing-nothing, needs)

@@ -1,0 +1,16 @@
+-- `document::bound::bound_at` meets its contract.
+use borrow.Author.Needs.{needs}
+use Rattle.octets.specs.Pick.{flag-no}
+use Rattle.document.specs.Bounds.{found-bound}
+use Rattle.document.proofs.bound.bound_at.Statement.{statement}
+use Rattle.document.proofs.bound.bound_at.Tie as tie
+
+pub bound-at-spec : {M : Type 1} → statement M
+bound-at-spec = tie.close (tie.spec
+    (λ c. search needs)  -- shared-slice-read-opens-bound
+    (λ c κs. search needs)  -- opens-bound-requires
+    (λ c κs. search needs)  -- entry-at-requires
+    (λ c. search (found-bound, needs))  -- returns
+    (λ c κs. search (flag-no, needs))  -- line-aside-requires
+    (λ c. search needs)  -- returns-2
+    )

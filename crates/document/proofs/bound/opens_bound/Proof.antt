@@ -1,0 +1,12 @@
+-- `document::bound::opens_bound` meets its contract.
+use Rattle.octets.specs.Pick.{branching}
+use Rattle.document.proofs.bound.opens_bound.Statement.{statement}
+use Rattle.document.proofs.bound.opens_bound.Tie as tie
+
+pub opens-bound-spec : {M : Type 1} → statement M
+opens-bound-spec = tie.close (tie.spec
+    (λ c. search branching)  -- returns
+    (λ c. search branching)  -- returns-2
+    (λ c. search branching)  -- returns-3
+    (λ c. search branching)  -- returns-4
+    )

@@ -1,0 +1,36 @@
+// The way past a component. See specs/Places.antt.
+use crate::bound::bound_at;
+use crate::entry::Kind;
+ghost use Rattle.document.specs.Places.{Passed};
+
+// The index behind the END of the component whose lines begin at `from`, or the text's end where there is none.
+pub fn pass_component(s: &[u8], from: usize) -> usize
+    ensures { λ r. ⌜ Passed (now (s .entry)) from r ⌝ }
+{
+    let mut at = from;
+    let mut depth: usize = 0;
+    while at < s.len() {
+        let f = bound_at(s, at);
+        let kind = f.kind;
+        match kind {
+            Kind::Begin => {
+                depth += 1;
+                at = f.next;
+            }
+            Kind::End => {
+                if depth == 0 {
+                    return f.next;
+                }
+                depth -= 1;
+                at = f.next;
+            }
+            Kind::Property => {
+                at = f.next;
+            }
+            Kind::Nothing => {
+                at = f.next;
+            }
+        }
+    }
+    at
+}
