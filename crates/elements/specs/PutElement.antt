@@ -9,10 +9,12 @@ use mathlib.Core.Option.{Option, none, some, Option·map}
 use Prim.Native.Nat.{ℕ, zero, suc}
 use Rattle.octets.specs.Ascii.{ascii}
 use Rattle.octets.specs.Class.{lower}
+use Rattle.octets.specs.Words.{cutAt}
 use Rattle.octets.specs.Reading.{isRead, orNothing, none-some}
 use Rattle.model.specs.Calendar.{ical, ValueType, BINARY, BOOLEAN, CAL-ADDRESS, DATE, DATE-TIME, DURATION, FLOAT, INTEGER, PERIOD, RECUR, TEXT, TIME, URI, UTC-OFFSET, UNKNOWN}
 use Rattle.model.specs.Calendar.{RulePart, Value, binary, boolean, calAddress, date, dateTime, duration, float, integer, recur, text, time, uri, utcOffset, unknown}
 use Rattle.sink.specs.Sink.{Put}
+use Rattle.source.specs.Source.{rest}
 use Rattle.schema.specs.Types.{typeName}
 use Rattle.schema.specs.Numbers.{typeAt}
 use Rattle.times.specs.Date.{readDate}
@@ -27,34 +29,35 @@ use Rattle.texts.specs.Text.{readText}
 use Rattle.texts.specs.Uri.{readUri}
 use Rattle.texts.specs.Binary.{readBinary}
 use Rattle.texts.specs.Unknown.{readUnknown}
+use Rattle.recur.specs.Parts.{partNames}
 use Rattle.recur.specs.Rule.{readRule}
-use Rattle.recur.specs.Pieces.{good}
-use Rattle.recur.specs.declared.rule.RuleRead.{RuleRead}
-use Rattle.recur.specs.declared.rule.RuleRead.the-variants.{Rule, Bad}
+use Rattle.recur.specs.Noted.{Parted}
+use Rattle.recur.specs.declared.rule.RuleParts.{RuleParts}
 use Rattle.values.specs.ReadValue.{readValue}
 use Rattle.values.specs.WriteValue.{characters}
 use Rattle.values.specs.ValueAt.{isGood}
 use Rattle.values.specs.declared.ValueRead.{ValueRead}
 use Rattle.values.specs.declared.ValueRead.the-variants as value
 use Rattle.xml.specs.Escape.{escaped, elementOf}
-use Rattle.xcal.specs.WriteXml.{partsXml, valueXml}
+use Rattle.xcal.specs.WriteXml.{valueXml}
 use Rattle.elements.specs.Tags.{typeLabel}
+use Rattle.elements.specs.Rules.{namedXml, rule-xml}
 use Rattle.elements.specs.PutRule.{nothing-read}
 
 -- ---- RECUR
 
-module _ {d e : List ℕ} {o q : ℕ} (l : List ℕ) {r : RuleRead} (p : isRead (readRule l) ≡ good r) where
-  pub put-recur : r ≡ Rule → Put d e o q (elementOf (ascii "recur") (orNothing partsXml (readRule l))) → Put d e o q (orNothing valueXml (readValue ical RECUR l))
+module _ {d e : List ℕ} {o q : ℕ} {s : List ℕ} {c : ℕ} {r : RuleParts} (p : Parted s c r) where
+  pub put-recur : r .good ≡ true → Put d e o q (elementOf (ascii "recur") (namedXml partNames (cutAt 59 (rest 0 s c)))) → Put d e o q (orNothing valueXml (readValue ical RECUR (rest 0 s c)))
   unfolding readValue valueXml isRead
-  put-recur h w = go (readRule l) (p ∙ ap good h) w
+  put-recur h w = go (readRule (rest 0 s c)) refl (p .is ∙ h)
     where
-      go : (u : Option (List RulePart)) → isRead u ≡ true → Put d e o q (elementOf (ascii "recur") (orNothing partsXml u)) → Put d e o q (orNothing valueXml (Option·map recur u))
-      go none z w = absurd (false≢true z)
-      go (some v) z w = w
+      go : (u : Option (List RulePart)) → readRule (rest 0 s c) ≡ u → isRead u ≡ true → Put d e o q (orNothing valueXml (Option·map recur u))
+      go none k z = absurd (false≢true z)
+      go (some v) k z = rw (rule-xml (rest 0 s c) v k) w
 
-  pub put-no-recur : r ≡ Bad → Put d e o q [] → Put d e o q (orNothing valueXml (readValue ical RECUR l))
+  pub put-no-recur : r .good ≡ false → Put d e o q [] → Put d e o q (orNothing valueXml (readValue ical RECUR (rest 0 s c)))
   unfolding readValue isRead
-  put-no-recur h w = go (readRule l) (p ∙ ap good h)
+  put-no-recur h w = go (readRule (rest 0 s c)) (p .is ∙ h)
     where
       go : (u : Option (List RulePart)) → isRead u ≡ false → Put d e o q (orNothing valueXml (Option·map recur u))
       go none z = w

@@ -3,37 +3,31 @@
 --     Itemizing                  the invariant of the loop over the items of a piece
 --     put-found, put-missing     the piece of a part
 --     Naming                     the invariant of the loop over the parts
---     put-rule, put-no-rule      the whole rule;   nothing-read: nothing of what was not read
-use mathlib.Core.Path.{_≡_, refl, sym, ap, _∙_, subst}
+--     nothing-read               nothing of what was not read
+use mathlib.Core.Path.{_≡_, refl, sym, _∙_, subst}
 use mathlib.Core.Bool.{Bool, true, false, false≢true}
 use mathlib.Core.List.{List, []}
 use mathlib.Core.Option.{Option, none, some}
-use Prim.Native.Nat.{ℕ, _+_, _*_, _^_, _≤_, _<_}
+use Prim.Native.Nat.{ℕ, zero, suc, _+_, _-_, _*_, _^_, _≤_, _<_}
 use native.Mathlib.Omega.{arith}
-use native.Mathlib.Decide.{decLe}
 use native.Mathlib.Numerals.{add-one}
+use lib.Dec.{eqb}
 use lib.ListN.{length, take, drop, getD, drop-of-length-le}
-use lib.Seq.{drop-cons, length-take-le}
+use lib.Seq.{drop-cons}
 use Rattle.octets.specs.Pick.{pick}
 use Rattle.octets.specs.Append.{_⊕_, append-none}
 use Rattle.octets.specs.Words.{cutAt, rowOf}
 use Rattle.octets.specs.Reading.{isRead, orNothing}
-use Rattle.octets.specs.Front.{past}
-use Rattle.model.specs.Calendar.{RulePart}
+use Rattle.octets.specs.Front.{upTo, past}
 use Rattle.sink.specs.Sink.{Put, put-length, Todo, todo-all, todo-step, todo-done}
 use Rattle.source.specs.Source.{rest, Reads}
 use Rattle.source.specs.declared.Step.{Step}
 use Rattle.recur.specs.Parts.{partOf, partNames, isListed, isListPart}
-use Rattle.recur.specs.Rule.{isEquals, readRule}
-use Rattle.recur.specs.Pieces.{Ends, pieceName, good}
-use Rattle.recur.specs.PieceLaws.{pieces-last, pieces-more, step-less, rule-beyond}
-use Rattle.recur.specs.Found.{Finds}
-use Rattle.recur.specs.declared.rule.RuleRead.{RuleRead}
-use Rattle.recur.specs.declared.rule.RuleRead.the-variants.{Rule, Bad}
-use Rattle.recur.specs.declared.rule.PieceFound.{PieceFound}
-use Rattle.recur.specs.declared.rule.PieceFound.the-variants.{Piece, Missing}
-use Rattle.xcal.specs.WriteXml.{partsXml}
-use Rattle.elements.specs.Rules.{itemXml, eachXml, pieceXml, namedXml, rule-xml}
+use Rattle.recur.specs.Rule.{isEquals}
+use Rattle.recur.specs.Pieces.{Ends, pieceName}
+use Rattle.recur.specs.PieceLaws.{piece-is, pieces-last, pieces-more, step-less}
+use Rattle.recur.specs.Noted.{pieceFrom, Standing}
+use Rattle.elements.specs.Rules.{itemXml, eachXml, pieceXml, namedXml}
 
 -- ---- a piece
 
@@ -72,22 +66,16 @@ module _ {n d₀ : List ℕ} {at₀ : ℕ} {s : List ℕ} {c₀ : ℕ} {d : List
 
 -- ---- the piece of a part
 
-module _ {d e : List ℕ} {o q : ℕ} (n : List ℕ) {s : List ℕ} (ws : List (List ℕ)) {r : PieceFound} (f : Finds (rowOf pieceName n ws) s r) where
-  pub put-found : {a b : ℕ} → r ≡ Piece a b → Put d e o q (pieceXml n (rest 0 (take b s) a)) → Put d e o q (orNothing (pieceXml n) (rowOf pieceName n ws))
-  put-found h w = rw (f .is, h) w
+module _ {d e : List ℕ} {o q : ℕ} (n s : List ℕ) (b : ℕ) where
+  pub put-missing : b ≡ 0 → Put d e o q [] → Put d e o q (orNothing (pieceXml n) (pieceFrom s b))
+  put-missing h w = rw h w
 
-  pub put-missing : r ≡ Missing → Put d e o q [] → Put d e o q (orNothing (pieceXml n) (rowOf pieceName n ws))
-  put-missing h w = rw (f .is, h) w
-
-module _ {v : Option (List ℕ)} {s : List ℕ} {r : PieceFound} (f : Finds v s r) where
-  pub found-count : {a b : ℕ} → r ≡ Piece a b → b ≡ length (take b s)
-  found-count {a} {b} h = let k : b ≤ length s = rw h at (f .inside) in sym (length-take-le b s k)
-
-  pub found-inside : {a b : ℕ} → r ≡ Piece a b → a ≤ length (take b s)
-  found-inside {a} {b} h =
-      let k : b ≤ length s = rw h at (f .inside) in
-      let l : a ≤ b = rw h at (f .onward) in
-      rw (length-take-le b s k) l
+  pub put-found : {a : ℕ} → (b ≡ 0 → ⊥) → Ends 59 s (b - 1) a → Put d e o q (pieceXml n (rest 0 (take a s) (b - 1))) → Put d e o q (orNothing (pieceXml n) (pieceFrom s b))
+  put-found h i w = go b h (rw (piece-is i) at w)
+    where
+      go : (b : ℕ) → (b ≡ 0 → ⊥) → Put d e o q (pieceXml n (upTo (λ (x : ℕ). eqb x 59) (rest 0 s (b - 1)))) → Put d e o q (orNothing (pieceXml n) (pieceFrom s b))
+      go zero h w = absurd (h refl)
+      go (suc c) h w = let z : suc c - 1 ≡ c = omega arith in rw z at w
 
 -- ---- the parts in order
 
@@ -111,29 +99,14 @@ module _ {ws : List (List ℕ)} {d₀ : List ℕ} {at₀ : ℕ} {d : List ℕ} {
   unfolding namedXml
   naming-end h = todo-done (t .todo) (rw (drop-of-length-le partNames h))
 
--- ---- the whole rule
+-- the piece of a part where it stands
+pub put-standing : {d e : List ℕ} {o q : ℕ} {s : List ℕ} {c : ℕ} {t : List ℕ} (p : ℕ) → Standing s c t → p < 14 → Put d e o q (orNothing (pieceXml (getD partNames p [])) (pieceFrom s (getD t p 0))) →
+    Put d e o q (orNothing (pieceXml (getD partNames p [])) (rowOf pieceName (getD partNames p []) (cutAt 59 (rest 0 s c))))
+put-standing p i h w = rw (i .is p h) w
 
--- nothing is written where nothing was read
+-- ---- what was not read
+
 pub nothing-read : {A : Type 0} (w : A → List ℕ) {d e : List ℕ} {o q : ℕ} (u : Option A) → isRead u ≡ false → Put d e o q [] → Put d e o q (orNothing w u)
 unfolding isRead
 nothing-read w none h p = p
 nothing-read w (some v) h p = absurd (false≢true (sym h))
-
-pub rule-inside : (s : List ℕ) (c : ℕ) {r : RuleRead} → isRead (readRule (rest 0 s c)) ≡ good r → r ≡ Rule → c ≤ length s
-rule-inside s c {r} q h = go (decLe c (length s))
-  where
-    go : Dec (c ≤ length s) → c ≤ length s
-    go (yes k) = k
-    go (no k) = absurd (false≢true (sym (rule-beyond s c (omega (arith, k))) ∙ q ∙ ap good h))
-
-module _ {d e : List ℕ} {o q : ℕ} (l : List ℕ) {r : RuleRead} (p : isRead (readRule l) ≡ good r) where
-  pub put-rule : r ≡ Rule → Put d e o q (namedXml partNames (cutAt 59 l)) → Put d e o q (orNothing partsXml (readRule l))
-  unfolding isRead
-  put-rule h w = go (readRule l) refl (p ∙ ap good h)
-    where
-      go : (v : Option (List RulePart)) → readRule l ≡ v → isRead v ≡ true → Put d e o q (orNothing partsXml v)
-      go none k z = absurd (false≢true z)
-      go (some v) k z = rw (rule-xml l v k) w
-
-  pub put-no-rule : r ≡ Bad → Put d e o q [] → Put d e o q (orNothing partsXml (readRule l))
-  put-no-rule h w = nothing-read partsXml (readRule l) (p ∙ ap good h) w

@@ -1,26 +1,20 @@
 // A recurrence rule as elements: each part in the schema's order, an element for each of its items. See specs/Rules.antt and specs/PutRule.antt.
 use crate::tag::put_part_end;
 use crate::tag::put_part_start;
-use recur::rule::PieceFound;
-use recur::rule::RuleRead;
 use recur::rule::byte_end;
-use recur::rule::find_part;
 use recur::rule::is_list_part;
-use recur::rule::read_rule;
 use recur::rule::value_at;
 use recur::written::put_item;
 use source::unit;
 ghost use mathlib.Core.List.{[]};
-ghost use Prim.Native.Nat.{_≤_, _<_};
+ghost use Prim.Native.Nat.{_+_, _≤_};
 ghost use lib.ListN.{length, getD};
-ghost use Rattle.octets.specs.Words.{cutAt, rowOf};
+ghost use Rattle.octets.specs.Words.{cutAt};
 ghost use Rattle.octets.specs.Reading.{orNothing};
 ghost use Rattle.sink.specs.Sink.{Put};
 ghost use Rattle.source.specs.Source.{rest};
 ghost use Rattle.recur.specs.Parts.{partNames};
-ghost use Rattle.recur.specs.Rule.{readRule};
-ghost use Rattle.recur.specs.Pieces.{pieceName};
-ghost use Rattle.xcal.specs.WriteXml.{partsXml};
+ghost use Rattle.recur.specs.Noted.{pieceFrom, Standing};
 ghost use Rattle.elements.specs.Rules.{itemXml, eachXml, pieceXml, namedXml};
 
 // An item of the part at the place `p`.
@@ -64,39 +58,29 @@ fn put_piece_xml(out: &mut [u8], o: usize, p: usize, s: &[u8], at: usize) -> usi
     put_item_xml(out, o, p, s, v)
 }
 
-// The part at the place `p`, if it is there.
-fn put_part_xml(out: &mut [u8], o: usize, p: usize, s: &[u8], at: usize) -> usize
-    requires { ⌜ (p < 14) × (at ≤ length (now s)) ⌝ }
-    ensures { λ r. ⌜ Put (now (out .entry)) (now (out .exit)) o r (orNothing (pieceXml (getD partNames p [])) (rowOf pieceName (getD partNames p []) (cutAt 59 (rest 0 (now (s .entry)) at)))) ⌝ }
+// The part at the place `p`, whose piece stands before the cursor `after`; nothing where that is 0.
+fn put_part_xml(out: &mut [u8], o: usize, p: usize, s: &[u8], after: usize) -> usize
+    requires { ⌜ after ≤ length (now s) + 1 ⌝ }
+    ensures { λ r. ⌜ Put (now (out .entry)) (now (out .exit)) o r (orNothing (pieceXml (getD partNames p [])) (pieceFrom (now (s .entry)) after)) ⌝ }
 {
-    let f = find_part(p, s, at);
-    match f {
-        PieceFound::Piece(c, e) => put_piece_xml(out, o, p, &s[..e], c),
-        PieceFound::Missing => o,
+    if after == 0 {
+        return o;
     }
+    let c = after - 1;
+    let e = byte_end(59, s, c);
+    put_piece_xml(out, o, p, &s[..e], c)
 }
 
-// The parts that are there.
-fn put_parts_xml(out: &mut [u8], o: usize, s: &[u8], at: usize) -> usize
-    requires { ⌜ at ≤ length (now s) ⌝ }
+// The parts of the rule from the cursor `at` to the end, which stand where `begins` says.
+pub fn put_parts_xml(out: &mut [u8], o: usize, s: &[u8], at: usize, begins: [usize; 14]) -> usize
+    requires { ⌜ Standing (now s) at begins ⌝ }
     ensures { λ r. ⌜ Put (now (out .entry)) (now (out .exit)) o r (namedXml partNames (cutAt 59 (rest 0 (now (s .entry)) at))) ⌝ }
 {
     let mut q = o;
     let mut p = 0;
     while p < 14 {
-        q = put_part_xml(out, q, p, s, at);
+        q = put_part_xml(out, q, p, s, begins[p]);
         p += 1;
     }
     q
-}
-
-// The rule from the cursor `at` to the end; nothing where it is none.
-pub fn put_rule_xml(out: &mut [u8], o: usize, s: &[u8], at: usize) -> usize
-    ensures { λ r. ⌜ Put (now (out .entry)) (now (out .exit)) o r (orNothing partsXml (readRule (rest 0 (now (s .entry)) at))) ⌝ }
-{
-    let r = read_rule(s, at);
-    match r {
-        RuleRead::Rule => put_parts_xml(out, o, s, at),
-        RuleRead::Bad => o,
-    }
 }

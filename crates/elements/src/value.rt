@@ -1,45 +1,50 @@
 // A value of any type as its element. See specs/PutElement.antt.
 use crate::period::put_period_element;
-use crate::rule::put_rule_xml;
+use crate::rule::put_parts_xml;
 use crate::tag::put_type_end;
 use crate::tag::put_type_start;
 use markup::put_end_tag;
 use markup::put_start_tag;
-use recur::rule::RuleRead;
-use recur::rule::read_rule;
+use recur::rule::read_parts;
 use values::ValueRead;
 use values::put_value_xml;
 use values::read_value;
 ghost use mathlib.Core.Path.{_≡_};
 ghost use Rattle.octets.specs.Ascii.{ascii};
+ghost use Rattle.octets.specs.Words.{cutAt};
 ghost use Rattle.octets.specs.Reading.{orNothing};
 ghost use Rattle.model.specs.Calendar.{ical, RECUR};
 ghost use Rattle.sink.specs.Sink.{Put};
 ghost use Rattle.source.specs.Source.{rest};
 ghost use Rattle.schema.specs.Numbers.{typeAt};
-ghost use Rattle.recur.specs.Rule.{readRule};
+ghost use Rattle.recur.specs.Parts.{partNames};
+ghost use Rattle.recur.specs.Noted.{Standing};
 ghost use Rattle.values.specs.ReadValue.{readValue};
 ghost use Rattle.values.specs.WriteValue.{characters};
 ghost use Rattle.xml.specs.Escape.{escaped, elementOf};
-ghost use Rattle.xcal.specs.WriteXml.{partsXml, valueXml};
+ghost use Rattle.xcal.specs.WriteXml.{valueXml};
+ghost use Rattle.elements.specs.Rules.{namedXml};
 ghost use Rattle.elements.specs.Tags.{typeLabel};
 
-fn put_recur_xml(out: &mut [u8], o: usize, s: &[u8], at: usize) -> usize
-    ensures { λ r. ⌜ Put (now (out .entry)) (now (out .exit)) o r (elementOf (ascii "recur") (orNothing partsXml (readRule (rest 0 (now (s .entry)) at)))) ⌝ }
+// The rule from the cursor `at` to the end, whose parts stand where `begins` says.
+fn put_recur_xml(out: &mut [u8], o: usize, s: &[u8], at: usize, begins: [usize; 14]) -> usize
+    requires { ⌜ Standing (now s) at begins ⌝ }
+    ensures { λ r. ⌜ Put (now (out .entry)) (now (out .exit)) o r (elementOf (ascii "recur") (namedXml partNames (cutAt 59 (rest 0 (now (s .entry)) at)))) ⌝ }
 {
     let p = put_start_tag(out, o, b"recur");
-    let q = put_rule_xml(out, p, s, at);
+    let q = put_parts_xml(out, p, s, at, begins);
     put_end_tag(out, q, b"recur")
 }
 
 fn put_recur_element(out: &mut [u8], o: usize, s: &[u8], at: usize) -> usize
     ensures { λ r. ⌜ Put (now (out .entry)) (now (out .exit)) o r (orNothing valueXml (readValue ical RECUR (rest 0 (now (s .entry)) at))) ⌝ }
 {
-    let r = read_rule(s, at);
-    match r {
-        RuleRead::Rule => put_recur_xml(out, o, s, at),
-        RuleRead::Bad => o,
+    let r = read_parts(s, at);
+    if r.good {
+        let begins = r.begins;
+        return put_recur_xml(out, o, s, at, begins);
     }
+    o
 }
 
 fn put_plain_xml(out: &mut [u8], o: usize, t: usize, s: &[u8], at: usize) -> usize

@@ -7,14 +7,15 @@
 --     Shown        what is written of an item, from its characters
 --     PutShown     the rules of the code that writes it
 --     Pieces       a rule as the code reads it, piece by piece
---     Found        the piece that has the name of a part
+--     Noted        where each part of a rule stands
 --     NumberLaws, WordLaws, EnddateLaws    numbers, words and weekdays, dates are read back
 --     ItemLaws     an item is read back from what is written of it, and what is read is an item
 --     OrderLaws    the order of a rule's parts
 --     PartLaws     one part, NAME=ITEMS, is read back, and what is read is one
 --     RuleLaws     a rule is read back from its text, and what is read is a rule
 --     Computing    opens all definitions, for examples that compute
---     PieceLaws    laws of a rule's pieces, for each way that the code goes
+--     PieceLaws    laws of pieces, for each way that the code goes
+--     Whole        a rule by its pieces: one part, and the whole rule
 --     Examples     computed examples
 pub mod Parts
 pub mod Item
@@ -33,5 +34,6 @@ pub mod PartLaws
 pub mod RuleLaws
 pub mod Computing
 pub mod PieceLaws
-pub mod Found
+pub mod Whole
+pub mod Noted
 pub mod Examples

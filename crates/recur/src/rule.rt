@@ -1,16 +1,16 @@
-// A whole rule in text, over bytes as they stand. See specs/Pieces.antt.
+// A whole rule in text, over bytes as they stand. See specs/Pieces.antt and specs/Noted.antt.
 ghost use mathlib.Core.Path.{_≡_};
 ghost use mathlib.Core.List.{[]};
 ghost use Prim.Native.Nat.{_≤_, _<_};
 ghost use lib.ListN.{length, getD};
-ghost use Rattle.octets.specs.Words.{cutAt, rowOf};
+ghost use Rattle.octets.specs.Words.{cutAt};
 ghost use Rattle.octets.specs.Reading.{isRead};
 ghost use Rattle.octets.specs.Front.{past};
 ghost use Rattle.source.specs.Source.{rest};
 ghost use Rattle.recur.specs.Parts.{partNames, partOf, isListed};
 ghost use Rattle.recur.specs.Rule.{isEquals, readPart, readRule};
-ghost use Rattle.recur.specs.Pieces.{Ends, pieceName, placeAt, areItems, hasPlace, eachPart, isWhole, good};
-ghost use Rattle.recur.specs.Found.{Finds};
+ghost use Rattle.recur.specs.Pieces.{Ends, placeAt, areItems, good};
+ghost use Rattle.recur.specs.Noted.{Parted, wholeIn};
 use crate::item::is_item;
 use names::find_name;
 use source::unit;
@@ -21,10 +21,10 @@ pub enum RuleRead {
     Bad,
 }
 
-// A piece stands from one cursor to another; or there is none.
-pub enum PieceFound {
-    Piece(usize, usize),
-    Missing,
+// Whether there is a rule, and where each part stands: the cursor at its piece and one more; 0 where there is none.
+pub struct RuleParts {
+    pub good: bool,
+    pub begins: [usize; 14],
 }
 
 const LISTED: [u8; 14] = [0, 0, 0, 0, 1, 1, 1, 1, 1, 1, 1, 1, 1, 0];
@@ -107,12 +107,11 @@ fn are_items(p: usize, s: &[u8], at: usize) -> bool
     }
 }
 
-// A piece is a part.
-fn is_part(s: &[u8], at: usize) -> bool
-    requires { ⌜ at ≤ length (now s) ⌝ }
+// A piece, whose name is at the place `p`, is a part.
+fn is_part(p: usize, s: &[u8], at: usize) -> bool
+    requires { ⌜ (p ≡ placeAt (rest 0 (now s) at)) × (at ≤ length (now s)) ⌝ }
     ensures { λ r. ⌜ r ≡ isRead (readPart (rest 0 (now (s .entry)) at)) ⌝ }
 {
-    let p = part_place(s, at);
     let v = value_at(s, at);
     let listed = is_list_part(p);
     if listed {
@@ -121,109 +120,76 @@ fn is_part(s: &[u8], at: usize) -> bool
     is_item(p, false, 0, s, v)
 }
 
-// Some piece has the name at the place `p`.
-fn has_part(p: usize, s: &[u8], at: usize) -> bool
-    requires { ⌜ at ≤ length (now s) ⌝ }
-    ensures { λ r. ⌜ r ≡ hasPlace p (cutAt 59 (rest 0 (now (s .entry)) at)) ⌝ }
-{
-    let mut c = at;
-    loop {
-        let e = byte_end(59, s, c);
-        let q = part_place(&s[..e], c);
-        if q == p {
-            return true;
-        }
-        let n = unit(0, s, e);
-        let u = n.u;
-        if u == 256 {
-            return false;
-        }
-        c = n.next;
-    }
-}
-
-// The first piece that has the name at the place `p`.
-pub fn find_part(p: usize, s: &[u8], at: usize) -> PieceFound
-    requires { ⌜ (p < 14) × (at ≤ length (now s)) ⌝ }
-    ensures { λ r. ⌜ Finds (rowOf pieceName (getD partNames p []) (cutAt 59 (rest 0 (now (s .entry)) at))) (now (s .entry)) r ⌝ }
-{
-    let mut c = at;
-    loop {
-        let e = byte_end(59, s, c);
-        let q = part_place(&s[..e], c);
-        if q == p {
-            return PieceFound::Piece(c, e);
-        }
-        let n = unit(0, s, e);
-        let u = n.u;
-        if u == 256 {
-            return PieceFound::Missing;
-        }
-        c = n.next;
-    }
-}
-
-// Each piece is a part, and no two have the same name.
-fn are_parts(s: &[u8], at: usize) -> bool
-    requires { ⌜ at ≤ length (now s) ⌝ }
-    ensures { λ r. ⌜ r ≡ eachPart (cutAt 59 (rest 0 (now (s .entry)) at)) ⌝ }
-{
-    let mut c = at;
-    loop {
-        let e = byte_end(59, s, c);
-        let fits = is_part(&s[..e], c);
-        if fits {
-            let n = unit(0, s, e);
-            let u = n.u;
-            if u == 256 {
-                return true;
-            }
-            let p = part_place(&s[..e], c);
-            let again = has_part(p, s, n.next);
-            if again {
-                return false;
-            }
-            c = n.next;
-        } else {
-            return false;
-        }
-    }
-}
-
 // FREQ is there; UNTIL and COUNT are not both there.
-fn is_whole(s: &[u8], at: usize) -> bool
-    requires { ⌜ at ≤ length (now s) ⌝ }
-    ensures { λ r. ⌜ r ≡ isWhole (cutAt 59 (rest 0 (now (s .entry)) at)) ⌝ }
+fn is_whole(begins: [usize; 14]) -> bool
+    ensures { λ r. ⌜ r ≡ wholeIn begins ⌝ }
 {
-    let freq = has_part(0, s, at);
-    if freq {
-        let until = has_part(1, s, at);
-        if until {
-            let count = has_part(2, s, at);
-            if count {
-                return false;
-            }
-            return true;
-        }
+    if begins[0] == 0 {
+        return false;
+    }
+    if begins[1] == 0 {
         return true;
     }
-    false
+    begins[2] == 0
+}
+
+// The parts from the cursor `at` to the end: each piece is one, and no two have the same name.
+fn find_parts(s: &[u8], at: usize) -> RuleParts
+    requires { ⌜ at ≤ length (now s) ⌝ }
+    ensures { λ r. ⌜ Parted (now (s .entry)) at r ⌝ }
+{
+    let mut begins = [0usize; 14];
+    let mut c = at;
+    loop {
+        let e = byte_end(59, s, c);
+        let p = part_place(&s[..e], c);
+        let fits = is_part(p, &s[..e], c);
+        if fits {
+            if begins[p] == 0 {
+                begins[p] = c + 1;
+                let n = unit(0, s, e);
+                let u = n.u;
+                if u == 256 {
+                    let good = is_whole(begins);
+                    return RuleParts { good, begins };
+                }
+                c = n.next;
+            } else {
+                return RuleParts {
+                    good: false,
+                    begins,
+                };
+            }
+        } else {
+            return RuleParts {
+                good: false,
+                begins,
+            };
+        }
+    }
+}
+
+// The rule from the cursor `at` to the end, and where its parts stand.
+pub fn read_parts(s: &[u8], at: usize) -> RuleParts
+    ensures { λ r. ⌜ Parted (now (s .entry)) at r ⌝ }
+{
+    if s.len() < at {
+        let begins = [0usize; 14];
+        return RuleParts {
+            good: false,
+            begins,
+        };
+    }
+    find_parts(s, at)
 }
 
 // The rule from the cursor `at` to the end.
 pub fn read_rule(s: &[u8], at: usize) -> RuleRead
     ensures { λ r. ⌜ isRead (readRule (rest 0 (now (s .entry)) at)) ≡ good r ⌝ }
 {
-    if s.len() < at {
-        return RuleRead::Bad;
-    }
-    let each = are_parts(s, at);
-    if each {
-        let whole = is_whole(s, at);
-        if whole {
-            return RuleRead::Rule;
-        }
-        return RuleRead::Bad;
+    let r = read_parts(s, at);
+    if r.good {
+        return RuleRead::Rule;
     }
     RuleRead::Bad
 }

@@ -1,17 +1,18 @@
 -- `elements::put_part_xml` meets its contract.
+use native.Mathlib.Omega.{arith}
+use Rattle.recur.specs.PieceLaws.{cut-count, cut-inside}
+use Rattle.elements.specs.PutRule.{put-found, put-missing}
 use Rattle.sink.specs.Sink.{writing}
-use Rattle.elements.specs.PutRule.{put-found, put-missing, found-count, found-inside}
 use Rattle.elements.proofs.rule.put_part_xml.Statement.{statement}
 use Rattle.elements.proofs.rule.put_part_xml.Tie as tie
 
 pub put-part-xml-spec : {M : Type 1} → statement M
 put-part-xml-spec = tie.close (tie.spec
-    (λ c κs. c .before .before .pre)  -- find-part-requires
-    (λ c. search writing)  -- enum-known-f
-    (λ c. found-count (c .before .before .before .before .before .find-part .ensures) (c .before .before .before .f .given .1))  -- slice-aggregate-put-piece-xml
-    (λ c κs. found-inside (c .before .before .before .before .before .find-part .ensures) (c .before .before .before .f .given .1))  -- put-piece-xml-requires
-    (λ c. search writing)  -- enum-told
+    (λ c. put-missing _ _ _ (c .if1 .taken) (search writing))  -- returns
+    (λ c. omega (arith, c .if1 .left))  -- sub-c
+    (λ c κs. let k = c .before .before .before .pre in omega (arith, c .if1 .left))  -- byte-end-requires
+    (λ c. cut-count (c .before .before .byte-end .ensures))  -- slice-aggregate-put-piece-xml
+    (λ c κs. cut-inside (c .before .before .byte-end .ensures))  -- put-piece-xml-requires
     (λ c. search writing)  -- same-length
-    (λ c. put-found _ _ (c .before .before .before .before .before .before .before .before .find-part .ensures) (c .before .before .before .before .before .before .f .given .1) (c .before .before .put-piece-xml .ensures))  -- returns
-    (λ c. put-missing _ _ (c .before .before .find-part .ensures) (c .enum-told .given .1) (search writing))  -- returns-2
+    (λ c. put-found _ _ _ (c .before .before .before .before .before .before .if1 .left) (c .before .before .before .before .before .byte-end .ensures) (c .before .before .put-piece-xml .ensures))  -- returns-2
     )

@@ -7,7 +7,7 @@ pub put-recur-xml-spec : {M : Type 1} → statement M
 put-recur-xml-spec = tie.close (tie.spec
     (λ c. search writing)  -- slice-aggregate-put-start-tag
     (λ c κs. search writing)  -- put-start-tag-requires
-    (λ c κs. search writing)  -- put-rule-xml-requires
+    (λ c κs. c .before .before .before .before .before .before .before .before .pre)  -- put-parts-xml-requires
     (λ c. search writing)  -- slice-aggregate-put-end-tag
     (λ c κs. search writing)  -- put-end-tag-requires
     (λ c. search writing)  -- same-length

@@ -1,18 +1,17 @@
 -- `recur::is_part` meets its contract.
-use Rattle.recur.specs.PieceLaws.{part-listed, part-single}
-use Rattle.source.specs.Source.{rest}
 use Rattle.octets.specs.Pick.{flag-yes, flag-no}
+use Rattle.source.specs.Source.{rest}
+use Rattle.recur.specs.Whole.{part-listed, part-single}
 use borrow.Author.Needs.{needs}
 use Rattle.recur.proofs.rule.is_part.Statement.{statement}
 use Rattle.recur.proofs.rule.is_part.Tie as tie
 
 pub is-part-spec : {M : Type 1} → statement M
 is-part-spec = tie.close (tie.spec
-    (λ c κs. c .before .pre)  -- part-place-requires
-    (λ c κs. c .before .before .pre)  -- value-at-requires
+    (λ c κs. c .before .pre .1)  -- value-at-requires
     (λ c κs. search needs)  -- is-list-part-requires
     (λ c κs. c .before .before .value-at .ensures .1)  -- are-items-requires
-    (λ c. part-listed (rest 0 (c .before .before .before .before .before .before .args .s .now) (c .before .before .before .before .before .before .args .at)) (rw (← (c .before .before .before .before .part-place .ensures)) (flag-yes _ _ (c .before .before .is-list-part .ensures) (c .before .if1 .taken))) (rw (← (c .before .before .before .before .part-place .ensures), c .before .before .before .value-at .ensures .0) (c .are-items .ensures)))  -- returns
+    (λ c. part-listed (rest 0 (c .before .before .before .before .before .args .s .now) (c .before .before .before .before .before .args .at)) (rw (← (c .before .before .before .before .before .pre .0)) (flag-yes _ _ (c .before .before .is-list-part .ensures) (c .before .if1 .taken))) (rw (← (c .before .before .before .before .before .pre .0), c .before .before .before .value-at .ensures .0) (c .are-items .ensures)))  -- returns
     (λ c κs. search needs)  -- is-item-requires
-    (λ c. part-single (rest 0 (c .before .before .before .before .before .before .args .s .now) (c .before .before .before .before .before .before .args .at)) (rw (← (c .before .before .before .before .part-place .ensures)) (flag-no _ _ (c .before .before .is-list-part .ensures) (c .before .if1 .left))) (rw (← (c .before .before .before .before .part-place .ensures), c .before .before .before .value-at .ensures .0) (c .is-item .ensures)))  -- returns-2
+    (λ c. part-single (rest 0 (c .before .before .before .before .before .args .s .now) (c .before .before .before .before .before .args .at)) (rw (← (c .before .before .before .before .before .pre .0)) (flag-no _ _ (c .before .before .is-list-part .ensures) (c .before .if1 .left))) (rw (← (c .before .before .before .before .before .pre .0), c .before .before .before .value-at .ensures .0) (c .is-item .ensures)))  -- returns-2
     )

@@ -1,5 +1,6 @@
 -- `recur::part_place` meets its contract.
-use Rattle.recur.specs.PieceLaws.{cut-count, name-found, names-are}
+use Rattle.recur.specs.PieceLaws.{cut-count}
+use Rattle.recur.specs.Whole.{name-found, names-are}
 use borrow.Author.Needs.{needs}
 use Rattle.recur.proofs.rule.part_place.Statement.{statement}
 use Rattle.recur.proofs.rule.part_place.Tie as tie
