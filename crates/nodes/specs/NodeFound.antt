@@ -12,16 +12,13 @@ use borrow.Author.Needs.{needs}
 use Rattle.utf8.specs.Spell.{spell}
 use Rattle.source.specs.Source.{rest}
 use Rattle.xml.specs.Nodes.{Nodes, noNodes, element, literal, referred}
-use Rattle.xml.specs.NodesAt.{nodesAt, nodes-start, nodes-empty, nodes-end, nodes-char, nodes-reference, nodes-none}
-use Rattle.nodes.specs.Tokens.{marked, token-onward, name-inside, token-first, token-is, token-past, start-sound, empty-sound, end-sound, char-sound, reference-sound}
-use Rattle.tokens.specs.TokenAt.{Reads, tokenIn}
-use Rattle.nodes.specs.Closing.{EndedAt, nodes-are}
+use Rattle.xml.specs.NodesAt.{nodesAt}
+use Rattle.nodes.specs.HeadFound.{HeadAt, NodeEnded, head-none, tag-within, head-whole, head-onward, end-onward, head-literal, head-literal-onward, head-referred, head-referred-onward}
 use Rattle.nodes.specs.declared.Ended.{Ended}
+use Rattle.nodes.specs.declared.Head.{Head}
 use Rattle.nodes.specs.declared.Node.{Node}
 use Rattle.nodes.specs.declared.NodeKind.{NodeKind}
 use Rattle.nodes.specs.declared.NodeKind.the-variants.{None, Element, Literal, Referred}
-use Rattle.tokens.specs.declared.TokenAt.{TokenAt}
-use Rattle.tokens.specs.declared.TokenKind.the-variants.{Start, Empty, End, Char, Reference, Fault}
 
 -- the content from the place of a node on
 abbrev pub nodeBy : NodeKind → List ℕ → ℕ → Node → Nodes
@@ -104,63 +101,39 @@ noNode e = record { kind = None; name = 0; «name_end» = 0; inside = e; end = 0
 abbrev pub characterNode : NodeKind → ℕ → ℕ → ℕ → Node
 characterNode k e u next = record { kind = k; name = 0; «name_end» = 0; inside = e; end = 0; next = next; unit = u }
 
-module _ {s : List ℕ} {at : ℕ} {t : TokenAt} (f : Reads tokenIn s at at t) where
-  pub start-within : t .kind ≡ Start → t .next ≤ length s
-  start-within q = token-onward f q start-sound .1
+module _ {s : List ℕ} {at : ℕ} {h : Head} (n : HeadAt s at h) where
+  pub whole-none : {r : Node} → h .kind ≡ None → r ≡ noNode (length s) → NodeAt s at r
+  whole-none q e = rw e (record { is = head-none n q; named = omega arith; name-within = omega arith; inside-within = omega arith; next-within = omega arith; takes = tt })
 
-  pub found-start : {e : Ended} → t .kind ≡ Start → EndedAt s (t .next) e →
-      NodeAt s at (record { kind = Element; name = t .name; «name_end» = t .«name_end»; inside = t .next; end = e .place; next = e .next; unit = 0 })
-  found-start {e} q d =
-      let b = token-onward f q start-sound in record {
-        is = nodes-start s at _ _ (token-first f q start-sound) _ _ (token-is f q start-sound) ∙ rw (token-past f q start-sound, d .place, d .after);
-        named = f .named;
-        name-within = name-inside f q start-sound;
-        inside-within = b .1;
-        next-within = d .inside;
-        takes = (omega (arith, b, d .onward), b .0);
-      }
+  pub whole-element : {e : Ended} → h .kind ≡ Element → NodeEnded s at (h .opens) (h .next) e →
+      NodeAt s at (record { kind = Element; name = h .name; «name_end» = h .«name_end»; inside = h .inside; end = e .place; next = e .next; unit = 0 })
+  whole-element q d = record {
+    is = head-whole n q d;
+    named = n .named;
+    name-within = n .name-within;
+    inside-within = n .inside-within;
+    next-within = d .within;
+    takes = (end-onward n q d, head-onward n q .1);
+  }
 
-  pub found-empty : t .kind ≡ Empty →
-      NodeAt s at (record { kind = Element; name = t .name; «name_end» = t .«name_end»; inside = length s; end = at; next = t .next; unit = 0 })
-  found-empty q =
-      let b = token-onward f q empty-sound in record {
-        is = nodes-empty s at _ _ (token-first f q empty-sound) _ _ (token-is f q empty-sound) ∙ rw (token-past f q empty-sound, nodes-none s (length s) (omega arith));
-        named = f .named;
-        name-within = name-inside f q empty-sound;
-        inside-within = omega arith;
-        next-within = b .1;
-        takes = (b .0, omega (arith, b));
-      }
+  pub whole-literal : {r : Node} → h .kind ≡ Literal → r ≡ characterNode Literal (length s) (h .unit) (h .next) → NodeAt s at r
+  whole-literal q e = rw e (record {
+    is = head-literal n q;
+    named = omega arith;
+    name-within = omega arith;
+    inside-within = omega arith;
+    next-within = n .next-within;
+    takes = head-literal-onward n q;
+  })
 
-  none-found : {r : Node} → r ≡ noNode (length s) → nodesAt s at ≡ noNodes → NodeAt s at r
-  none-found {r} e h = rw e (record { is = h; named = omega arith; name-within = omega arith; inside-within = omega arith; next-within = omega arith; takes = tt })
+  pub whole-referred : {r : Node} → h .kind ≡ Referred → r ≡ characterNode Referred (length s) (h .unit) (h .next) → NodeAt s at r
+  whole-referred q e = rw e (record {
+    is = head-referred n q;
+    named = omega arith;
+    name-within = omega arith;
+    inside-within = omega arith;
+    next-within = n .next-within;
+    takes = head-referred-onward n q;
+  })
 
-  pub found-end : {r : Node} → t .kind ≡ End → r ≡ noNode (length s) → NodeAt s at r
-  found-end q e = none-found e (nodes-end s at _ _ (token-first f q end-sound) _ _ (token-is f q end-sound))
-
-  pub found-fault : {r : Node} → t .kind ≡ Fault → r ≡ noNode (length s) → NodeAt s at r
-  found-fault q e = none-found e (nodes-are s at ∙ marked f Fault q 0 .0)
-
-  pub found-char : {r : Node} → t .kind ≡ Char → r ≡ characterNode Literal (length s) (t .unit) (t .next) → NodeAt s at r
-  found-char q e =
-      let b = token-onward f q char-sound in rw e (record {
-        is = nodes-char s at _ _ (token-first f q char-sound) _ _ (token-is f q char-sound) ∙ rw (token-past f q char-sound);
-        named = omega arith;
-        name-within = omega arith;
-        inside-within = omega arith;
-        next-within = b .1;
-        takes = b .0;
-      })
-
-  pub found-reference : {r : Node} → t .kind ≡ Reference → r ≡ characterNode Referred (length s) (t .unit) (t .next) → NodeAt s at r
-  found-reference q e =
-      let b = token-onward f q reference-sound in rw e (record {
-        is = nodes-reference s at _ _ (token-first f q reference-sound) _ _ (token-is f q reference-sound) ∙ rw (token-past f q reference-sound);
-        named = omega arith;
-        name-within = omega arith;
-        inside-within = omega arith;
-        next-within = b .1;
-        takes = b .0;
-      })
-
-pub ruleset nodes-found = (start-within, found-start, found-empty, found-end, found-fault, found-char, found-reference, needs)
+pub ruleset nodes-found = (tag-within, whole-none, whole-element, whole-literal, whole-referred, needs)

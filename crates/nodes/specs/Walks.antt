@@ -1,12 +1,12 @@
 -- Walks over nodes that pass over characters, and the look for a capital in a name.
---     Passing f    the invariant of a walk: what f says of the content is the same from here on;   `search passing`
+--     Passing f    the invariant of a walk: what f says of the content is the same from here on;   `search having`, `search inners`
 --     Capitals     the invariant of the look for a capital;   `search capitals`
 use mathlib.Core.Path.{_≡_, refl, sym, ap, _∙_}
 use mathlib.Core.Bool.{Bool, true, false}
 use mathlib.Core.List.{List}
-use Prim.Native.Nat.{ℕ, _-_, _*_, _<_}
+use Prim.Native.Nat.{ℕ, _+_, _-_, _*_, _≤_, _<_}
 use native.Mathlib.Omega.{arith}
-use lib.ListN.{length, take}
+use lib.ListN.{length, take, getD}
 use lib.Seq.{take-all}
 use borrow.Author.Needs.{needs}
 use Rattle.octets.specs.Pick.{_or_}
@@ -15,13 +15,14 @@ use Rattle.model.specs.Refusal.{Verdict}
 use Rattle.source.specs.Source.{rest, Reads}
 use Rattle.source.specs.Facts.{rest-byte, rest-end, byte-small}
 use Rattle.source.specs.declared.Step.{Step}
-use Rattle.xml.specs.Nodes.{Nodes, hasElement}
+use Rattle.xml.specs.Nodes.{Nodes, literal, referred, hasElement}
 use Rattle.xcal.specs.Layout.{hasCapital, unexpected, innerElement}
-use Rattle.xml.specs.NodesAt.{nodesAt}
-use Rattle.nodes.specs.NodeFound.{NodeAt, node-none, node-element, node-literal, node-referred, literal-less, referred-less}
+use Rattle.xml.specs.NodesAt.{nodesAt, nodes-none}
+use Rattle.nodes.specs.Plain.{isPlain}
+use Rattle.nodes.specs.HeadFound.{HeadAt, nodes-plain, head-none, head-element, head-literal, head-referred, head-literal-less, head-referred-less}
 use Rattle.nodes.specs.Judging.{judgedAs}
 use Rattle.nodes.specs.declared.Judged.the-variants.{Fine}
-use Rattle.nodes.specs.declared.Node.{Node}
+use Rattle.nodes.specs.declared.Head.{Head}
 use Rattle.nodes.specs.declared.NodeKind.the-variants.{None, Element, Literal, Referred}
 
 pub record Passing {A : Type 0} (f : Nodes → A) (s : List ℕ) (from at : ℕ) : Type 0 where
@@ -30,44 +31,86 @@ pub record Passing {A : Type 0} (f : Nodes → A) (s : List ℕ) (from at : ℕ)
 pub passing-start : {A : Type 0} (f : Nodes → A) (s : List ℕ) (from : ℕ) → Passing f s from from
 passing-start f s from = record { is = refl }
 
-module _ {s : List ℕ} {from at : ℕ} {r : Node} where
-  module _ (p : Passing hasElement s from at) (n : NodeAt s at r) where
+-- what f says passes over characters
+pub record Skips {A : Type 0} (f : Nodes → A) : Type 0 where
+  pub over-literal : (p b : ℕ) (more : Nodes) → f (literal p b more) ≡ f more
+  pub over-referred : (p : ℕ) (bs : List ℕ) (more : Nodes) → f (referred p bs more) ≡ f more
+
+module _ {A : Type 0} {f : Nodes → A} (k : Skips f) {s : List ℕ} {from at : ℕ} (p : Passing f s from at) where
+  pass-plain : {b : ℕ} {q : Bool} → at < length s → (b ≡ getD s at 0) × (b < 256) → q ≡ isPlain b → q ≡ true → Passing f s from (at + 1)
+  pass-plain h e q y = record { is = p .is ∙ ap f (nodes-plain s at h (ap isPlain (sym (e .0)) ∙ sym q ∙ y)) ∙ k .over-literal _ _ _ }
+
+  module _ {r : Head} (n : HeadAt s at r) where
+    pass-literal : r .kind ≡ Literal → Passing f s from (r .next)
+    pass-literal q = record { is = p .is ∙ ap f (head-literal n q) ∙ k .over-literal _ _ _ }
+
+    pass-referred : r .kind ≡ Referred → Passing f s from (r .next)
+    pass-referred q = record { is = p .is ∙ ap f (head-referred n q) ∙ k .over-referred _ _ _ }
+
+pub plain-less : (s : List ℕ) (at : ℕ) → at < length s → length s - (at + 1) < length s - at
+plain-less s at h = omega arith
+
+-- ---- whether an element stands there
+
+has-skips : Skips hasElement
+unfolding hasElement
+has-skips = record { over-literal = λ p b m. refl; over-referred = λ p bs m. refl }
+
+module _ {s : List ℕ} {from at : ℕ} (p : Passing hasElement s from at) where
+  pub has-past : length s ≤ at → false ≡ hasElement (nodesAt s from)
+  unfolding hasElement
+  has-past h = sym (p .is ∙ ap hasElement (nodes-none s at h))
+
+  pub has-plain : {b : ℕ} {q : Bool} → at < length s → (b ≡ getD s at 0) × (b < 256) → q ≡ isPlain b → q ≡ true → Passing hasElement s from (at + 1)
+  has-plain h e q y = pass-plain has-skips p h e q y
+
+  module _ {r : Head} (n : HeadAt s at r) where
     pub has-none : r .kind ≡ None → false ≡ hasElement (nodesAt s from)
     unfolding hasElement
-    has-none q = sym (p .is ∙ ap hasElement (node-none n q))
+    has-none q = sym (p .is ∙ ap hasElement (head-none n q))
 
     pub has-here : r .kind ≡ Element → true ≡ hasElement (nodesAt s from)
     unfolding hasElement
-    has-here q = sym (p .is ∙ ap hasElement (node-element n q))
+    has-here q = sym (p .is ∙ ap hasElement (head-element n q))
 
     pub has-literal : r .kind ≡ Literal → Passing hasElement s from (r .next)
-    unfolding hasElement
-    has-literal q = record { is = p .is ∙ ap hasElement (node-literal n q) }
+    has-literal q = pass-literal has-skips p n q
 
     pub has-referred : r .kind ≡ Referred → Passing hasElement s from (r .next)
-    unfolding hasElement
-    has-referred q = record { is = p .is ∙ ap hasElement (node-referred n q) }
+    has-referred q = pass-referred has-skips p n q
 
-  module _ (p : Passing innerElement s from at) (n : NodeAt s at r) where
+pub ruleset having = (passing-start, has-past, has-plain, has-none, has-here, has-literal, has-referred, plain-less, head-literal-less, head-referred-less, needs)
+
+-- ---- the refusal of the first element
+
+inner-skips : Skips innerElement
+unfolding innerElement
+inner-skips = record { over-literal = λ p b m. refl; over-referred = λ p bs m. refl }
+
+module _ {s : List ℕ} {from at : ℕ} (p : Passing innerElement s from at) where
+  pub inner-past : length s ≤ at → innerElement (nodesAt s from) ≡ judgedAs Fine
+  unfolding innerElement
+  inner-past h = p .is ∙ ap innerElement (nodes-none s at h)
+
+  pub inner-plain : {b : ℕ} {q : Bool} → at < length s → (b ≡ getD s at 0) × (b < 256) → q ≡ isPlain b → q ≡ true → Passing innerElement s from (at + 1)
+  inner-plain h e q y = pass-plain inner-skips p h e q y
+
+  module _ {r : Head} (n : HeadAt s at r) where
     pub inner-none : r .kind ≡ None → innerElement (nodesAt s from) ≡ judgedAs Fine
     unfolding innerElement
-    inner-none q = p .is ∙ ap innerElement (node-none n q)
+    inner-none q = p .is ∙ ap innerElement (head-none n q)
 
     pub inner-here : {v : Verdict} → r .kind ≡ Element → unexpected at (rest 0 (take (r .«name_end») s) (r .name)) ≡ v → innerElement (nodesAt s from) ≡ v
     unfolding innerElement
-    inner-here q h = p .is ∙ ap innerElement (node-element n q) ∙ h
+    inner-here q h = p .is ∙ ap innerElement (head-element n q) ∙ h
 
     pub inner-literal : r .kind ≡ Literal → Passing innerElement s from (r .next)
-    unfolding innerElement
-    inner-literal q = record { is = p .is ∙ ap innerElement (node-literal n q) }
+    inner-literal q = pass-literal inner-skips p n q
 
     pub inner-referred : r .kind ≡ Referred → Passing innerElement s from (r .next)
-    unfolding innerElement
-    inner-referred q = record { is = p .is ∙ ap innerElement (node-referred n q) }
+    inner-referred q = pass-referred inner-skips p n q
 
-pub ruleset having = (passing-start, has-none, has-here, has-literal, has-referred, literal-less, referred-less, needs)
-
-pub ruleset inners = (passing-start, inner-none, inner-here, inner-literal, inner-referred, literal-less, referred-less, needs)
+pub ruleset inners = (passing-start, inner-past, inner-plain, inner-none, inner-here, inner-literal, inner-referred, plain-less, head-literal-less, head-referred-less, needs)
 
 -- ---- capitals
 

@@ -1,32 +1,12 @@
 // The end of an open element.
 use crate::Ended;
+use crate::plain::is_plain;
 use octets::wide;
 use tokens::TokenKind;
 use tokens::token_at;
-ghost use mathlib.Core.Path.{_≡_};
 ghost use Prim.Native.Nat.{_≤_};
 ghost use lib.ListN.{length};
-ghost use Rattle.nodes.specs.Plain.{isPlain};
 ghost use Rattle.nodes.specs.Closing.{EndedAt};
-
-// A byte that is a character of its own, whatever follows it: none of `<`, `&`, `]` and CR.
-fn is_plain(b: usize) -> bool
-    ensures { λ r. ⌜ r ≡ isPlain b ⌝ }
-{
-    if b == 60 {
-        return false;
-    }
-    if b == 38 {
-        return false;
-    }
-    if b == 93 {
-        return false;
-    }
-    if b == 13 {
-        return false;
-    }
-    true
-}
 
 // The end tag of the element whose content begins at `from`; without one the place is 0, and nothing follows.
 pub fn element_end(s: &[u8], from: usize) -> Ended

@@ -1,9 +1,8 @@
 // The node at a place.
 use crate::Node;
 use crate::NodeKind;
-use crate::closing::element_end;
-use tokens::TokenKind;
-use tokens::token_at;
+use crate::ending::node_end;
+use crate::heads::node_head;
 ghost use mathlib.Core.Path.{_≡_};
 ghost use lib.ListN.{length};
 ghost use Rattle.nodes.specs.NodeFound.{noNode, characterNode, NodeAt};
@@ -40,33 +39,23 @@ fn character_node(kind: NodeKind, s: &[u8], unit: usize, next: usize) -> Node
 pub fn next_node(s: &[u8], at: usize) -> Node
     ensures { λ r. ⌜ NodeAt (now (s .entry)) at r ⌝ }
 {
-    let t = token_at(s, at);
-    let kind = t.kind;
+    let h = node_head(s, at);
+    let kind = h.kind;
     match kind {
-        TokenKind::Start => {
-            let e = element_end(s, t.next);
+        NodeKind::None => no_node(s),
+        NodeKind::Element => {
+            let e = node_end(s, at, h.opens, h.next);
             Node {
                 kind: NodeKind::Element,
-                name: t.name,
-                name_end: t.name_end,
-                inside: t.next,
+                name: h.name,
+                name_end: h.name_end,
+                inside: h.inside,
                 end: e.place,
                 next: e.next,
                 unit: 0,
             }
         }
-        TokenKind::Empty => Node {
-            kind: NodeKind::Element,
-            name: t.name,
-            name_end: t.name_end,
-            inside: s.len(),
-            end: at,
-            next: t.next,
-            unit: 0,
-        },
-        TokenKind::End => no_node(s),
-        TokenKind::Char => character_node(NodeKind::Literal, s, t.unit, t.next),
-        TokenKind::Reference => character_node(NodeKind::Referred, s, t.unit, t.next),
-        TokenKind::Fault => no_node(s),
+        NodeKind::Literal => character_node(NodeKind::Literal, s, h.unit, h.next),
+        NodeKind::Referred => character_node(NodeKind::Referred, s, h.unit, h.next),
     }
 }

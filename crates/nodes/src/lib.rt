@@ -1,10 +1,15 @@
 // The content of an element, node by node, and what all readers of elements ask of it. Definitions are in crates xml and xcal, laws in specs/.
 mod closing;
 mod content;
+mod ending;
+mod heads;
+mod plain;
 mod readers;
 mod root;
 
 pub use content::next_node;
+pub use ending::node_end;
+pub use heads::node_head;
 pub use readers::has_capital;
 pub use readers::has_element;
 pub use readers::inner_element;
@@ -27,6 +32,18 @@ pub struct Node {
     pub name_end: usize,
     pub inside: usize,
     pub end: usize,
+    pub next: usize,
+    pub unit: usize,
+}
+
+// The head of a node: what is known of it before an element's end tag is sought. `next` is the place behind its tag or character, and `opens` says that
+// an element's content begins there.
+pub struct Head {
+    pub kind: NodeKind,
+    pub name: usize,
+    pub name_end: usize,
+    pub inside: usize,
+    pub opens: bool,
     pub next: usize,
     pub unit: usize,
 }

@@ -1,8 +1,10 @@
 // What all readers of elements ask of them. See crate xcal, specs/Layout.antt.
 use crate::Judged;
 use crate::NodeKind;
-use crate::next_node;
+use crate::heads::token_head;
+use crate::plain::is_plain;
 use octets::is_capital;
+use octets::wide;
 use source::unit;
 ghost use mathlib.Core.Path.{_≡_};
 ghost use lib.ListN.{take};
@@ -57,24 +59,31 @@ pub fn inner_element(s: &[u8], at: usize) -> Judged
     ensures { λ r. ⌜ innerElement (nodesAt (now (s .entry)) at) ≡ judgedAs r ⌝ }
 {
     let mut c = at;
-    loop {
-        let n = next_node(s, c);
-        let kind = n.kind;
-        match kind {
-            NodeKind::None => {
-                return Judged::Fine;
-            }
-            NodeKind::Element => {
-                return unexpected(s, c, n.name, n.name_end);
-            }
-            NodeKind::Literal => {
-                c = n.next;
-            }
-            NodeKind::Referred => {
-                c = n.next;
+    while c < s.len() {
+        let b = wide(s[c]);
+        let plain = is_plain(b);
+        if plain {
+            c += 1;
+        } else {
+            let n = token_head(s, c);
+            let kind = n.kind;
+            match kind {
+                NodeKind::None => {
+                    return Judged::Fine;
+                }
+                NodeKind::Element => {
+                    return unexpected(s, c, n.name, n.name_end);
+                }
+                NodeKind::Literal => {
+                    c = n.next;
+                }
+                NodeKind::Referred => {
+                    c = n.next;
+                }
             }
         }
     }
+    Judged::Fine
 }
 
 // An element stands from `at` on.
@@ -82,22 +91,29 @@ pub fn has_element(s: &[u8], at: usize) -> bool
     ensures { λ r. ⌜ r ≡ hasElement (nodesAt (now (s .entry)) at) ⌝ }
 {
     let mut c = at;
-    loop {
-        let n = next_node(s, c);
-        let kind = n.kind;
-        match kind {
-            NodeKind::None => {
-                return false;
-            }
-            NodeKind::Element => {
-                return true;
-            }
-            NodeKind::Literal => {
-                c = n.next;
-            }
-            NodeKind::Referred => {
-                c = n.next;
+    while c < s.len() {
+        let b = wide(s[c]);
+        let plain = is_plain(b);
+        if plain {
+            c += 1;
+        } else {
+            let n = token_head(s, c);
+            let kind = n.kind;
+            match kind {
+                NodeKind::None => {
+                    return false;
+                }
+                NodeKind::Element => {
+                    return true;
+                }
+                NodeKind::Literal => {
+                    c = n.next;
+                }
+                NodeKind::Referred => {
+                    c = n.next;
+                }
             }
         }
     }
+    false
 }

@@ -17,15 +17,22 @@ has-element-spec = tie.close (tie.spec
     Inv-loop
     μ-loop
     (λ c. search having)  -- loop-holds
-    (λ c κs. search having)  -- next-node-requires
+    (λ c. search having)  -- shared-slice-read-wide
+    (λ c κs. search having)  -- wide-requires
+    (λ c κs. search having)  -- is-plain-requires
+    (λ c. search having)  -- add-c
+    (λ c. search having)  -- loop-less
+    (λ c. search having)  -- loop-again
+    (λ c κs. search having)  -- token-head-requires
     (λ c. search having)  -- enum-told
     (λ c. search having)  -- returns
     (λ c. search having)  -- enum-told-2
     (λ c. search having)  -- returns-2
     (λ c. search having)  -- enum-told-3
-    (λ c. search having)  -- loop-less
-    (λ c. search having)  -- loop-again
-    (λ c. search having)  -- enum-told-4
     (λ c. search having)  -- loop-less-2
     (λ c. search having)  -- loop-again-2
+    (λ c. search having)  -- enum-told-4
+    (λ c. search having)  -- loop-less-3
+    (λ c. search having)  -- loop-again-3
+    (λ c. search having)  -- returns-3
     )

@@ -17,16 +17,23 @@ inner-element-spec = tie.close (tie.spec
     Inv-loop
     μ-loop
     (λ c. search inners)  -- loop-holds
-    (λ c κs. search inners)  -- next-node-requires
+    (λ c. search inners)  -- shared-slice-read-wide
+    (λ c κs. search inners)  -- wide-requires
+    (λ c κs. search inners)  -- is-plain-requires
+    (λ c. search inners)  -- add-c
+    (λ c. search inners)  -- loop-less
+    (λ c. search inners)  -- loop-again
+    (λ c κs. search inners)  -- token-head-requires
     (λ c. search inners)  -- enum-told
     (λ c. search inners)  -- returns
     (λ c. search inners)  -- enum-told-2
     (λ c κs. search inners)  -- unexpected-requires
     (λ c. search inners)  -- returns-2
     (λ c. search inners)  -- enum-told-3
-    (λ c. search inners)  -- loop-less
-    (λ c. search inners)  -- loop-again
-    (λ c. search inners)  -- enum-told-4
     (λ c. search inners)  -- loop-less-2
     (λ c. search inners)  -- loop-again-2
+    (λ c. search inners)  -- enum-told-4
+    (λ c. search inners)  -- loop-less-3
+    (λ c. search inners)  -- loop-again-3
+    (λ c. search inners)  -- returns-3
     )

@@ -1,7 +1,7 @@
--- `nodes::closing::is_plain` meets its contract.
+-- `nodes::plain::is_plain` meets its contract.
 use Rattle.octets.specs.Pick.{branching}
-use Rattle.nodes.proofs.closing.is_plain.Statement.{statement}
-use Rattle.nodes.proofs.closing.is_plain.Tie as tie
+use Rattle.nodes.proofs.plain.is_plain.Statement.{statement}
+use Rattle.nodes.proofs.plain.is_plain.Tie as tie
 
 pub is-plain-spec : {M : Type 1} → statement M
 is-plain-spec = tie.close (tie.spec
