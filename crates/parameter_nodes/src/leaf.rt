@@ -4,7 +4,7 @@ use nodes::has_element;
 use schema::is_word_of_parameter;
 use schema::parameter_has_words;
 use schema::parameter_type;
-use source::unit;
+use source::xml_unit;
 use values::ValueRead;
 use values::read_value;
 ghost use mathlib.Core.Path.{_≡_};
@@ -30,13 +30,13 @@ pub fn cursor_of(s: &[u8], inside: usize) -> usize
     2 * inside
 }
 
-// The byte `b` stands from the cursor on.
-pub fn has_byte(b: usize, mode: usize, s: &[u8], at: usize) -> bool
-    ensures { λ r. ⌜ r ≡ holds b (rest mode (now (s .entry)) at) ⌝ }
+// The byte `b` stands among the characters from the cursor on.
+pub fn has_byte(b: usize, s: &[u8], at: usize) -> bool
+    ensures { λ r. ⌜ r ≡ holds b (rest 1 (now (s .entry)) at) ⌝ }
 {
     let mut c = at;
     loop {
-        let n = unit(mode, s, c);
+        let n = xml_unit(s, c);
         let u = n.u;
         if u == 256 {
             return false;
@@ -81,11 +81,11 @@ fn is_leaf(q: usize, s: &[u8], inside: usize) -> bool
         return false;
     }
     let c = cursor_of(s, inside);
-    let quote = has_byte(34, 1, s, c);
+    let quote = has_byte(34, s, c);
     if quote {
         return false;
     }
-    let feed = has_byte(10, 1, s, c);
+    let feed = has_byte(10, s, c);
     if feed {
         return false;
     }

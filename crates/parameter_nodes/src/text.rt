@@ -37,15 +37,15 @@ fn is_quoted(q: usize, s: &[u8], at: usize) -> bool
     if always {
         return true;
     }
-    let colon = has_byte(58, 1, s, at);
+    let colon = has_byte(58, s, at);
     if colon {
         return true;
     }
-    let semicolon = has_byte(59, 1, s, at);
+    let semicolon = has_byte(59, s, at);
     if semicolon {
         return true;
     }
-    has_byte(44, 1, s, at)
+    has_byte(44, s, at)
 }
 
 // TRUE or FALSE.

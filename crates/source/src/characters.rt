@@ -94,6 +94,7 @@ fn within_unit(s: &[u8], q: usize, at: usize) -> Step
     referred_unit(s, p, u - 257, n, q - p + 1)
 }
 
+// The byte at a cursor over the characters of an XML element.
 pub fn xml_unit(s: &[u8], at: usize) -> Step
     ensures { λ r. ⌜ Reads 1 (now (s .entry)) at r ⌝ }
 {

@@ -1,7 +1,7 @@
 // A cursor over lent bytes in a given encoding: a value is read character by character, whatever encoding it stands in. See specs/Source.antt.
 mod characters;
 
-use characters::xml_unit;
+pub use characters::xml_unit;
 use octets::wide;
 ghost use mathlib.Core.Path.{_≡_};
 ghost use Rattle.source.specs.Source.{Reads};

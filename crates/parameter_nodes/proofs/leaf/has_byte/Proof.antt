@@ -6,17 +6,17 @@ use Rattle.parameter_nodes.proofs.leaf.has_byte.Statement.{statement}
 use Rattle.parameter_nodes.proofs.leaf.has_byte.Tie as tie
 
 abbrev Inv-loop : tie.InvT-loop
-Inv-loop b mode s at c₀ c = Holding b mode s at c
+Inv-loop b s at c₀ c = Holding b 1 s at c
 
 abbrev μ-loop : tie.MeasureT-loop
-μ-loop b mode s at c₀ c = 4 * length s - c
+μ-loop b s at c₀ c = 4 * length s - c
 
 pub has-byte-spec : {M : Type 1} → statement M
 has-byte-spec = tie.close (tie.spec
     Inv-loop
     μ-loop
     (λ c. search holding)  -- loop-holds
-    (λ c κs. search holding)  -- unit-requires
+    (λ c κs. search holding)  -- xml-unit-requires
     (λ c. search holding)  -- returns
     (λ c. search holding)  -- returns-2
     (λ c. search holding)  -- loop-less
