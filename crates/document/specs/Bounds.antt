@@ -2,7 +2,7 @@
 --     opensBound     a byte that BEGIN or END can begin with;   content-aside: a line with another first byte is neither
 --     Aside          the line at an index is neither, and the next begins at another index
 --     BoundAt        the contract of `bound_at`;   bound-kind: what was found, by its kind;   found-bound, loose-aside, whole-aside: its answers
-use mathlib.Core.Path.{_≡_, refl, sym, ap, subst, _∙_}
+use mathlib.Core.Path.{_≡_, refl, ap, subst}
 use mathlib.Core.Bool.{Bool, true, false}
 use mathlib.Core.List.{List, [], _∷_, map}
 use mathlib.Core.Option.{Option, none, some}
@@ -12,7 +12,7 @@ use lib.Dec.{eqb}
 use lib.ListN.{length, take, drop, getD}
 use borrow.Author.Tests.{ne-eqb, eqb-false}
 use Rattle.octets.specs.Ascii.{ascii}
-use Rattle.octets.specs.Pick.{pick, pick-either, within-range, _and_, and-no-left, _or_, or-neither}
+use Rattle.octets.specs.Pick.{pick, pick-either, within-range, and-no-left, _or_, or-neither}
 use Rattle.octets.specs.Scan.{spanLen, drop-next}
 use Rattle.octets.specs.Class.{isSmall, isNameChar, upperByte, upper}
 use Rattle.octets.specs.Words.{same}

@@ -1,8 +1,8 @@
 -- The parts of a component's element around its subcomponents.
 --     hasComponents n empty    the component n, which has no subcomponents if it is empty, has an element `components`
---     headXml, tailXml      what stands before the subcomponents, and behind them; es are the entries behind its BEGIN
---     component-parts       the element is made of these
---     head-put, tail-put    for code
+--     headXml, tailXml         what stands before the subcomponents, and behind them; es are the entries behind its BEGIN
+--     component-parts          the element is made of these
+--     head-put, tail-put       for code
 use mathlib.Core.Path.{_≡_, refl, sym, ap, _∙_}
 use mathlib.Core.Bool.{Bool, true, false}
 use mathlib.Core.List.{List, [], _∷_}

@@ -2,11 +2,11 @@
 --     Passed           the contract of a walk from inside a component to behind its END
 --     ComponentsPut    that of one that writes the components on its way
 --     Ahead            what stands ahead of one over a component's properties: its subcomponents, from `inner` on; or none, and then `next` is behind its END
---     PropertiesPut    the contract of such a walk, which writes bs
+--     PropertiesPut    the contract of one over a component's properties, which writes bs
 --     LeadingPut       that of one that stops at the first subcomponent;   leading-bare, leading-more: what is left to write then
 --     element-put      the same between the tags of an element
 use mathlib.Core.Path.{_≡_, refl, sym}
-use mathlib.Core.Bool.{Bool, true, false}
+use mathlib.Core.Bool.{Bool, true}
 use mathlib.Core.List.{List, [], append-nil}
 use Prim.Native.Nat.{ℕ, _≤_}
 use Rattle.sink.specs.Sink.{Put, _▷_, Todo, todo-step, todo-done}

@@ -26,7 +26,7 @@ fn opens_bound(b: u8) -> bool
     b == 101
 }
 
-// The line at `at`, which ends where it ends: it is neither BEGIN nor END.
+// The line at `at`, which is neither BEGIN nor END: only its end is sought.
 fn line_aside(s: &[u8], at: usize) -> Found
     requires { ⌜ (at < length (now s)) × (opensBound (getD (now s) at 0) ≡ false) ⌝ }
     ensures { λ r. ⌜ BoundAt (now (s .entry)) at r ⌝ }
@@ -49,7 +49,7 @@ fn line_aside(s: &[u8], at: usize) -> Found
     }
 }
 
-// The line at `at`: BEGIN, END, or another, which is read no further than to its end where its first byte tells.
+// The line at `at`: BEGIN, END, or another. Where its first byte tells that it is another, it is not taken apart.
 pub fn bound_at(s: &[u8], at: usize) -> Found
     requires { ⌜ at < length (now s) ⌝ }
     ensures { λ r. ⌜ BoundAt (now (s .entry)) at r ⌝ }

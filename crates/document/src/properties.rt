@@ -13,8 +13,8 @@ ghost use Rattle.document.specs.Entries.{entriesAt};
 ghost use Rattle.document.specs.Walks.{ownXml};
 ghost use Rattle.document.specs.Places.{PropertiesPut, LeadingPut};
 
-// How far a walk over a component's lines has come: the index in the sink, that of the first subcomponent; or there is none, and the component
-// ends before `next`.
+// What a walk over a component's properties came to: the index in the sink; that of the first subcomponent, or of what ends the component; whether there is
+// no subcomponent; and if there is none, the index behind the component's END.
 pub struct Walked {
     pub to: usize,
     pub inner: usize,
@@ -93,7 +93,7 @@ fn put_following(out: &mut [u8], o: usize, k: usize, s: &[u8], from: usize) -> u
     p
 }
 
-// All of them.
+// All of them: those before the first subcomponent, and the rest where there is one.
 fn put_properties(out: &mut [u8], o: usize, k: usize, s: &[u8], from: usize) -> Walked
     ensures { λ r. ⌜ PropertiesPut (now (out .entry)) (now (out .exit)) o (ownXml (componentName k) (entriesAt (now (s .entry)) from)) (now (s .entry)) from r ⌝ }
 {
