@@ -4,7 +4,7 @@ use crate::tag::put_part_start;
 use recur::rule::byte_end;
 use recur::rule::is_list_part;
 use recur::rule::value_at;
-use recur::written::put_item;
+use recur::written::put_shown;
 use source::unit;
 ghost use mathlib.Core.List.{[]};
 ghost use Prim.Native.Nat.{_+_, _≤_};
@@ -22,7 +22,7 @@ fn put_item_xml(out: &mut [u8], o: usize, p: usize, s: &[u8], at: usize) -> usiz
     ensures { λ r. ⌜ Put (now (out .entry)) (now (out .exit)) o r (itemXml (getD partNames p []) (rest 0 (now (s .entry)) at)) ⌝ }
 {
     let a = put_part_start(out, o, p);
-    let b = put_item(out, a, p, false, true, 0, s, at);
+    let b = put_shown(out, a, p, false, true, 0, s, at);
     put_part_end(out, b, p)
 }
 
