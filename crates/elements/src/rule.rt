@@ -3,6 +3,7 @@ use crate::tag::put_part_end;
 use crate::tag::put_part_start;
 use recur::rule::byte_end;
 use recur::rule::is_list_part;
+use recur::rule::read_parts;
 use recur::rule::value_at;
 use recur::written::put_shown;
 use source::unit;
@@ -14,7 +15,9 @@ ghost use Rattle.octets.specs.Reading.{orNothing};
 ghost use Rattle.sink.specs.Sink.{Put};
 ghost use Rattle.source.specs.Source.{rest};
 ghost use Rattle.recur.specs.Parts.{partNames};
+ghost use Rattle.recur.specs.Rule.{readRule};
 ghost use Rattle.recur.specs.Noted.{pieceFrom, Standing};
+ghost use Rattle.xcal.specs.WriteXml.{partsXml};
 ghost use Rattle.elements.specs.Rules.{itemXml, eachXml, pieceXml, namedXml};
 
 // An item of the part at the place `p`.
@@ -83,4 +86,16 @@ pub fn put_parts_xml(out: &mut [u8], o: usize, s: &[u8], at: usize, begins: [usi
         p += 1;
     }
     q
+}
+
+// The rule from the cursor `at` to the end; nothing where it is none.
+pub fn put_rule_xml(out: &mut [u8], o: usize, s: &[u8], at: usize) -> usize
+    ensures { λ r. ⌜ Put (now (out .entry)) (now (out .exit)) o r (orNothing partsXml (readRule (rest 0 (now (s .entry)) at))) ⌝ }
+{
+    let r = read_parts(s, at);
+    if r.good {
+        let begins = r.begins;
+        return put_parts_xml(out, o, s, at, begins);
+    }
+    o
 }
