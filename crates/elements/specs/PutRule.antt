@@ -3,7 +3,7 @@
 --     Itemizing                  the invariant of the loop over the items of a piece
 --     put-found, put-missing     the piece of a part
 --     Naming                     the invariant of the loop over the parts
---     nothing-read               nothing of what was not read
+--     put-rule, put-no-rule      the whole rule;   nothing-read: nothing of what was not read
 use mathlib.Core.Path.{_≡_, refl, sym, _∙_, subst}
 use mathlib.Core.Bool.{Bool, true, false, false≢true}
 use mathlib.Core.List.{List, []}
@@ -19,15 +19,18 @@ use Rattle.octets.specs.Append.{_⊕_, append-none}
 use Rattle.octets.specs.Words.{cutAt, rowOf}
 use Rattle.octets.specs.Reading.{isRead, orNothing}
 use Rattle.octets.specs.Front.{upTo, past}
+use Rattle.model.specs.Calendar.{RulePart}
 use Rattle.sink.specs.Sink.{Put, put-length, Todo, todo-all, todo-step, todo-done}
 use Rattle.source.specs.Source.{rest, Reads}
 use Rattle.source.specs.declared.Step.{Step}
 use Rattle.recur.specs.Parts.{partOf, partNames, isListed, isListPart}
-use Rattle.recur.specs.Rule.{isEquals}
+use Rattle.recur.specs.Rule.{isEquals, readRule}
 use Rattle.recur.specs.Pieces.{Ends, pieceName}
 use Rattle.recur.specs.PieceLaws.{piece-is, pieces-last, pieces-more, step-less}
-use Rattle.recur.specs.Noted.{pieceFrom, Standing}
-use Rattle.elements.specs.Rules.{itemXml, eachXml, pieceXml, namedXml}
+use Rattle.recur.specs.Noted.{pieceFrom, Standing, Parted}
+use Rattle.recur.specs.declared.rule.RuleParts.{RuleParts}
+use Rattle.xcal.specs.WriteXml.{partsXml}
+use Rattle.elements.specs.Rules.{itemXml, eachXml, pieceXml, namedXml, rule-xml}
 
 -- ---- a piece
 
@@ -104,9 +107,22 @@ pub put-standing : {d e : List ℕ} {o q : ℕ} {s : List ℕ} {c : ℕ} {t : Li
     Put d e o q (orNothing (pieceXml (getD partNames p [])) (rowOf pieceName (getD partNames p []) (cutAt 59 (rest 0 s c))))
 put-standing p i h w = rw (i .is p h) w
 
--- ---- what was not read
+-- ---- the whole rule
 
+-- nothing is written where nothing was read
 pub nothing-read : {A : Type 0} (w : A → List ℕ) {d e : List ℕ} {o q : ℕ} (u : Option A) → isRead u ≡ false → Put d e o q [] → Put d e o q (orNothing w u)
 unfolding isRead
 nothing-read w none h p = p
 nothing-read w (some v) h p = absurd (false≢true (sym h))
+
+module _ {d e : List ℕ} {o q : ℕ} {s : List ℕ} {c : ℕ} {r : RuleParts} (p : Parted s c r) where
+  pub put-rule : r .good ≡ true → Put d e o q (namedXml partNames (cutAt 59 (rest 0 s c))) → Put d e o q (orNothing partsXml (readRule (rest 0 s c)))
+  unfolding isRead
+  put-rule h w = go (readRule (rest 0 s c)) refl (p .is ∙ h)
+    where
+      go : (v : Option (List RulePart)) → readRule (rest 0 s c) ≡ v → isRead v ≡ true → Put d e o q (orNothing partsXml v)
+      go none k z = absurd (false≢true z)
+      go (some v) k z = rw (rule-xml (rest 0 s c) v k) w
+
+  pub put-no-rule : r .good ≡ false → Put d e o q [] → Put d e o q (orNothing partsXml (readRule (rest 0 s c)))
+  put-no-rule h w = nothing-read partsXml (readRule (rest 0 s c)) (p .is ∙ h) w

@@ -13,13 +13,14 @@ use Rattle.octets.specs.Append.{_⊕_}
 use Rattle.octets.specs.Class.{lower}
 use Rattle.octets.specs.Words.{same, same-true, cutAt, rowOf}
 use Rattle.octets.specs.Lists.{distinct}
-use Rattle.octets.specs.Reading.{readEach, consRead, orNothing, andThen-some, consRead-some, provided-some}
+use Rattle.octets.specs.Reading.{isRead, readEach, consRead, orNothing, andThen-some, consRead-some, provided-some}
 use Rattle.octets.specs.Front.{past}
 use Rattle.model.specs.Calendar.{ical, xcal, RuleItem, moment, number, word, weekday, RulePart}
 use Rattle.times.specs.Date.{isDate, writeDate, date-read-back}
 use Rattle.times.specs.DateTime.{isDateTime, writeDateTime, date-time-read-back}
 use Rattle.recur.specs.Parts.{ItemForm, wordOf, enddate, counting, unsigned, signed, weekdaynum, Part, partOf, partNames}
 use Rattle.recur.specs.Item.{readItem, writeItem, writeEnddate, isOfForm, isFor, isItem}
+use Rattle.recur.specs.Shown.{shownAt, item-shown}
 use Rattle.recur.specs.ItemLaws.{item-characters, item-accepted}
 use Rattle.recur.specs.Rule.{rulePart, isEquals, itemsOf, readPart, nameOf, partNamed, isComplete, withPart, inOrder, ruled, readRule}
 use Rattle.recur.specs.Pieces.{pieceName}
@@ -28,7 +29,7 @@ use Rattle.xml.specs.Escape.{escaped, elementOf}
 use Rattle.xcal.specs.WriteXml.{itemsXml, partsXml}
 
 abbrev pub itemXml : List ℕ → List ℕ → List ℕ
-itemXml n w = elementOf (lower n) (orNothing (writeItem xcal) (readItem ical n w))
+itemXml n w = elementOf (lower n) (shownAt xcal ical (partOf n) w)
 
 unfoldable pub eachXml : List ℕ → List (List ℕ) → List ℕ
 eachXml n [] = []
@@ -73,8 +74,10 @@ item-bare n (weekday o d) h = bare-escaped _ (chars-bare _ (item-characters n (w
 
 item-xml : (n w : List ℕ) (ws : List (List ℕ)) (i : RuleItem) (is : List RuleItem) → readItem ical n w ≡ some i → itemsXml (lower n) is ≡ eachXml n ws →
     itemsXml (lower n) (i ∷ is) ≡ eachXml n (w ∷ ws)
-unfolding itemsXml eachXml
-item-xml n w ws i is h k = rw (h, item-bare n i (item-accepted ical n w i h), k)
+unfolding itemsXml eachXml isRead
+item-xml n w ws i is h k =
+    let e : writeItem xcal i ≡ shownAt xcal ical (partOf n) w = rw h at (item-shown xcal ical n w (rw h)) in
+    rw (item-bare n i (item-accepted ical n w i h), e, k)
 
 items-xml : (n : List ℕ) (ws : List (List ℕ)) (is : List RuleItem) → readEach (readItem ical n) ws ≡ some is → itemsXml (lower n) is ≡ eachXml n ws
 unfolding readEach itemsXml eachXml

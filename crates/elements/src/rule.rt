@@ -3,8 +3,9 @@ use crate::tag::put_part_end;
 use crate::tag::put_part_start;
 use recur::rule::byte_end;
 use recur::rule::is_list_part;
+use recur::rule::read_parts;
 use recur::rule::value_at;
-use recur::written::put_item;
+use recur::written::put_shown;
 use source::unit;
 ghost use mathlib.Core.List.{[]};
 ghost use Prim.Native.Nat.{_+_, _≤_};
@@ -14,7 +15,9 @@ ghost use Rattle.octets.specs.Reading.{orNothing};
 ghost use Rattle.sink.specs.Sink.{Put};
 ghost use Rattle.source.specs.Source.{rest};
 ghost use Rattle.recur.specs.Parts.{partNames};
+ghost use Rattle.recur.specs.Rule.{readRule};
 ghost use Rattle.recur.specs.Noted.{pieceFrom, Standing};
+ghost use Rattle.xcal.specs.WriteXml.{partsXml};
 ghost use Rattle.elements.specs.Rules.{itemXml, eachXml, pieceXml, namedXml};
 
 // An item of the part at the place `p`.
@@ -22,7 +25,7 @@ fn put_item_xml(out: &mut [u8], o: usize, p: usize, s: &[u8], at: usize) -> usiz
     ensures { λ r. ⌜ Put (now (out .entry)) (now (out .exit)) o r (itemXml (getD partNames p []) (rest 0 (now (s .entry)) at)) ⌝ }
 {
     let a = put_part_start(out, o, p);
-    let b = put_item(out, a, p, false, true, 0, s, at);
+    let b = put_shown(out, a, p, false, true, 0, s, at);
     put_part_end(out, b, p)
 }
 
@@ -83,4 +86,16 @@ pub fn put_parts_xml(out: &mut [u8], o: usize, s: &[u8], at: usize, begins: [usi
         p += 1;
     }
     q
+}
+
+// The rule from the cursor `at` to the end; nothing where it is none.
+pub fn put_rule_xml(out: &mut [u8], o: usize, s: &[u8], at: usize) -> usize
+    ensures { λ r. ⌜ Put (now (out .entry)) (now (out .exit)) o r (orNothing partsXml (readRule (rest 0 (now (s .entry)) at))) ⌝ }
+{
+    let r = read_parts(s, at);
+    if r.good {
+        let begins = r.begins;
+        return put_parts_xml(out, o, s, at, begins);
+    }
+    o
 }

@@ -30,26 +30,27 @@ use Rattle.times.specs.DateTime.{readDateTime, writeDateTime}
 use Rattle.numbers.specs.Sign as sign
 use Rattle.numbers.specs.Numeral.{front, Fronts, fronts-byte, fronts-end}
 use Rattle.numbers.specs.Sign.{hasMinus, unsigned as afterSign}
-use Rattle.recur.specs.Parts.{Part, partTable, partNames}
+use Rattle.recur.specs.Parts.{Part, partOf, partTable, partNames}
 use Rattle.recur.specs.Item.{inCapitals, readEnddate, writeEnddate, readItem, writeItem}
 use Rattle.recur.specs.Numeral.{numeralIn}
-use Rattle.recur.specs.Fits.{beyond}
+use Rattle.recur.specs.Fits.{part-at, beyond}
 use Rattle.recur.specs.Shown.{shownNumber, shownOrdinal, end-day, end-moment, rowAt, shownAt, item-shown, number-at}
 
 -- ---- an item by its part's place
 
 module _ (g f : Format) (s : List ℕ) {d e : List ℕ} {o r : ℕ} where
-  pub put-shown-at : (p k : ℕ) → p ≡ k → Put d e o r (shownAt g f (rowAt k) s) → Put d e o r (shownAt g f (rowAt p) s)
-  put-shown-at p k h w = rw h w
+  pub put-shown-at : (p k : ℕ) → p ≡ k → Put d e o r (shownAt g f (rowAt k) s) → Put d e o r (shownAt g f (partOf (getD partNames p [])) s)
+  put-shown-at p k h w = rw (part-at p, h) w
 
-  pub put-shown-number : (p : ℕ) → (p ≡ 0 → ⊥) → (p ≡ 1 → ⊥) → (p ≡ 7 → ⊥) → (p ≡ 13 → ⊥) → p < 14 → Put d e o r (shownNumber s) → Put d e o r (shownAt g f (rowAt p) s)
-  put-shown-number p a b c y l w = rw (number-at g f s p a b c y l) w
+  pub put-shown-number : (p : ℕ) → (p ≡ 0 → ⊥) → (p ≡ 1 → ⊥) → (p ≡ 7 → ⊥) → (p ≡ 13 → ⊥) → p < 14 → Put d e o r (shownNumber s) → Put d e o r (shownAt g f (partOf (getD partNames p [])) s)
+  put-shown-number p a b c y l w = rw (part-at p, number-at g f s p a b c y l) w
 
-  pub put-shown-beyond : (p : ℕ) → 14 ≤ p → Put d e o r [] → Put d e o r (shownAt g f (rowAt p) s)
-  put-shown-beyond p h w = rw (beyond (map (λ (r : Part). some r) partTable) p h) w
+  pub put-shown-beyond : (p : ℕ) → 14 ≤ p → Put d e o r [] → Put d e o r (shownAt g f (partOf (getD partNames p [])) s)
+  put-shown-beyond p h w = rw (part-at p, beyond (map (λ (r : Part). some r) partTable) p h) w
 
-  pub put-item-shown : (p : ℕ) → isRead (readItem f (getD partNames p []) s) ≡ true → Put d e o r (shownAt g f (rowAt p) s) → Put d e o r (orNothing (writeItem g) (readItem f (getD partNames p []) s))
-  put-item-shown p h w = rw (item-shown g f p s h) w
+  pub put-item-shown : (p : ℕ) → isRead (readItem f (getD partNames p []) s) ≡ true → Put d e o r (shownAt g f (partOf (getD partNames p [])) s) →
+      Put d e o r (orNothing (writeItem g) (readItem f (getD partNames p []) s))
+  put-item-shown p h w = rw (item-shown g f (getD partNames p []) s h) w
 
   pub put-item-none : (p : ℕ) → isRead (readItem f (getD partNames p []) s) ≡ false → Put d e o r [] → Put d e o r (orNothing (writeItem g) (readItem f (getD partNames p []) s))
   unfolding isRead

@@ -1,7 +1,7 @@
 -- What is written of an item, from its characters, as the code writes it.
 --     shown g f k s     what is written in the format g of an item of the form k that is read from s in the format f
 --     shown-is          it is what the definitions write
---     item-shown        the same by the part's place;   number-at: a part whose items are numbers
+--     item-shown        the same by the part's name;   number-at: a part whose items are numbers
 --     end-day, end-moment    UNTIL
 use mathlib.Core.Path.{_≡_, refl, sym, ap, _∙_}
 use mathlib.Core.Bool.{Bool, true, false, false≢true}
@@ -12,11 +12,11 @@ use native.Mathlib.Omega.{arith}
 use lib.Dec.{eqb, leb, ltb}
 use lib.ListN.{length, getD}
 use borrow.Author.Tests.{leb-true, le-leb, ne-eqb}
-use Rattle.octets.specs.Pick.{pick, _and_, _or_, and-both, within-range}
+use Rattle.octets.specs.Pick.{pick, _and_, _or_, and-both, pick-either, within-range}
 use Rattle.octets.specs.Append.{_⊕_}
 use Rattle.octets.specs.Scan.{allOf, all-split}
 use Rattle.octets.specs.Class.{isDigit, isAlpha}
-use Rattle.octets.specs.Words.{isOneOf, isEmpty}
+use Rattle.octets.specs.Words.{same, isOneOf, isEmpty, rowOf}
 use Rattle.octets.specs.Lists.{every, every-both}
 use Rattle.octets.specs.Decimal.{value}
 use Rattle.octets.specs.Reading.{andThen, isRead, orNothing, none-some}
@@ -26,10 +26,10 @@ use Rattle.times.specs.Date.{isDate, readDate, writeDate, date-accepted, date-r
 use Rattle.times.specs.DateTime.{isDateTime, readDateTime, writeDateTime, date-time-accepted, date-time-no-date}
 use Rattle.numbers.specs.Sign.{hasMinus, unsigned as afterSign}
 use Rattle.numbers.specs.Integer.{writeWhole}
-use Rattle.recur.specs.Parts.{ItemForm, wordOf, enddate, counting, unsigned, signed, weekdaynum, Part, partTable, partNames, weekdays}
+use Rattle.recur.specs.Parts.{ItemForm, wordOf, enddate, counting, unsigned, signed, weekdaynum, Part, partOf, partTable, weekdays}
 use Rattle.recur.specs.Item.{inCapitals, isNumeral, isShort, orOther, readEnddate, writeEnddate, readForm, readItem, writeItem, whole, readOrdinal, writeOrdinal}
 use Rattle.recur.specs.Numeral.{numeralIn}
-use Rattle.recur.specs.Fits.{fitsOrdinal, fitsForm, form-read, part-at}
+use Rattle.recur.specs.Fits.{fitsOrdinal, fitsForm, form-read}
 
 abbrev pub shownNumber : List ℕ → List ℕ
 shownNumber s = writeWhole (whole (hasMinus s) (numeralIn 0 2147483647 (afterSign s)))
@@ -144,10 +144,7 @@ shown-is g f weekdaynum s z h =
     let e = ordinal-shown (upTo isAlpha s) (a .0) in
     weekday-shown g f s (e .0) (shownOrdinal (upTo isAlpha s)) (e .1) (e .2) (a .1)
 
--- ---- an item by its part's place
-
-abbrev pub rowAt : ℕ → Option Part
-rowAt p = getD (map (λ (r : Part). some r) partTable) p none
+-- ---- an item by its part
 
 abbrev pub shownAt : Format → Format → Option Part → List ℕ → List ℕ
 shownAt g f none s = []
@@ -157,23 +154,29 @@ abbrev isSmallAt : Option Part → Bool
 isSmallAt none = true
 isSmallAt (some r) = isSmall (r .form)
 
-small-all : (l : List Part) (p : ℕ) → every (λ (r : Part). isSmall (r .form)) l ≡ true → isSmallAt (getD (map (λ (r : Part). some r) l) p none) ≡ true
-small-all [] p h = refl
-small-all (r ∷ l) zero h = every-both (λ (r : Part). isSmall (r .form)) r l h .0
-small-all (r ∷ l) (suc p) h = small-all l p (every-both (λ (r : Part). isSmall (r .form)) r l h .1)
+small-row : (n : List ℕ) (l : List Part) → every (λ (r : Part). isSmall (r .form)) l ≡ true → isSmallAt (rowOf (λ (r : Part). r .name) n l) ≡ true
+unfolding rowOf
+small-row n [] h = refl
+small-row n (r ∷ l) h =
+    let q = every-both (λ (r : Part). isSmall (r .form)) r l h in
+    pick-either (λ (o : Option Part). isSmallAt o ≡ true) (same n (r .name)) (some r) (rowOf (λ (r : Part). r .name) n l) (q .0) (small-row n l (q .1))
 
 table-small : every (λ (r : Part). isSmall (r .form)) partTable ≡ true
 unfolding every _and_
 table-small = refl
 
-pub item-shown : (g f : Format) (p : ℕ) (s : List ℕ) → isRead (readItem f (getD partNames p []) s) ≡ true → orNothing (writeItem g) (readItem f (getD partNames p []) s) ≡ shownAt g f (rowAt p) s
+pub item-shown : (g f : Format) (n s : List ℕ) → isRead (readItem f n s) ≡ true → orNothing (writeItem g) (readItem f n s) ≡ shownAt g f (partOf n) s
 unfolding andThen isRead
-item-shown g f p s h = rw (part-at p) (go (rowAt p) (small-all partTable p table-small) (rw (← (part-at p)) h))
+item-shown g f n s h = go (partOf n) (small-row n partTable table-small) h
   where
     go : (o : Option Part) → isSmallAt o ≡ true → isRead (andThen o (λ r. readForm f (r .form) s)) ≡ true →
         orNothing (writeItem g) (andThen o (λ r. readForm f (r .form) s)) ≡ shownAt g f o s
     go none z k = refl
     go (some r) z k = shown-is g f (r .form) s z (sym (form-read f (r .form) s) ∙ k)
+
+-- the part at a place
+abbrev pub rowAt : ℕ → Option Part
+rowAt p = getD (map (λ (r : Part). some r) partTable) p none
 
 pub number-at : (g f : Format) (s : List ℕ) (p : ℕ) → (p ≡ 0 → ⊥) → (p ≡ 1 → ⊥) → (p ≡ 7 → ⊥) → (p ≡ 13 → ⊥) → p < 14 → shownAt g f (rowAt p) s ≡ shownNumber s
 number-at g f s zero a b c d l = absurd (a refl)

@@ -10,9 +10,9 @@ ghost use Rattle.sink.specs.Sink.{Put};
 ghost use Rattle.source.specs.Source.{rest};
 ghost use Rattle.numbers.specs.Sign.{hasMinus};
 ghost use Rattle.numbers.specs.Numeral.{front};
-ghost use Rattle.recur.specs.Parts.{partNames, weekdaynum};
+ghost use Rattle.recur.specs.Parts.{partNames, partOf, weekdaynum};
 ghost use Rattle.recur.specs.Item.{inCapitals, readEnddate, writeEnddate, readItem, writeItem};
-ghost use Rattle.recur.specs.Shown.{shownNumber, shownOrdinal, shown, rowAt, shownAt};
+ghost use Rattle.recur.specs.Shown.{shownNumber, shownOrdinal, shown, shownAt};
 use crate::item::is_item;
 use crate::number::after_sign;
 use crate::number::numeral_of;
@@ -98,8 +98,8 @@ fn put_enddate(
     }
 }
 
-// What is written of an item of the part at the place `p`, if there is one.
-fn put_shown(
+// What is written of an item of the part at the place `p`, where there is one: it is not read again.
+pub fn put_shown(
     out: &mut [u8],
     o: usize,
     p: usize,
@@ -109,7 +109,7 @@ fn put_shown(
     s: &[u8],
     at: usize,
 ) -> usize
-    ensures { λ r. ⌜ Put (now (out .entry)) (now (out .exit)) o r (shownAt (formatOf to) (formatOf from) (rowAt p) (rest mode (now (s .entry)) at)) ⌝ }
+    ensures { λ r. ⌜ Put (now (out .entry)) (now (out .exit)) o r (shownAt (formatOf to) (formatOf from) (partOf (getD partNames p [])) (rest mode (now (s .entry)) at)) ⌝ }
 {
     if p == 0 {
         return put_word(out, o, from, mode, s, at);
