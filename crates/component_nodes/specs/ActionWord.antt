@@ -36,11 +36,12 @@ use Rattle.values.specs.ReadValue.{readValue}
 use Rattle.xml.specs.Nodes.{Nodes, charactersOf}
 use Rattle.xcal.specs.ValueNodes.{elementType, childNamed, periodOf, valueOf, typedValues}
 use Rattle.xml.specs.NodesAt.{nodesAt}
-use Rattle.nodes.specs.NodeFound.{NodeAt, node-none, node-element, node-literal, node-referred, element-less, literal-less, referred-less}
-use Rattle.nodes.specs.declared.Node.{Node}
+use Rattle.nodes.specs.HeadFound.{HeadAt, NodeEnded, head-none, head-element, head-whole, head-literal, head-referred, head-less}
+use Rattle.nodes.specs.declared.Ended.{Ended}
+use Rattle.nodes.specs.declared.Head.{Head}
 use Rattle.nodes.specs.declared.NodeKind.the-variants.{None, Element, Literal, Referred}
 use Rattle.value_nodes.specs.ElementTypes.{TypeNamed}
-use Rattle.component_nodes.specs.Turning.{name-inside, content-inside}
+use Rattle.component_nodes.specs.Turning.{head-content}
 use Rattle.value_nodes.specs.declared.Named.{Named}
 use Rattle.value_nodes.specs.declared.Named.the-variants.{«Type» as Typed, Bad}
 
@@ -91,28 +92,28 @@ pub record Wording (s : List ℕ) (from at : ℕ) : Type 0 where
 pub word-start : (s : List ℕ) (from : ℕ) → Wording s from from
 word-start s from = record { is = refl }
 
-module _ {s : List ℕ} {from at : ℕ} {r : Node} (i : Wording s from at) (n : NodeAt s at r) where
+module _ {s : List ℕ} {from at : ℕ} {r : Head} (i : Wording s from at) (n : HeadAt s at r) where
   pub word-none : r .kind ≡ None → 3 ≡ wordIn (nodesAt s from)
   unfolding typedValues
-  word-none q = sym (i .is ∙ ap wordIn (node-none n q))
+  word-none q = sym (i .is ∙ ap wordIn (head-none n q))
 
   pub word-literal : r .kind ≡ Literal → Wording s from (r .next)
   unfolding typedValues
-  word-literal q = record { is = i .is ∙ ap wordIn (node-literal n q) }
+  word-literal q = record { is = i .is ∙ ap wordIn (head-literal n q) }
 
   pub word-referred : r .kind ≡ Referred → Wording s from (r .next)
   unfolding typedValues
-  word-referred q = record { is = i .is ∙ ap wordIn (node-referred n q) }
+  word-referred q = record { is = i .is ∙ ap wordIn (head-referred n q) }
 
   module _ (q : r .kind ≡ Element) {t : Named} (d : TypeNamed (rest 0 (take (r .«name_end») s) (r .name)) t) where
-    pub word-past : t ≡ Bad → Wording s from (r .next)
+    pub word-past : {e : Ended} → NodeEnded s at (r .opens) (r .next) e → t ≡ Bad → Wording s from (e .next)
     unfolding typedValues
-    word-past z = let f : TypeNamed (rest 0 (take (r .«name_end») s) (r .name)) Bad = subst (TypeNamed _) z d in record { is = i .is ∙ ap wordIn (node-element n q) ∙ rw (f .is) }
+    word-past y z = let f : TypeNamed (rest 0 (take (r .«name_end») s) (r .name)) Bad = subst (TypeNamed _) z d in record { is = i .is ∙ ap wordIn (head-whole n q y) ∙ rw (f .is) }
 
     module _ {u : ℕ} (z : t ≡ Typed u) where
       word-typed : wordIn (nodesAt s from) ≡ wordOf (valueOf (typeAt u) (nodesAt s (r .inside)))
       unfolding typedValues
-      word-typed = let f : TypeNamed (rest 0 (take (r .«name_end») s) (r .name)) (Typed u) = subst (TypeNamed _) z d in i .is ∙ ap wordIn (node-element n q) ∙ rw (f .is)
+      word-typed = let f : TypeNamed (rest 0 (take (r .«name_end») s) (r .name)) (Typed u) = subst (TypeNamed _) z d in i .is ∙ ap wordIn (head-element n q) ∙ rw (f .is)
 
       pub word-here : {a : ℕ} → u ≡ 10 → a ≡ placeOf (charactersOf (nodesAt s (r .inside))) actionNames → a ≡ wordIn (nodesAt s from)
       word-here h e = e ∙ sym (word-typed ∙ ap (λ (k : ℕ). wordOf (valueOf (typeAt k) (nodesAt s (r .inside)))) h ∙ text-word (nodesAt s (r .inside)))
@@ -123,4 +124,4 @@ module _ {s : List ℕ} {from at : ℕ} {r : Node} (i : Wording s from at) (n : 
           let f : TypeNamed (rest 0 (take (r .«name_end») s) (r .name)) (Typed u) = subst (TypeNamed _) z d in
           sym (word-typed ∙ other-word (typeAt u) (nodesAt s (r .inside)) (rw (type-back u (f .small)) (ne-eqb u 10 h)))
 
-pub ruleset actions = (word-start, word-none, word-literal, word-referred, word-past, word-here, word-other, name-inside, content-inside, element-less, literal-less, referred-less, needs)
+pub ruleset actions = (word-start, word-none, word-literal, word-referred, word-past, word-here, word-other, head-content, head-less, needs)

@@ -31,11 +31,14 @@ use Rattle.xcal.specs.ValueNodes.{typedValues, readValueNodes}
 use Rattle.xcal.specs.PropertyNodes.{readProperties, propertyIn}
 use Rattle.xcal.specs.ComponentNodes.{insideOf, isComplete}
 use Rattle.xml.specs.NodesAt.{nodesAt, nodes-none}
+use Rattle.nodes.specs.HeadFound.{HeadAt, NodeEnded, head-none, head-element, head-whole, head-literal, head-referred, head-less}
 use Rattle.nodes.specs.NodeFound.{NodeAt, node-none, node-element, node-literal, node-referred, element-less, literal-less, referred-less}
 use Rattle.nodes.specs.Walks.{Passing, passing-start}
+use Rattle.nodes.specs.declared.Ended.{Ended}
+use Rattle.nodes.specs.declared.Head.{Head}
 use Rattle.nodes.specs.declared.Node.{Node}
 use Rattle.nodes.specs.declared.NodeKind.the-variants.{None, Element, Literal, Referred}
-use Rattle.component_nodes.specs.Turning.{name-inside, content-inside}
+use Rattle.component_nodes.specs.Turning.{name-inside, head-name, head-content}
 
 -- ---- the children of a component
 
@@ -52,29 +55,29 @@ module _ (m : List ℕ) {b r : Bool} where
 
 pub ruleset parting = (part-properties, part-components, length-take-le, needs)
 
-module _ (n : List ℕ) {s : List ℕ} {from at : ℕ} {r : Node} (p : Passing (insideOf n) s from at) (f : NodeAt s at r) where
+module _ (n : List ℕ) {s : List ℕ} {from at : ℕ} {r : Head} (p : Passing (insideOf n) s from at) (f : HeadAt s at r) where
   pub find-none : r .kind ≡ None → nodesAt s (length s) ≡ insideOf n (nodesAt s from)
   unfolding insideOf
-  find-none q = nodes-none s (length s) (omega arith) ∙ sym (p .is ∙ ap (insideOf n) (node-none f q))
+  find-none q = nodes-none s (length s) (omega arith) ∙ sym (p .is ∙ ap (insideOf n) (head-none f q))
 
   pub find-literal : r .kind ≡ Literal → Passing (insideOf n) s from (r .next)
   unfolding insideOf
-  find-literal q = record { is = p .is ∙ ap (insideOf n) (node-literal f q) }
+  find-literal q = record { is = p .is ∙ ap (insideOf n) (head-literal f q) }
 
   pub find-referred : r .kind ≡ Referred → Passing (insideOf n) s from (r .next)
   unfolding insideOf
-  find-referred q = record { is = p .is ∙ ap (insideOf n) (node-referred f q) }
+  find-referred q = record { is = p .is ∙ ap (insideOf n) (head-referred f q) }
 
   module _ (q : r .kind ≡ Element) {b : Bool} (e : b ≡ same (rest 0 (take (r .«name_end») s) (r .name)) n) where
     pub find-here : b ≡ true → nodesAt s (r .inside) ≡ insideOf n (nodesAt s from)
     unfolding insideOf pick
-    find-here h = sym (p .is ∙ ap (insideOf n) (node-element f q) ∙ rw (← e, h))
+    find-here h = sym (p .is ∙ ap (insideOf n) (head-element f q) ∙ rw (← e, h))
 
-    pub find-other : b ≡ false → Passing (insideOf n) s from (r .next)
+    pub find-other : {x : Ended} → NodeEnded s at (r .opens) (r .next) x → b ≡ false → Passing (insideOf n) s from (x .next)
     unfolding insideOf pick
-    find-other h = record { is = p .is ∙ ap (insideOf n) (node-element f q) ∙ rw (← e, h) }
+    find-other y h = record { is = p .is ∙ ap (insideOf n) (head-whole f q y) ∙ rw (← e, h) }
 
-pub ruleset finding = (passing-start, find-none, find-literal, find-referred, find-here, find-other, name-inside, element-less, literal-less, referred-less, needs)
+pub ruleset finding = (passing-start, find-none, find-literal, find-referred, find-here, find-other, head-name, head-less, needs)
 
 -- ---- how often each property stands
 
@@ -130,30 +133,30 @@ pub record Acting (s : List ℕ) (from at : ℕ) : Type 0 where
 pub act-start : (s : List ℕ) (from : ℕ) → Acting s from from
 act-start s from = record { is = refl }
 
-module _ {s : List ℕ} {from at : ℕ} {r : Node} (i : Acting s from at) (n : NodeAt s at r) where
+module _ {s : List ℕ} {from at : ℕ} {r : Head} (i : Acting s from at) (n : HeadAt s at r) where
   pub act-none : r .kind ≡ None → 3 ≡ actionIn (nodesAt s from)
   unfolding readProperties actionOf
-  act-none q = sym (i .is ∙ ap actionIn (node-none n q))
+  act-none q = sym (i .is ∙ ap actionIn (head-none n q))
 
   pub act-literal : r .kind ≡ Literal → Acting s from (r .next)
   unfolding readProperties
-  act-literal q = record { is = i .is ∙ ap actionIn (node-literal n q) }
+  act-literal q = record { is = i .is ∙ ap actionIn (head-literal n q) }
 
   pub act-referred : r .kind ≡ Referred → Acting s from (r .next)
   unfolding readProperties
-  act-referred q = record { is = i .is ∙ ap actionIn (node-referred n q) }
+  act-referred q = record { is = i .is ∙ ap actionIn (head-referred n q) }
 
   module _ {p : ℕ} (q : r .kind ≡ Element) (o : p ≡ placeOf (upper (rest 0 (take (r .«name_end») s) (r .name))) propertyNames) where
     pub act-here : {a : ℕ} → p ≡ 38 → a ≡ actionNumber (firstText (typedValues (nodesAt s (r .inside)))) → a ≡ actionIn (nodesAt s from)
     unfolding readProperties actionOf pick
-    act-here z e = e ∙ sym (i .is ∙ ap actionIn (node-element n q) ∙
+    act-here z e = e ∙ sym (i .is ∙ ap actionIn (head-element n q) ∙
         rw (action-first (upper (rest 0 (take (r .«name_end») s) (r .name))), ← o, z, action-values (upper (rest 0 (take (r .«name_end») s) (r .name))) (nodesAt s (r .inside)) (sym o ∙ z)))
 
-    pub act-other : (p ≡ 38 → ⊥) → Acting s from (r .next)
+    pub act-other : {x : Ended} → NodeEnded s at (r .opens) (r .next) x → (p ≡ 38 → ⊥) → Acting s from (x .next)
     unfolding readProperties actionOf pick
-    act-other z = record { is = i .is ∙ ap actionIn (node-element n q) ∙ rw (action-first (upper (rest 0 (take (r .«name_end») s) (r .name))), ← o, eqb-swap p 38 (ne-eqb p 38 z)) }
+    act-other y z = record { is = i .is ∙ ap actionIn (head-whole n q y) ∙ rw (action-first (upper (rest 0 (take (r .«name_end») s) (r .name))), ← o, eqb-swap p 38 (ne-eqb p 38 z)) }
 
-pub ruleset acting = (act-start, act-none, act-literal, act-referred, act-here, act-other, name-inside, content-inside, length-take-le, element-less, literal-less, referred-less, needs)
+pub ruleset acting = (act-start, act-none, act-literal, act-referred, act-here, act-other, head-name, head-content, length-take-le, head-less, needs)
 
 -- ---- the test
 

@@ -33,8 +33,10 @@ use Rattle.xcal.specs.ParameterNodes.{parametersVerdict}
 use Rattle.xcal.specs.PropertyNodes.{propertySlots, childVerdict}
 use Rattle.value_nodes.specs.Sequencing.{isShort, walked, walked-none, walked-space, walked-text, walked-referred, walked-element, sequence-walked, marked}
 use Rattle.xml.specs.NodesAt.{nodesAt}
+use Rattle.nodes.specs.HeadFound.{HeadAt}
 use Rattle.nodes.specs.NodeFound.{NodeAt, node-none, node-element, node-literal, node-referred, element-onward, literal-onward}
 use Rattle.nodes.specs.Judging.{judgedAs, is-frame}
+use Rattle.nodes.specs.declared.Head.{Head}
 use Rattle.nodes.specs.declared.Node.{Node}
 use Rattle.nodes.specs.declared.NodeKind.the-variants.{None, Element, Literal, Referred}
 use Rattle.nodes.specs.declared.Judged.{Judged}
@@ -227,6 +229,13 @@ name-inside m = m .name-within
 
 pub content-inside : {s : List ℕ} {at : ℕ} {r : Node} → NodeAt s at r → r .inside ≤ length s
 content-inside m = m .inside-within
+
+-- the same of a head
+pub head-name : {s : List ℕ} {at : ℕ} {r : Head} → HeadAt s at r → r .«name_end» ≤ length s
+head-name m = m .name-within
+
+pub head-content : {s : List ℕ} {at : ℕ} {r : Head} → HeadAt s at r → r .inside ≤ length s
+head-content m = m .inside-within
 
 pub ruleset turning = (turn-none, turn-referred, turn-literal, turn-good, turn-stops, name-inside, content-inside, needs)
 

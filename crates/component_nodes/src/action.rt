@@ -1,7 +1,8 @@
 // The word of an ACTION. See specs/ActionWord.antt.
 use crate::word::text_action;
 use nodes::NodeKind;
-use nodes::next_node;
+use nodes::node_end;
+use nodes::node_head;
 use value_nodes::Named;
 use value_nodes::element_type;
 ghost use mathlib.Core.Path.{_≡_};
@@ -19,7 +20,7 @@ pub fn action_word(s: &[u8], inside: usize) -> usize
 {
     let mut at = inside;
     loop {
-        let n = next_node(s, at);
+        let n = node_head(s, at);
         let kind = n.kind;
         match kind {
             NodeKind::None => {
@@ -35,7 +36,8 @@ pub fn action_word(s: &[u8], inside: usize) -> usize
                         return 3;
                     }
                     Named::Bad => {
-                        at = n.next;
+                        let e = node_end(s, at, n.opens, n.next);
+                        at = e.next;
                     }
                 }
             }

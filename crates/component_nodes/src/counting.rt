@@ -4,6 +4,8 @@ use names::is_word;
 use nodes::NodeKind;
 use nodes::has_element;
 use nodes::next_node;
+use nodes::node_end;
+use nodes::node_head;
 use schema::bump;
 use schema::complete_counts;
 use schema::property_number;
@@ -38,7 +40,7 @@ fn inside_of(properties: bool, s: &[u8], inside: usize) -> usize
 {
     let mut at = inside;
     loop {
-        let n = next_node(s, at);
+        let n = node_head(s, at);
         let kind = n.kind;
         match kind {
             NodeKind::None => {
@@ -49,7 +51,8 @@ fn inside_of(properties: bool, s: &[u8], inside: usize) -> usize
                 if here {
                     return n.inside;
                 }
-                at = n.next;
+                let e = node_end(s, at, n.opens, n.next);
+                at = e.next;
             }
             NodeKind::Literal => {
                 at = n.next;
@@ -105,7 +108,7 @@ fn action_of(s: &[u8], inside: usize) -> usize
 {
     let mut at = inside;
     loop {
-        let n = next_node(s, at);
+        let n = node_head(s, at);
         let kind = n.kind;
         match kind {
             NodeKind::None => {
@@ -116,7 +119,8 @@ fn action_of(s: &[u8], inside: usize) -> usize
                 if p == 38 {
                     return action_word(s, n.inside);
                 }
-                at = n.next;
+                let e = node_end(s, at, n.opens, n.next);
+                at = e.next;
             }
             NodeKind::Literal => {
                 at = n.next;

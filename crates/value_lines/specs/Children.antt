@@ -18,11 +18,12 @@ use Rattle.source.specs.Source.{rest}
 use Rattle.xml.specs.Nodes.{charactersOf}
 use Rattle.xcal.specs.ValueNodes.{childNamed, textOf}
 use Rattle.xml.specs.NodesAt.{nodesAt, nodes-none}
-use Rattle.nodes.specs.NodeFound.{NodeAt, node-less}
-use Rattle.nodes.specs.declared.Node.{Node}
+use Rattle.nodes.specs.HeadFound.{HeadAt, NodeEnded, head-none, head-element, head-whole, end-onward, head-literal, head-literal-onward, head-referred, head-referred-onward, head-less}
+use Rattle.nodes.specs.declared.Ended.{Ended}
+use Rattle.nodes.specs.declared.Head.{Head}
 use Rattle.nodes.specs.declared.NodeKind.the-variants.{None, Element, Literal, Referred}
 use Rattle.nodes.specs.Characters.{characters-at}
-use Rattle.value_lines.specs.Walking.{Skips, Seeking, seek-start, seek-none, seek-element, seek-past, seek-literal, seek-referred}
+use Rattle.value_lines.specs.Walking.{Skips, Seeking, seek-start, seek-at, seek-past, seek-literal, seek-referred}
 use Rattle.value_lines.specs.declared.child.Child.{Child}
 use Rattle.value_lines.specs.declared.child.Child.the-variants.{Found, Missing}
 
@@ -54,10 +55,10 @@ pub record Naming (n s : List ℕ) (from at : ℕ) : Type 0 where
 pub child-start : (n s : List ℕ) (from : ℕ) → Naming n s from from
 child-start n s from = record { walk = seek-start (childNamed n) s from }
 
-module _ {n s : List ℕ} {from at : ℕ} {r : Node} (w : Naming n s from at) (d : NodeAt s at r) where
+module _ {n s : List ℕ} {from at : ℕ} {r : Head} (w : Naming n s from at) (d : HeadAt s at r) where
   pub child-none : r .kind ≡ None → ChildAt n s from Missing
   unfolding childNamed
-  child-none q = record { is = seek-none (w .walk) d q; within = omega arith }
+  child-none q = record { is = seek-at (w .walk) (head-none d q); within = omega arith }
 
   module _ {b : Bool} (q : r .kind ≡ Element) (e : b ≡ same (rest 0 (take (r .«name_end») s) (r .name)) n) where
     named : same n (rest 0 (take (r .«name_end») s) (r .name)) ≡ b
@@ -65,19 +66,19 @@ module _ {n s : List ℕ} {from at : ℕ} {r : Node} (w : Naming n s from at) (d
 
     pub child-here : b ≡ true → ChildAt n s from (Found (r .inside))
     unfolding childNamed pick
-    child-here h = record { is = seek-element (w .walk) d q ∙ rw (named, h); within = d .inside-within }
+    child-here h = record { is = seek-at (w .walk) (head-element d q) ∙ rw (named, h); within = d .inside-within }
 
-    pub child-other : b ≡ false → Naming n s from (r .next)
+    pub child-other : {x : Ended} → NodeEnded s at (r .opens) (r .next) x → b ≡ false → Naming n s from (x .next)
     unfolding childNamed pick
-    child-other h = record { walk = seek-past (w .walk) d q (rw (named, h)) }
+    child-other y h = record { walk = seek-past (w .walk) (head-whole d q y) (rw (named, h)) (end-onward d q y) }
 
   pub child-literal : r .kind ≡ Literal → Naming n s from (r .next)
-  child-literal q = record { walk = seek-literal (w .walk) d (child-skips n) q }
+  child-literal q = record { walk = seek-literal (w .walk) (child-skips n) (head-literal d q) (head-literal-onward d q) }
 
   pub child-referred : r .kind ≡ Referred → Naming n s from (r .next)
-  child-referred q = record { walk = seek-referred (w .walk) d (child-skips n) q }
+  child-referred q = record { walk = seek-referred (w .walk) (child-skips n) (head-referred d q) (head-referred-onward d q) }
 
-pub ruleset children = (child-start, child-none, child-here, child-other, child-literal, child-referred, node-less, needs)
+pub ruleset children = (child-start, child-none, child-here, child-other, child-literal, child-referred, head-less, needs)
 
 -- ---- its characters
 

@@ -27,11 +27,11 @@ use Rattle.recur.specs.Item.{readItem}
 use Rattle.xml.specs.Nodes.{charactersOf}
 use Rattle.xcal.specs.ValueNodes.{itemsOf}
 use Rattle.xml.specs.NodesAt.{nodesAt}
-use Rattle.nodes.specs.NodeFound.{NodeAt, node-less, element-onward}
+use Rattle.nodes.specs.NodeFound.{NodeAt, node-none, node-element, node-literal, node-referred, element-onward, literal-onward, referred-onward, node-less}
 use Rattle.nodes.specs.declared.Node.{Node}
 use Rattle.nodes.specs.declared.NodeKind.the-variants.{None, Element, Literal, Referred}
 use Rattle.value_nodes.specs.Parts.{recurNames}
-use Rattle.value_lines.specs.Walking.{Skips, Seeking, seek-start, seek-none, seek-element, seek-past, seek-literal, seek-referred}
+use Rattle.value_lines.specs.Walking.{Skips, Seeking, seek-start, seek-at, seek-past, seek-literal, seek-referred}
 use Rattle.value_lines.specs.declared.rule.ItemFound.{ItemFound}
 use Rattle.value_lines.specs.declared.rule.ItemFound.the-variants.{Item, Last}
 
@@ -94,7 +94,7 @@ item-start p s from = record { walk = seek-start (itemsOf (partName p)) s from }
 module _ {p : ℕ} {s : List ℕ} {from at : ℕ} {r : Node} (w : Listing p s from at) (d : NodeAt s at r) where
   pub item-none : r .kind ≡ None → ItemAt p s from Last
   unfolding itemsOf
-  item-none q = record { is = seek-none (w .walk) d q; within = tt }
+  item-none q = record { is = seek-at (w .walk) (node-none d q); within = tt }
 
   module _ {k : ℕ} (h : p < 14) (q : r .kind ≡ Element) (e : k ≡ placeOf (rest 0 (take (r .«name_end») s) (r .name)) recurNames) where
     named : same (rest 0 (take (r .«name_end») s) (r .name)) (lower (partName p)) ≡ eqb k p
@@ -103,7 +103,7 @@ module _ {p : ℕ} {s : List ℕ} {from at : ℕ} {r : Node} (w : Listing p s fr
     pub item-here : k ≡ p → ItemAt p s from (Item (r .inside) (r .next) (r .name) (r .«name_end»))
     unfolding itemsOf pick
     item-here z = record {
-      is = seek-element (w .walk) d q ∙ rw (named, eq-eqb k p z);
+      is = seek-at (w .walk) (node-element d q) ∙ rw (named, eq-eqb k p z);
       within = (
         d .inside-within,
         d .next-within,
@@ -115,12 +115,12 @@ module _ {p : ℕ} {s : List ℕ} {from at : ℕ} {r : Node} (w : Listing p s fr
 
     pub item-other : (k ≡ p → ⊥) → Listing p s from (r .next)
     unfolding itemsOf pick
-    item-other z = record { walk = seek-past (w .walk) d q (rw (named, ne-eqb k p z)) }
+    item-other z = record { walk = seek-past (w .walk) (node-element d q) (rw (named, ne-eqb k p z)) (element-onward d q .0) }
 
   pub item-literal : r .kind ≡ Literal → Listing p s from (r .next)
-  item-literal q = record { walk = seek-literal (w .walk) d (item-skips (partName p)) q }
+  item-literal q = record { walk = seek-literal (w .walk) (item-skips (partName p)) (node-literal d q) (literal-onward d q) }
 
   pub item-referred : r .kind ≡ Referred → Listing p s from (r .next)
-  item-referred q = record { walk = seek-referred (w .walk) d (item-skips (partName p)) q }
+  item-referred q = record { walk = seek-referred (w .walk) (item-skips (partName p)) (node-referred d q) (referred-onward d q) }
 
 pub ruleset items = (item-start, item-none, item-here, item-other, item-literal, item-referred, node-less, needs)

@@ -31,11 +31,12 @@ use Rattle.values.specs.WriteValue.{writeValue, writeValues}
 use Rattle.xml.specs.Nodes.{Nodes, charactersOf}
 use Rattle.xcal.specs.ValueNodes.{childNamed, periodOf, partsOf, valueOf, typedValues}
 use Rattle.xml.specs.NodesAt.{nodesAt}
-use Rattle.nodes.specs.NodeFound.{NodeAt, node-less, element-onward}
-use Rattle.nodes.specs.declared.Node.{Node}
+use Rattle.nodes.specs.HeadFound.{afterTag, HeadAt, NodeEnded, head-none, head-element, head-whole, head-onward, end-onward, head-literal, head-literal-onward, head-referred, head-referred-onward, head-less}
+use Rattle.nodes.specs.declared.Ended.{Ended}
+use Rattle.nodes.specs.declared.Head.{Head}
 use Rattle.nodes.specs.declared.NodeKind.the-variants.{None, Element, Literal, Referred}
 use Rattle.value_nodes.specs.ElementTypes.{TypeNamed, smallType}
-use Rattle.value_lines.specs.Walking.{Skips, Seeking, seek-start, seek-none, seek-element, seek-past, seek-literal, seek-referred}
+use Rattle.value_lines.specs.Walking.{Skips, Seeking, seek-start, seek-at, seek-past, seek-literal, seek-referred}
 use Rattle.value_lines.specs.Children.{put-chars}
 use Rattle.value_lines.specs.Leaves.{valueText, value-or}
 use Rattle.value_lines.specs.Joining.{following, following-first, following-none, following-more}
@@ -47,11 +48,11 @@ use Rattle.value_lines.specs.declared.typed.TypedFound.the-variants.{Val
 -- ---- the walk to a value
 
 abbrev pub valuesFrom : List ℕ → TypedFound → List Value
-valuesFrom s (Found t i x) = valueOf (typeAt t) (nodesAt s i) ∷ typedValues (nodesAt s x)
+valuesFrom s (Found t i o x) = valueOf (typeAt t) (nodesAt s i) ∷ typedValues (afterTag s o x)
 valuesFrom s Last = []
 
 abbrev pub Within : List ℕ → ℕ → TypedFound → Type 0
-Within s at (Found t i x) = (t ≤ 14) × (i ≤ length s) × (x ≤ length s) × (at < x)
+Within s at (Found t i o x) = (t ≤ 14) × (i ≤ length s) × (x ≤ length s) × (at < x)
 Within s at Last = Unit {0}
 
 pub record TypedAt (s : List ℕ) (at : ℕ) (r : TypedFound) : Type 0 where
@@ -65,40 +66,43 @@ typed-skips = record { over-literal = λ p b m. refl; over-referred = λ p bs m.
 pub typed-start : (s : List ℕ) (from : ℕ) → Seeking typedValues s from from
 typed-start s from = seek-start typedValues s from
 
-module _ {s : List ℕ} {from at : ℕ} {r : Node} (w : Seeking typedValues s from at) (d : NodeAt s at r) where
+module _ {s : List ℕ} {from at : ℕ} {r : Head} (w : Seeking typedValues s from at) (d : HeadAt s at r) where
   pub typed-none : r .kind ≡ None → TypedAt s from Last
   unfolding typedValues
-  typed-none q = record { is = seek-none w d q; within = tt }
+  typed-none q = record { is = seek-at w (head-none d q); within = tt }
 
   module _ {m : Named} (q : r .kind ≡ Element) (e : TypeNamed (rest 0 (take (r .«name_end») s) (r .name)) m) where
-    pub typed-here : {t : ℕ} → m ≡ Known t → TypedAt s from (Found t (r .inside) (r .next))
+    pub typed-here : {t : ℕ} → m ≡ Known t → TypedAt s from (Found t (r .inside) (r .opens) (r .next))
     unfolding typedValues
     typed-here {t} h = record {
-      is = seek-element w d q ∙ rw (e .is, h);
-      within = (subst smallType h (e .small), d .inside-within, d .next-within, omega (arith, w .onward, element-onward d q));
+      is = seek-at w (head-element d q) ∙ rw (e .is, h);
+      within = (subst smallType h (e .small), d .inside-within, d .next-within, omega (arith, w .onward, head-onward d q));
     }
 
-    pub typed-other : m ≡ Bad → Seeking typedValues s from (r .next)
+    pub typed-other : {x : Ended} → NodeEnded s at (r .opens) (r .next) x → m ≡ Bad → Seeking typedValues s from (x .next)
     unfolding typedValues
-    typed-other h = seek-past w d q (rw (e .is, h))
+    typed-other y h = seek-past w (head-whole d q y) (rw (e .is, h)) (end-onward d q y)
 
   pub typed-literal : r .kind ≡ Literal → Seeking typedValues s from (r .next)
-  typed-literal q = seek-literal w d typed-skips q
+  typed-literal q = seek-literal w typed-skips (head-literal d q) (head-literal-onward d q)
 
   pub typed-referred : r .kind ≡ Referred → Seeking typedValues s from (r .next)
-  typed-referred q = seek-referred w d typed-skips q
+  typed-referred q = seek-referred w typed-skips (head-referred d q) (head-referred-onward d q)
 
-pub ruleset typings = (typed-start, typed-none, typed-here, typed-other, typed-literal, typed-referred, node-less, needs)
+pub ruleset typings = (typed-start, typed-none, typed-here, typed-other, typed-literal, typed-referred, head-less, needs)
 
-module _ {s : List ℕ} {at : ℕ} {r : TypedFound} (f : TypedAt s at r) {t i x : ℕ} (h : r ≡ Found t i x) where
-  found-within : Within s at (Found t i x)
+module _ {s : List ℕ} {at : ℕ} {r : TypedFound} (f : TypedAt s at r) {t i : ℕ} {o : Bool} {x : ℕ} (h : r ≡ Found t i o x) where
+  found-within : Within s at (Found t i o x)
   found-within = subst (Within s at) h (f .within)
 
   pub typed-bounds : (i ≤ length s) × (t ≤ 14)
   typed-bounds = (found-within .1, found-within .0)
 
-  pub typed-less : length s - x < length s - at
-  typed-less = let a = found-within .2 in let b = found-within .3 in omega (arith, a, b)
+  pub typed-tag : x ≤ length s
+  typed-tag = found-within .2
+
+  pub typed-less : {y : Ended} → NodeEnded s at o x y → length s - y .next < length s - at
+  typed-less d = let b = found-within .3 in omega (arith, b, d .onward, d .within)
 
 -- ---- PERIOD and RECUR by their numbers
 
@@ -164,10 +168,10 @@ unfolding writeValues
 values-start s from d o z = record { todo = rw (following-first 44 (textsOf s from)) (todo-all d o (joinedBy 44 (textsOf s from)) z); kept = refl }
 
 module _ {s : List ℕ} {from : ℕ} {d₀ : List ℕ} {o₀ : ℕ} {d : List ℕ} {o c : ℕ} {b : Bool} {r : TypedFound} (v : Valuing s from d₀ o₀ d o c b) (f : TypedAt s c r) where
-  pub values-more : {t i x : ℕ} {d′ : List ℕ} {q : ℕ} → r ≡ Found t i x → Put d d′ o q (pick b (44 ∷ []) [] ⊕ writeValue (valueOf (typeAt t) (nodesAt s i))) → Valuing s from d₀ o₀ d′ q x true
+  pub values-more : {t i : ℕ} {a : Bool} {x : ℕ} {y : Ended} {d′ : List ℕ} {q : ℕ} → r ≡ Found t i a x → NodeEnded s c a x y → Put d d′ o q (pick b (44 ∷ []) [] ⊕ writeValue (valueOf (typeAt t) (nodesAt s i))) → Valuing s from d₀ o₀ d′ q (y .next) true
   unfolding _⊕_
-  values-more {t} {i} {x} h w = record {
-    todo = todo-step (v .todo) w (ap (λ (l : List Value). following b 44 (map writeValue l)) (f .is ∙ ap (valuesFrom s) h) ∙ following-more b 44 (writeValue (valueOf (typeAt t) (nodesAt s i))) (textsOf s x));
+  values-more {t} {i} {y = y} h n w = record {
+    todo = todo-step (v .todo) w (ap (λ (l : List Value). following b 44 (map writeValue l)) (f .is ∙ ap (valuesFrom s) h ∙ ap (λ (ns : Nodes). valueOf (typeAt t) (nodesAt s i) ∷ typedValues ns) (n .after)) ∙ following-more b 44 (writeValue (valueOf (typeAt t) (nodesAt s i))) (textsOf s (y .next)));
     kept = put-length w ∙ v .kept;
   }
 

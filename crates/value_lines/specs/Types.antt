@@ -91,7 +91,7 @@ module _ (t : ℕ) (s : List ℕ) (i : ℕ) (h : t ≤ 14) where
       type-is-text e = (sym (ap typeOf (value-leaf t (nodesAt s i) h n m) ∙ type-unread (readValue xcal (typeAt t) (charactersOf (nodesAt s i))) (leaf (good-no t q e))), omega arith)
 
 module _ {s : List ℕ} {at : ℕ} {r : TypedFound} (f : TypedAt s at r) where
-  pub type-of-first : {t i x n : ℕ} → r ≡ Found t i x → (typeAt n ≡ typeOf (valueOf (typeAt t) (nodesAt s i))) × (n ≤ 14) → (typeAt n ≡ typeOfAll (typedValues (nodesAt s at))) × (n ≤ 14)
+  pub type-of-first : {t i : ℕ} {o : Bool} {x n : ℕ} → r ≡ Found t i o x → (typeAt n ≡ typeOf (valueOf (typeAt t) (nodesAt s i))) × (n ≤ 14) → (typeAt n ≡ typeOfAll (typedValues (nodesAt s at))) × (n ≤ 14)
   type-of-first h p = (p .0 ∙ sym (ap typeOfAll (f .is ∙ ap (valuesFrom s) h)), p .1)
 
   pub type-of-none : r ≡ Last → (typeAt 14 ≡ typeOfAll (typedValues (nodesAt s at))) × (14 ≤ 14)

@@ -1,7 +1,8 @@
 // The first child of a name. See crate xcal, specs/ValueNodes.antt.
 use names::is_word;
 use nodes::NodeKind;
-use nodes::next_node;
+use nodes::node_end;
+use nodes::node_head;
 ghost use Rattle.value_lines.specs.Children.{ChildAt, TextAt};
 
 // Where the content of a child begins; or there is none.
@@ -16,7 +17,7 @@ pub fn find_child(s: &[u8], inside: usize, name: &[u8]) -> Child
 {
     let mut c = inside;
     loop {
-        let n = next_node(s, c);
+        let n = node_head(s, c);
         let kind = n.kind;
         match kind {
             NodeKind::None => {
@@ -27,7 +28,8 @@ pub fn find_child(s: &[u8], inside: usize, name: &[u8]) -> Child
                 if here {
                     return Child::Found(n.inside);
                 }
-                c = n.next;
+                let e = node_end(s, c, n.opens, n.next);
+                c = e.next;
             }
             NodeKind::Literal => {
                 c = n.next;

@@ -4,7 +4,8 @@ use crate::leaf::put_leaf;
 use crate::period::put_period;
 use crate::rule::put_rule;
 use nodes::NodeKind;
-use nodes::next_node;
+use nodes::node_end;
+use nodes::node_head;
 use value_nodes::Named;
 use value_nodes::element_type;
 use values::ValueRead;
@@ -23,9 +24,9 @@ ghost use Rattle.xcal.specs.ValueNodes.{valueOf, typedValues};
 ghost use Rattle.xml.specs.NodesAt.{nodesAt};
 ghost use Rattle.value_lines.specs.Typed.{TypedAt};
 
-// A value's element: the number of its type, where its content begins, and the place of the next node; or there is none.
+// A value's element: the number of its type, where its content begins, whether its tag opens it, and the place behind the tag; or there is none.
 pub enum TypedFound {
-    Value(usize, usize, usize),
+    Value(usize, usize, bool, usize),
     Last,
 }
 
@@ -35,7 +36,7 @@ fn find_typed(s: &[u8], at: usize) -> TypedFound
 {
     let mut c = at;
     loop {
-        let n = next_node(s, c);
+        let n = node_head(s, c);
         let kind = n.kind;
         match kind {
             NodeKind::None => {
@@ -45,10 +46,11 @@ fn find_typed(s: &[u8], at: usize) -> TypedFound
                 let m = element_type(s, n.name, n.name_end);
                 match m {
                     Named::Type(t) => {
-                        return TypedFound::Value(t, n.inside, n.next);
+                        return TypedFound::Value(t, n.inside, n.opens, n.next);
                     }
                     Named::Bad => {
-                        c = n.next;
+                        let e = node_end(s, c, n.opens, n.next);
+                        c = e.next;
                     }
                 }
             }
@@ -96,10 +98,11 @@ pub fn put_typed(out: &mut [u8], o: usize, s: &[u8], inside: usize) -> usize
     loop {
         let f = find_typed(s, c);
         match f {
-            TypedFound::Value(t, i, next) => {
+            TypedFound::Value(t, i, opens, next) => {
                 q = put_one_value(out, q, started, t, s, i);
                 started = true;
-                c = next;
+                let e = node_end(s, c, opens, next);
+                c = e.next;
             }
             TypedFound::Last => {
                 return q;
@@ -133,7 +136,7 @@ pub fn type_of_typed(s: &[u8], inside: usize) -> usize
 {
     let f = find_typed(s, inside);
     match f {
-        TypedFound::Value(t, i, next) => type_of_value(t, s, i),
+        TypedFound::Value(t, i, opens, next) => type_of_value(t, s, i),
         TypedFound::Last => 14,
     }
 }

@@ -33,9 +33,10 @@ use Rattle.xml.specs.Nodes.{Nodes}
 use Rattle.xcal.specs.ElementNames.{lower-upper, no-capital}
 use Rattle.xcal.specs.ValueNodes.{elementType, firstType, typeOfNodes}
 use Rattle.xml.specs.NodesAt.{nodesAt}
-use Rattle.nodes.specs.NodeFound.{NodeAt, node-none, node-element, node-literal, node-referred, element-less, literal-less, referred-less}
+use Rattle.nodes.specs.HeadFound.{HeadAt, NodeEnded, head-none, head-element, head-whole, head-literal, head-referred, head-less}
 use Rattle.nodes.specs.Walks.{Passing, passing-start}
-use Rattle.nodes.specs.declared.Node.{Node}
+use Rattle.nodes.specs.declared.Ended.{Ended}
+use Rattle.nodes.specs.declared.Head.{Head}
 use Rattle.nodes.specs.declared.NodeKind.the-variants.{None, Element, Literal, Referred}
 use Rattle.value_nodes.specs.declared.Named.{Named}
 use Rattle.value_nodes.specs.declared.Named.the-variants.{«Type» as Typed, Bad}
@@ -119,33 +120,33 @@ named-small {n} d z = subst (TypeNamed n) z d .small
 
 -- ---- the first child that is named as a type
 
-module _ (t : ValueType) {s : List ℕ} {from at : ℕ} {r : Node} (p : Passing (firstType t) s from at) (n : NodeAt s at r) where
+module _ (t : ValueType) {s : List ℕ} {from at : ℕ} {r : Head} (p : Passing (firstType t) s from at) (n : HeadAt s at r) where
   pub first-none : r .kind ≡ None → t ≡ firstType t (nodesAt s from)
   unfolding firstType
-  first-none q = sym (p .is ∙ ap (firstType t) (node-none n q))
+  first-none q = sym (p .is ∙ ap (firstType t) (head-none n q))
 
   pub first-literal : r .kind ≡ Literal → Passing (firstType t) s from (r .next)
   unfolding firstType
-  first-literal q = record { is = p .is ∙ ap (firstType t) (node-literal n q) }
+  first-literal q = record { is = p .is ∙ ap (firstType t) (head-literal n q) }
 
   pub first-referred : r .kind ≡ Referred → Passing (firstType t) s from (r .next)
   unfolding firstType
-  first-referred q = record { is = p .is ∙ ap (firstType t) (node-referred n q) }
+  first-referred q = record { is = p .is ∙ ap (firstType t) (head-referred n q) }
 
   module _ (q : r .kind ≡ Element) {m : Named} (d : TypeNamed (rest 0 (take (r .«name_end») s) (r .name)) m) where
     pub first-here : {u : ℕ} → m ≡ Typed u → typeAt u ≡ firstType t (nodesAt s from)
     unfolding firstType readOr
     first-here {u} z =
         let f : TypeNamed (rest 0 (take (r .«name_end») s) (r .name)) (Typed u) = subst (TypeNamed _) z d in
-        sym (p .is ∙ ap (firstType t) (node-element n q) ∙ rw (f .is))
+        sym (p .is ∙ ap (firstType t) (head-element n q) ∙ rw (f .is))
 
-    pub first-other : m ≡ Bad → Passing (firstType t) s from (r .next)
+    pub first-other : {e : Ended} → NodeEnded s at (r .opens) (r .next) e → m ≡ Bad → Passing (firstType t) s from (e .next)
     unfolding firstType readOr
-    first-other z =
+    first-other y z =
         let f : TypeNamed (rest 0 (take (r .«name_end») s) (r .name)) Bad = subst (TypeNamed _) z d in
-        record { is = p .is ∙ ap (firstType t) (node-element n q) ∙ rw (f .is) }
+        record { is = p .is ∙ ap (firstType t) (head-whole n q y) ∙ rw (f .is) }
 
-pub ruleset firsts = (passing-start, first-none, first-literal, first-referred, first-here, first-other, named-small, element-less, literal-less, referred-less, needs)
+pub ruleset firsts = (passing-start, first-none, first-literal, first-referred, first-here, first-other, named-small, head-less, needs)
 
 -- ---- the type of a property's value
 

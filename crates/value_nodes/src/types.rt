@@ -2,7 +2,8 @@
 use crate::Named;
 use names::find_word;
 use nodes::NodeKind;
-use nodes::next_node;
+use nodes::node_end;
+use nodes::node_head;
 use schema::default_type;
 ghost use mathlib.Core.Path.{_≡_};
 ghost use mathlib.Core.List.{List};
@@ -57,7 +58,7 @@ fn first_type(t: usize, s: &[u8], inside: usize) -> usize
 {
     let mut c = inside;
     loop {
-        let n = next_node(s, c);
+        let n = node_head(s, c);
         let kind = n.kind;
         match kind {
             NodeKind::None => {
@@ -70,7 +71,8 @@ fn first_type(t: usize, s: &[u8], inside: usize) -> usize
                         return u;
                     }
                     Named::Bad => {
-                        c = n.next;
+                        let e = node_end(s, c, n.opens, n.next);
+                        c = e.next;
                     }
                 }
             }

@@ -16,7 +16,7 @@ action-word-spec = tie.close (tie.spec
     Inv-loop
     μ-loop
     (λ c. search actions)  -- loop-holds
-    (λ c κs. search actions)  -- next-node-requires
+    (λ c κs. search actions)  -- node-head-requires
     (λ c. search actions)  -- enum-told
     (λ c. search actions)  -- returns
     (λ c. search actions)  -- enum-told-2
@@ -26,6 +26,7 @@ action-word-spec = tie.close (tie.spec
     (λ c. search actions)  -- returns-2
     (λ c. search actions)  -- returns-3
     (λ c. search actions)  -- enum-told-3
+    (λ c κs. search actions)  -- node-end-requires
     (λ c. search actions)  -- loop-less
     (λ c. search actions)  -- loop-again
     (λ c. search actions)  -- enum-told-4

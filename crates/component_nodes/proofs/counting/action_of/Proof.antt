@@ -16,13 +16,14 @@ action-of-spec = tie.close (tie.spec
     Inv-loop
     μ-loop
     (λ c. search acting)  -- loop-holds
-    (λ c κs. search acting)  -- next-node-requires
+    (λ c κs. search acting)  -- node-head-requires
     (λ c. search acting)  -- enum-told
     (λ c. search acting)  -- returns
     (λ c. search acting)  -- enum-told-2
     (λ c κs. search acting)  -- property-at-requires
     (λ c κs. search acting)  -- action-word-requires
     (λ c. search acting)  -- returns-2
+    (λ c κs. search acting)  -- node-end-requires
     (λ c. search acting)  -- loop-less
     (λ c. search acting)  -- loop-again
     (λ c. search acting)  -- enum-told-3

@@ -18,12 +18,13 @@ inside-of-spec = tie.close (tie.spec
     Inv-loop
     μ-loop
     (λ c. search finding)  -- loop-holds
-    (λ c κs. search finding)  -- next-node-requires
+    (λ c κs. search finding)  -- node-head-requires
     (λ c. search finding)  -- enum-told
     (λ c. search finding)  -- returns
     (λ c. search finding)  -- enum-told-2
     (λ c κs. search finding)  -- is-part-requires
     (λ c. search finding)  -- returns-2
+    (λ c κs. search finding)  -- node-end-requires
     (λ c. search finding)  -- loop-less
     (λ c. search finding)  -- loop-again
     (λ c. search finding)  -- enum-told-3

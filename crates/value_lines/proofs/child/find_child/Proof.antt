@@ -1,8 +1,8 @@
 -- `value_lines::child::find_child` meets its contract.
+use Rattle.nodes.specs.HeadFound.{tag-within, end-less, head-literal-less, head-referred-less}
 use Prim.Native.Nat.{_-_}
 use lib.ListN.{length}
 use lib.Seq.{length-take-le}
-use Rattle.nodes.specs.NodeFound.{element-less, literal-less, referred-less}
 use Rattle.value_lines.specs.Children.{Naming, children, child-none, child-here, child-other, child-literal, child-referred}
 use borrow.Author.Needs.{needs}
 use Rattle.value_lines.proofs.child.find_child.Statement.{statement}
@@ -19,19 +19,20 @@ find-child-spec = tie.close (tie.spec
     Inv-loop
     μ-loop
     (λ c. search children)  -- loop-holds
-    (λ c κs. search needs)  -- next-node-requires
+    (λ c κs. search needs)  -- node-head-requires
     (λ c. search needs)  -- enum-told
-    (λ c. child-none (c .before .before .before .loop .inv) (c .before .before .next-node .ensures) (c .enum-told .given .1))  -- returns
+    (λ c. child-none (c .before .before .before .loop .inv) (c .before .before .node-head .ensures) (c .enum-told .given .1))  -- returns
     (λ c. search needs)  -- enum-told-2
     (λ c. search (length-take-le, needs))  -- slice-aggregate-is-word
     (λ c κs. search needs)  -- is-word-requires
-    (λ c. child-here (c .before .before .before .before .before .before .loop .inv) (c .before .before .before .before .before .next-node .ensures) (c .before .before .before .enum-told2 .given .1) (c .before .is-word .ensures) (c .if1 .taken))  -- returns-2
-    (λ c. element-less (c .before .before .before .before .before .next-node .ensures) (c .before .before .before .enum-told2 .given .1))  -- loop-less
-    (λ c. child-other (c .before .before .before .before .before .before .loop .inv) (c .before .before .before .before .before .next-node .ensures) (c .before .before .before .enum-told2 .given .1) (c .before .is-word .ensures) (c .if1 .left))  -- loop-again
+    (λ c. child-here (c .before .before .before .before .before .before .loop .inv) (c .before .before .before .before .before .node-head .ensures) (c .before .before .before .enum-told2 .given .1) (c .before .is-word .ensures) (c .if1 .taken))  -- returns-2
+    (λ c κs. tag-within (c .before .before .before .before .before .node-head .ensures) (c .before .before .before .enum-told2 .given .1))  -- node-end-requires
+    (λ c. end-less (c .before .before .before .before .before .before .node-head .ensures) (c .before .before .before .before .enum-told2 .given .1) (c .node-end .ensures))  -- loop-less
+    (λ c. child-other (c .before .before .before .before .before .before .before .loop .inv) (c .before .before .before .before .before .before .node-head .ensures) (c .before .before .before .before .enum-told2 .given .1) (c .before .before .is-word .ensures) (c .node-end .ensures) (c .before .if1 .left))  -- loop-again
     (λ c. search needs)  -- enum-told-3
-    (λ c. literal-less (c .before .before .next-node .ensures) (c .enum-told3 .given .1))  -- loop-less-2
-    (λ c. child-literal (c .before .before .before .loop .inv) (c .before .before .next-node .ensures) (c .enum-told3 .given .1))  -- loop-again-2
+    (λ c. head-literal-less (c .before .before .node-head .ensures) (c .enum-told3 .given .1))  -- loop-less-2
+    (λ c. child-literal (c .before .before .before .loop .inv) (c .before .before .node-head .ensures) (c .enum-told3 .given .1))  -- loop-again-2
     (λ c. search needs)  -- enum-told-4
-    (λ c. referred-less (c .before .before .next-node .ensures) (c .enum-told4 .given .1))  -- loop-less-3
-    (λ c. child-referred (c .before .before .before .loop .inv) (c .before .before .next-node .ensures) (c .enum-told4 .given .1))  -- loop-again-3
+    (λ c. head-referred-less (c .before .before .node-head .ensures) (c .enum-told4 .given .1))  -- loop-less-3
+    (λ c. child-referred (c .before .before .before .loop .inv) (c .before .before .node-head .ensures) (c .enum-told4 .given .1))  -- loop-again-3
     )

@@ -1,7 +1,7 @@
 -- `value_lines::typed::find_typed` meets its contract.
+use Rattle.nodes.specs.HeadFound.{tag-within, end-less, head-literal-less, head-referred-less}
 use Prim.Native.Nat.{_-_}
 use lib.ListN.{length}
-use Rattle.nodes.specs.NodeFound.{element-less, literal-less, referred-less}
 use Rattle.xcal.specs.ValueNodes.{typedValues}
 use Rattle.value_lines.specs.Walking.{Seeking}
 use Rattle.value_lines.specs.Typed.{typings, typed-none, typed-here, typed-other, typed-literal, typed-referred}
@@ -20,20 +20,21 @@ find-typed-spec = tie.close (tie.spec
     Inv-loop
     μ-loop
     (λ c. search typings)  -- loop-holds
-    (λ c κs. search needs)  -- next-node-requires
+    (λ c κs. search needs)  -- node-head-requires
     (λ c. search needs)  -- enum-told
-    (λ c. typed-none (c .before .before .before .loop .inv) (c .before .before .next-node .ensures) (c .enum-told .given .1))  -- returns
+    (λ c. typed-none (c .before .before .before .loop .inv) (c .before .before .node-head .ensures) (c .enum-told .given .1))  -- returns
     (λ c. search needs)  -- enum-told-2
     (λ c κs. search needs)  -- element-type-requires
     (λ c. search needs)  -- enum-known-m
-    (λ c. typed-here (c .before .before .before .before .before .before .before .loop .inv) (c .before .before .before .before .before .before .next-node .ensures) (c .before .before .before .before .enum-told2 .given .1) (c .before .before .before .element-type .ensures) (c .before .m .given .1))  -- returns-2
+    (λ c. typed-here (c .before .before .before .before .before .before .before .loop .inv) (c .before .before .before .before .before .before .node-head .ensures) (c .before .before .before .before .enum-told2 .given .1) (c .before .before .before .element-type .ensures) (c .before .m .given .1))  -- returns-2
     (λ c. search needs)  -- enum-told-3
-    (λ c. element-less (c .before .before .before .before .before .next-node .ensures) (c .before .before .before .enum-told2 .given .1))  -- loop-less
-    (λ c. typed-other (c .before .before .before .before .before .before .loop .inv) (c .before .before .before .before .before .next-node .ensures) (c .before .before .before .enum-told2 .given .1) (c .before .before .element-type .ensures) (c .enum-told3 .given .1))  -- loop-again
+    (λ c κs. tag-within (c .before .before .before .before .before .node-head .ensures) (c .before .before .before .enum-told2 .given .1))  -- node-end-requires
+    (λ c. end-less (c .before .before .before .before .before .before .node-head .ensures) (c .before .before .before .before .enum-told2 .given .1) (c .node-end .ensures))  -- loop-less
+    (λ c. typed-other (c .before .before .before .before .before .before .before .loop .inv) (c .before .before .before .before .before .before .node-head .ensures) (c .before .before .before .before .enum-told2 .given .1) (c .before .before .before .element-type .ensures) (c .node-end .ensures) (c .before .enum-told3 .given .1))  -- loop-again
     (λ c. search needs)  -- enum-told-4
-    (λ c. literal-less (c .before .before .next-node .ensures) (c .enum-told4 .given .1))  -- loop-less-2
-    (λ c. typed-literal (c .before .before .before .loop .inv) (c .before .before .next-node .ensures) (c .enum-told4 .given .1))  -- loop-again-2
+    (λ c. head-literal-less (c .before .before .node-head .ensures) (c .enum-told4 .given .1))  -- loop-less-2
+    (λ c. typed-literal (c .before .before .before .loop .inv) (c .before .before .node-head .ensures) (c .enum-told4 .given .1))  -- loop-again-2
     (λ c. search needs)  -- enum-told-5
-    (λ c. referred-less (c .before .before .next-node .ensures) (c .enum-told5 .given .1))  -- loop-less-3
-    (λ c. typed-referred (c .before .before .before .loop .inv) (c .before .before .next-node .ensures) (c .enum-told5 .given .1))  -- loop-again-3
+    (λ c. head-referred-less (c .before .before .node-head .ensures) (c .enum-told5 .given .1))  -- loop-less-3
+    (λ c. typed-referred (c .before .before .before .loop .inv) (c .before .before .node-head .ensures) (c .enum-told5 .given .1))  -- loop-again-3
     )

@@ -1,7 +1,7 @@
 -- `value_lines::typed::put_typed` meets its contract.
 use Prim.Native.Nat.{_-_}
 use lib.ListN.{length}
-use Rattle.value_lines.specs.Typed.{Valuing, values-start, values-more, values-end, typed-bounds, typed-less}
+use Rattle.value_lines.specs.Typed.{Valuing, values-start, values-more, values-end, typed-bounds, typed-tag, typed-less}
 use Rattle.sink.specs.Sink.{writing}
 use Rattle.value_lines.proofs.typed.put_typed.Statement.{statement}
 use Rattle.value_lines.proofs.typed.put_typed.Tie as tie
@@ -20,8 +20,9 @@ put-typed-spec = tie.close (tie.spec
     (λ c κs. search writing)  -- find-typed-requires
     (λ c. search writing)  -- enum-known-f
     (λ c κs. (c .before .before .before .before .before .before .before .before .pre, typed-bounds (c .before .before .before .before .find-typed .ensures) (c .before .before .f .given .1) .0, typed-bounds (c .before .before .before .before .find-typed .ensures) (c .before .before .f .given .1) .1))  -- put-one-value-requires
-    (λ c. typed-less (c .before .before .before .before .before .before .before .find-typed .ensures) (c .before .before .before .before .before .f .given .1))  -- loop-less
-    (λ c. values-more (c .before .before .before .before .before .before .before .before .loop .inv) (c .before .before .before .before .before .before .before .find-typed .ensures) (c .before .before .before .before .before .f .given .1) (c .before .before .put-one-value .ensures))  -- loop-again
+    (λ c κs. typed-tag (c .before .before .before .before .before .before .before .find-typed .ensures) (c .before .before .before .before .before .f .given .1))  -- node-end-requires
+    (λ c. typed-less (c .before .before .before .before .before .before .before .before .find-typed .ensures) (c .before .before .before .before .before .before .f .given .1) (c .node-end .ensures))  -- loop-less
+    (λ c. values-more (c .before .before .before .before .before .before .before .before .before .loop .inv) (c .before .before .before .before .before .before .before .before .find-typed .ensures) (c .before .before .before .before .before .before .f .given .1) (c .node-end .ensures) (c .before .before .before .put-one-value .ensures))  -- loop-again
     (λ c. search writing)  -- enum-told
     (λ c. search writing)  -- same-length
     (λ c. values-end (c .before .before .before .loop .inv) (c .before .before .find-typed .ensures) (c .enum-told .given .1))  -- returns

@@ -19,7 +19,7 @@ first-type-spec = tie.close (tie.spec
     Inv-loop
     μ-loop
     (λ c. search firsts)  -- loop-holds
-    (λ c κs. search firsts)  -- next-node-requires
+    (λ c κs. search firsts)  -- node-head-requires
     (λ c. search firsts)  -- enum-told
     (λ c. search firsts)  -- returns
     (λ c. search firsts)  -- enum-told-2
@@ -27,6 +27,7 @@ first-type-spec = tie.close (tie.spec
     (λ c. search firsts)  -- enum-known-m
     (λ c. search firsts)  -- returns-2
     (λ c. search firsts)  -- enum-told-3
+    (λ c κs. search firsts)  -- node-end-requires
     (λ c. search firsts)  -- loop-less
     (λ c. search firsts)  -- loop-again
     (λ c. search firsts)  -- enum-told-4
