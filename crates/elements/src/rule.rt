@@ -61,15 +61,15 @@ fn put_piece_xml(out: &mut [u8], o: usize, p: usize, s: &[u8], at: usize) -> usi
     put_item_xml(out, o, p, s, v)
 }
 
-// The part at the place `p`, whose piece stands before the cursor `after`; nothing where that is 0.
-fn put_part_xml(out: &mut [u8], o: usize, p: usize, s: &[u8], after: usize) -> usize
-    requires { ⌜ after ≤ length (now s) + 1 ⌝ }
-    ensures { λ r. ⌜ Put (now (out .entry)) (now (out .exit)) o r (orNothing (pieceXml (getD partNames p [])) (pieceFrom (now (s .entry)) after)) ⌝ }
+// The part at the place `p`: `noted` is the cursor at its piece and one more; 0 where there is none.
+fn put_part_xml(out: &mut [u8], o: usize, p: usize, s: &[u8], noted: usize) -> usize
+    requires { ⌜ noted ≤ length (now s) + 1 ⌝ }
+    ensures { λ r. ⌜ Put (now (out .entry)) (now (out .exit)) o r (orNothing (pieceXml (getD partNames p [])) (pieceFrom (now (s .entry)) noted)) ⌝ }
 {
-    if after == 0 {
+    if noted == 0 {
         return o;
     }
-    let c = after - 1;
+    let c = noted - 1;
     let e = byte_end(59, s, c);
     put_piece_xml(out, o, p, &s[..e], c)
 }

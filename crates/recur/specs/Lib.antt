@@ -16,6 +16,7 @@
 --     Computing    opens all definitions, for examples that compute
 --     PieceLaws    laws of pieces, for each way that the code goes
 --     Whole        a rule by its pieces: one part, and the whole rule
+--     NotedLaws    the loop that notes where each part stands
 --     Examples     computed examples
 pub mod Parts
 pub mod Item
@@ -36,4 +37,5 @@ pub mod Computing
 pub mod PieceLaws
 pub mod Whole
 pub mod Noted
+pub mod NotedLaws
 pub mod Examples

@@ -1,37 +1,23 @@
 -- Where each part of a rule stands, as the code notes it: an array with a number for each part, 0 where there is none, else the cursor at its piece and one more.
---     pieceFrom s b      the piece that a number tells
+--     pieceFrom s n      the piece that a number tells
 --     Standing           an array tells the piece of each part
---     wholeIn t          FREQ is noted; UNTIL and COUNT are not both noted
+--     wholeIn t          what the array says of the parts that must and may be there together
 --     Parted             the contract of reading the parts
---     named-at           a name against the name at a place
---     Noting             which pieces are noted
---     Walked             the invariant of the loop over the pieces;   walk-..: its ways
-use mathlib.Core.Path.{_≡_, refl, sym, ap, _∙_}
-use mathlib.Core.Bool.{Bool, true, false, not, false≢true}
-use mathlib.Core.List.{List, [], _∷_}
+use mathlib.Core.Path.{_≡_}
+use mathlib.Core.Bool.{Bool, true, false}
+use mathlib.Core.List.{List, []}
 use mathlib.Core.Option.{Option, none, some}
 use Prim.Native.Nat.{ℕ, zero, suc, _+_, _≤_, _<_}
-use native.Mathlib.Omega.{arith}
-use native.Mathlib.Numerals.{add-one}
 use lib.Dec.{eqb}
-use lib.ListN.{length, take, getD, set, replicate, length-set}
-use lib.Seq.{getD-set-same, getD-set-other}
-use borrow.Author.Tests.{eq-eqb, ne-eqb, eqb-true, eqb-false}
-use Rattle.octets.specs.Pick.{pick, _and_, _or_, and-no-left, and-no-right, pick-either, eqb-swap}
-use Rattle.octets.specs.Words.{same, cutAt, rowOf}
+use lib.ListN.{length, getD}
+use Rattle.octets.specs.Pick.{pick}
+use Rattle.octets.specs.Words.{cutAt, rowOf}
 use Rattle.octets.specs.Reading.{isRead}
 use Rattle.octets.specs.Front.{upTo}
-use Rattle.source.specs.Source.{rest, Reads}
-use Rattle.source.specs.declared.Step.{Step}
-use Rattle.names.specs.Table.{placeOf}
-use Rattle.names.specs.Places.{place-back}
+use Rattle.source.specs.Source.{rest}
 use Rattle.recur.specs.Parts.{partNames}
-use Rattle.recur.specs.Item.{orOther}
-use Rattle.recur.specs.Rule.{readPart, readRule}
-use Rattle.recur.specs.Pieces.{Ends, pieceName, placeAt, hasPlace, eachPart, isWhole}
-use Rattle.recur.specs.PieceLaws.{piece-is, pieces-any, pieces-last, pieces-more, step-less}
-use Rattle.recur.specs.Whole.{known, part-same, rule-read, rule-beyond}
-use Rattle.recur.specs.RuleLaws.{names-once}
+use Rattle.recur.specs.Rule.{readRule}
+use Rattle.recur.specs.Pieces.{pieceName}
 use Rattle.recur.specs.declared.rule.RuleParts.{RuleParts}
 
 -- 59 is ;
@@ -47,190 +33,10 @@ pub record Standing (s : List ℕ) (at : ℕ) (t : List ℕ) : Type 0 where
   pub is : (p : ℕ) → p < 14 → named p (cutAt 59 (rest 0 s at)) ≡ pieceFrom s (getD t p 0)
   pub inside : (p : ℕ) → getD t p 0 ≤ length s + 1
 
+-- FREQ is noted; UNTIL and COUNT are not both noted
 abbrev pub wholeIn : List ℕ → Bool
 wholeIn t = pick (eqb (getD t 0 0) 0) false (pick (eqb (getD t 1 0) 0) true (eqb (getD t 2 0) 0))
 
 pub record Parted (s : List ℕ) (at : ℕ) (r : RuleParts) : Type 0 where
   pub is : isRead (readRule (rest 0 s at)) ≡ r .good
   pub standing : r .good ≡ true → Standing s at (r .begins)
-
--- ---- the name at a place
-
-pub named-at : (p : ℕ) (w : List ℕ) → p < 14 → same (getD partNames p []) (pieceName w) ≡ eqb (placeAt w) p
-unfolding placeAt
-named-at p w h =
-    let e = place-back partNames p names-once h in
-    sym (part-same (getD partNames p []) (pieceName w) (rw e h)) ∙ ap (eqb (placeOf (pieceName w) partNames)) e
-
-has-named : (p : ℕ) → p < 14 → (ws : List (List ℕ)) → hasPlace p ws ≡ isRead (named p ws)
-unfolding hasPlace rowOf pick isRead _or_
-has-named p h [] = refl
-has-named p h (w ∷ ws) = rw (named-at p w h) (go (eqb (placeAt w) p) (has-named p h ws))
-  where
-    go : (t : Bool) → hasPlace p ws ≡ isRead (named p ws) → (t or hasPlace p ws) ≡ isRead (pick t (some w) (named p ws))
-    go true ih = refl
-    go false ih = ih
-
--- ---- a number noted
-
-swap : (a b : ℕ) → eqb a b ≡ eqb b a
-swap a b = go (eqb a b) refl
-  where
-    go : (t : Bool) → eqb a b ≡ t → t ≡ eqb b a
-    go true e = sym (eq-eqb b a (sym (eqb-true a b e)))
-    go false e = sym (eqb-swap a b e)
-
-module _ (t : List ℕ) (q v : ℕ) (h : q < length t) where
-  set-at : (p : ℕ) → getD (set t q v) p 0 ≡ pick (eqb p q) v (getD t p 0)
-  unfolding pick
-  set-at p = go (eqb p q) refl
-    where
-      go : (b : Bool) → eqb p q ≡ b → getD (set t q v) p 0 ≡ pick b v (getD t p 0)
-      go true e = rw (eqb-true p q e) (getD-set-same t q v 0 h)
-      go false e = getD-set-other t q p v 0 (eqb-false p q e)
-
--- no part of these pieces is noted
-unfoldable pub areNew : List ℕ → List (List ℕ) → Bool
-areNew t [] = true
-areNew t (w ∷ ws) = eqb (getD t (placeAt w) 0) 0 and areNew t ws
-
-new-noted : (t : List ℕ) (q v : ℕ) → q < length t → (v ≡ 0 → ⊥) → (ws : List (List ℕ)) → areNew (set t q v) ws ≡ pick (hasPlace q ws) false (areNew t ws)
-unfolding areNew hasPlace _and_ _or_ pick
-new-noted t q v h z [] = refl
-new-noted t q v h z (w ∷ ws) = rw (set-at t q v h (placeAt w), new-noted t q v h z ws) (go (eqb (placeAt w) q) (hasPlace q ws))
-  where
-    go : (e k : Bool) → (eqb (pick e v (getD t (placeAt w) 0)) 0 and pick k false (areNew t ws)) ≡ pick (e or k) false (eqb (getD t (placeAt w) 0) 0 and areNew t ws)
-    go true k = rw (ne-eqb v 0 z)
-    go false true = and-no-right (eqb (getD t (placeAt w) 0) 0) false refl
-    go false false = refl
-
--- ---- the pieces vs are left of the pieces ws
-
-pub record Noting (s : List ℕ) (ws : List (List ℕ)) (t : List ℕ) (vs : List (List ℕ)) : Type 0 where
-  pub each : eachPart ws ≡ (areNew t vs and eachPart vs)
-  pub found : (p : ℕ) → p < 14 → named p ws ≡ orOther (pieceFrom s (getD t p 0)) (named p vs)
-  pub within : (p : ℕ) → getD t p 0 ≤ length s + 1
-  pub sized : length t ≡ 14
-
-zero-at : (n p : ℕ) → _≡_ {A = ℕ} (getD (replicate n 0) p 0) 0
-zero-at zero p = refl
-zero-at (suc n) zero = refl
-zero-at (suc n) (suc p) = zero-at n p
-
-module _ (t : List ℕ) (z : (p : ℕ) → getD t p 0 ≡ 0) where
-  all-new : (ws : List (List ℕ)) → areNew t ws ≡ true
-  unfolding areNew _and_
-  all-new [] = refl
-  all-new (w ∷ ws) = rw (z (placeAt w)) (all-new ws)
-
-  none-noted : (s : List ℕ) (ws : List (List ℕ)) → length t ≡ 14 → Noting s ws t ws
-  unfolding _and_
-  none-noted s ws l = record {
-    each = rw (all-new ws);
-    found = λ p h. rw (z p);
-    within = λ p. rw (z p) (omega arith);
-    sized = l;
-  }
-
--- the piece w, of a part that is not noted, is noted at the cursor c
-module _ {s : List ℕ} {ws : List (List ℕ)} {t w : List ℕ} {vs : List (List ℕ)} {g : ℕ} (i : Noting s ws t (w ∷ vs)) (q : g ≡ placeAt w) (h : isRead (readPart w) ≡ true)
-    (z : getD t g 0 ≡ 0) where
-  pub noted-place : g < length t
-  noted-place = let k = known w h in omega (arith, i .sized)
-
-  each-on : (c : ℕ) → (areNew t (w ∷ vs) and eachPart (w ∷ vs)) ≡ (areNew (set t g (suc c)) vs and eachPart vs)
-  unfolding areNew eachPart _and_ pick
-  each-on c = rw (← q, z, h, new-noted t g (suc c) noted-place (λ e. omega arith) vs) (go (hasPlace g vs) (areNew t vs))
-    where
-      go : (k a : Bool) → (a and pick k false (eachPart vs)) ≡ (pick k false a and eachPart vs)
-      go true a = and-no-right a false refl
-      go false a = refl
-
-  found-on : (c : ℕ) → w ≡ upTo (λ (b : ℕ). eqb b 59) (rest 0 s c) → (p : ℕ) → p < 14 →
-      orOther (pieceFrom s (getD t p 0)) (named p (w ∷ vs)) ≡ orOther (pieceFrom s (getD (set t g (suc c)) p 0)) (named p vs)
-  unfolding rowOf pick
-  found-on c u p k = rw (named-at p w k, ← q, set-at t g (suc c) noted-place p, swap p g) (go (eqb g p) refl)
-    where
-      go : (b : Bool) → eqb g p ≡ b → orOther (pieceFrom s (getD t p 0)) (pick b (some w) (named p vs)) ≡ orOther (pieceFrom s (pick b (suc c) (getD t p 0))) (named p vs)
-      go true e = rw (← (eqb-true g p e), z) (ap some u)
-      go false e = refl
-
-  pub one-noted : (c : ℕ) → w ≡ upTo (λ (b : ℕ). eqb b 59) (rest 0 s c) → c ≤ length s → Noting s ws (set t g (c + 1)) vs
-  one-noted c u l = rw add-one record {
-    each = i .each ∙ each-on c;
-    found = λ p k. i .found p k ∙ found-on c u p k;
-    within = λ p. rw (set-at t g (suc c) noted-place p) (pick-either (λ (n : ℕ). n ≤ length s + 1) (eqb p g) (suc c) (getD t p 0) (omega arith) (i .within p));
-    sized = length-set t g (suc c) ∙ i .sized;
-  }
-
--- ---- the answers
-
-no-parts : (s : List ℕ) (c : ℕ) (t : List ℕ) → eachPart (cutAt 59 (rest 0 s c)) ≡ false → Parted s c (record { good = false; begins = t })
-unfolding _and_
-no-parts s c t h = record { is = rule-read (rest 0 s c) ∙ rw h; standing = λ k. absurd (false≢true k) }
-
--- all pieces are noted
-module _ (s : List ℕ) (c : ℕ) {t : List ℕ} (i : Noting s (cutAt 59 (rest 0 s c)) t []) where
-  all-standing : Standing s c t
-  unfolding rowOf
-  all-standing = record { is = λ p h. i .found p h ∙ other (pieceFrom s (getD t p 0)); inside = i .within }
-    where
-      other : (o : Option (List ℕ)) → orOther o none ≡ o
-      other none = refl
-      other (some w) = refl
-
-  has-noted : (p : ℕ) → p < 14 → hasPlace p (cutAt 59 (rest 0 s c)) ≡ not (eqb (getD t p 0) 0)
-  unfolding isRead
-  has-noted p h = has-named p h (cutAt 59 (rest 0 s c)) ∙ rw (all-standing .is p h) (go (getD t p 0))
-    where
-      go : (n : ℕ) → isRead (pieceFrom s n) ≡ not (eqb n 0)
-      go zero = refl
-      go (suc n) = sym (rw (ne-eqb (suc n) 0 (λ e. omega arith)))
-
-  whole-noted : isWhole (cutAt 59 (rest 0 s c)) ≡ wholeIn t
-  unfolding _and_ pick
-  whole-noted = rw (has-noted 0 (omega arith), has-noted 1 (omega arith), has-noted 2 (omega arith)) (go (eqb (getD t 0 0) 0) (eqb (getD t 1 0) 0) (eqb (getD t 2 0) 0))
-    where
-      go : (x y z : Bool) → (not x and not (not y and not z)) ≡ pick x false (pick y true z)
-      go true y z = refl
-      go false true z = refl
-      go false false true = refl
-      go false false false = refl
-
-  all-parts : {r : Bool} → r ≡ wholeIn t → Parted s c (record { good = r; begins = t })
-  unfolding areNew eachPart _and_
-  all-parts h = record { is = rule-read (rest 0 s c) ∙ rw (i .each, whole-noted) (sym h); standing = λ k. all-standing }
-
-pub parts-beyond : (s : List ℕ) (c : ℕ) (t : List ℕ) → length s < c → Parted s c (record { good = false; begins = t })
-parts-beyond s c t h = record { is = rule-beyond s c h; standing = λ k. absurd (false≢true k) }
-
--- ---- the loop over the pieces, from the cursor c₀ to the cursor c
-
-pub record Walked (s : List ℕ) (c₀ : ℕ) (t : List ℕ) (c : ℕ) : Type 0 where
-  pub noting : Noting s (cutAt 59 (rest 0 s c₀)) t (cutAt 59 (rest 0 s c))
-  pub inside : c ≤ length s
-
-pub walk-start : (s : List ℕ) (c : ℕ) → c ≤ length s → Walked s c (replicate 14 0) c
-walk-start s c h = record { noting = none-noted (replicate 14 0) (zero-at 14) s (cutAt 59 (rest 0 s c)) refl; inside = h }
-
-module _ {s : List ℕ} {c₀ : ℕ} {t : List ℕ} {c e g : ℕ} (i : Walked s c₀ t c) (d : Ends 59 s c e) (q : g ≡ placeAt (rest 0 (take e s) c)) where
-  -- the piece at hand is no part
-  pub walk-bad : isRead (readPart (rest 0 (take e s) c)) ≡ false → Parted s c₀ (record { good = false; begins = t })
-  unfolding eachPart _and_
-  walk-bad h = no-parts s c₀ t (i .noting .each ∙ and-no-right (areNew t (cutAt 59 (rest 0 s c))) (eachPart (cutAt 59 (rest 0 s c))) (rw (pieces-any d, h)))
-
-  -- its part is noted already
-  pub walk-again : (getD t g 0 ≡ 0 → ⊥) → Parted s c₀ (record { good = false; begins = t })
-  unfolding areNew _and_
-  walk-again h = no-parts s c₀ t (i .noting .each ∙ and-no-left (areNew t (cutAt 59 (rest 0 s c))) (eachPart (cutAt 59 (rest 0 s c))) (rw (pieces-any d, ← q, ne-eqb (getD t g 0) 0 h)))
-
-  module _ (h : isRead (readPart (rest 0 (take e s) c)) ≡ true) where
-    pub walk-place : g < 14
-    walk-place = rw q (known (rest 0 (take e s) c) h)
-
-    module _ (z : getD t g 0 ≡ 0) {n : Step} (p : Reads 0 s e n) where
-      pub walk-last : {r : Bool} → n .u ≡ 256 → r ≡ wholeIn (set t g (c + 1)) → Parted s c₀ (record { good = r; begins = set t g (c + 1) })
-      walk-last k b = all-parts s c₀ (one-noted (rw (pieces-last d p k) at (i .noting)) q h z c (piece-is d) (i .inside)) b
-
-      pub walk-more : (n .u ≡ 256 → ⊥) → Walked s c₀ (set t g (c + 1)) (n .next)
-      walk-more k = record { noting = one-noted (rw (pieces-more d p k) at (i .noting)) q h z c (piece-is d) (i .inside); inside = step-less p k .1 }
