@@ -4,6 +4,7 @@
 --     Leaves        one value: its characters, and its element's name
 --     Several       all values of a parameter
 --     Seen          the names before a place
+--     Fresh         the first names, where no two are the same
 --     Sound         what a parameter must be, by numbers
 --     Told          the verdict on the parameters of a property
 --     Written       one value, and all values of a parameter, as text
@@ -13,6 +14,7 @@ pub mod Rows
 pub mod Leaves
 pub mod Several
 pub mod Seen
+pub mod Fresh
 pub mod Sound
 pub mod Told
 pub mod Written

@@ -6,14 +6,15 @@
 use mathlib.Core.Path.{_≡_, refl, sym, ap, _∙_}
 use mathlib.Core.Bool.{Bool, true, false, not}
 use mathlib.Core.List.{List, [], _∷_}
-use Prim.Native.Nat.{ℕ, _-_, _≤_}
+use Prim.Native.Nat.{ℕ, _+_, _-_, _≤_}
 use native.Mathlib.Omega.{arith}
-use lib.Dec.{eqb}
+use lib.Dec.{eqb, ltb}
 use borrow.Author.Needs.{needs}
-use borrow.Author.Tests.{eq-eqb, ne-eqb, lt-ltb, le-ltb}
+use borrow.Author.Tests.{eq-eqb, ne-eqb, lt-ltb, le-ltb, ltb-true}
 use Rattle.octets.specs.Pick.{pick, _and_, _or_, or-false}
 use Rattle.octets.specs.Class.{upper, isSpace}
 use Rattle.octets.specs.Words.{same, isOneOf, same-either}
+use Rattle.octets.specs.Lists.{distinct}
 use Rattle.model.specs.Refusal.{NAME, FRAME, PARAMETER, Verdict, fine, refuse, _otherwise_}
 use Rattle.source.specs.Source.{rest}
 use Rattle.names.specs.Table.{placeOf}
@@ -31,6 +32,7 @@ use Rattle.nodes.specs.declared.Node.{Node}
 use Rattle.nodes.specs.declared.NodeKind.the-variants.{None, Element, Literal, Referred}
 use Rattle.parameter_nodes.specs.Children.{nameOf, whole, node-named}
 use Rattle.parameter_nodes.specs.Seen.{isBefore}
+use Rattle.parameter_nodes.specs.Fresh.{firstNames, Fresh, fresh-start, fresh-skip, fresh-next, fresh-here}
 use Rattle.parameter_nodes.specs.Sound.{soundBy, sound-is}
 
 -- ---- one parameter
@@ -95,20 +97,22 @@ verdict-is w p t s from at m x kids seen h k e = rw (e, sound-is w (upper m) p t
 
 -- ---- all of them
 
-pub record Told (p t : ℕ) (s : List ℕ) (from at : ℕ) : Type 0 where
+-- i elements stand before the place at
+pub record Told (p t : ℕ) (s : List ℕ) (from at i : ℕ) : Type 0 where
   pub seen : List (List ℕ)
+  pub fresh : Fresh s from at i seen
   pub known : (m : List ℕ) (k : ℕ) → at ≤ k → isBefore m k (nodesAt s from) ≡ (isOneOf m seen or isBefore m k (nodesAt s at))
   pub is : (w : List ℕ) → p ≡ placeOf w propertyNames → t ≤ 14 → parametersVerdict w (typeAt t) (nodesAt s from) [] ≡ parametersVerdict w (typeAt t) (nodesAt s at) seen
 
-pub told-start : (p t : ℕ) (s : List ℕ) (from : ℕ) → Told p t s from from
+pub told-start : (p t : ℕ) (s : List ℕ) (from : ℕ) → Told p t s from from 0
 unfolding isOneOf _or_
-told-start p t s from = record { seen = []; known = λ m k h. refl; is = λ w h k. refl }
+told-start p t s from = record { seen = []; fresh = fresh-start s from; known = λ m k h. refl; is = λ w h k. refl }
 
 -- the contract of `parameters_verdict`
 abbrev pub Judges : ℕ → ℕ → List ℕ → ℕ → Judged → Type 0
 Judges p t s from j = (w : List ℕ) → p ≡ placeOf w propertyNames → t ≤ 14 → judgedAs j ≡ parametersVerdict w (typeAt t) (nodesAt s from) []
 
-module _ {p t : ℕ} {s : List ℕ} {from at : ℕ} {n : Node} (i : Told p t s from at) (a : NodeAt s at n) where
+module _ {p t : ℕ} {s : List ℕ} {from at c : ℕ} {n : Node} (i : Told p t s from at c) (a : NodeAt s at n) where
   pub told-none : n .kind ≡ None → Judges p t s from Fine
   unfolding parametersVerdict
   told-none q = λ w h k. sym (i .is w h k ∙ ap (λ (z : Nodes). parametersVerdict w (typeAt t) z (i .seen)) (node-none a q))
@@ -118,10 +122,11 @@ module _ {p t : ℕ} {s : List ℕ} {from at : ℕ} {n : Node} (i : Told p t s f
   told-referred q = λ w h k. is-frame at ∙ sym (i .is w h k ∙ ap (λ (z : Nodes). parametersVerdict w (typeAt t) z (i .seen)) (node-referred a q))
 
   module _ {b : Bool} (q : n .kind ≡ Literal) (e : b ≡ isSpace (n .unit)) where
-    pub told-space : b ≡ true → Told p t s from (n .next)
+    pub told-space : b ≡ true → Told p t s from (n .next) c
     unfolding parametersVerdict isBefore pick
     told-space z = record {
       seen = i .seen;
+      fresh = fresh-skip (i .fresh) at (n .unit) (n .next) (node-literal a q);
       known = λ m k h. i .known m k (omega (arith, literal-onward a q, h)) ∙ ap (λ (x : Nodes). isOneOf m (i .seen) or isBefore m k x) (node-literal a q);
       is = λ w h k. i .is w h k ∙ ap (λ (x : Nodes). parametersVerdict w (typeAt t) x (i .seen)) (node-literal a q) ∙ rw (← e, z);
     }
@@ -139,6 +144,10 @@ module _ {p t : ℕ} {s : List ℕ} {from at : ℕ} {n : Node} (i : Told p t s f
     unfolding isBefore _and_ _or_
     here = i .known name at (omega arith) ∙ ap (λ (x : Nodes). isOneOf name (i .seen) or isBefore name at x) (node-named a q) ∙ rw (le-ltb at at (omega arith)) (or-false (isOneOf name (i .seen)))
 
+    -- no element before this one has its name, where it is among the first whose names are distinct
+    pub told-fresh : (k : ℕ) → distinct (firstNames (nodesAt s from) k) ≡ true → ltb c k ≡ true → isBefore (nameOf s (n .name) (n .«name_end»)) at (nodesAt s from) ≡ false
+    told-fresh k h l = here ∙ fresh-here (i .fresh) (n .next) (node-named a q) k h (ltb-true c k l)
+
     next : (w : List ℕ) → p ≡ placeOf w propertyNames → t ≤ 14 →
         parametersVerdict w (typeAt t) (nodesAt s from) [] ≡ (parameterVerdict w (typeAt t) (i .seen) at name (n .end) (nodesAt s (n .inside)) otherwise parametersVerdict w (typeAt t) (nodesAt s (n .next)) (name ∷ i .seen))
     unfolding parametersVerdict
@@ -152,10 +161,11 @@ module _ {p t : ℕ} {s : List ℕ} {from at : ℕ} {n : Node} (i : Told p t s f
       pub told-refused : {c d : ℕ} → j ≡ Refused c d → Judges p t s from (Refused c d)
       told-refused z = λ w h k. sym (next w h k ∙ after-refused _ (own w h k ∙ e) z)
 
-      pub told-next : j ≡ Fine → Told p t s from (n .next)
+      pub told-next : j ≡ Fine → Told p t s from (n .next) (c + 1)
       unfolding isBefore isOneOf _and_ _or_
       told-next z = record {
         seen = name ∷ i .seen;
+        fresh = fresh-next (i .fresh) (n .next) (node-named a q);
         known = λ m k h.
             i .known m k (omega (arith, element-onward a q, h))
             ∙ ap (λ (x : Nodes). isOneOf m (i .seen) or isBefore m k x) (node-named a q)

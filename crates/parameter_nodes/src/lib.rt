@@ -1,6 +1,7 @@
 // The elements of a property's parameters, out of XML (RFC 6321, section 3.5): the verdict on them, and their text. Definitions are in crates xcal and ical,
 // laws in specs/.
 mod children;
+mod fresh;
 mod leaf;
 mod several;
 mod text;

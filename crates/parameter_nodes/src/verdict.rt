@@ -1,5 +1,6 @@
 // The verdict on the elements of a property's parameters. See specs/Told.antt.
 use crate::children::next_child;
+use crate::fresh::known_fresh;
 use crate::several::are_good;
 use crate::several::is_base64;
 use lines::is_carried_name;
@@ -13,6 +14,7 @@ use octets::is_space;
 use schema::parameter_number;
 use schema::permits_parameter;
 ghost use mathlib.Core.Path.{_≡_};
+ghost use mathlib.Core.Bool.{true, false};
 ghost use mathlib.Core.List.{List, []};
 ghost use Prim.Native.Nat.{ℕ, _≤_};
 ghost use lib.ListN.{length};
@@ -66,6 +68,17 @@ fn is_before(s: &[u8], from: usize, at: usize, w: &[u8]) -> bool
     }
 }
 
+// The same; `fresh` says that there is none.
+fn is_again(s: &[u8], from: usize, at: usize, w: &[u8], fresh: bool) -> bool
+    requires { ⌜ (fresh ≡ true → isBefore (now w) at (nodesAt (now s) from) ≡ false) ⌝ }
+    ensures { λ r. ⌜ r ≡ isBefore (now (w .entry)) at (nodesAt (now (s .entry)) from) ⌝ }
+{
+    if fresh {
+        return false;
+    }
+    is_before(s, from, at, w)
+}
+
 // Where the type of the number `t` is BINARY, and the parameter of the number `q` is ENCODING, its value is BASE64.
 fn is_encoded(q: usize, t: usize, s: &[u8], inside: usize) -> bool
     requires { ⌜ length (now s) ≤ 65535 ⌝ }
@@ -97,11 +110,20 @@ fn is_sound(p: usize, t: usize, q: usize, s: &[u8], inside: usize) -> bool
 }
 
 // The parameter of the name `w` at the place `at` stood before, or is not sound.
-fn is_against(p: usize, t: usize, s: &[u8], from: usize, at: usize, w: &[u8], inside: usize) -> bool
-    requires { ⌜ length (now s) ≤ 65535 ⌝ }
+fn is_against(
+    p: usize,
+    t: usize,
+    s: &[u8],
+    from: usize,
+    at: usize,
+    w: &[u8],
+    inside: usize,
+    fresh: bool,
+) -> bool
+    requires { ⌜ (length (now s) ≤ 65535) × (fresh ≡ true → isBefore (now w) at (nodesAt (now s) from) ≡ false) ⌝ }
     ensures { λ r. ⌜ r ≡ againstBy (isBefore (now (w .entry)) at (nodesAt (now (s .entry)) from)) p t (now (w .entry)) (nodesAt (now (s .entry)) inside) ⌝ }
 {
-    let again = is_before(s, from, at, w);
+    let again = is_again(s, from, at, w, fresh);
     if again {
         return true;
     }
@@ -113,7 +135,7 @@ fn is_against(p: usize, t: usize, s: &[u8], from: usize, at: usize, w: &[u8], in
     true
 }
 
-// The verdict on the parameter of the name `w` at the tags `at` and `end`.
+// The verdict on the parameter of the name `w` at the tags `at` and `end`; `fresh` says that no parameter before it has the name.
 fn judge(
     p: usize,
     t: usize,
@@ -123,8 +145,9 @@ fn judge(
     w: &[u8],
     end: usize,
     inside: usize,
+    fresh: bool,
 ) -> Judged
-    requires { ⌜ length (now s) ≤ 65535 ⌝ }
+    requires { ⌜ (length (now s) ≤ 65535) × (fresh ≡ true → isBefore (now w) at (nodesAt (now s) from) ≡ false) ⌝ }
     ensures { λ r. ⌜ verdictAt p t (now (s .entry)) from at (now (w .entry)) end (nodesAt (now (s .entry)) inside) ≡ judgedAs r ⌝ }
 {
     let bad = is_bad_name(w);
@@ -134,7 +157,7 @@ fn judge(
     if at == end {
         return Judged::Refused(6, at);
     }
-    let against = is_against(p, t, s, from, at, w, inside);
+    let against = is_against(p, t, s, from, at, w, inside, fresh);
     if against {
         return Judged::Refused(7, at);
     }
@@ -151,6 +174,8 @@ pub fn parameters_verdict(p: usize, t: usize, s: &[u8], inside: usize) -> Judged
     ensures { λ r. ⌜ ((w : List ℕ) → p ≡ placeOf w propertyNames → t ≤ 14 → judgedAs r ≡ parametersVerdict w (typeAt t) (nodesAt (now (s .entry)) inside) []) ⌝ }
 {
     let mut c = inside;
+    let mut i = 0;
+    let mut fresh = 0;
     loop {
         let n = next_node(s, c);
         let kind = n.kind;
@@ -161,13 +186,16 @@ pub fn parameters_verdict(p: usize, t: usize, s: &[u8], inside: usize) -> Judged
             NodeKind::Element => {
                 let a = n.name;
                 let e = n.name_end;
-                let j = judge(p, t, s, inside, c, &s[a..e], n.end, n.inside);
+                let k = known_fresh(s, inside, i, fresh);
+                let j = judge(p, t, s, inside, c, &s[a..e], n.end, n.inside, i < k);
                 match j {
                     Judged::Fine => {
                         c = n.next;
+                        i += 1;
+                        fresh = k;
                     }
-                    Judged::Refused(k, at) => {
-                        return Judged::Refused(k, at);
+                    Judged::Refused(number, at) => {
+                        return Judged::Refused(number, at);
                     }
                 }
             }

@@ -5,6 +5,7 @@
 --     Steps        a test of a list, an element at a time
 --     Readable     parameters that can be read, by their numbers
 --     Comparing    names compared
+--     Collecting   names collected by their cursors
 --     Permitted    the rules of a property's parameters, by numbers
 pub mod Cutting
 pub mod Typing
@@ -12,4 +13,5 @@ pub mod Stating
 pub mod Steps
 pub mod Readable
 pub mod Comparing
+pub mod Collecting
 pub mod Permitted

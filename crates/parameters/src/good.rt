@@ -2,7 +2,7 @@
 use crate::base64::has_base64;
 use crate::cut::is_value_name;
 use crate::cut::number_of;
-use crate::distinct::are_distinct;
+use crate::once::are_distinct;
 use crate::read::are_read;
 use lines::next_param;
 use schema::permits_parameter;

@@ -2,8 +2,8 @@
 // A line is cut at its end by the caller. Definitions are in crate ical (specs/Parameters), laws in specs/.
 mod base64;
 mod cut;
-mod distinct;
 mod good;
+mod once;
 mod read;
 mod several;
 mod stated;

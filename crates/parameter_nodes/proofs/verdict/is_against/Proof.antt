@@ -6,7 +6,7 @@ use Rattle.parameter_nodes.proofs.verdict.is_against.Tie as tie
 
 pub is-against-spec : {M : Type 1} → statement M
 is-against-spec = tie.close (tie.spec
-    (λ c κs. search needs)  -- is-before-requires
+    (λ c κs. search needs)  -- is-again-requires
     (λ c. search (against-again, needs))  -- returns
     (λ c κs. search needs)  -- parameter-number-requires
     (λ c κs. search needs)  -- is-sound-requires

@@ -7,8 +7,8 @@ use lib.ListN.{length}
 use Prim.Native.Nat.{_*_, _-_}
 use mathlib.Core.Path.{_≡_, refl, sym, _∙_}
 use borrow.Author.Needs.{needs}
-use Rattle.parameters.proofs.distinct.are_same.Statement.{statement}
-use Rattle.parameters.proofs.distinct.are_same.Tie as tie
+use Rattle.parameters.proofs.once.are_same.Statement.{statement}
+use Rattle.parameters.proofs.once.are_same.Tie as tie
 
 abbrev Inv-loop : tie.InvT-loop
 Inv-loop s a t b c₀ d₀ c d = same (upper (rest 0 s a)) (upper (rest 0 t b)) ≡ same (upper (rest 0 s c)) (upper (rest 0 t d))

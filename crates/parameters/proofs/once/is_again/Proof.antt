@@ -1,4 +1,4 @@
--- `parameters::distinct::is_again` meets its contract.
+-- `parameters::once::is_again` meets its contract.
 use Rattle.parameters.specs.Steps.{one-nil, one-go, one-halt}
 use Rattle.parameters.specs.Comparing.{namesOf}
 use Rattle.parameters.specs.Cutting.{nameCut, params-step, params-over, params-fault}
@@ -11,8 +11,8 @@ use Prim.Native.Nat.{_*_, _-_}
 use mathlib.Core.List.{List}
 use mathlib.Core.Path.{_≡_, refl, sym, _∙_}
 use borrow.Author.Needs.{needs}
-use Rattle.parameters.proofs.distinct.is_again.Statement.{statement}
-use Rattle.parameters.proofs.distinct.is_again.Tie as tie
+use Rattle.parameters.proofs.once.is_again.Statement.{statement}
+use Rattle.parameters.proofs.once.is_again.Tie as tie
 
 abbrev Inv-loop : tie.InvT-loop
 Inv-loop s name end at c₀ c = isOneOf (nameCut s name end) (namesOf (paramsAt 0 s at)) ≡ isOneOf (nameCut s name end) (namesOf (paramsAt 0 s c))

@@ -1,4 +1,6 @@
-// No parameter twice. See specs/Comparing.antt.
+// No parameter twice. See specs/Comparing.antt and specs/Collecting.antt.
+use distinct::Kept;
+use distinct::keep;
 use lines::next_param;
 use octets::smaller;
 use octets::upper_unit;
@@ -11,6 +13,7 @@ ghost use Rattle.source.specs.Source.{rest};
 ghost use Rattle.lines.specs.Cursor.{paramsAt};
 ghost use Rattle.parameters.specs.Cutting.{nameCut};
 ghost use Rattle.parameters.specs.Comparing.{namesOf};
+ghost use Rattle.parameters.specs.Collecting.{Collected};
 
 // The words from two cursors on are the same, in any case.
 fn are_same(s: &[u8], a: usize, t: &[u8], b: usize) -> bool
@@ -67,8 +70,8 @@ fn is_again(s: &[u8], name: usize, end: usize, at: usize) -> bool
     }
 }
 
-// No two parameters from the cursor `e` on have the same name.
-pub fn are_distinct(s: &[u8], e: usize) -> bool
+// No two parameters from the cursor `e` on have the same name: each name is compared with all behind it.
+fn are_apart(s: &[u8], e: usize) -> bool
     ensures { λ r. ⌜ r ≡ distinct (namesOf (paramsAt 0 (now (s .entry)) e)) ⌝ }
 {
     let mut c = e;
@@ -88,4 +91,76 @@ pub fn are_distinct(s: &[u8], e: usize) -> bool
             return true;
         }
     }
+}
+
+// Collects the names from the cursor `e` on by their cursors.
+fn collect(s: &[u8], e: usize, from: &mut [u16], to: &mut [u16]) -> Kept
+    ensures { λ r. ⌜ Collected (now (s .entry)) e (now (from .exit)) (now (to .exit)) r ⌝ }
+{
+    let mut c = e;
+    let mut k = 0;
+    loop {
+        let a = next_param(0, s, c);
+        if a.there {
+            if a.ok {
+                let kept = keep(from, to, k, a.name, a.end);
+                if kept {
+                    c = a.next;
+                    k += 1;
+                } else {
+                    return Kept { n: 0, all: false };
+                }
+            } else {
+                return Kept { n: k, all: true };
+            }
+        } else {
+            return Kept { n: k, all: true };
+        }
+    }
+}
+
+// The same as `are_apart`, by the names collected, where there is room for all of them.
+fn are_distinct_kept(s: &[u8], e: usize, from: &mut [u16], to: &mut [u16]) -> bool
+    ensures { λ r. ⌜ r ≡ distinct (namesOf (paramsAt 0 (now (s .entry)) e)) ⌝ }
+{
+    let kept = collect(s, e, from, to);
+    if kept.all {
+        return distinct::are_distinct(s, from, to, kept.n);
+    }
+    are_apart(s, e)
+}
+
+// The same for many parameters: of a line of 65,535 bytes there is room for all.
+fn are_many_distinct(s: &[u8], e: usize) -> bool
+    ensures { λ r. ⌜ r ≡ distinct (namesOf (paramsAt 0 (now (s .entry)) e)) ⌝ }
+{
+    let mut from = [0u16; 21846];
+    let mut to = [0u16; 21846];
+    are_distinct_kept(s, e, &mut from, &mut to)
+}
+
+// No two parameters from the cursor `e` on have the same name. The first 16 are compared with all behind them, more are collected.
+pub fn are_distinct(s: &[u8], e: usize) -> bool
+    ensures { λ r. ⌜ r ≡ distinct (namesOf (paramsAt 0 (now (s .entry)) e)) ⌝ }
+{
+    let mut c = e;
+    let mut k: usize = 0;
+    while k < 16 {
+        let a = next_param(0, s, c);
+        if a.there {
+            if a.ok {
+                let again = is_again(s, a.name, a.end, a.next);
+                if again {
+                    return false;
+                }
+                c = a.next;
+                k += 1;
+            } else {
+                return true;
+            }
+        } else {
+            return true;
+        }
+    }
+    are_many_distinct(s, c)
 }

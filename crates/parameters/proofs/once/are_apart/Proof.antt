@@ -1,4 +1,4 @@
--- `parameters::distinct::are_distinct` meets its contract.
+-- `parameters::once::are_apart` meets its contract.
 use Rattle.parameters.specs.Steps.{distinct-nil, distinct-go, distinct-halt}
 use Rattle.parameters.specs.Comparing.{namesOf}
 use Rattle.parameters.specs.Cutting.{params-step, params-over, params-fault}
@@ -11,8 +11,8 @@ use Prim.Native.Nat.{_*_, _-_}
 use mathlib.Core.List.{List}
 use mathlib.Core.Path.{_≡_, refl, sym, _∙_}
 use borrow.Author.Needs.{needs}
-use Rattle.parameters.proofs.distinct.are_distinct.Statement.{statement}
-use Rattle.parameters.proofs.distinct.are_distinct.Tie as tie
+use Rattle.parameters.proofs.once.are_apart.Statement.{statement}
+use Rattle.parameters.proofs.once.are_apart.Tie as tie
 
 abbrev Inv-loop : tie.InvT-loop
 Inv-loop s e c₀ c = distinct (namesOf (paramsAt 0 s e)) ≡ distinct (namesOf (paramsAt 0 s c))
@@ -20,8 +20,8 @@ Inv-loop s e c₀ c = distinct (namesOf (paramsAt 0 s e)) ≡ distinct (namesOf 
 abbrev μ-loop : tie.MeasureT-loop
 μ-loop s e c₀ c = 4 * length s - c
 
-pub are-distinct-spec : {M : Type 1} → statement M
-are-distinct-spec = tie.close (tie.spec
+pub are-apart-spec : {M : Type 1} → statement M
+are-apart-spec = tie.close (tie.spec
     Inv-loop
     μ-loop
     (λ c. refl)  -- loop-holds

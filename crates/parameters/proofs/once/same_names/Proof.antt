@@ -1,4 +1,4 @@
--- `parameters::distinct::same_names` meets its contract.
+-- `parameters::once::same_names` meets its contract.
 use Rattle.parameters.specs.Cutting.{nameCut, cut-at}
 use Rattle.source.specs.Source.{rest}
 use Rattle.octets.specs.Words.{same}
@@ -6,8 +6,8 @@ use Rattle.octets.specs.Class.{upper}
 use lib.ListN.{take, length-take}
 use native.Mathlib.Omega.{arith}
 use borrow.Author.Needs.{needs}
-use Rattle.parameters.proofs.distinct.same_names.Statement.{statement}
-use Rattle.parameters.proofs.distinct.same_names.Tie as tie
+use Rattle.parameters.proofs.once.same_names.Statement.{statement}
+use Rattle.parameters.proofs.once.same_names.Tie as tie
 
 pub same-names-spec : {M : Type 1} → statement M
 same-names-spec = tie.close (tie.spec

@@ -1,0 +1,33 @@
+-- `distinct::sift` meets its contract.
+use mathlib.Core.Path.{_≡_}
+use lib.ListN.{length}
+use Prim.Native.Nat.{_-_}
+use borrow.Author.Needs.{needs}
+use Rattle.distinct.proofs.heap.sift.Statement.{statement}
+use Rattle.distinct.proofs.heap.sift.Tie as tie
+
+abbrev Inv-loop : tie.InvT-loop
+Inv-loop s from to order₀ start n i₀ order i = length order ≡ length order₀
+
+abbrev μ-loop : tie.MeasureT-loop
+μ-loop s from to order₀ start n i₀ order i = n - i
+
+pub sift-spec : {M : Type 1} → statement M
+sift-spec = tie.close (tie.spec
+    Inv-loop
+    μ-loop
+    (λ c. search needs)  -- loop-holds
+    (λ c κs. search needs)  -- later-child-requires
+    (λ c κs. search needs)  -- number-at-requires
+    (λ c κs. search needs)  -- number-at-requires-2
+    (λ c κs. search needs)  -- compare-requires
+    (λ c κs. search needs)  -- swap-requires
+    (λ c. search needs)  -- loop-less
+    (λ c. search needs)  -- loop-again
+    (λ c. search needs)  -- same-length
+    (λ c. search needs)  -- returns
+    (λ c. search needs)  -- same-length-2
+    (λ c. search needs)  -- returns-2
+    (λ c. search needs)  -- same-length-3
+    (λ c. search needs)  -- returns-3
+    )
