@@ -14,8 +14,9 @@ use Rattle.octets.specs.Words.{same}
 use Rattle.source.specs.Source.{rest}
 use Rattle.xcal.specs.ComponentNodes.{insideOf}
 use Rattle.xml.specs.NodesAt.{nodesAt, nodes-none}
-use Rattle.nodes.specs.NodeFound.{NodeAt, node-none, node-element, node-literal, node-referred, element-onward, element-less, literal-less, referred-less}
-use Rattle.nodes.specs.declared.Node.{Node}
+use Rattle.nodes.specs.HeadFound.{HeadAt, NodeEnded, head-none, head-element, head-whole, head-onward, end-less, head-literal, head-literal-less, head-referred, head-referred-less, head-less}
+use Rattle.nodes.specs.declared.Ended.{Ended}
+use Rattle.nodes.specs.declared.Head.{Head}
 use Rattle.nodes.specs.declared.NodeKind.the-variants.{None, Element, Literal, Referred}
 
 -- the name from the cursor c to e
@@ -35,30 +36,30 @@ pub record Seeking (w s : List ℕ) (from at : ℕ) : Type 0 where
 pub seeking-start : (w s : List ℕ) (from : ℕ) → Seeking w s from from
 seeking-start w s from = record { is = refl; onward = omega arith }
 
-module _ {w s : List ℕ} {from at : ℕ} {r : Node} (p : Seeking w s from at) (n : NodeAt s at r) where
+module _ {w s : List ℕ} {from at : ℕ} {r : Head} (p : Seeking w s from at) (n : HeadAt s at r) where
   pub seeking-none : r .kind ≡ None → InsideAt w s from (length s)
   unfolding insideOf
-  seeking-none q = record { is = p .is ∙ ap (insideOf w) (node-none n q) ∙ sym (nodes-none s (length s) (omega arith)); within = omega arith; onward = omega arith }
+  seeking-none q = record { is = p .is ∙ ap (insideOf w) (head-none n q) ∙ sym (nodes-none s (length s) (omega arith)); within = omega arith; onward = omega arith }
 
   module _ {b : Bool} (q : r .kind ≡ Element) (e : b ≡ same (nameIn s (r .name) (r .«name_end»)) w) where
     pub seeking-here : b ≡ true → InsideAt w s from (r .inside)
     unfolding insideOf pick
     seeking-here h = record {
-      is = p .is ∙ ap (insideOf w) (node-element n q) ∙ rw (← e, h);
+      is = p .is ∙ ap (insideOf w) (head-element n q) ∙ rw (← e, h);
       within = n .inside-within;
-      onward = omega (arith, p .onward, element-onward n q);
+      onward = omega (arith, p .onward, head-onward n q);
     }
 
-    pub seeking-pass : b ≡ false → Seeking w s from (r .next)
+    pub seeking-pass : {x : Ended} → NodeEnded s at (r .opens) (r .next) x → b ≡ false → Seeking w s from (x .next)
     unfolding insideOf pick
-    seeking-pass h = record { is = p .is ∙ ap (insideOf w) (node-element n q) ∙ rw (← e, h); onward = omega (arith, p .onward, element-onward n q) }
+    seeking-pass y h = record { is = p .is ∙ ap (insideOf w) (head-whole n q y) ∙ rw (← e, h); onward = omega (arith, p .onward, end-less n q y) }
 
   pub seeking-literal : r .kind ≡ Literal → Seeking w s from (r .next)
   unfolding insideOf
-  seeking-literal q = record { is = p .is ∙ ap (insideOf w) (node-literal n q); onward = omega (arith, p .onward, literal-less n q) }
+  seeking-literal q = record { is = p .is ∙ ap (insideOf w) (head-literal n q); onward = omega (arith, p .onward, head-literal-less n q) }
 
   pub seeking-referred : r .kind ≡ Referred → Seeking w s from (r .next)
   unfolding insideOf
-  seeking-referred q = record { is = p .is ∙ ap (insideOf w) (node-referred n q); onward = omega (arith, p .onward, referred-less n q) }
+  seeking-referred q = record { is = p .is ∙ ap (insideOf w) (head-referred n q); onward = omega (arith, p .onward, head-referred-less n q) }
 
-pub ruleset seeking = (seeking-start, seeking-none, seeking-here, seeking-pass, seeking-literal, seeking-referred, element-less, literal-less, referred-less, needs)
+pub ruleset seeking = (seeking-start, seeking-none, seeking-here, seeking-pass, seeking-literal, seeking-referred, head-less, needs)

@@ -24,8 +24,9 @@ use Rattle.xcal.specs.Layout.{Slot, slotOf}
 use Rattle.xcal.specs.ValueNodes.{must, may, typeElements, valueSlots}
 use Rattle.xcal.specs.PropertyNodes.{stillBefore, parametersIn}
 use Rattle.xml.specs.NodesAt.{nodesAt, nodes-none}
-use Rattle.nodes.specs.NodeFound.{NodeAt, node-none, node-element, node-literal, node-referred, element-less, literal-less, referred-less}
-use Rattle.nodes.specs.declared.Node.{Node}
+use Rattle.nodes.specs.HeadFound.{HeadAt, NodeEnded, head-none, head-element, head-whole, head-literal, head-referred, head-less}
+use Rattle.nodes.specs.declared.Ended.{Ended}
+use Rattle.nodes.specs.declared.Head.{Head}
 use Rattle.nodes.specs.declared.NodeKind.the-variants.{None, Element, Literal, Referred}
 use Rattle.text_lines.specs.Children.{nameIn}
 
@@ -97,37 +98,37 @@ pub record Sought (p : ℕ) (s : List ℕ) (from at : ℕ) : Type 0 where
 pub sought-start : (p : ℕ) (s : List ℕ) (from : ℕ) → Sought p s from from
 sought-start p s from = record { is = λ w e. refl }
 
-module _ {p : ℕ} {s : List ℕ} {from at : ℕ} {r : Node} (k : Sought p s from at) (n : NodeAt s at r) where
+module _ {p : ℕ} {s : List ℕ} {from at : ℕ} {r : Head} (k : Sought p s from at) (n : HeadAt s at r) where
   pub sought-none : r .kind ≡ None → ParametersAt p s from (length s)
   unfolding parametersIn
-  sought-none q = record { is = λ w e. k .is w e ∙ ap (parametersIn w) (node-none n q) ∙ sym (nodes-none s (length s) (omega arith)); within = omega arith }
+  sought-none q = record { is = λ w e. k .is w e ∙ ap (parametersIn w) (head-none n q) ∙ sym (nodes-none s (length s) (omega arith)); within = omega arith }
 
   module _ {b : Bool} (q : r .kind ≡ Element) (h : b ≡ same (nameIn s (r .name) (r .«name_end»)) (ascii "parameters")) where
     pub sought-here : b ≡ true → ParametersAt p s from (r .inside)
     unfolding parametersIn pick
-    sought-here y = record { is = λ w e. k .is w e ∙ ap (parametersIn w) (node-element n q) ∙ rw (← h, y); within = n .inside-within }
+    sought-here y = record { is = λ w e. k .is w e ∙ ap (parametersIn w) (head-element n q) ∙ rw (← h, y); within = n .inside-within }
 
     module _ {c : Bool} (y : b ≡ false) (i : c ≡ isOneOf (nameIn s (r .name) (r .«name_end»)) (valueNames p)) where
       pub sought-value : c ≡ true → ParametersAt p s from (length s)
       unfolding parametersIn pick
       sought-value z = record {
-        is = λ w e. k .is w e ∙ ap (parametersIn w) (node-element n q) ∙ rw (← h, y, still-before w e, ← i, z) (sym (nodes-none s (length s) (omega arith)));
+        is = λ w e. k .is w e ∙ ap (parametersIn w) (head-element n q) ∙ rw (← h, y, still-before w e, ← i, z) (sym (nodes-none s (length s) (omega arith)));
         within = omega arith;
       }
 
-      pub sought-pass : c ≡ false → Sought p s from (r .next)
+      pub sought-pass : {x : Ended} → NodeEnded s at (r .opens) (r .next) x → c ≡ false → Sought p s from (x .next)
       unfolding parametersIn pick
-      sought-pass z = record { is = λ w e. k .is w e ∙ ap (parametersIn w) (node-element n q) ∙ rw (← h, y, still-before w e, ← i, z) }
+      sought-pass o z = record { is = λ w e. k .is w e ∙ ap (parametersIn w) (head-whole n q o) ∙ rw (← h, y, still-before w e, ← i, z) }
 
   pub sought-literal : r .kind ≡ Literal → Sought p s from (r .next)
   unfolding parametersIn
-  sought-literal q = record { is = λ w e. k .is w e ∙ ap (parametersIn w) (node-literal n q) }
+  sought-literal q = record { is = λ w e. k .is w e ∙ ap (parametersIn w) (head-literal n q) }
 
   pub sought-referred : r .kind ≡ Referred → Sought p s from (r .next)
   unfolding parametersIn
-  sought-referred q = record { is = λ w e. k .is w e ∙ ap (parametersIn w) (node-referred n q) }
+  sought-referred q = record { is = λ w e. k .is w e ∙ ap (parametersIn w) (head-referred n q) }
 
-pub ruleset sought = (sought-start, sought-none, sought-here, sought-value, sought-pass, sought-literal, sought-referred, element-less, literal-less, referred-less, needs)
+pub ruleset sought = (sought-start, sought-none, sought-here, sought-value, sought-pass, sought-literal, sought-referred, head-less, needs)
 
 -- ---- the names of those children, in the code
 

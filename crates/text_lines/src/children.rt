@@ -2,7 +2,8 @@
 use names::find_word;
 use names::is_word;
 use nodes::NodeKind;
-use nodes::next_node;
+use nodes::node_end;
+use nodes::node_head;
 ghost use mathlib.Core.Path.{_≡_};
 ghost use Prim.Native.Nat.{_≤_};
 ghost use lib.ListN.{length};
@@ -34,7 +35,7 @@ pub fn inside_of(s: &[u8], from: usize, w: &[u8]) -> usize
 {
     let mut at = from;
     loop {
-        let n = next_node(s, at);
+        let n = node_head(s, at);
         let kind = n.kind;
         match kind {
             NodeKind::None => {
@@ -45,7 +46,8 @@ pub fn inside_of(s: &[u8], from: usize, w: &[u8]) -> usize
                 if here {
                     return n.inside;
                 }
-                at = n.next;
+                let e = node_end(s, at, n.opens, n.next);
+                at = e.next;
             }
             NodeKind::Literal => {
                 at = n.next;
@@ -94,7 +96,7 @@ pub fn parameters_inside(p: usize, s: &[u8], from: usize) -> usize
 {
     let mut at = from;
     loop {
-        let n = next_node(s, at);
+        let n = node_head(s, at);
         let kind = n.kind;
         match kind {
             NodeKind::None => {
@@ -109,7 +111,8 @@ pub fn parameters_inside(p: usize, s: &[u8], from: usize) -> usize
                 if valued {
                     return s.len();
                 }
-                at = n.next;
+                let e = node_end(s, at, n.opens, n.next);
+                at = e.next;
             }
             NodeKind::Literal => {
                 at = n.next;

@@ -16,12 +16,13 @@ inside-of-spec = tie.close (tie.spec
     Inv-loop
     μ-loop
     (λ c. search seeking)  -- loop-holds
-    (λ c κs. search seeking)  -- next-node-requires
+    (λ c κs. search seeking)  -- node-head-requires
     (λ c. search seeking)  -- enum-told
     (λ c. search seeking)  -- returns
     (λ c. search seeking)  -- enum-told-2
     (λ c κs. search seeking)  -- is-named-requires
     (λ c. search seeking)  -- returns-2
+    (λ c κs. search seeking)  -- node-end-requires
     (λ c. search seeking)  -- loop-less
     (λ c. search seeking)  -- loop-again
     (λ c. search seeking)  -- enum-told-3

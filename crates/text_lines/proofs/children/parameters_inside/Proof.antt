@@ -16,7 +16,7 @@ parameters-inside-spec = tie.close (tie.spec
     Inv-loop
     μ-loop
     (λ c. search sought)  -- loop-holds
-    (λ c κs. search sought)  -- next-node-requires
+    (λ c κs. search sought)  -- node-head-requires
     (λ c. search sought)  -- enum-told
     (λ c. search sought)  -- returns
     (λ c. search sought)  -- enum-told-2
@@ -24,6 +24,7 @@ parameters-inside-spec = tie.close (tie.spec
     (λ c. search sought)  -- returns-2
     (λ c κs. search sought)  -- is-value-named-requires
     (λ c. search sought)  -- returns-3
+    (λ c κs. search sought)  -- node-end-requires
     (λ c. search sought)  -- loop-less
     (λ c. search sought)  -- loop-again
     (λ c. search sought)  -- enum-told-3
