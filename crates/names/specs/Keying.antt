@@ -1,77 +1,43 @@
--- The loops of a lookup by key, over bytes as they stand: the key of a word is made, the word is compared with a name of a table.
---     Keying                     the invariant of the loop that makes a key, with its rules `keying`
---     Spelling                   the invariant of the loop that compares a word with a name, with its rules `spelling`
+-- The loops that make a word's key, with their rules: `keying` over any cursor, `keying-bytes` over bytes as they stand.
 use mathlib.Core.Path.{_≡_, refl, sym, _∙_}
-use mathlib.Core.Bool.{false}
 use mathlib.Core.List.{List}
 use Prim.Native.Nat.{ℕ, _+_, _*_, _/_, _%_, _≤_, _<_}
 use native.Mathlib.Omega.{arith}
-use lib.Dec.{eqb, leb}
-use lib.ListN.{length, drop, getD, drop-of-length-le}
+use lib.ListN.{length, getD}
 use borrow.Author.Needs.{needs}
-use borrow.Author.Tests.{eq-eqb, ne-eqb}
-use Rattle.octets.specs.Pick.{pick, _and_}
-use Rattle.octets.specs.Scan.{drop-next}
-use Rattle.octets.specs.Words.{same}
-use Rattle.source.specs.Source.{rest}
-use Rattle.names.specs.Case.{cased, casedByte}
-use Rattle.names.specs.Plain.{cased-next, cased-over, cased-ended}
-use Rattle.names.specs.Keys.{keyFrom, keyOf, front, nameAt}
+use Rattle.source.specs.Source.{rest, Reads}
+use Rattle.source.specs.Facts.{rest-byte, rest-end, plain-byte}
+use Rattle.source.specs.declared.Step.{Step}
+use Rattle.names.specs.Case.{cased, casedByte, cased-none, cased-more}
+use Rattle.names.specs.Plain.{cased-over}
+use Rattle.names.specs.Keys.{keyFrom, keyOf}
 use Rattle.names.specs.declared.Case.{Case}
 
--- ---- the key: the bytes before c made h
-
-pub record Keying (k : Case) (s : List ℕ) (c₀ h c : ℕ) : Type 0 where
-  pub left : keyOf (cased k (rest 0 s c₀)) ≡ keyFrom (cased k (rest 0 s c)) h
+-- the bytes before the cursor c made h
+pub record Keying (k : Case) (m : ℕ) (s : List ℕ) (c₀ h c : ℕ) : Type 0 where
+  pub left : keyOf (cased k (rest m s c₀)) ≡ keyFrom (cased k (rest m s c)) h
   pub small : h < 1024
 
-pub keying-start : (k : Case) (s : List ℕ) (c : ℕ) → Keying k s c 0 c
-keying-start k s c = record { left = refl; small = omega arith }
+pub keying-start : (k : Case) (m : ℕ) (s : List ℕ) (c : ℕ) → Keying k m s c 0 c
+keying-start k m s c = record { left = refl; small = omega arith }
 
-module _ {k : Case} {s : List ℕ} {c₀ h c : ℕ} (t : Keying k s c₀ h c) where
-  pub keying-more : {u v : ℕ} → c < length s → (u ≡ getD s c 0) × (u < 256) → v ≡ casedByte k u → Keying k s c₀ ((h * 135 + v) % 1024) (c + 1)
+module _ {k : Case} {m : ℕ} {s : List ℕ} {c₀ h c : ℕ} {n : Step} (t : Keying k m s c₀ h c) (q : Reads m s c n) where
+  pub keying-more : {v : ℕ} → (n .u ≡ 256 → ⊥) → v ≡ casedByte k (n .u) → Keying k m s c₀ ((h * 135 + v) % 1024) (n .next)
   unfolding keyFrom
-  keying-more l e f = record { left = t .left ∙ rw (cased-next k s c l, ← (e .0), ← f); small = omega arith }
+  keying-more e f = record { left = t .left ∙ rw (rest-byte q e, cased-more k (n .u) (rest m s (n .next)), ← f); small = omega arith }
 
-  pub keying-end : length s ≤ c → (h / 4 ≡ keyOf (cased k (rest 0 s c₀))) × (h / 4 < 256)
+  pub keying-end : n .u ≡ 256 → h / 4 ≡ keyOf (cased k (rest m s c₀))
   unfolding keyFrom
-  keying-end l = (sym (t .left ∙ rw (cased-over k s c l)), omega (arith, t .small))
+  keying-end e = sym (t .left ∙ rw (rest-end q e, cased-none k))
 
 pub ruleset keying = (keying-start, keying-more, keying-end, needs)
 
--- ---- a word compared with the name at a: what stands before c is the same as what stands before i
+module _ {k : Case} {s : List ℕ} {c₀ h c : ℕ} (t : Keying k 0 s c₀ h c) where
+  pub keying-bytes-more : {u v : ℕ} → c < length s → (u ≡ getD s c 0) × (u < 256) → v ≡ casedByte k u → Keying k 0 s c₀ ((h * 135 + v) % 1024) (c + 1)
+  keying-bytes-more {u} l e f = keying-more t (plain-byte s c u l (e .0) (e .1)) (λ z. omega arith) f
 
-pub record Spelling (k : Case) (s : List ℕ) (c₀ : ℕ) (table : List ℕ) (a c i : ℕ) : Type 0 where
-  pub left : same (cased k (rest 0 s c₀)) (nameAt table a) ≡ same (cased k (rest 0 s c)) (nameAt table i)
+  pub keying-bytes-end : length s ≤ c → h / 4 ≡ keyOf (cased k (rest 0 s c₀))
+  unfolding keyFrom
+  keying-bytes-end l = sym (t .left ∙ rw (cased-over k s c l))
 
-pub spelling-start : (k : Case) (s : List ℕ) (c : ℕ) (table : List ℕ) (a : ℕ) → Spelling k s c table a c a
-spelling-start k s c table a = record { left = refl }
-
-module _ {k : Case} {s : List ℕ} {c₀ : ℕ} {table : List ℕ} {a c i : ℕ} (q : Spelling k s c₀ table a c i) where
-  pub spelling-feed : i < length table → getD table i 0 ≡ 10 → leb (length s) c ≡ same (cased k (rest 0 s c₀)) (nameAt table a)
-  unfolding front pick
-  spelling-feed h e = cased-ended k s c ∙ sym (q .left ∙ rw (drop-next table i h, e))
-
-  pub spelling-end : length table ≤ i → leb (length s) c ≡ same (cased k (rest 0 s c₀)) (nameAt table a)
-  unfolding front
-  spelling-end h = cased-ended k s c ∙ sym (q .left ∙ rw (drop-of-length-le table h))
-
-  module _ (h : i < length table) (f : getD table i 0 ≡ 10 → ⊥) where
-    pub spelling-short : length s ≤ c → false ≡ same (cased k (rest 0 s c₀)) (nameAt table a)
-    unfolding front pick same
-    spelling-short l = sym (q .left ∙ rw (cased-over k s c l, drop-next table i h, ne-eqb (getD table i 0) 10 f))
-
-    module _ {u v t : ℕ} (l : c < length s) (e : (u ≡ getD s c 0) × (u < 256)) (g : v ≡ casedByte k u) (w : (t ≡ getD table i 0) × (t < 256)) where
-      step : same (cased k (rest 0 s c₀)) (nameAt table a) ≡ (eqb v t and same (cased k (rest 0 s (c + 1))) (nameAt table (i + 1)))
-      unfolding front pick same
-      step = q .left ∙ rw (cased-next k s c l, drop-next table i h, ne-eqb (getD table i 0) 10 f, ← (e .0), ← g, ← (w .0))
-
-      pub spelling-more : v ≡ t → Spelling k s c₀ table a (c + 1) (i + 1)
-      unfolding _and_
-      spelling-more d = record { left = step ∙ rw (eq-eqb v t d) }
-
-      pub spelling-other : (v ≡ t → ⊥) → false ≡ same (cased k (rest 0 s c₀)) (nameAt table a)
-      unfolding _and_
-      spelling-other d = sym (step ∙ rw (ne-eqb v t d))
-
-pub ruleset spelling = (spelling-start, spelling-feed, spelling-end, spelling-short, spelling-more, spelling-other, needs)
+pub ruleset keying-bytes = (keying-start, keying-bytes-more, keying-bytes-end, needs)

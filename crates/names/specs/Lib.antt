@@ -7,7 +7,7 @@
 --     Runs       a run of bytes, and the loops that compare and write a word
 --     Plain      the same loops over bytes as they stand
 --     Keys       names found by a key
---     Keying     the loops of such a lookup
+--     Keying     the loops that make a key
 --     Computing  one name that opens all of them
 --     Examples   lookups that compute
 pub mod Case

@@ -4,20 +4,19 @@ mod keys;
 mod plain;
 
 ghost use mathlib.Core.Path.{_≡_};
-ghost use mathlib.Core.Bool.{true};
 ghost use Prim.Native.Nat.{_≤_};
 ghost use lib.ListN.{length};
-ghost use Rattle.octets.specs.Pick.{_and_};
+ghost use Rattle.octets.specs.Pick.{pick, _and_};
 ghost use Rattle.octets.specs.Class.{isNameChar, upper, lower};
 ghost use Rattle.octets.specs.Words.{same, isEmpty};
 ghost use Rattle.source.specs.Source.{rest};
 ghost use Rattle.sink.specs.Sink.{Put};
 ghost use Rattle.names.specs.Case.{cased, casedByte, caseOf};
 ghost use Rattle.names.specs.Table.{placeOf, namesIn};
-ghost use Rattle.names.specs.Keys.{keyed};
+ghost use Rattle.names.specs.Keys.{keyOf};
 ghost use Rattle.names.specs.Matching.{Turned, Passes};
 ghost use Rattle.names.specs.Runs.{RunEnds};
-use keys::place_by_key;
+use keys::key;
 use octets::is_name_char;
 use octets::lower_unit;
 use octets::upper_unit;
@@ -146,21 +145,22 @@ pub fn find_name(mode: usize, s: &[u8], at: usize, table: &[u8]) -> usize
     find_cased(Case::Capital, mode, s, at, table)
 }
 
-// The same by a key, where the names of the table have one: `slots` has a number for each key, `starts` where the name of each number stands in the table.
-pub fn find_keyed(
-    mode: usize,
-    s: &[u8],
-    at: usize,
-    table: &[u8],
-    slots: &[u8; 256],
-    starts: &[usize],
-) -> usize
-    ensures { λ r. ⌜ (keyed (now (slots .entry)) (now (starts .entry)) (now (table .entry)) ≡ true → r ≡ placeOf (upper (rest mode (now (s .entry)) at)) (namesIn (now (table .entry)))) ⌝ }
+// The key of a name, in any case.
+pub fn name_key(mode: usize, s: &[u8], at: usize) -> usize
+    ensures { λ r. ⌜ r ≡ keyOf (upper (rest mode (now (s .entry)) at)) ⌝ }
 {
-    if mode == 0 {
-        return place_by_key(Case::Capital, s, at, table, slots, starts);
+    key(Case::Capital, mode, s, at)
+}
+
+// The number `n` if the name, in any case, is `w`; else `none`.
+pub fn named(mode: usize, s: &[u8], at: usize, w: &[u8], n: usize, none: usize) -> usize
+    ensures { λ r. ⌜ r ≡ pick (same (upper (rest mode (now (s .entry)) at)) (now (w .entry))) n none ⌝ }
+{
+    let ok = is_cased(Case::Capital, mode, s, at, w);
+    if ok {
+        return n;
     }
-    find_name(mode, s, at, table)
+    none
 }
 
 // The number of a word, in any case in text, as it stands in XML.

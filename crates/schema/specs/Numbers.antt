@@ -3,14 +3,17 @@
 --     typeAt, componentAt, propertyAt, parameterAt  the type, or the row, of a number
 --     componentName, propertyName, parameterName    the name of a number; of an unrecognised one no bytes
 --     property-place, parameter-place, component-place, type-place    the row of a name is the row of its number
---     types-are, type-words-are, components-are, properties-are, parameters-are   the tables of names in the code
+--     types-apart, components-apart, parameters-apart, properties-apart    the keys of the names are all different
+--     type-words-are   a table of names in the code
 use mathlib.Core.Path.{_≡_, refl}
+use mathlib.Core.Bool.{true}
 use mathlib.Core.List.{List, [], _∷_, map}
 use Prim.Native.Nat.{ℕ}
 use lib.ListN.{getD}
 use Rattle.octets.specs.Ascii.{ascii}
 use Rattle.octets.specs.Pick.{pick, _or_}
 use Rattle.octets.specs.Reading.{readOr}
+use Rattle.names.specs.Keys.{apart, keys-compute}
 use Rattle.names.specs.Table.{placeOf, namesIn, nth, row-place, row-or}
 use Rattle.model.specs.Calendar.{ValueType, UNKNOWN}
 use Rattle.schema.specs.Types.{typeName, valueTypes, typeNamed}
@@ -70,24 +73,24 @@ pub type-place-or : (w : List ℕ) → readOr UNKNOWN (typeNamed w) ≡ typeAt (
 unfolding typeNamed
 type-place-or w = row-or typeName w (λ t. t) UNKNOWN valueTypes
 
--- ---- the tables of names in the code
+-- ---- the names of the code
 
-pub types-are : namesIn (ascii "BINARY\nBOOLEAN\nCAL-ADDRESS\nDATE\nDATE-TIME\nDURATION\nFLOAT\nINTEGER\nPERIOD\nRECUR\nTEXT\nTIME\nURI\nUTC-OFFSET\n") ≡ typeNames
-unfolding namesIn pick
-types-are = refl
+pub types-apart : apart typeNames ≡ true
+unfolding keys-compute
+types-apart = refl
+
+pub components-apart : apart componentNames ≡ true
+unfolding keys-compute
+components-apart = refl
+
+pub parameters-apart : apart parameterNames ≡ true
+unfolding keys-compute
+parameters-apart = refl
+
+pub properties-apart : apart propertyNames ≡ true
+unfolding keys-compute
+properties-apart = refl
 
 pub type-words-are : namesIn (ascii "binary\nboolean\ncal-address\ndate\ndate-time\nduration\nfloat\ninteger\nperiod\nrecur\ntext\ntime\nuri\nutc-offset\nunknown\n") ≡ typeWords
 unfolding namesIn pick
 type-words-are = refl
-
-pub components-are : namesIn (ascii "VCALENDAR\nVEVENT\nVTODO\nVJOURNAL\nVFREEBUSY\nVTIMEZONE\nSTANDARD\nDAYLIGHT\nVALARM\n") ≡ componentNames
-unfolding namesIn pick
-components-are = refl
-
-pub parameters-are : namesIn (ascii "ALTREP\nCN\nCUTYPE\nDELEGATED-FROM\nDELEGATED-TO\nDIR\nENCODING\nFMTTYPE\nFBTYPE\nLANGUAGE\nMEMBER\nPARTSTAT\nRANGE\nRELATED\nRELTYPE\nROLE\nRSVP\nSENT-BY\nTZID\n") ≡ parameterNames
-unfolding namesIn pick
-parameters-are = refl
-
-pub properties-are : namesIn (ascii "CALSCALE\nMETHOD\nPRODID\nVERSION\nATTACH\nCATEGORIES\nCLASS\nCOMMENT\nDESCRIPTION\nGEO\nLOCATION\nPERCENT-COMPLETE\nPRIORITY\nRESOURCES\nSTATUS\nSUMMARY\nCOMPLETED\nDTEND\nDUE\nDTSTART\nDURATION\nFREEBUSY\nTRANSP\nTZID\nTZNAME\nTZOFFSETFROM\nTZOFFSETTO\nTZURL\nATTENDEE\nCONTACT\nORGANIZER\nRECURRENCE-ID\nRELATED-TO\nURL\nUID\nEXDATE\nRDATE\nRRULE\nACTION\nREPEAT\nTRIGGER\nCREATED\nDTSTAMP\nLAST-MODIFIED\nSEQUENCE\nREQUEST-STATUS\n") ≡ propertyNames
-unfolding namesIn pick
-properties-are = refl

@@ -3,7 +3,6 @@
 // Definitions are in specs/, the tables of the code are theirs by computation.
 mod columns;
 mod counts;
-mod keys;
 mod numbers;
 mod words;
 
