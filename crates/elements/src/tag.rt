@@ -1,73 +1,55 @@
 // Tags of a rule's parts and of types, by number. See specs/Tags.antt.
-use names::put_rest;
-use recur::rule::byte_end;
 use sink::put_all;
-use source::unit;
 ghost use mathlib.Core.List.{[]};
 ghost use lib.ListN.{getD};
 ghost use Rattle.octets.specs.Class.{lower};
 ghost use Rattle.sink.specs.Sink.{Put};
 ghost use Rattle.xml.specs.Escape.{startTag, endTag};
 ghost use Rattle.recur.specs.Parts.{partNames};
-ghost use Rattle.elements.specs.Tags.{lineOf, Lines, typeLabel};
-
-// A line of a table, from one cursor to another.
-pub struct Line {
-    pub from: usize,
-    pub till: usize,
-}
-
-// The line `k`; an empty one where there is none.
-fn find_line(table: &[u8], k: usize) -> Line
-    ensures { λ r. ⌜ Lines (now (table .entry)) k r ⌝ }
-{
-    let mut c = 0;
-    let mut n = k;
-    loop {
-        let e = byte_end(10, table, c);
-        if n == 0 {
-            return Line { from: c, till: e };
-        }
-        let t = unit(0, table, e);
-        let u = t.u;
-        if u == 256 {
-            return Line { from: e, till: e };
-        }
-        c = t.next;
-        n -= 1;
-    }
-}
-
-fn put_line(out: &mut [u8], o: usize, table: &[u8], k: usize) -> usize
-    ensures { λ r. ⌜ Put (now (out .entry)) (now (out .exit)) o r (lineOf k (now (table .entry))) ⌝ }
-{
-    let l = find_line(table, k);
-    put_rest(out, o, 0, &table[..l.till], l.from)
-}
+ghost use Rattle.elements.specs.Tags.{typeLabel};
 
 fn put_part_name(out: &mut [u8], o: usize, p: usize) -> usize
     ensures { λ r. ⌜ Put (now (out .entry)) (now (out .exit)) o r (lower (getD partNames p [])) ⌝ }
 {
-    put_line(
-        out,
-        o,
-        b"freq\nuntil\ncount\ninterval\nbysecond\nbyminute\nbyhour\nbyday\nbymonthday\nbyyearday\nbyweekno\nbymonth\nbysetpos\nwkst",
-        p,
-    )
+    match p {
+        0 => put_all(out, o, b"freq"),
+        1 => put_all(out, o, b"until"),
+        2 => put_all(out, o, b"count"),
+        3 => put_all(out, o, b"interval"),
+        4 => put_all(out, o, b"bysecond"),
+        5 => put_all(out, o, b"byminute"),
+        6 => put_all(out, o, b"byhour"),
+        7 => put_all(out, o, b"byday"),
+        8 => put_all(out, o, b"bymonthday"),
+        9 => put_all(out, o, b"byyearday"),
+        10 => put_all(out, o, b"byweekno"),
+        11 => put_all(out, o, b"bymonth"),
+        12 => put_all(out, o, b"bysetpos"),
+        13 => put_all(out, o, b"wkst"),
+        _ => put_all(out, o, b""),
+    }
 }
 
 fn put_type_name(out: &mut [u8], o: usize, t: usize) -> usize
     ensures { λ r. ⌜ Put (now (out .entry)) (now (out .exit)) o r (typeLabel t) ⌝ }
 {
-    if t < 14 {
-        return put_line(
-            out,
-            o,
-            b"binary\nboolean\ncal-address\ndate\ndate-time\nduration\nfloat\ninteger\nperiod\nrecur\ntext\ntime\nuri\nutc-offset",
-            t,
-        );
+    match t {
+        0 => put_all(out, o, b"binary"),
+        1 => put_all(out, o, b"boolean"),
+        2 => put_all(out, o, b"cal-address"),
+        3 => put_all(out, o, b"date"),
+        4 => put_all(out, o, b"date-time"),
+        5 => put_all(out, o, b"duration"),
+        6 => put_all(out, o, b"float"),
+        7 => put_all(out, o, b"integer"),
+        8 => put_all(out, o, b"period"),
+        9 => put_all(out, o, b"recur"),
+        10 => put_all(out, o, b"text"),
+        11 => put_all(out, o, b"time"),
+        12 => put_all(out, o, b"uri"),
+        13 => put_all(out, o, b"utc-offset"),
+        _ => put_all(out, o, b"unknown"),
     }
-    put_all(out, o, b"unknown")
 }
 
 pub fn put_part_start(out: &mut [u8], o: usize, p: usize) -> usize

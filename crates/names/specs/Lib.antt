@@ -8,6 +8,7 @@
 --     Plain      the same loops over bytes as they stand
 --     Keys       names found by a key
 --     Keying     the loops that make a key
+--     Numbered   names by number, in the arms of a `match`
 --     Computing  one name that opens all of them
 --     Examples   lookups that compute
 pub mod Case
@@ -19,5 +20,6 @@ pub mod Runs
 pub mod Plain
 pub mod Keys
 pub mod Keying
+pub mod Numbered
 pub mod Computing
 pub mod Examples

@@ -23,7 +23,8 @@ use Rattle.model.specs.Calendar.{ical, RulePart}
 use Rattle.source.specs.Source.{rest, Reads}
 use Rattle.source.specs.Facts.{rest-byte, rest-end}
 use Rattle.source.specs.declared.Step.{Step}
-use Rattle.names.specs.Table.{placeOf, namesIn, nth, row-place, one-of-place}
+use Rattle.names.specs.Keys.{apart, keys-compute}
+use Rattle.names.specs.Table.{placeOf, nth, row-place, one-of-place}
 use Rattle.names.specs.Places.{same-place}
 use Rattle.recur.specs.Parts.{Part, partOf, partNames, partTable, isListed, isListPart}
 use Rattle.recur.specs.Item.{readItem}
@@ -50,13 +51,13 @@ past-from p (b ∷ s) = go (p b) (past-from p s)
 
 -- ---- one part
 
-pub names-are : namesIn (ascii "FREQ\nUNTIL\nCOUNT\nINTERVAL\nBYSECOND\nBYMINUTE\nBYHOUR\nBYDAY\nBYMONTHDAY\nBYYEARDAY\nBYWEEKNO\nBYMONTH\nBYSETPOS\nWKST\n") ≡ partNames
-unfolding namesIn octets-compute
-names-are = refl
+pub names-apart : apart partNames ≡ true
+unfolding keys-compute
+names-apart = refl
 
-pub name-found : (s : List ℕ) (c e : ℕ) {n : ℕ} {l : List (List ℕ)} → Ends 61 s c e → l ≡ partNames → n ≡ placeOf (upper (rest 0 (take e s) c)) l → n ≡ placeAt (rest 0 s c)
+pub name-found : (s : List ℕ) (c e : ℕ) {n : ℕ} → Ends 61 s c e → n ≡ placeOf (upper (rest 0 (take e s) c)) partNames → n ≡ placeAt (rest 0 s c)
 unfolding placeAt
-name-found s c e d z h = h ∙ rw (piece-is d, z)
+name-found s c e d h = h ∙ rw (piece-is d)
 
 module _ {s : List ℕ} {c e : ℕ} {n : Step} (d : Ends 61 s c e) (q : Reads 0 s e n) where
   pub value-none : n .u ≡ 256 → past isEquals (rest 0 s c) ≡ rest 0 s e

@@ -3,16 +3,19 @@ ghost use mathlib.Core.Path.{_≡_};
 ghost use mathlib.Core.List.{[]};
 ghost use Prim.Native.Nat.{_≤_, _<_};
 ghost use lib.ListN.{length, getD};
+ghost use Rattle.octets.specs.Class.{upper};
 ghost use Rattle.octets.specs.Words.{cutAt};
 ghost use Rattle.octets.specs.Reading.{isRead};
 ghost use Rattle.octets.specs.Front.{past};
 ghost use Rattle.source.specs.Source.{rest};
+ghost use Rattle.names.specs.Table.{placeOf};
 ghost use Rattle.recur.specs.Parts.{partNames, partOf, isListed};
 ghost use Rattle.recur.specs.Rule.{isEquals, readPart, readRule};
 ghost use Rattle.recur.specs.Pieces.{Ends, placeAt, areItems, good};
 ghost use Rattle.recur.specs.Noted.{Parted, wholeIn};
 use crate::item::is_item;
-use names::find_name;
+use names::name_key;
+use names::named;
 use source::unit;
 
 // Whether there is a rule.
@@ -48,18 +51,37 @@ pub fn byte_end(k: usize, s: &[u8], at: usize) -> usize
     }
 }
 
-// The place of a piece's name; 14 where no part has that name.
+// The place of a part's name, in any case, by its key (specs/Keys.antt of crate names); 14 where no part has that name.
+fn part_number(s: &[u8], at: usize) -> usize
+    ensures { λ r. ⌜ r ≡ placeOf (upper (rest 0 (now (s .entry)) at)) partNames ⌝ }
+{
+    let h = name_key(0, s, at);
+    match h {
+        76 => named(0, s, at, b"FREQ", 0, 14),
+        229 => named(0, s, at, b"UNTIL", 1, 14),
+        221 => named(0, s, at, b"COUNT", 2, 14),
+        125 => named(0, s, at, b"INTERVAL", 3, 14),
+        170 => named(0, s, at, b"BYSECOND", 4, 14),
+        52 => named(0, s, at, b"BYMINUTE", 5, 14),
+        32 => named(0, s, at, b"BYHOUR", 6, 14),
+        217 => named(0, s, at, b"BYDAY", 7, 14),
+        176 => named(0, s, at, b"BYMONTHDAY", 8, 14),
+        12 => named(0, s, at, b"BYYEARDAY", 9, 14),
+        15 => named(0, s, at, b"BYWEEKNO", 10, 14),
+        62 => named(0, s, at, b"BYMONTH", 11, 14),
+        174 => named(0, s, at, b"BYSETPOS", 12, 14),
+        161 => named(0, s, at, b"WKST", 13, 14),
+        _ => 14,
+    }
+}
+
+// The place of a piece's name.
 fn part_place(s: &[u8], at: usize) -> usize
     requires { ⌜ at ≤ length (now s) ⌝ }
     ensures { λ r. ⌜ r ≡ placeAt (rest 0 (now (s .entry)) at) ⌝ }
 {
     let e = byte_end(61, s, at);
-    find_name(
-        0,
-        &s[..e],
-        at,
-        b"FREQ\nUNTIL\nCOUNT\nINTERVAL\nBYSECOND\nBYMINUTE\nBYHOUR\nBYDAY\nBYMONTHDAY\nBYYEARDAY\nBYWEEKNO\nBYMONTH\nBYSETPOS\nWKST\n",
-    )
+    part_number(&s[..e], at)
 }
 
 // The cursor after a piece's name and =.

@@ -1,45 +1,32 @@
 // VALUE, where the type of a property's values is not its default. See specs/Typing.antt.
-use names::put_rest;
-use octets::wide;
 use schema::default_type;
 use sink::put_all;
-ghost use Prim.Native.Nat.{_≤_};
-ghost use lib.ListN.{length, take};
-ghost use Rattle.source.specs.Source.{rest};
 ghost use Rattle.sink.specs.Sink.{Put};
 ghost use Rattle.schema.specs.Types.{typeName};
 ghost use Rattle.schema.specs.Numbers.{typeAt};
 ghost use Rattle.text_lines.specs.Typing.{valueAt};
 
-// Where the name of each of the fourteen types begins among the names, and where it ends.
-const BEGINS: [u8; 14] = [0, 6, 13, 24, 28, 37, 45, 50, 57, 63, 68, 72, 76, 79];
-
-const ENDS: [u8; 14] = [6, 13, 24, 28, 37, 45, 50, 57, 63, 68, 72, 76, 79, 89];
-
-// The bytes from `a` to `b`.
-fn put_part(out: &mut [u8], o: usize, s: &[u8], a: usize, b: usize) -> usize
-    requires { ⌜ b ≤ length (now s) ⌝ }
-    ensures { λ r. ⌜ Put (now (out .entry)) (now (out .exit)) o r (rest 0 (take b (now (s .entry))) a) ⌝ }
-{
-    put_rest(out, o, 0, &s[..b], a)
-}
-
 // The name of the type of the number `t`, in capitals.
 fn put_type_name(out: &mut [u8], o: usize, t: usize) -> usize
     ensures { λ r. ⌜ Put (now (out .entry)) (now (out .exit)) o r (typeName (typeAt t)) ⌝ }
 {
-    if t < 14 {
-        let a = wide(BEGINS[t]);
-        let b = wide(ENDS[t]);
-        return put_part(
-            out,
-            o,
-            b"BINARYBOOLEANCAL-ADDRESSDATEDATE-TIMEDURATIONFLOATINTEGERPERIODRECURTEXTTIMEURIUTC-OFFSET",
-            a,
-            b,
-        );
+    match t {
+        0 => put_all(out, o, b"BINARY"),
+        1 => put_all(out, o, b"BOOLEAN"),
+        2 => put_all(out, o, b"CAL-ADDRESS"),
+        3 => put_all(out, o, b"DATE"),
+        4 => put_all(out, o, b"DATE-TIME"),
+        5 => put_all(out, o, b"DURATION"),
+        6 => put_all(out, o, b"FLOAT"),
+        7 => put_all(out, o, b"INTEGER"),
+        8 => put_all(out, o, b"PERIOD"),
+        9 => put_all(out, o, b"RECUR"),
+        10 => put_all(out, o, b"TEXT"),
+        11 => put_all(out, o, b"TIME"),
+        12 => put_all(out, o, b"URI"),
+        13 => put_all(out, o, b"UTC-OFFSET"),
+        _ => put_all(out, o, b"UNKNOWN"),
     }
-    put_all(out, o, b"UNKNOWN")
 }
 
 // The parameter VALUE, where `t` is not the default type of the property of the number `p`.
