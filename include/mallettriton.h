@@ -65,7 +65,7 @@ enum mallettriton_number {
  *   out, out_length       the output. After WRITTEN it begins with the result, and its other bytes are as they were; after every
  *                         other answer all of it is as it was. With a length of 0 the call tells the length that is needed
  *
- * Its answers are 0 to 10. Allow the call 16 kB of stack.
+ * Its answers are 0 to 10. Allow the call 250 kB of stack: the names of many parameters are compared there.
  */
 uint64_t mallettriton_to_xml(const uint8_t *input, size_t input_length,
                              uint8_t *work, size_t work_length,
@@ -77,8 +77,8 @@ uint64_t mallettriton_to_xml(const uint8_t *input, size_t input_length,
  *   out, out_length       the output. After WRITTEN it begins with the result, and its other bytes are as they were; after every
  *                         other answer all of it is as it was. With a length of 0 the call tells the length that is needed
  *
- * Its answers are 0, 1, 3 and 5 to 11. There is no work room. Allow the call 300 kB of stack: a content line is put together in a room
- * of 262,144 bytes there, before it is folded into the output.
+ * Its answers are 0, 1, 3 and 5 to 11. There is no work room. Allow the call 500 kB of stack: a content line is put together in a room
+ * of 262,144 bytes there, before it is folded into the output, and the names of many parameters are compared there.
  */
 uint64_t mallettriton_to_text(const uint8_t *input, size_t input_length,
                               uint8_t *out, size_t out_length);
