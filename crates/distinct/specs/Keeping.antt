@@ -17,17 +17,17 @@ pub record Keeps (f t : List ℕ) (k a e : ℕ) (g u : List ℕ) : Type 0 where
   pub first : g ≡ set f k a
   pub last : u ≡ set t k e
 
-module _ (s : List ℕ) {f t g u : List ℕ} {k a e : ℕ} (p : Keeps f t k a e g u) where
-  here : wordAt s g u k ≡ upper (rest 0 (take e s) a)
+module _ (m : ℕ) (s : List ℕ) {f t g u : List ℕ} {k a e : ℕ} (p : Keeps f t k a e g u) where
+  here : wordAt m s g u k ≡ upper (rest m (take e s) a)
   unfolding wordAt
   here = rw (p .first, p .last, getD-set-same f k a 0 (p .room), getD-set-same t k e 0 (p .place))
 
-  pub keeps-others : (i : ℕ) → i < k → wordAt s f t i ≡ wordAt s g u i
+  pub keeps-others : (i : ℕ) → i < k → wordAt m s f t i ≡ wordAt m s g u i
   unfolding wordAt
   keeps-others i l = rw (p .first, p .last, getD-set-other f k i a 0 (λ z. omega arith), getD-set-other t k i e 0 (λ z. omega arith))
 
-  pub keeps-more : (more : List (List ℕ)) → listed k (wordAt s f t) (upper (rest 0 (take e s) a) ∷ more) ≡ listed (k + 1) (wordAt s g u) more
+  pub keeps-more : (more : List (List ℕ)) → listed k (wordAt m s f t) (upper (rest m (take e s) a) ∷ more) ≡ listed (k + 1) (wordAt m s g u) more
   keeps-more more =
-      listed-same k (wordAt s f t) (wordAt s g u) (upper (rest 0 (take e s) a) ∷ more) keeps-others ∙
-      ap (λ (w : List ℕ). listed k (wordAt s g u) (w ∷ more)) (sym here) ∙
-      sym (listed-next k (wordAt s g u) more)
+      listed-same k (wordAt m s f t) (wordAt m s g u) (upper (rest m (take e s) a) ∷ more) keeps-others ∙
+      ap (λ (w : List ℕ). listed k (wordAt m s g u) (w ∷ more)) (sym here) ∙
+      sym (listed-next k (wordAt m s g u) more)

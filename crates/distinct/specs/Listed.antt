@@ -1,5 +1,5 @@
 -- Words by their numbers.
---     wordAt s from to i     the word of the number i: what stands in s from from[i] up to to[i], in capitals
+--     wordAt m s from to i     the word of the number i: what stands in s from from[i] up to to[i], in capitals
 --     listed n w more        the first n of the words w, and more behind them
 --     word-cut               the word, as code cuts it out
 --     listed-next            one word more;   listed-same: two lists of the same words
@@ -21,8 +21,8 @@ use Rattle.octets.specs.Words.{same, isOneOf}
 use Rattle.octets.specs.Lists.{distinct}
 use Rattle.source.specs.Source.{rest}
 
-unfoldable pub wordAt : List ℕ → List ℕ → List ℕ → ℕ → List ℕ
-wordAt s from to i = upper (rest 0 (take (getD to i 0) s) (getD from i 0))
+unfoldable pub wordAt : ℕ → List ℕ → List ℕ → List ℕ → ℕ → List ℕ
+wordAt m s from to i = upper (rest m (take (getD to i 0) s) (getD from i 0))
 
 unfoldable pub listed : ℕ → (ℕ → List ℕ) → List (List ℕ) → List (List ℕ)
 listed zero w more = more
@@ -31,9 +31,9 @@ listed (suc n) w more = listed n w (w n ∷ more)
 -- ---- laws
 
 -- the word, as code cuts it out
-pub word-cut : {x e a : ℕ} (s from to : List ℕ) (i : ℕ) → e ≡ getD to i 0 → x ≡ min e (length s) → a ≡ getD from i 0 → upper (rest 0 (take x s) a) ≡ wordAt s from to i
+pub word-cut : {x e a : ℕ} (m : ℕ) (s from to : List ℕ) (i : ℕ) → e ≡ getD to i 0 → x ≡ min e (length s) → a ≡ getD from i 0 → upper (rest m (take x s) a) ≡ wordAt m s from to i
 unfolding wordAt
-word-cut {x} {e} {a} s from to i h k l = let z : take x s ≡ take e s = rw k (take-least s e) in rw (z, h, l)
+word-cut {x} {e} {a} m s from to i h k l = let z : take x s ≡ take e s = rw k (take-least s e) in rw (z, h, l)
 
 pub listed-next : (n : ℕ) (w : ℕ → List ℕ) (more : List (List ℕ)) → listed (n + 1) w more ≡ listed n w (w n ∷ more)
 unfolding listed

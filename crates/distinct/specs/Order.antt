@@ -111,25 +111,25 @@ order-spell u v r q h k = go (eqb u 256) refl (eqb v 256) refl
         rw (lt-ltb (upperByte u) (upperByte v) (omega arith))
     go false e false f = refl
 
-module _ {s t : List ℕ} {c d : ℕ} {x y : Step} (p : Reads 0 s c x) (q : Reads 0 t d y) {a b : ℕ} (e : a ≡ upperByte (x .u)) (f : b ≡ upperByte (y .u)) where
-  by-units : order (upper (rest 0 s c)) (upper (rest 0 t d)) ≡ pick (ltb a b) 1 (pick (ltb b a) 2 (pick (eqb (x .u) 256) 0 (order (upper (rest 0 s (x .next))) (upper (rest 0 t (y .next))))))
-  by-units = rw (e, f, p .is, q .is) (order-spell (x .u) (y .u) (rest 0 s (x .next)) (rest 0 t (y .next)) (p .small) (q .small))
+module _ {m : ℕ} {s t : List ℕ} {c d : ℕ} {x y : Step} (p : Reads m s c x) (q : Reads m t d y) {a b : ℕ} (e : a ≡ upperByte (x .u)) (f : b ≡ upperByte (y .u)) where
+  by-units : order (upper (rest m s c)) (upper (rest m t d)) ≡ pick (ltb a b) 1 (pick (ltb b a) 2 (pick (eqb (x .u) 256) 0 (order (upper (rest m s (x .next))) (upper (rest m t (y .next))))))
+  by-units = rw (e, f, p .is, q .is) (order-spell (x .u) (y .u) (rest m s (x .next)) (rest m t (y .next)) (p .small) (q .small))
 
-  pub order-less : a < b → 1 ≡ order (upper (rest 0 s c)) (upper (rest 0 t d))
+  pub order-less : a < b → 1 ≡ order (upper (rest m s c)) (upper (rest m t d))
   unfolding pick
   order-less h = sym (by-units ∙ rw (lt-ltb a b h))
 
-  pub order-more : b ≤ a → b < a → 2 ≡ order (upper (rest 0 s c)) (upper (rest 0 t d))
+  pub order-more : b ≤ a → b < a → 2 ≡ order (upper (rest m s c)) (upper (rest m t d))
   unfolding pick
   order-more l h = sym (by-units ∙ rw (le-ltb a b l, lt-ltb b a h))
 
-  pub order-end : b ≤ a → a ≤ b → x .u ≡ 256 → 0 ≡ order (upper (rest 0 s c)) (upper (rest 0 t d))
+  pub order-end : b ≤ a → a ≤ b → x .u ≡ 256 → 0 ≡ order (upper (rest m s c)) (upper (rest m t d))
   unfolding pick
   order-end l m h = sym (by-units ∙ rw (le-ltb a b l, le-ltb b a m, eq-eqb (x .u) 256 h))
 
-  pub order-on : b ≤ a → a ≤ b → (x .u ≡ 256 → ⊥) → order (upper (rest 0 s c)) (upper (rest 0 t d)) ≡ order (upper (rest 0 s (x .next))) (upper (rest 0 t (y .next)))
+  pub order-on : b ≤ a → a ≤ b → (x .u ≡ 256 → ⊥) → order (upper (rest m s c)) (upper (rest m t d)) ≡ order (upper (rest m s (x .next))) (upper (rest m t (y .next)))
   unfolding pick
   order-on l m h = by-units ∙ rw (le-ltb a b l, le-ltb b a m, ne-eqb (x .u) 256 h)
 
-pub order-nearer : {s : List ℕ} {c : ℕ} {x : Step} → Reads 0 s c x → (x .u ≡ 256 → ⊥) → 4 * length s - x .next < 4 * length s - c
+pub order-nearer : {m : ℕ} {s : List ℕ} {c : ℕ} {x : Step} → Reads m s c x → (x .u ≡ 256 → ⊥) → 4 * length s - x .next < 4 * length s - c
 order-nearer p h = let u = byte-small p h in omega arith

@@ -10,14 +10,14 @@ ghost use Rattle.distinct.specs.Listed.{wordAt};
 ghost use Rattle.distinct.specs.Order.{order};
 
 // The words from two cursors on: 0 where they are the same, 1 where the first goes before the second, 2 where it goes behind.
-fn compare_from(s: &[u8], a: usize, t: &[u8], b: usize) -> usize
-    ensures { λ r. ⌜ r ≡ order (upper (rest 0 (now (s .entry)) a)) (upper (rest 0 (now (t .entry)) b)) ⌝ }
+fn compare_from(mode: usize, s: &[u8], a: usize, t: &[u8], b: usize) -> usize
+    ensures { λ r. ⌜ r ≡ order (upper (rest mode (now (s .entry)) a)) (upper (rest mode (now (t .entry)) b)) ⌝ }
 {
     let mut c = a;
     let mut d = b;
     loop {
-        let x = unit(0, s, c);
-        let y = unit(0, t, d);
+        let x = unit(mode, s, c);
+        let y = unit(mode, t, d);
         let xu = upper_unit(x.u);
         let yu = upper_unit(y.u);
         if xu < yu {
@@ -35,8 +35,8 @@ fn compare_from(s: &[u8], a: usize, t: &[u8], b: usize) -> usize
 }
 
 // The same of the words of the numbers `i` and `j`.
-pub fn compare(s: &[u8], from: &[u16], to: &[u16], i: usize, j: usize) -> usize
-    ensures { λ r. ⌜ r ≡ order (wordAt (now (s .entry)) (now (from .entry)) (now (to .entry)) i) (wordAt (now (s .entry)) (now (from .entry)) (now (to .entry)) j) ⌝ }
+pub fn compare(mode: usize, s: &[u8], from: &[u16], to: &[u16], i: usize, j: usize) -> usize
+    ensures { λ r. ⌜ r ≡ order (wordAt mode (now (s .entry)) (now (from .entry)) (now (to .entry)) i) (wordAt mode (now (s .entry)) (now (from .entry)) (now (to .entry)) j) ⌝ }
 {
     let a = number_at(from, i);
     let b = number_at(from, j);
@@ -44,5 +44,5 @@ pub fn compare(s: &[u8], from: &[u16], to: &[u16], i: usize, j: usize) -> usize
     let f = number_at(to, j);
     let x = smaller(e, s.len());
     let y = smaller(f, s.len());
-    compare_from(&s[..x], a, &s[..y], b)
+    compare_from(mode, &s[..x], a, &s[..y], b)
 }

@@ -5,14 +5,22 @@ use crate::numbers::swap;
 ghost use Prim.Native.Nat.{_<_, _≤_};
 
 // Of the two children of the place `i` the one whose word comes later; at least `n` where there is none below `n`.
-fn later_child(s: &[u8], from: &[u16], to: &[u16], order: &[u16], i: usize, n: usize) -> usize
+fn later_child(
+    mode: usize,
+    s: &[u8],
+    from: &[u16],
+    to: &[u16],
+    order: &[u16],
+    i: usize,
+    n: usize,
+) -> usize
     requires { ⌜ i < 65536 ⌝ }
     ensures { λ r. ⌜ i < r ⌝ }
 {
     let l = 2 * i + 1;
     let m = l + 1;
     if m < n {
-        let k = compare(s, from, to, number_at(order, l), number_at(order, m));
+        let k = compare(mode, s, from, to, number_at(order, l), number_at(order, m));
         if k == 1 {
             return m;
         }
@@ -22,14 +30,14 @@ fn later_child(s: &[u8], from: &[u16], to: &[u16], order: &[u16], i: usize, n: u
 }
 
 // Moves the number at the place `start` down to where no child's word comes later, among the first `n`.
-fn sift(s: &[u8], from: &[u16], to: &[u16], order: &mut [u16], start: usize, n: usize)
+fn sift(mode: usize, s: &[u8], from: &[u16], to: &[u16], order: &mut [u16], start: usize, n: usize)
     requires { ⌜ n ≤ 65536 ⌝ }
 {
     let mut i = start;
     while i < n {
-        let j = later_child(s, from, to, order, i, n);
+        let j = later_child(mode, s, from, to, order, i, n);
         if j < n {
-            let k = compare(s, from, to, number_at(order, i), number_at(order, j));
+            let k = compare(mode, s, from, to, number_at(order, i), number_at(order, j));
             if k == 1 {
                 swap(order, i, j);
                 i = j;
@@ -43,25 +51,25 @@ fn sift(s: &[u8], from: &[u16], to: &[u16], order: &mut [u16], start: usize, n: 
 }
 
 // No child's word comes later than its parent's.
-fn make_heap(s: &[u8], from: &[u16], to: &[u16], order: &mut [u16], n: usize)
+fn make_heap(mode: usize, s: &[u8], from: &[u16], to: &[u16], order: &mut [u16], n: usize)
     requires { ⌜ n ≤ 65536 ⌝ }
 {
     let mut i = n;
     while 0 < i {
         i -= 1;
-        sift(s, from, to, order, i, n);
+        sift(mode, s, from, to, order, i, n);
     }
 }
 
 // The first `n` numbers in the order of their words.
-pub fn sort(s: &[u8], from: &[u16], to: &[u16], order: &mut [u16], n: usize)
+pub fn sort(mode: usize, s: &[u8], from: &[u16], to: &[u16], order: &mut [u16], n: usize)
     requires { ⌜ n ≤ 65536 ⌝ }
 {
-    make_heap(s, from, to, order, n);
+    make_heap(mode, s, from, to, order, n);
     let mut m = n;
     while 0 < m {
         m -= 1;
         swap(order, 0, m);
-        sift(s, from, to, order, 0, m);
+        sift(mode, s, from, to, order, 0, m);
     }
 }

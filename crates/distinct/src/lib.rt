@@ -29,6 +29,7 @@ pub struct Kept {
 
 // No two of the first `n` words are the same: `order` and `ranks` are room for the words' numbers in rising order, and the place of each number there.
 fn by_order(
+    mode: usize,
     s: &[u8],
     from: &[u16],
     to: &[u16],
@@ -37,34 +38,34 @@ fn by_order(
     ranks: &mut [u16],
 ) -> bool
     requires { ⌜ n ≤ 65536 ⌝ }
-    ensures { λ r. ⌜ r ≡ distinct (listed n (wordAt (now (s .entry)) (now (from .entry)) (now (to .entry))) []) ⌝ }
+    ensures { λ r. ⌜ r ≡ distinct (listed n (wordAt mode (now (s .entry)) (now (from .entry)) (now (to .entry))) []) ⌝ }
 {
     count_up(order, n);
-    sort(s, from, to, order, n);
+    sort(mode, s, from, to, order, n);
     put_ranks(order, ranks, n);
-    let r = rise(s, from, to, order, n);
+    let r = rise(mode, s, from, to, order, n);
     if r < n {
-        let alike = are_alike(s, from, to, order, r, n);
+        let alike = are_alike(mode, s, from, to, order, r, n);
         if alike {
             return false;
         }
-        return are_all_apart(s, from, to, n);
+        return are_all_apart(mode, s, from, to, n);
     }
     let ordered = is_order(order, ranks, n);
     if ordered {
         return true;
     }
-    are_all_apart(s, from, to, n)
+    are_all_apart(mode, s, from, to, n)
 }
 
 // No two of the first `n` words are the same: the word of the number i is what stands from `from[i]` up to `to[i]`, in any case.
-pub fn are_distinct(s: &[u8], from: &[u16], to: &[u16], n: usize) -> bool
-    ensures { λ r. ⌜ r ≡ distinct (listed n (wordAt (now (s .entry)) (now (from .entry)) (now (to .entry))) []) ⌝ }
+pub fn are_distinct(mode: usize, s: &[u8], from: &[u16], to: &[u16], n: usize) -> bool
+    ensures { λ r. ⌜ r ≡ distinct (listed n (wordAt mode (now (s .entry)) (now (from .entry)) (now (to .entry))) []) ⌝ }
 {
     if n <= 21846 {
         let mut order = [0u16; 21846];
         let mut ranks = [0u16; 21846];
-        return by_order(s, from, to, n, &mut order, &mut ranks);
+        return by_order(mode, s, from, to, n, &mut order, &mut ranks);
     }
-    are_all_apart(s, from, to, n)
+    are_all_apart(mode, s, from, to, n)
 }

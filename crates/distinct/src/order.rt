@@ -40,12 +40,19 @@ pub fn is_order(order: &[u16], ranks: &[u16], n: usize) -> bool
 }
 
 // How far the words rise in the order, each before the next.
-pub fn rise(s: &[u8], from: &[u16], to: &[u16], order: &[u16], n: usize) -> usize
-    ensures { λ r. ⌜ Rising (wordAt (now (s .entry)) (now (from .entry)) (now (to .entry))) (now (order .entry)) r ⌝ }
+pub fn rise(mode: usize, s: &[u8], from: &[u16], to: &[u16], order: &[u16], n: usize) -> usize
+    ensures { λ r. ⌜ Rising (wordAt mode (now (s .entry)) (now (from .entry)) (now (to .entry))) (now (order .entry)) r ⌝ }
 {
     let mut i = 0;
     while i + 1 < n {
-        let k = compare(s, from, to, number_at(order, i), number_at(order, i + 1));
+        let k = compare(
+            mode,
+            s,
+            from,
+            to,
+            number_at(order, i),
+            number_at(order, i + 1),
+        );
         if k == 1 {
             i += 1;
         } else {
@@ -56,8 +63,16 @@ pub fn rise(s: &[u8], from: &[u16], to: &[u16], order: &[u16], n: usize) -> usiz
 }
 
 // Two different numbers below `n`, neighbours in the order up to the place `i`, have the same word.
-pub fn are_alike(s: &[u8], from: &[u16], to: &[u16], order: &[u16], i: usize, n: usize) -> bool
-    ensures { λ r. ⌜ (r ≡ true → distinct (listed n (wordAt (now (s .entry)) (now (from .entry)) (now (to .entry))) []) ≡ false) ⌝ }
+pub fn are_alike(
+    mode: usize,
+    s: &[u8],
+    from: &[u16],
+    to: &[u16],
+    order: &[u16],
+    i: usize,
+    n: usize,
+) -> bool
+    ensures { λ r. ⌜ (r ≡ true → distinct (listed n (wordAt mode (now (s .entry)) (now (from .entry)) (now (to .entry))) []) ≡ false) ⌝ }
 {
     if i == 0 {
         return false;
@@ -69,7 +84,7 @@ pub fn are_alike(s: &[u8], from: &[u16], to: &[u16], order: &[u16], i: usize, n:
     }
     if p < n {
         if q < n {
-            let k = compare(s, from, to, p, q);
+            let k = compare(mode, s, from, to, p, q);
             return k == 0;
         }
     }

@@ -7,12 +7,12 @@ ghost use Rattle.distinct.specs.Listed.{wordAt, listed};
 ghost use Rattle.distinct.specs.Pairs.{Again};
 
 // The word of the number `j` is that of a number below `j`.
-fn is_again(s: &[u8], from: &[u16], to: &[u16], j: usize) -> bool
-    ensures { λ r. ⌜ Again (wordAt (now (s .entry)) (now (from .entry)) (now (to .entry))) j r ⌝ }
+fn is_again(mode: usize, s: &[u8], from: &[u16], to: &[u16], j: usize) -> bool
+    ensures { λ r. ⌜ Again (wordAt mode (now (s .entry)) (now (from .entry)) (now (to .entry))) j r ⌝ }
 {
     let mut i = 0;
     while i < j {
-        let k = compare(s, from, to, i, j);
+        let k = compare(mode, s, from, to, i, j);
         if k == 0 {
             return true;
         }
@@ -22,12 +22,12 @@ fn is_again(s: &[u8], from: &[u16], to: &[u16], j: usize) -> bool
 }
 
 // No two of the first `n` words are the same.
-pub fn are_all_apart(s: &[u8], from: &[u16], to: &[u16], n: usize) -> bool
-    ensures { λ r. ⌜ r ≡ distinct (listed n (wordAt (now (s .entry)) (now (from .entry)) (now (to .entry))) []) ⌝ }
+pub fn are_all_apart(mode: usize, s: &[u8], from: &[u16], to: &[u16], n: usize) -> bool
+    ensures { λ r. ⌜ r ≡ distinct (listed n (wordAt mode (now (s .entry)) (now (from .entry)) (now (to .entry))) []) ⌝ }
 {
     let mut j = 0;
     while j < n {
-        let again = is_again(s, from, to, j);
+        let again = is_again(mode, s, from, to, j);
         if again {
             return false;
         }

@@ -1,26 +1,30 @@
 -- Lines of which only BEGIN and END, the bounds of components, are asked for.
 --     opensBound     a byte that BEGIN or END can begin with;   content-aside: a line with another first byte is neither
---     Aside          the line at an index is neither, and the next begins at another index
+--     opens          what begins with one
+--     Aside          the line at a cursor is neither, and the next begins at another cursor
 --     BoundAt        the contract of `bound_at`;   bound-kind: what was found, by its kind;   found-bound, loose-aside, whole-aside: its answers
-use mathlib.Core.Path.{_≡_, refl, ap, subst}
+use mathlib.Core.Path.{_≡_, refl, sym, ap, subst, _∙_}
 use mathlib.Core.Bool.{Bool, true, false}
 use mathlib.Core.List.{List, [], _∷_, map}
 use mathlib.Core.Option.{Option, none, some}
 use Prim.Native.Nat.{ℕ, zero, suc, _+_, _-_, _≤_, _<_}
 use native.Mathlib.Omega.{arith}
 use lib.Dec.{eqb}
-use lib.ListN.{length, take, drop, getD}
+use lib.ListN.{length, take}
 use borrow.Author.Tests.{ne-eqb, eqb-false}
 use Rattle.octets.specs.Ascii.{ascii}
 use Rattle.octets.specs.Pick.{pick, pick-either, within-range, and-no-left, _or_, or-neither}
-use Rattle.octets.specs.Scan.{spanLen, drop-next}
+use Rattle.octets.specs.Append.{_⊕_}
+use Rattle.octets.specs.Scan.{spanLen}
 use Rattle.octets.specs.Class.{isSmall, isNameChar, upperByte, upper}
 use Rattle.octets.specs.Words.{same}
 use Rattle.octets.specs.Runs.{byte-case, runOf}
 use Rattle.octets.specs.Many.{All, ok, no}
-use Rattle.source.specs.Source.{rest}
-use Rattle.folding.specs.First.{First as FirstLine}
-use Rattle.folding.specs.declared.lines.Ending.the-variants.{Whole, Loose}
+use Rattle.source.specs.Source.{rest, spell, Reads}
+use Rattle.source.specs.declared.Step.{Step}
+use Rattle.lines.specs.LineEnd.{LineEnds, EndsLine, line-first}
+use Rattle.lines.specs.Ready.{Ready, line-next, line-low, line-end-inside}
+use Rattle.lines.specs.declared.Ending.the-variants.{Loose}
 use Rattle.lines.specs.ContentLine.{ContentLine, RawParameter, withValue, contentLine}
 use Rattle.ical.specs.Tree.{Entry, begin, end, property, nothing, entryBy, entryOf}
 use Rattle.document.specs.declared.entry.Found.{Found}
@@ -32,43 +36,48 @@ use Rattle.document.specs.Walks.{isAside}
 abbrev pub opensBound : ℕ → Bool
 opensBound b = eqb b 66 or eqb b 98 or eqb b 69 or eqb b 101
 
-pub record Aside (s : List ℕ) (at next : ℕ) : Type 0 where
+abbrev pub opens : List ℕ → Bool
+opens [] = false
+opens (b ∷ l) = opensBound b
+
+pub record Aside (mode : ℕ) (s : List ℕ) (at next : ℕ) : Type 0 where
   pub entry : Entry
   pub aside : isAside entry ≡ true
-  pub first : First s at entry next
+  pub first : First mode s at entry next
 
-abbrev pub BoundBy : Kind → List ℕ → ℕ → ℕ → ℕ → ℕ → Type 0
-BoundBy Begin s at v e next = First s at (begin (upper (rest 0 (take e s) v))) next
-BoundBy End s at v e next = First s at end next
-BoundBy Property s at v e next = Aside s at next
-BoundBy Nothing s at v e next = Aside s at next
+abbrev pub BoundBy : Kind → ℕ → List ℕ → ℕ → ℕ → ℕ → ℕ → Type 0
+BoundBy Begin mode s at v e next = First mode s at (begin (upper (rest mode (take e s) v))) next
+BoundBy End mode s at v e next = First mode s at end next
+BoundBy Property mode s at v e next = Aside mode s at next
+BoundBy Nothing mode s at v e next = Aside mode s at next
 
-pub record BoundAt (s : List ℕ) (at : ℕ) (r : Found) : Type 0 where
+pub record BoundAt (mode : ℕ) (s : List ℕ) (at : ℕ) (r : Found) : Type 0 where
   pub onward : at < r .next
-  pub inside : r .next ≤ length s
+  pub ready : Ready mode s (r .next)
   pub ends : r .end ≤ length s
-  pub found : BoundBy (r .kind) s at (r .value) (r .end) (r .next)
+  pub found : BoundBy (r .kind) mode s at (r .value) (r .end) (r .next)
 
 -- what was found, of the kind that it has
-pub bound-kind : {s : List ℕ} {at : ℕ} {r : Found} → BoundAt s at r → (k : Kind) → r .kind ≡ k → BoundBy k s at (r .value) (r .end) (r .next)
-bound-kind {s} {at} {r} f k q = subst (λ (x : Kind). BoundBy x s at (r .value) (r .end) (r .next)) q (f .found)
+pub bound-kind : {mode : ℕ} {s : List ℕ} {at : ℕ} {r : Found} → BoundAt mode s at r → (k : Kind) → r .kind ≡ k → BoundBy k mode s at (r .value) (r .end) (r .next)
+bound-kind {mode} {s} {at} {r} f k q = subst (λ (x : Kind). BoundBy x mode s at (r .value) (r .end) (r .next)) q (f .found)
 
 -- ---- a line that is read whole
 
-found-by : (k : Kind) (s : List ℕ) (at n v e next : ℕ) → FoundBy k s at n v e next → BoundBy k s at v e next
-found-by Begin s at n v e next h = h
-found-by End s at n v e next h = h
-found-by Property s at n v e next h = record { entry = property (h .line); aside = refl; first = h .first }
-found-by Nothing s at n v e next h = record { entry = nothing; aside = refl; first = h }
+found-by : (k : Kind) (mode : ℕ) (s : List ℕ) (at n v e next : ℕ) → FoundBy k mode s at n v e next → BoundBy k mode s at v e next
+found-by Begin mode s at n v e next h = h
+found-by End mode s at n v e next h = h
+found-by Property mode s at n v e next h = record { entry = property (h .line); aside = refl; first = h .first }
+found-by Nothing mode s at n v e next h = record { entry = nothing; aside = refl; first = h }
 
-pub found-bound : {s : List ℕ} {at : ℕ} {r : Found} → FoundAt s at r → BoundAt s at r
-found-bound {s} {at} {r} f = record { onward = f .onward; inside = f .inside; ends = f .ends; found = found-by (r .kind) s at (r .name) (r .value) (r .end) (r .next) (f .found) }
+pub found-bound : {mode : ℕ} {s : List ℕ} {at : ℕ} {r : Found} → FoundAt mode s at r → BoundAt mode s at r
+found-bound {mode} {s} {at} {r} f = record { onward = f .onward; ready = f .ready; ends = f .ends; found = found-by (r .kind) mode s at (r .name) (r .value) (r .end) (r .next) (f .found) }
 
 -- ---- a line by its first byte
 
-abbrev opens : List ℕ → Bool
-opens [] = false
-opens (b ∷ l) = opensBound b
+opens-front : (a b : List ℕ) → opens (a ⊕ b) ≡ false → opens a ≡ false
+unfolding _⊕_
+opens-front [] b h = refl
+opens-front (x ∷ a) b h = h
 
 opens-take : (k : ℕ) (l : List ℕ) → opens l ≡ false → opens (take k l) ≡ false
 opens-take zero l h = refl
@@ -111,19 +120,28 @@ content-aside l h = pick-either (λ (o : Option ContentLine). isAside (entryBy o
 
 -- ---- for code
 
-module _ (s : List ℕ) (at : ℕ) (h : at < length s) where
-  pub loose-aside : FirstLine s at Loose → BoundAt s at (record { kind = Nothing; name = at; value = at; end = at; next = length s })
-  loose-aside f = found-bound (found-loose s at at at h f)
+-- by the byte that was found there
+pub opens-not : {mode : ℕ} {s : List ℕ} {at : ℕ} {n : Step} {t : Bool} → Reads mode s at n → t ≡ opensBound (n .u) → t ≡ false → opens (rest mode s at) ≡ false
+unfolding spell
+opens-not {mode} {s} {at} {n} p q h = rw (p .is) (go (eqb (n .u) 256))
+  where
+    go : (b : Bool) → opens (pick b [] (n .u ∷ rest mode s (n .next))) ≡ false
+    go true = unfold pick in refl
+    go false = unfold pick in sym q ∙ h
 
-  pub whole-aside : (e : ℕ) → FirstLine s at (Whole e) → opensBound (getD s at 0) ≡ false → BoundAt s at (record { kind = Nothing; name = e; value = e; end = e; next = e + 2 })
+module _ {mode : ℕ} {s : List ℕ} {at : ℕ} (r : Ready mode s at) where
+  pub loose-aside : at < length s → EndsLine mode s at Loose → BoundAt mode s at (record { kind = Nothing; name = at; value = at; end = at; next = length s })
+  loose-aside h f = found-bound (found-loose r at at h f)
+
+  pub whole-aside : {e next : ℕ} → LineEnds mode s at e next → opens (rest mode s at) ≡ false → BoundAt mode s at (record { kind = Nothing; name = e; value = e; end = e; next = next })
   unfolding entriesAt entryOf
-  whole-aside e f q = record {
-    onward = omega (arith, f .0);
-    inside = f .1;
-    ends = omega (arith, f .1);
+  whole-aside {e} {next} f q = record {
+    onward = line-low r f;
+    ready = line-next r f;
+    ends = line-end-inside r f;
     found = record {
-      entry = entryBy (contentLine (take (e - at) (drop at s)));
-      aside = content-aside _ (opens-take (e - at) (drop at s) (rw (drop-next s at h) q));
-      first = ap (map entryOf) (f .2);
+      entry = entryBy (contentLine (rest mode (take e s) at));
+      aside = content-aside _ (opens-front (rest mode (take e s) at) _ (sym (ap opens (f .is (r .cut))) ∙ q));
+      first = ap (map entryOf) (line-first (r .cut) (r .to) f);
     };
   }

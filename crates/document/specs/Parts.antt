@@ -57,12 +57,12 @@ component-parts n es = rw (element-parts n (innerOf es 0), inner-deeper es 0) (r
 
 -- ---- for code
 
-pub head-put : (n s : List ℕ) {from : ℕ} {w : Walked} {there : Bool} {d e f g : List ℕ} {o a r : ℕ} (k : ℕ) → k ≡ placeOf n componentNames → Put d e o a (startTag (lower n)) →
-    PropertiesPut e f a (elementOf (ascii "properties") (ownXml (componentName k) (entriesAt s from))) s from w → there ≡ hasComponents n (w .bare) →
+pub head-put : (n : List ℕ) (mode : ℕ) (s : List ℕ) {from : ℕ} {w : Walked} {there : Bool} {d e f g : List ℕ} {o a r : ℕ} (k : ℕ) → k ≡ placeOf n componentNames → Put d e o a (startTag (lower n)) →
+    PropertiesPut e f a (elementOf (ascii "properties") (ownXml (componentName k) (entriesAt mode s from))) mode s from w → there ≡ hasComponents n (w .bare) →
     Put f g (w .to) r (pick there (startTag (ascii "components")) []) →
-    PropertiesPut d g o (headXml n (w .bare) (entriesAt s from)) s from (record { to = r; inner = w .inner; bare = w .bare; next = w .next })
-head-put n s {from} k q u v h z =
-    let es : List Entry = entriesAt s from in
+    PropertiesPut d g o (headXml n (w .bare) (entriesAt mode s from)) mode s from (record { to = r; inner = w .inner; bare = w .bare; next = w .next })
+head-put n mode s {from} k q u v h z =
+    let es : List Entry = entriesAt mode s from in
     let q′ : ownXml (componentName k) es ≡ ownXml n es = ap (λ (k : ℕ). ownXml (componentName k) es) q ∙ ap propertiesXml (own-place n es 0) in
     record { put = u ▷ (rw q′ at v .put) ▷ (rw h at z); ahead = v .ahead }
 

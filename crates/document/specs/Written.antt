@@ -5,8 +5,8 @@ use mathlib.Core.List.{List, [], _∷_}
 use Prim.Native.Nat.{ℕ}
 use Rattle.octets.specs.Append.{_⊕_, append-regroup}
 use Rattle.sink.specs.Sink.{Put, _▷_}
+use Rattle.source.specs.Source.{rest, Settled}
 use Rattle.folding.specs.Lines.{lines}
-use Rattle.folding.specs.First.{lines-start}
 use Rattle.model.specs.Calendar.{Components}
 use Rattle.ical.specs.Tree.{innerOf, calendarOf}
 use Rattle.xcal.specs.WriteXml.{componentsXml, declaration, rootStart, rootEnd, writeDocument}
@@ -20,9 +20,7 @@ written-is : (c : Components) → (declaration ⊕ (10 ∷ []) ⊕ rootStart) �
 unfolding writeDocument
 written-is c = regroup declaration (10 ∷ []) rootStart (componentsXml c ⊕ rootEnd ⊕ (10 ∷ []))
 
-calendar-at : (s : List ℕ) → innerOf (entriesAt s 0) 0 ≡ calendarOf (lines s)
-calendar-at s = entries-start s ∙ ap calendarOf (lines-start s)
-
-pub document-put : (s : List ℕ) {d e f g : List ℕ} {o a b r : ℕ} → Put d e o a (declaration ⊕ (10 ∷ []) ⊕ rootStart) → Put e f a b (innerXml (entriesAt s 0)) →
-    Put f g b r (rootEnd ⊕ (10 ∷ [])) → Put d g o r (writeDocument (calendarOf (lines s)))
-document-put s {d} {g = g} {o} {r = r} u v w = subst (Put d g o r) (written-is (innerOf (entriesAt s 0) 0) ∙ ap writeDocument (calendar-at s)) (u ▷ v ▷ w)
+pub document-put : {mode : ℕ} {s : List ℕ} {from : ℕ} → Settled mode s 0 from → {d e f g : List ℕ} {o a b r : ℕ} → Put d e o a (declaration ⊕ (10 ∷ []) ⊕ rootStart) →
+    Put e f a b (innerXml (entriesAt mode s from)) → Put f g b r (rootEnd ⊕ (10 ∷ [])) → Put d g o r (writeDocument (calendarOf (lines (rest mode s 0))))
+document-put {mode} {s} {from} p {d} {g = g} {o} {r = r} u v w =
+    subst (Put d g o r) (written-is (innerOf (entriesAt mode s from) 0) ∙ ap writeDocument (entries-start p)) (u ▷ v ▷ w)

@@ -2,16 +2,19 @@
 use crate::entry::Found;
 use crate::entry::Kind;
 use crate::entry::entry_at;
-use folding::lines::Ending;
-use folding::lines::line_end;
+use lines::Ending;
+use lines::line_end;
+use source::unit;
 ghost use mathlib.Core.Path.{_≡_};
 ghost use mathlib.Core.Bool.{false};
 ghost use Prim.Native.Nat.{_<_};
-ghost use lib.ListN.{length, getD};
-ghost use Rattle.document.specs.Bounds.{opensBound, BoundAt};
+ghost use lib.ListN.{length};
+ghost use Rattle.source.specs.Source.{rest};
+ghost use Rattle.lines.specs.Ready.{Ready};
+ghost use Rattle.document.specs.Bounds.{opensBound, opens, BoundAt};
 
 // A byte that BEGIN or END can begin with.
-fn opens_bound(b: u8) -> bool
+fn opens_bound(b: usize) -> bool
     ensures { λ r. ⌜ r ≡ opensBound b ⌝ }
 {
     if b == 66 {
@@ -27,11 +30,11 @@ fn opens_bound(b: u8) -> bool
 }
 
 // The line at `at`, which is neither BEGIN nor END: only its end is sought.
-fn line_aside(s: &[u8], at: usize) -> Found
-    requires { ⌜ (at < length (now s)) × (opensBound (getD (now s) at 0) ≡ false) ⌝ }
-    ensures { λ r. ⌜ BoundAt (now (s .entry)) at r ⌝ }
+fn line_aside(mode: usize, s: &[u8], at: usize) -> Found
+    requires { ⌜ Ready mode (now s) at × (at < length (now s)) × (opens (rest mode (now s) at) ≡ false) ⌝ }
+    ensures { λ r. ⌜ BoundAt mode (now (s .entry)) at r ⌝ }
 {
-    match line_end(s, at) {
+    match line_end(mode, s, at) {
         Ending::Loose => Found {
             kind: Kind::Nothing,
             name: at,
@@ -39,24 +42,25 @@ fn line_aside(s: &[u8], at: usize) -> Found
             end: at,
             next: s.len(),
         },
-        Ending::Whole(e) => Found {
+        Ending::Whole(e, next) => Found {
             kind: Kind::Nothing,
             name: e,
             value: e,
             end: e,
-            next: e + 2,
+            next,
         },
     }
 }
 
 // The line at `at`: BEGIN, END, or another. Where its first byte tells that it is another, it is not taken apart.
-pub fn bound_at(s: &[u8], at: usize) -> Found
-    requires { ⌜ at < length (now s) ⌝ }
-    ensures { λ r. ⌜ BoundAt (now (s .entry)) at r ⌝ }
+pub fn bound_at(mode: usize, s: &[u8], at: usize) -> Found
+    requires { ⌜ Ready mode (now s) at × (at < length (now s)) ⌝ }
+    ensures { λ r. ⌜ BoundAt mode (now (s .entry)) at r ⌝ }
 {
-    let opens = opens_bound(s[at]);
+    let n = unit(mode, s, at);
+    let opens = opens_bound(n.u);
     if opens {
-        return entry_at(s, at);
+        return entry_at(mode, s, at);
     }
-    line_aside(s, at)
+    line_aside(mode, s, at)
 }

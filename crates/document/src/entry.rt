@@ -1,13 +1,14 @@
 // What a line of a text is. See specs/Entries.antt.
-use folding::lines::Ending;
-use folding::lines::line_end;
+use lines::Ending;
 use lines::LineRead;
 use lines::line_at;
+use lines::line_end;
 use names::is_word_any_case;
 ghost use mathlib.Core.Path.{_≡_};
 ghost use Prim.Native.Nat.{_<_};
 ghost use lib.ListN.{length};
 ghost use Rattle.octets.specs.Class.{upper};
+ghost use Rattle.lines.specs.Ready.{Ready};
 ghost use Rattle.source.specs.Source.{rest};
 ghost use Rattle.document.specs.Entries.{kindNamed, FoundAt};
 
@@ -19,7 +20,7 @@ pub enum Kind {
     Nothing,
 }
 
-// A line: what it is, the cursors of its name's end and of its value, the index where it ends, and that of the next line.
+// A line: what it is, the cursors of its name's end, of its value and of its end, and that of the next line.
 pub struct Found {
     pub kind: Kind,
     pub name: usize,
@@ -29,14 +30,14 @@ pub struct Found {
 }
 
 // What a content line is, by its name.
-fn kind_of(name: &[u8], at: usize) -> Kind
-    ensures { λ r. ⌜ r ≡ kindNamed (upper (rest 0 (now (name .entry)) at)) ⌝ }
+fn kind_of(mode: usize, name: &[u8], at: usize) -> Kind
+    ensures { λ r. ⌜ r ≡ kindNamed (upper (rest mode (now (name .entry)) at)) ⌝ }
 {
-    let begin = is_word_any_case(0, name, at, b"BEGIN");
+    let begin = is_word_any_case(mode, name, at, b"BEGIN");
     if begin {
         return Kind::Begin;
     }
-    let end = is_word_any_case(0, name, at, b"END");
+    let end = is_word_any_case(mode, name, at, b"END");
     if end {
         return Kind::End;
     }
@@ -44,11 +45,11 @@ fn kind_of(name: &[u8], at: usize) -> Kind
 }
 
 // The line at `at`.
-pub fn entry_at(s: &[u8], at: usize) -> Found
-    requires { ⌜ at < length (now s) ⌝ }
-    ensures { λ r. ⌜ FoundAt (now (s .entry)) at r ⌝ }
+pub fn entry_at(mode: usize, s: &[u8], at: usize) -> Found
+    requires { ⌜ Ready mode (now s) at × (at < length (now s)) ⌝ }
+    ensures { λ r. ⌜ FoundAt mode (now (s .entry)) at r ⌝ }
 {
-    match line_end(s, at) {
+    match line_end(mode, s, at) {
         Ending::Loose => Found {
             kind: Kind::Nothing,
             name: at,
@@ -56,20 +57,20 @@ pub fn entry_at(s: &[u8], at: usize) -> Found
             end: at,
             next: s.len(),
         },
-        Ending::Whole(e) => match line_at(0, &s[..e], at) {
+        Ending::Whole(e, next) => match line_at(mode, &s[..e], at) {
             LineRead::Bad => Found {
                 kind: Kind::Nothing,
                 name: e,
                 value: e,
                 end: e,
-                next: e + 2,
+                next,
             },
             LineRead::Line(n, v) => Found {
-                kind: kind_of(&s[..n], at),
+                kind: kind_of(mode, &s[..n], at),
                 name: n,
                 value: v,
                 end: e,
-                next: e + 2,
+                next,
             },
         },
     }

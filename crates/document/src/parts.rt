@@ -16,6 +16,7 @@ ghost use Rattle.octets.specs.Ascii.{ascii};
 ghost use Rattle.octets.specs.Pick.{pick};
 ghost use Rattle.octets.specs.Class.{upper, lower};
 ghost use Rattle.source.specs.Source.{rest};
+ghost use Rattle.lines.specs.Ready.{Ready};
 ghost use Rattle.sink.specs.Sink.{Put};
 ghost use Rattle.xml.specs.Escape.{startTag, endTag};
 ghost use Rattle.document.specs.Entries.{entriesAt};
@@ -23,10 +24,10 @@ ghost use Rattle.document.specs.Places.{PropertiesPut};
 ghost use Rattle.document.specs.Parts.{hasComponents, headXml, tailXml};
 
 // The component, which has no subcomponents if it is bare, has an element `components`.
-fn has_components(s: &[u8], v: usize, bare: bool) -> bool
-    ensures { λ r. ⌜ r ≡ hasComponents (upper (rest 0 (now (s .entry)) v)) bare ⌝ }
+fn has_components(mode: usize, s: &[u8], v: usize, bare: bool) -> bool
+    ensures { λ r. ⌜ r ≡ hasComponents (upper (rest mode (now (s .entry)) v)) bare ⌝ }
 {
-    let calendar = is_word_any_case(0, s, v, b"VCALENDAR");
+    let calendar = is_word_any_case(mode, s, v, b"VCALENDAR");
     if calendar {
         return true;
     }
@@ -37,19 +38,19 @@ fn has_components(s: &[u8], v: usize, bare: bool) -> bool
 }
 
 // The tags of the element whose name, in small letters, stands from the cursor on.
-fn put_name_start(out: &mut [u8], o: usize, s: &[u8], v: usize) -> usize
-    ensures { λ r. ⌜ Put (now (out .entry)) (now (out .exit)) o r (startTag (lower (upper (rest 0 (now (s .entry)) v)))) ⌝ }
+fn put_name_start(out: &mut [u8], o: usize, mode: usize, s: &[u8], v: usize) -> usize
+    ensures { λ r. ⌜ Put (now (out .entry)) (now (out .exit)) o r (startTag (lower (upper (rest mode (now (s .entry)) v)))) ⌝ }
 {
     let a = put_all(out, o, b"<");
-    let b = put_lower(out, a, 0, s, v);
+    let b = put_lower(out, a, mode, s, v);
     put_all(out, b, b">")
 }
 
-fn put_name_end(out: &mut [u8], o: usize, s: &[u8], v: usize) -> usize
-    ensures { λ r. ⌜ Put (now (out .entry)) (now (out .exit)) o r (endTag (lower (upper (rest 0 (now (s .entry)) v)))) ⌝ }
+fn put_name_end(out: &mut [u8], o: usize, mode: usize, s: &[u8], v: usize) -> usize
+    ensures { λ r. ⌜ Put (now (out .entry)) (now (out .exit)) o r (endTag (lower (upper (rest mode (now (s .entry)) v)))) ⌝ }
 {
     let a = put_all(out, o, b"</");
-    let b = put_lower(out, a, 0, s, v);
+    let b = put_lower(out, a, mode, s, v);
     put_all(out, b, b">")
 }
 
@@ -73,14 +74,22 @@ fn put_components_end(out: &mut [u8], o: usize, there: bool) -> usize
 }
 
 // What stands before the subcomponents.
-pub fn put_head(out: &mut [u8], o: usize, s: &[u8], v: usize, e: usize, from: usize) -> Walked
-    requires { ⌜ e ≤ length (now s) ⌝ }
-    ensures { λ r. ⌜ PropertiesPut (now (out .entry)) (now (out .exit)) o (headXml (upper (rest 0 (take e (now (s .entry))) v)) (r .bare) (entriesAt (now (s .entry)) from)) (now (s .entry)) from r ⌝ }
+pub fn put_head(
+    out: &mut [u8],
+    o: usize,
+    mode: usize,
+    s: &[u8],
+    v: usize,
+    e: usize,
+    from: usize,
+) -> Walked
+    requires { ⌜ (e ≤ length (now s)) × Ready mode (now s) from ⌝ }
+    ensures { λ r. ⌜ PropertiesPut (now (out .entry)) (now (out .exit)) o (headXml (upper (rest mode (take e (now (s .entry))) v)) (r .bare) (entriesAt mode (now (s .entry)) from)) mode (now (s .entry)) from r ⌝ }
 {
-    let k = component_number(0, &s[..e], v);
-    let a = put_name_start(out, o, &s[..e], v);
-    let b = put_properties_element(out, a, k, s, from);
-    let there = has_components(&s[..e], v, b.bare);
+    let k = component_number(mode, &s[..e], v);
+    let a = put_name_start(out, o, mode, &s[..e], v);
+    let b = put_properties_element(out, a, k, mode, s, from);
+    let there = has_components(mode, &s[..e], v, b.bare);
     let c = put_components_start(out, b.to, there);
     Walked {
         to: c,
@@ -91,10 +100,10 @@ pub fn put_head(out: &mut [u8], o: usize, s: &[u8], v: usize, e: usize, from: us
 }
 
 // What stands behind them.
-pub fn put_tail(out: &mut [u8], o: usize, s: &[u8], v: usize, bare: bool) -> usize
-    ensures { λ r. ⌜ Put (now (out .entry)) (now (out .exit)) o r (tailXml (upper (rest 0 (now (s .entry)) v)) bare) ⌝ }
+pub fn put_tail(out: &mut [u8], o: usize, mode: usize, s: &[u8], v: usize, bare: bool) -> usize
+    ensures { λ r. ⌜ Put (now (out .entry)) (now (out .exit)) o r (tailXml (upper (rest mode (now (s .entry)) v)) bare) ⌝ }
 {
-    let there = has_components(s, v, bare);
+    let there = has_components(mode, s, v, bare);
     let a = put_components_end(out, o, there);
-    put_name_end(out, a, s, v)
+    put_name_end(out, a, mode, s, v)
 }

@@ -1,16 +1,18 @@
 // The way past a component. See specs/Places.antt.
 use crate::bound::bound_at;
 use crate::entry::Kind;
+ghost use Rattle.lines.specs.Ready.{Ready};
 ghost use Rattle.document.specs.Places.{Passed};
 
-// The index behind the END of the component whose lines begin at `from`, or the text's end where there is none.
-pub fn pass_component(s: &[u8], from: usize) -> usize
-    ensures { λ r. ⌜ Passed (now (s .entry)) from r ⌝ }
+// The cursor behind the END of the component whose lines begin at `from`, or the text's end where there is none.
+pub fn pass_component(mode: usize, s: &[u8], from: usize) -> usize
+    requires { ⌜ Ready mode (now s) from ⌝ }
+    ensures { λ r. ⌜ Passed mode (now (s .entry)) from r ⌝ }
 {
     let mut at = from;
     let mut depth: usize = 0;
     while at < s.len() {
-        let f = bound_at(s, at);
+        let f = bound_at(mode, s, at);
         let kind = f.kind;
         match kind {
             Kind::Begin => {

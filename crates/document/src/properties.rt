@@ -6,6 +6,7 @@ use markup::put_end_tag;
 use markup::put_start_tag;
 use property_elements::put_property;
 ghost use Rattle.octets.specs.Ascii.{ascii};
+ghost use Rattle.lines.specs.Ready.{Ready};
 ghost use Rattle.sink.specs.Sink.{Put};
 ghost use Rattle.xml.specs.Escape.{elementOf};
 ghost use Rattle.schema.specs.Numbers.{componentName};
@@ -13,8 +14,8 @@ ghost use Rattle.document.specs.Entries.{entriesAt};
 ghost use Rattle.document.specs.Walks.{ownXml};
 ghost use Rattle.document.specs.Places.{PropertiesPut, LeadingPut};
 
-// What a walk over a component's properties came to: the index in the sink; that of the first subcomponent, or of what ends the component; whether there is
-// no subcomponent; and if there is none, the index behind the component's END.
+// What a walk over a component's properties came to: the index in the sink; the cursor of the first subcomponent, or of what ends the component; whether there is
+// no subcomponent; and if there is none, the cursor behind the component's END.
 pub struct Walked {
     pub to: usize,
     pub inner: usize,
@@ -23,13 +24,14 @@ pub struct Walked {
 }
 
 // The properties of the component of the number `k` whose lines begin at `from`, up to its first subcomponent.
-fn put_leading(out: &mut [u8], o: usize, k: usize, s: &[u8], from: usize) -> Walked
-    ensures { λ r. ⌜ LeadingPut (now (out .entry)) (now (out .exit)) o k (now (s .entry)) from r ⌝ }
+fn put_leading(out: &mut [u8], o: usize, k: usize, mode: usize, s: &[u8], from: usize) -> Walked
+    requires { ⌜ Ready mode (now s) from ⌝ }
+    ensures { λ r. ⌜ LeadingPut (now (out .entry)) (now (out .exit)) o k mode (now (s .entry)) from r ⌝ }
 {
     let mut p = o;
     let mut at = from;
     while at < s.len() {
-        let f = entry_at(s, at);
+        let f = entry_at(mode, s, at);
         let kind = f.kind;
         match kind {
             Kind::Begin => {
@@ -49,7 +51,7 @@ fn put_leading(out: &mut [u8], o: usize, k: usize, s: &[u8], from: usize) -> Wal
                 };
             }
             Kind::Property => {
-                p = put_property(out, p, k, &s[..f.end], at, f.name, f.value);
+                p = put_property(out, p, k, mode, &s[..f.end], at, f.name, f.value);
                 at = f.next;
             }
             Kind::Nothing => {
@@ -66,23 +68,24 @@ fn put_leading(out: &mut [u8], o: usize, k: usize, s: &[u8], from: usize) -> Wal
 }
 
 // Those from `from` on, between and behind its subcomponents too.
-fn put_following(out: &mut [u8], o: usize, k: usize, s: &[u8], from: usize) -> usize
-    ensures { λ r. ⌜ Put (now (out .entry)) (now (out .exit)) o r (ownXml (componentName k) (entriesAt (now (s .entry)) from)) ⌝ }
+fn put_following(out: &mut [u8], o: usize, k: usize, mode: usize, s: &[u8], from: usize) -> usize
+    requires { ⌜ Ready mode (now s) from ⌝ }
+    ensures { λ r. ⌜ Put (now (out .entry)) (now (out .exit)) o r (ownXml (componentName k) (entriesAt mode (now (s .entry)) from)) ⌝ }
 {
     let mut p = o;
     let mut at = from;
     while at < s.len() {
-        let f = entry_at(s, at);
+        let f = entry_at(mode, s, at);
         let kind = f.kind;
         match kind {
             Kind::Begin => {
-                at = pass_component(s, f.next);
+                at = pass_component(mode, s, f.next);
             }
             Kind::End => {
                 return p;
             }
             Kind::Property => {
-                p = put_property(out, p, k, &s[..f.end], at, f.name, f.value);
+                p = put_property(out, p, k, mode, &s[..f.end], at, f.name, f.value);
                 at = f.next;
             }
             Kind::Nothing => {
@@ -94,14 +97,15 @@ fn put_following(out: &mut [u8], o: usize, k: usize, s: &[u8], from: usize) -> u
 }
 
 // All of them: those before the first subcomponent, and the rest where there is one.
-fn put_properties(out: &mut [u8], o: usize, k: usize, s: &[u8], from: usize) -> Walked
-    ensures { λ r. ⌜ PropertiesPut (now (out .entry)) (now (out .exit)) o (ownXml (componentName k) (entriesAt (now (s .entry)) from)) (now (s .entry)) from r ⌝ }
+fn put_properties(out: &mut [u8], o: usize, k: usize, mode: usize, s: &[u8], from: usize) -> Walked
+    requires { ⌜ Ready mode (now s) from ⌝ }
+    ensures { λ r. ⌜ PropertiesPut (now (out .entry)) (now (out .exit)) o (ownXml (componentName k) (entriesAt mode (now (s .entry)) from)) mode (now (s .entry)) from r ⌝ }
 {
-    let a = put_leading(out, o, k, s, from);
+    let a = put_leading(out, o, k, mode, s, from);
     if a.bare {
         return a;
     }
-    let b = put_following(out, a.to, k, s, a.inner);
+    let b = put_following(out, a.to, k, mode, s, a.inner);
     Walked {
         to: b,
         inner: a.inner,
@@ -111,11 +115,19 @@ fn put_properties(out: &mut [u8], o: usize, k: usize, s: &[u8], from: usize) -> 
 }
 
 // The same, as the element `properties`.
-pub fn put_properties_element(out: &mut [u8], o: usize, k: usize, s: &[u8], from: usize) -> Walked
-    ensures { λ r. ⌜ PropertiesPut (now (out .entry)) (now (out .exit)) o (elementOf (ascii "properties") (ownXml (componentName k) (entriesAt (now (s .entry)) from))) (now (s .entry)) from r ⌝ }
+pub fn put_properties_element(
+    out: &mut [u8],
+    o: usize,
+    k: usize,
+    mode: usize,
+    s: &[u8],
+    from: usize,
+) -> Walked
+    requires { ⌜ Ready mode (now s) from ⌝ }
+    ensures { λ r. ⌜ PropertiesPut (now (out .entry)) (now (out .exit)) o (elementOf (ascii "properties") (ownXml (componentName k) (entriesAt mode (now (s .entry)) from))) mode (now (s .entry)) from r ⌝ }
 {
     let a = put_start_tag(out, o, b"properties");
-    let b = put_properties(out, a, k, s, from);
+    let b = put_properties(out, a, k, mode, s, from);
     let c = put_end_tag(out, b.to, b"properties");
     Walked {
         to: c,

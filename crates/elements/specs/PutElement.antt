@@ -46,18 +46,18 @@ use Rattle.elements.specs.PutRule.{nothing-read}
 
 -- ---- RECUR
 
-module _ {d e : List ℕ} {o q : ℕ} {s : List ℕ} {c : ℕ} {r : RuleParts} (p : Parted s c r) where
-  pub put-recur : r .good ≡ true → Put d e o q (elementOf (ascii "recur") (namedXml partNames (cutAt 59 (rest 0 s c)))) → Put d e o q (orNothing valueXml (readValue ical RECUR (rest 0 s c)))
+module _ {d e : List ℕ} {o q : ℕ} {m : ℕ} {s : List ℕ} {c : ℕ} {r : RuleParts} (p : Parted m s c r) where
+  pub put-recur : r .good ≡ true → Put d e o q (elementOf (ascii "recur") (namedXml partNames (cutAt 59 (rest m s c)))) → Put d e o q (orNothing valueXml (readValue ical RECUR (rest m s c)))
   unfolding readValue valueXml isRead
-  put-recur h w = go (readRule (rest 0 s c)) refl (p .is ∙ h)
+  put-recur h w = go (readRule (rest m s c)) refl (p .is ∙ h)
     where
-      go : (u : Option (List RulePart)) → readRule (rest 0 s c) ≡ u → isRead u ≡ true → Put d e o q (orNothing valueXml (Option·map recur u))
+      go : (u : Option (List RulePart)) → readRule (rest m s c) ≡ u → isRead u ≡ true → Put d e o q (orNothing valueXml (Option·map recur u))
       go none k z = absurd (false≢true z)
-      go (some v) k z = rw (rule-xml (rest 0 s c) v k) w
+      go (some v) k z = rw (rule-xml (rest m s c) v k) w
 
-  pub put-no-recur : r .good ≡ false → Put d e o q [] → Put d e o q (orNothing valueXml (readValue ical RECUR (rest 0 s c)))
+  pub put-no-recur : r .good ≡ false → Put d e o q [] → Put d e o q (orNothing valueXml (readValue ical RECUR (rest m s c)))
   unfolding readValue isRead
-  put-no-recur h w = go (readRule (rest 0 s c)) (p .is ∙ h)
+  put-no-recur h w = go (readRule (rest m s c)) (p .is ∙ h)
     where
       go : (u : Option (List RulePart)) → isRead u ≡ false → Put d e o q (orNothing valueXml (Option·map recur u))
       go none z = w

@@ -3,7 +3,7 @@
 --     Itemizing                  the invariant of the loop over the items of a piece
 --     put-found, put-missing     the piece of a part
 --     Naming                     the invariant of the loop over the parts
---     put-rule, put-no-rule      the whole rule;   nothing-read: nothing of what was not read
+--     nothing-read               nothing of what was not read
 use mathlib.Core.Path.{_≡_, refl, sym, _∙_, subst}
 use mathlib.Core.Bool.{Bool, true, false, false≢true}
 use mathlib.Core.List.{List, []}
@@ -19,18 +19,15 @@ use Rattle.octets.specs.Append.{_⊕_, append-none}
 use Rattle.octets.specs.Words.{cutAt, rowOf}
 use Rattle.octets.specs.Reading.{isRead, orNothing}
 use Rattle.octets.specs.Front.{upTo, past}
-use Rattle.model.specs.Calendar.{RulePart}
 use Rattle.sink.specs.Sink.{Put, put-length, Todo, todo-all, todo-step, todo-done}
-use Rattle.source.specs.Source.{rest, Reads}
+use Rattle.source.specs.Source.{rest, Within, Reads}
 use Rattle.source.specs.declared.Step.{Step}
 use Rattle.recur.specs.Parts.{partOf, partNames, isListed, isListPart}
-use Rattle.recur.specs.Rule.{isEquals, readRule}
+use Rattle.recur.specs.Rule.{isEquals}
 use Rattle.recur.specs.Pieces.{Ends, pieceName}
 use Rattle.recur.specs.PieceLaws.{piece-is, pieces-last, pieces-more, step-less}
-use Rattle.recur.specs.Noted.{pieceFrom, Standing, Parted}
-use Rattle.recur.specs.declared.rule.RuleParts.{RuleParts}
-use Rattle.xcal.specs.WriteXml.{partsXml}
-use Rattle.elements.specs.Rules.{itemXml, eachXml, pieceXml, namedXml, rule-xml}
+use Rattle.recur.specs.Noted.{pieceFrom, Standing}
+use Rattle.elements.specs.Rules.{itemXml, eachXml, pieceXml, namedXml}
 
 -- ---- a piece
 
@@ -45,38 +42,38 @@ module _ {d e : List ℕ} {o r : ℕ} (n w v : List ℕ) {t : Bool} (q : t ≡ i
 
 -- ---- the items of a piece
 
-pub record Itemizing (n : List ℕ) (d₀ : List ℕ) (at₀ : ℕ) (s : List ℕ) (c₀ : ℕ) (d : List ℕ) (at c : ℕ) : Type 0 where
-  pub todo : Todo d₀ at₀ (eachXml n (cutAt 44 (rest 0 s c₀))) d at (eachXml n (cutAt 44 (rest 0 s c)))
+pub record Itemizing (n : List ℕ) (d₀ : List ℕ) (at₀ m : ℕ) (s : List ℕ) (c₀ : ℕ) (d : List ℕ) (at c : ℕ) : Type 0 where
+  pub todo : Todo d₀ at₀ (eachXml n (cutAt 44 (rest m s c₀))) d at (eachXml n (cutAt 44 (rest m s c)))
   pub kept : length d ≡ length d₀
-  pub inside : c ≤ length s
+  pub inside : Within m s c
 
-pub items-start : (n d : List ℕ) (at : ℕ) (s : List ℕ) (c : ℕ) → length d * 1 < 2 ^ 63 → c ≤ length s → Itemizing n d at s c d at c
-items-start n d at s c z h = record { todo = todo-all d at (eachXml n (cutAt 44 (rest 0 s c))) z; kept = refl; inside = h }
+pub items-start : (n d : List ℕ) (at m : ℕ) (s : List ℕ) (c : ℕ) → length d * 1 < 2 ^ 63 → Within m s c → Itemizing n d at m s c d at c
+items-start n d at m s c z h = record { todo = todo-all d at (eachXml n (cutAt 44 (rest m s c))) z; kept = refl; inside = h }
 
-module _ {n d₀ : List ℕ} {at₀ : ℕ} {s : List ℕ} {c₀ : ℕ} {d : List ℕ} {at c e : ℕ} {u : Step} {d′ : List ℕ} {o : ℕ} (t : Itemizing n d₀ at₀ s c₀ d at c) (i : Ends 44 s c e)
-    (w : Put d d′ at o (itemXml n (rest 0 (take e s) c))) (p : Reads 0 s e u) where
-  pub items-more : (u .u ≡ 256 → ⊥) → Itemizing n d₀ at₀ s c₀ d′ o (u .next)
+module _ {n d₀ : List ℕ} {at₀ m : ℕ} {s : List ℕ} {c₀ : ℕ} {d : List ℕ} {at c e : ℕ} {u : Step} {d′ : List ℕ} {o : ℕ} (t : Itemizing n d₀ at₀ m s c₀ d at c) (i : Ends 44 m s c e)
+    (w : Put d d′ at o (itemXml n (rest m (take e s) c))) (p : Reads m s e u) where
+  pub items-more : (u .u ≡ 256 → ⊥) → Itemizing n d₀ at₀ m s c₀ d′ o (u .next)
   unfolding eachXml _⊕_
   items-more h = record {
     todo = todo-step (t .todo) w (rw (pieces-more i p h));
     kept = put-length w ∙ t .kept;
-    inside = step-less p h .1;
+    inside = step-less (i .inside) p h .1;
   }
 
-  pub items-end : u .u ≡ 256 → Put d₀ d′ at₀ o (eachXml n (cutAt 44 (rest 0 s c₀)))
+  pub items-end : u .u ≡ 256 → Put d₀ d′ at₀ o (eachXml n (cutAt 44 (rest m s c₀)))
   unfolding eachXml _⊕_
   items-end h = todo-done (todo-step {rest′ = []} (t .todo) w (rw (pieces-last i p h))) refl
 
 -- ---- the piece of a part
 
-module _ {d e : List ℕ} {o q : ℕ} (n s : List ℕ) (b : ℕ) where
-  pub put-missing : b ≡ 0 → Put d e o q [] → Put d e o q (orNothing (pieceXml n) (pieceFrom s b))
+module _ {d e : List ℕ} {o q : ℕ} (n : List ℕ) (m : ℕ) (s : List ℕ) (b : ℕ) where
+  pub put-missing : b ≡ 0 → Put d e o q [] → Put d e o q (orNothing (pieceXml n) (pieceFrom m s b))
   put-missing h w = rw h w
 
-  pub put-found : {a : ℕ} → (b ≡ 0 → ⊥) → Ends 59 s (b - 1) a → Put d e o q (pieceXml n (rest 0 (take a s) (b - 1))) → Put d e o q (orNothing (pieceXml n) (pieceFrom s b))
+  pub put-found : {a : ℕ} → (b ≡ 0 → ⊥) → Ends 59 m s (b - 1) a → Put d e o q (pieceXml n (rest m (take a s) (b - 1))) → Put d e o q (orNothing (pieceXml n) (pieceFrom m s b))
   put-found h i w = go b h (rw (piece-is i) at w)
     where
-      go : (b : ℕ) → (b ≡ 0 → ⊥) → Put d e o q (pieceXml n (upTo (λ (x : ℕ). eqb x 59) (rest 0 s (b - 1)))) → Put d e o q (orNothing (pieceXml n) (pieceFrom s b))
+      go : (b : ℕ) → (b ≡ 0 → ⊥) → Put d e o q (pieceXml n (upTo (λ (x : ℕ). eqb x 59) (rest m s (b - 1)))) → Put d e o q (orNothing (pieceXml n) (pieceFrom m s b))
       go zero h w = absurd (h refl)
       go (suc c) h w = let z : suc c - 1 ≡ c = omega arith in rw z at w
 
@@ -103,26 +100,14 @@ module _ {ws : List (List ℕ)} {d₀ : List ℕ} {at₀ : ℕ} {d : List ℕ} {
   naming-end h = todo-done (t .todo) (rw (drop-of-length-le partNames h))
 
 -- the piece of a part where it stands
-pub put-standing : {d e : List ℕ} {o q : ℕ} {s : List ℕ} {c : ℕ} {t : List ℕ} (p : ℕ) → Standing s c t → p < 14 → Put d e o q (orNothing (pieceXml (getD partNames p [])) (pieceFrom s (getD t p 0))) →
-    Put d e o q (orNothing (pieceXml (getD partNames p [])) (rowOf pieceName (getD partNames p []) (cutAt 59 (rest 0 s c))))
+pub put-standing : {d e : List ℕ} {o q : ℕ} {m : ℕ} {s : List ℕ} {c : ℕ} {t : List ℕ} (p : ℕ) → Standing m s c t → p < 14 → Put d e o q (orNothing (pieceXml (getD partNames p [])) (pieceFrom m s (getD t p 0))) →
+    Put d e o q (orNothing (pieceXml (getD partNames p [])) (rowOf pieceName (getD partNames p []) (cutAt 59 (rest m s c))))
 put-standing p i h w = rw (i .is p h) w
 
--- ---- the whole rule
+-- ---- nothing
 
 -- nothing is written where nothing was read
 pub nothing-read : {A : Type 0} (w : A → List ℕ) {d e : List ℕ} {o q : ℕ} (u : Option A) → isRead u ≡ false → Put d e o q [] → Put d e o q (orNothing w u)
 unfolding isRead
 nothing-read w none h p = p
 nothing-read w (some v) h p = absurd (false≢true (sym h))
-
-module _ {d e : List ℕ} {o q : ℕ} {s : List ℕ} {c : ℕ} {r : RuleParts} (p : Parted s c r) where
-  pub put-rule : r .good ≡ true → Put d e o q (namedXml partNames (cutAt 59 (rest 0 s c))) → Put d e o q (orNothing partsXml (readRule (rest 0 s c)))
-  unfolding isRead
-  put-rule h w = go (readRule (rest 0 s c)) refl (p .is ∙ h)
-    where
-      go : (v : Option (List RulePart)) → readRule (rest 0 s c) ≡ v → isRead v ≡ true → Put d e o q (orNothing partsXml v)
-      go none k z = absurd (false≢true z)
-      go (some v) k z = rw (rule-xml (rest 0 s c) v k) w
-
-  pub put-no-rule : r .good ≡ false → Put d e o q [] → Put d e o q (orNothing partsXml (readRule (rest 0 s c)))
-  put-no-rule h w = nothing-read partsXml (readRule (rest 0 s c)) (p .is ∙ h) w

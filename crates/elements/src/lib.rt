@@ -5,7 +5,6 @@ mod tag;
 mod value;
 mod word;
 
-pub use rule::put_rule_xml;
 pub use value::put_value_element;
 pub use word::put_raw_element;
 pub use word::put_word_element;

@@ -13,21 +13,21 @@ ghost use Rattle.xml.specs.Escape.{escaped};
 ghost use Rattle.xcal.specs.WriteXml.{valueXml};
 
 // What stands from the cursor `at` to the end.
-pub fn put_raw_element(out: &mut [u8], o: usize, s: &[u8], at: usize) -> usize
-    ensures { λ r. ⌜ Put (now (out .entry)) (now (out .exit)) o r (valueXml (text (rest 0 (now (s .entry)) at))) ⌝ }
+pub fn put_raw_element(out: &mut [u8], o: usize, mode: usize, s: &[u8], at: usize) -> usize
+    ensures { λ r. ⌜ Put (now (out .entry)) (now (out .exit)) o r (valueXml (text (rest mode (now (s .entry)) at))) ⌝ }
 {
     let p = put_start_tag(out, o, b"text");
-    let q = put_escaped(out, p, 0, s, at);
+    let q = put_escaped(out, p, mode, s, at);
     put_end_tag(out, q, b"text")
 }
 
-fn put_capitals(out: &mut [u8], o: usize, s: &[u8], at: usize) -> usize
-    ensures { λ r. ⌜ Put (now (out .entry)) (now (out .exit)) o r (escaped (upper (rest 0 (now (s .entry)) at))) ⌝ }
+fn put_capitals(out: &mut [u8], o: usize, mode: usize, s: &[u8], at: usize) -> usize
+    ensures { λ r. ⌜ Put (now (out .entry)) (now (out .exit)) o r (escaped (upper (rest mode (now (s .entry)) at))) ⌝ }
 {
     let mut p = o;
     let mut c = at;
     loop {
-        let t = unit(0, s, c);
+        let t = unit(mode, s, c);
         let u = t.u;
         if u == 256 {
             return p;
@@ -39,10 +39,10 @@ fn put_capitals(out: &mut [u8], o: usize, s: &[u8], at: usize) -> usize
 }
 
 // The same in capitals.
-pub fn put_word_element(out: &mut [u8], o: usize, s: &[u8], at: usize) -> usize
-    ensures { λ r. ⌜ Put (now (out .entry)) (now (out .exit)) o r (valueXml (text (upper (rest 0 (now (s .entry)) at)))) ⌝ }
+pub fn put_word_element(out: &mut [u8], o: usize, mode: usize, s: &[u8], at: usize) -> usize
+    ensures { λ r. ⌜ Put (now (out .entry)) (now (out .exit)) o r (valueXml (text (upper (rest mode (now (s .entry)) at)))) ⌝ }
 {
     let p = put_start_tag(out, o, b"text");
-    let q = put_capitals(out, p, s, at);
+    let q = put_capitals(out, p, mode, s, at);
     put_end_tag(out, q, b"text")
 }

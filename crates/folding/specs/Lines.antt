@@ -2,6 +2,7 @@
 --     lines s          the lines of s, each with the index in s where it starts
 --     linesFrom p s    the same, where s starts at index p
 --     lines-whole      what stands before the first CRLF is a line;   lines-loose: what holds none
+--     toBreak          how many bytes stand before the first CRLF;   lines-at-break, first-loose: the first line by it
 --     lines-append     of two texts, where the first has no loose line;   lines-ended: it has none if it ends with CRLF
 use mathlib.Core.Path.{_≡_, refl, ap, _∙_}
 use mathlib.Core.Bool.{Bool, true, false, false≢true}
@@ -10,7 +11,7 @@ use Prim.Native.Nat.{ℕ, zero, suc, _+_, _≤_, _<_}
 use native.Mathlib.Omega.{arith}
 use lib.Dec.{eqb}
 use lib.ListN.{length}
-use Rattle.octets.specs.Pick.{_and_, _or_, or-neither}
+use Rattle.octets.specs.Pick.{pick, _and_, _or_, or-neither}
 use Rattle.octets.specs.Append.{_⊕_}
 use Rattle.octets.specs.Words.{starts, holds}
 use Rattle.folding.specs.Unfold.{crlf}
@@ -84,6 +85,39 @@ pub lines-loose : (a : ℕ) (l : List ℕ) (p : ℕ) → holdsBreak (a ∷ l) �
 unfolding linesAfter lineStep longer holdsBreak
 lines-loose a [] p h = rw (or-neither (starts crlf (a ∷ [])) (holdsBreak []) h .0)
 lines-loose a (b ∷ l) p h = let e = or-neither (starts crlf (a ∷ b ∷ l)) (holdsBreak (b ∷ l)) h in rw (e .0, lines-loose b l (p + 1) (e .1))
+
+-- ---- the first line, by the number of bytes before its end
+
+-- how many bytes stand before the first CRLF; all where there is none
+unfoldable pub toBreak : List ℕ → ℕ
+toBreak [] = 0
+toBreak (a ∷ s) = pick (starts crlf (a ∷ s)) 0 (suc (toBreak s))
+
+-- so many as l has
+pub lines-at-break : (l r : List ℕ) (p : ℕ) → toBreak (l ⊕ (13 ∷ 10 ∷ r)) ≡ length l → linesFrom p (l ⊕ (13 ∷ 10 ∷ r)) ≡ whole p l ∷ linesFrom (p + length l + 2) r
+unfolding toBreak linesAfter lineStep longer starts _⊕_ _and_ pick
+lines-at-break [] r p h = ap (λ (n : ℕ). whole p [] ∷ linesFrom n r) (omega arith)
+lines-at-break (a ∷ l) r p h = go (starts crlf (a ∷ (l ⊕ (13 ∷ 10 ∷ r)))) h (lines-at-break l r (p + 1))
+  where
+    go : (t : Bool) → pick t 0 (suc (toBreak (l ⊕ (13 ∷ 10 ∷ r)))) ≡ suc (length l) →
+        (toBreak (l ⊕ (13 ∷ 10 ∷ r)) ≡ length l → linesFrom (p + 1) (l ⊕ (13 ∷ 10 ∷ r)) ≡ whole (p + 1) l ∷ linesFrom (p + 1 + length l + 2) r) →
+        lineStep t p a (linesAfter (l ⊕ (13 ∷ 10 ∷ r)) (p + 1)) ≡ whole p (a ∷ l) ∷ linesFrom (p + suc (length l) + 2) r
+    go true h ih = absurd (omega arith)
+    go false h ih = ap (longer p a) (ih (omega arith)) ∙ ap (λ (n : ℕ). whole p (a ∷ l) ∷ linesFrom n r) (omega arith)
+
+pub first-loose : (s : List ℕ) (a p : ℕ) → suc (length s) ≤ toBreak (a ∷ s) → linesFrom p (a ∷ s) ≡ loose p ∷ []
+unfolding toBreak linesAfter lineStep longer pick
+first-loose [] a p h = go (starts crlf (a ∷ [])) h
+  where
+    go : (t : Bool) → 1 ≤ pick t 0 1 → lineStep t p a (linesAfter [] (p + 1)) ≡ loose p ∷ []
+    go true h = absurd (omega arith)
+    go false h = refl
+first-loose (b ∷ s) a p h = go (starts crlf (a ∷ b ∷ s)) h (first-loose s b (p + 1))
+  where
+    go : (t : Bool) → suc (suc (length s)) ≤ pick t 0 (suc (toBreak (b ∷ s))) → (suc (length s) ≤ toBreak (b ∷ s) → linesFrom (p + 1) (b ∷ s) ≡ loose (p + 1) ∷ []) →
+        lineStep t p a (linesAfter (b ∷ s) (p + 1)) ≡ loose p ∷ []
+    go true h ih = absurd (omega arith)
+    go false h ih = ap (longer p a) (ih (omega arith))
 
 -- where no line is loose, what follows begins a line
 longer-append : (p a : ℕ) (ls ms : List Line) → noneLoose (longer p a ls) ≡ true → (noneLoose ls ≡ true) × (longer p a (ls ⊕ ms) ≡ longer p a ls ⊕ ms)

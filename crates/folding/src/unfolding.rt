@@ -13,7 +13,7 @@ fn is_blank(b: u8) -> bool
 }
 
 // Whether a fold stands at an index: CR, LF, and a space or a TAB.
-fn fold_at(s: &[u8], at: usize) -> bool
+pub fn fold_at(s: &[u8], at: usize) -> bool
     requires { ⌜ at < length (now s) ⌝ }
     ensures { λ r. ⌜ r ≡ foldAt (drop at (now (s .entry))) ⌝ }
 {

@@ -19,7 +19,7 @@ use Rattle.octets.specs.Class.{isNameChar, upper}
 use Rattle.octets.specs.Words.{same, isEmpty}
 use Rattle.octets.specs.Runs.{runOf}
 use Rattle.octets.specs.Lists.{every}
-use Rattle.source.specs.Source.{rest}
+use Rattle.source.specs.Source.{rest, cuts}
 use Rattle.names.specs.Table.{placeOf}
 use Rattle.model.specs.Calendar.{Property}
 use Rattle.model.specs.Refusal.{refusalAt}
@@ -44,12 +44,12 @@ use Rattle.frame.specs.declared.Kind.{Kind}
 use Rattle.frame.specs.declared.Kind.the-variants.{Starts, Stops, Holds, Faulty}
 
 -- the line of the name w, whose parameters stand from e on, and whose value from v on
-abbrev pub lineFrom : List ℕ → List ℕ → ℕ → ℕ → ContentLine
-lineFrom w s e v = record { name = w; parameters = paramsAt 0 s e; value = rest 0 s v }
+abbrev pub lineFrom : List ℕ → ℕ → List ℕ → ℕ → ℕ → ContentLine
+lineFrom w m s e v = record { name = w; parameters = paramsAt m s e; value = rest m s v }
 
 -- whose name stands from at on
-abbrev pub named : List ℕ → ℕ → ℕ → ℕ → ContentLine
-named s at e v = lineFrom (runOf isNameChar (rest 0 s at)) s e v
+abbrev pub named : ℕ → List ℕ → ℕ → ℕ → ℕ → ContentLine
+named m s at e v = lineFrom (runOf isNameChar (rest m s at)) m s e v
 
 -- ---- what an answer says
 
@@ -74,14 +74,14 @@ kind-no r t a b h k = subst (λ (x : LineKind). KindIs x r) (sym (pick-no t a b 
 
 -- ---- no parameters
 
-module _ {s : List ℕ} {e : ℕ} {r : ParamRead} (a : ParamOf nextParam 0 s e r) where
-  pub params-some : r .there ≡ true → r .ok ≡ true → false ≡ isEmpty (paramsAt 0 s e)
+module _ {m : ℕ} {s : List ℕ} {e : ℕ} {r : ParamRead} (a : ParamOf nextParam m s e r) where
+  pub params-some : r .there ≡ true → r .ok ≡ true → false ≡ isEmpty (paramsAt m s e)
   params-some h k = rw (param-more a h k)
 
-  pub params-bad : r .there ≡ true → r .ok ≡ false → true ≡ isEmpty (paramsAt 0 s e)
+  pub params-bad : r .there ≡ true → r .ok ≡ false → true ≡ isEmpty (paramsAt m s e)
   params-bad h k = rw (param-fault a h k)
 
-  pub params-none : r .there ≡ false → true ≡ isEmpty (paramsAt 0 s e)
+  pub params-none : r .there ≡ false → true ≡ isEmpty (paramsAt m s e)
   params-none h = rw (param-over a h)
 
 -- ---- BEGIN
@@ -131,46 +131,46 @@ module _ (l : ContentLine) {k n : ℕ} (h : k < 9) (e : n ≡ placeOf (upper (l 
 
 -- ---- a line
 
-module _ {s : List ℕ} {at e v : ℕ} (p : Parts 0 s at e v) where
+module _ {m : ℕ} {s : List ℕ} {at e v : ℕ} (y : cuts m ≡ true) (p : Parts m s at e v) where
   -- its name, cut out
-  pub name-cut : rest 0 (take e s) at ≡ runOf isNameChar (rest 0 s at)
-  name-cut = name-chars (p .name)
+  pub name-cut : rest m (take e s) at ≡ runOf isNameChar (rest m s at)
+  name-cut = name-chars y (p .name)
 
   pub name-count : at ≤ length s → e ≡ length (take e s)
-  name-count h = sym (length-take-le e s (p .name .plain refl h))
+  name-count h = sym (length-take-le e s (p .name .plain y h))
 
   -- its name compared
-  pub name-is : (w : List ℕ) {t : Bool} → t ≡ same (upper (rest 0 (take e s) at)) w → t ≡ same (upper (runOf isNameChar (rest 0 s at))) w
+  pub name-is : (w : List ℕ) {t : Bool} → t ≡ same (upper (rest m (take e s) at)) w → t ≡ same (upper (runOf isNameChar (rest m s at))) w
   name-is w q = q ∙ ap (λ (n : List ℕ). same (upper n) w) name-cut
 
   -- and looked up
-  pub name-number : {n : ℕ} → n ≡ placeOf (upper (rest 0 (take e s) at)) propertyNames → n ≡ placeOf (upper (runOf isNameChar (rest 0 s at))) propertyNames
+  pub name-number : {n : ℕ} → n ≡ placeOf (upper (rest m (take e s) at)) propertyNames → n ≡ placeOf (upper (runOf isNameChar (rest m s at))) propertyNames
   name-number q = q ∙ ap (λ (n : List ℕ). placeOf (upper n) propertyNames) name-cut
 
-  module _ (k : ℕ) (inner : Bool) {c : Bool} (q : c ≡ (isCarriedName (runOf isNameChar (rest 0 s at)) and every carriesName (paramsAt 0 s e))) where
-    pub kind-uncarried : c ≡ false → KindIs (kindBy (componentName k) inner (named s at e v)) (Faulty 5)
+  module _ (k : ℕ) (inner : Bool) {c : Bool} (q : c ≡ (isCarriedName (runOf isNameChar (rest m s at)) and every carriesName (paramsAt m s e))) where
+    pub kind-uncarried : c ≡ false → KindIs (kindBy (componentName k) inner (named m s at e v)) (Faulty 5)
     unfolding kindBy namesCarried refusalAt
     kind-uncarried f = pick-no _ _ _ (sym q ∙ f)
 
-    module _ (r : Kind) {b : Bool} (f : c ≡ true) (i : b ≡ same (upper (rest 0 (take e s) at)) (ascii "BEGIN")) where
-      pub kind-begin : b ≡ true → KindIs (beginKind (componentName k) (named s at e v)) r → KindIs (kindBy (componentName k) inner (named s at e v)) r
+    module _ (r : Kind) {b : Bool} (f : c ≡ true) (i : b ≡ same (upper (rest m (take e s) at)) (ascii "BEGIN")) where
+      pub kind-begin : b ≡ true → KindIs (beginKind (componentName k) (named m s at e v)) r → KindIs (kindBy (componentName k) inner (named m s at e v)) r
       unfolding kindBy namesCarried
       kind-begin g x = kind-yes r _ _ _ (sym q ∙ f) (kind-yes r _ _ _ (sym (name-is (ascii "BEGIN") i) ∙ g) x)
 
-      module _ {d : Bool} (g : b ≡ false) (j : d ≡ same (upper (rest 0 (take e s) at)) (ascii "END")) where
-        pub kind-end : d ≡ true → KindIs (endKind (componentName k) (named s at e v)) r → KindIs (kindBy (componentName k) inner (named s at e v)) r
+      module _ {d : Bool} (g : b ≡ false) (j : d ≡ same (upper (rest m (take e s) at)) (ascii "END")) where
+        pub kind-end : d ≡ true → KindIs (endKind (componentName k) (named m s at e v)) r → KindIs (kindBy (componentName k) inner (named m s at e v)) r
         unfolding kindBy namesCarried
-        kind-end y x = kind-yes r _ _ _ (sym q ∙ f) (kind-no r _ _ _ (sym (name-is (ascii "BEGIN") i) ∙ g) (kind-yes r _ _ _ (sym (name-is (ascii "END") j) ∙ y) x))
+        kind-end z x = kind-yes r _ _ _ (sym q ∙ f) (kind-no r _ _ _ (sym (name-is (ascii "BEGIN") i) ∙ g) (kind-yes r _ _ _ (sym (name-is (ascii "END") j) ∙ z) x))
 
-        pub kind-property : d ≡ false → KindIs (propertyKind (componentName k) inner (named s at e v)) r → KindIs (kindBy (componentName k) inner (named s at e v)) r
+        pub kind-property : d ≡ false → KindIs (propertyKind (componentName k) inner (named m s at e v)) r → KindIs (kindBy (componentName k) inner (named m s at e v)) r
         unfolding kindBy namesCarried
-        kind-property y x = kind-yes r _ _ _ (sym q ∙ f) (kind-no r _ _ _ (sym (name-is (ascii "BEGIN") i) ∙ g) (kind-no r _ _ _ (sym (name-is (ascii "END") j) ∙ y) x))
+        kind-property z x = kind-yes r _ _ _ (sym q ∙ f) (kind-no r _ _ _ (sym (name-is (ascii "BEGIN") i) ∙ g) (kind-no r _ _ _ (sym (name-is (ascii "END") j) ∙ z) x))
 
-module _ (k : ℕ) (inner : Bool) (s : List ℕ) (at : ℕ) where
-  pub kind-bad : LineAt 0 s at Bad → KindIs (lineKind (componentName k) inner (rest 0 s at)) (Faulty 4)
+module _ (k : ℕ) (inner : Bool) (m : ℕ) (s : List ℕ) (at : ℕ) where
+  pub kind-bad : LineAt m s at Bad → KindIs (lineKind (componentName k) inner (rest m s at)) (Faulty 4)
   unfolding kindOf refusalAt
   kind-bad a = rw (a .is)
 
-  pub kind-line : (e v : ℕ) (r : Kind) → LineAt 0 s at (Line e v) → KindIs (kindBy (componentName k) inner (named s at e v)) r → KindIs (lineKind (componentName k) inner (rest 0 s at)) r
+  pub kind-line : (e v : ℕ) (r : Kind) → LineAt m s at (Line e v) → KindIs (kindBy (componentName k) inner (named m s at e v)) r → KindIs (lineKind (componentName k) inner (rest m s at)) r
   unfolding kindOf
   kind-line e v r a x = subst (λ (o : Option ContentLine). KindIs (kindOf (componentName k) inner o) r) (sym (a .is)) x

@@ -4,7 +4,7 @@
 use mathlib.Core.Path.{_≡_, refl, sym, ap, _∙_}
 use mathlib.Core.Bool.{Bool, true, false}
 use mathlib.Core.List.{List, [], _∷_}
-use Prim.Native.Nat.{ℕ, _+_, _≤_}
+use Prim.Native.Nat.{ℕ, _+_, _≤_, _<_}
 use native.Mathlib.Omega.{arith}
 use lib.Dec.{eqb}
 use lib.ListN.{length, take}
@@ -16,12 +16,13 @@ use Rattle.octets.specs.Words.{same, isEmpty}
 use Rattle.octets.specs.Runs.{runOf}
 use Rattle.octets.specs.Lists.{every}
 use Rattle.model.specs.Refusal.{refusalAt}
-use Rattle.source.specs.Source.{rest}
+use Rattle.source.specs.Source.{rest, cuts}
 use Rattle.names.specs.Table.{placeOf}
 use Rattle.schema.specs.Components.{componentNames}
 use Rattle.schema.specs.Numbers.{componentName}
-use Rattle.folding.specs.First.{First}
-use Rattle.folding.specs.declared.lines.Ending.the-variants.{Whole, Loose}
+use Rattle.lines.specs.LineEnd.{LineEnds, EndsLine}
+use Rattle.lines.specs.declared.Ending.the-variants.{Whole, Loose}
+use Rattle.lines.specs.Ready.{Ready, line-low}
 use Rattle.lines.specs.ContentLine.{RawParameter}
 use Rattle.lines.specs.Names.{isCarriedName}
 use Rattle.lines.specs.Cursor.{paramsAt}
@@ -39,12 +40,12 @@ abbrev pub outward : ℕ → Move
 outward f = pick (eqb f 0) (on (opened (componentName 0) ∷ [])) (stop (refusalAt f))
 
 -- a BEGIN, by its parts
-abbrev pub beginsOuter : List ℕ → ℕ → ℕ → Move
-beginsOuter s e v = begins (upper (rest 0 s v)) (paramsAt 0 s e) []
+abbrev pub beginsOuter : ℕ → List ℕ → ℕ → ℕ → Move
+beginsOuter m s e v = begins (upper (rest m s v)) (paramsAt m s e) []
 
-pub record Outer (s : List ℕ) (at : ℕ) (r : Step) : Type 0 where
-  pub ends : Ends s at r
-  pub agrees : onFrom s at [] ≡ resumed s r []
+pub record Outer (m : ℕ) (s : List ℕ) (at : ℕ) (r : Step) : Type 0 where
+  pub ends : Ends m s at r
+  pub agrees : onFrom m s at [] ≡ resumed m s r []
 
 -- ---- BEGIN
 
@@ -64,51 +65,51 @@ module _ (w : List ℕ) (ps : List RawParameter) {n : ℕ} (e : n ≡ placeOf w 
 
 -- ---- a line
 
-module _ {s : List ℕ} {at e v : ℕ} (p : Parts 0 s at e v) {c : Bool} (q : c ≡ (isCarriedName (runOf isNameChar (rest 0 s at)) and every carriesName (paramsAt 0 s e))) where
-  pub outer-uncarried : c ≡ false → moveBy (named s at e v) [] ≡ outward 5
+module _ {m : ℕ} {s : List ℕ} {at e v : ℕ} (y : cuts m ≡ true) (p : Parts m s at e v) {c : Bool} (q : c ≡ (isCarriedName (runOf isNameChar (rest m s at)) and every carriesName (paramsAt m s e))) where
+  pub outer-uncarried : c ≡ false → moveBy (named m s at e v) [] ≡ outward 5
   unfolding moveBy namesCarried pick refusalAt
   outer-uncarried f = rw (sym q ∙ f)
 
-  module _ {b : Bool} (f : c ≡ true) (i : b ≡ same (upper (rest 0 (take e s) at)) (ascii "BEGIN")) where
-    pub outer-begin : (r : ℕ) → b ≡ true → beginsOuter s e v ≡ outward r → moveBy (named s at e v) [] ≡ outward r
+  module _ {b : Bool} (f : c ≡ true) (i : b ≡ same (upper (rest m (take e s) at)) (ascii "BEGIN")) where
+    pub outer-begin : (r : ℕ) → b ≡ true → beginsOuter m s e v ≡ outward r → moveBy (named m s at e v) [] ≡ outward r
     unfolding moveBy namesCarried
-    outer-begin r g x = pick-yes _ _ _ (sym q ∙ f) ∙ pick-yes _ _ _ (sym (name-is p (ascii "BEGIN") i) ∙ g) ∙ x
+    outer-begin r g x = pick-yes _ _ _ (sym q ∙ f) ∙ pick-yes _ _ _ (sym (name-is y p (ascii "BEGIN") i) ∙ g) ∙ x
 
-    pub outer-stray : b ≡ false → moveBy (named s at e v) [] ≡ outward 6
+    pub outer-stray : b ≡ false → moveBy (named m s at e v) [] ≡ outward 6
     unfolding moveBy namesCarried
-    outer-stray g = pick-yes _ _ _ (sym q ∙ f) ∙ pick-no _ _ _ (sym (name-is p (ascii "BEGIN") i) ∙ g)
-        ∙ pick-either (λ (m : Move). m ≡ outward 6) _ _ _ stray-end stray-property
+    outer-stray g = pick-yes _ _ _ (sym q ∙ f) ∙ pick-no _ _ _ (sym (name-is y p (ascii "BEGIN") i) ∙ g)
+        ∙ pick-either (λ (x : Move). x ≡ outward 6) _ _ _ stray-end stray-property
       where
-        stray-end : ends (upper (rest 0 s v)) (paramsAt 0 s e) [] ≡ outward 6
+        stray-end : ends (upper (rest m s v)) (paramsAt m s e) [] ≡ outward 6
         stray-end = unfold ends pick refusalAt in refl
 
-        stray-property : states (named s at e v) [] ≡ outward 6
+        stray-property : states (named m s at e v) [] ≡ outward 6
         stray-property = unfold states pick refusalAt in refl
 
-module _ (s : List ℕ) (at : ℕ) where
-  pub outer-bad : LineAt 0 s at Bad → move (rest 0 s at) [] ≡ outward 4
+module _ (m : ℕ) (s : List ℕ) (at : ℕ) where
+  pub outer-bad : LineAt m s at Bad → move (rest m s at) [] ≡ outward 4
   unfolding moveOf pick refusalAt
   outer-bad a = rw (a .is)
 
-  pub outer-line : (e v r : ℕ) → LineAt 0 s at (Line e v) → moveBy (named s at e v) [] ≡ outward r → move (rest 0 s at) [] ≡ outward r
+  pub outer-line : (e v r : ℕ) → LineAt m s at (Line e v) → moveBy (named m s at e v) [] ≡ outward r → move (rest m s at) [] ≡ outward r
   unfolding moveOf
   outer-line e v r a x = rw (a .is) x
 
-  -- ---- a calendar
+-- ---- a calendar
 
-  pub outer-loose : at ≤ length s → First s at Loose → Outer s at (Failed 4 at)
-  unfolding refusalAt
-  outer-loose h f = record { ends = h; agrees = loose-stops s at [] f }
+pub outer-loose : {m : ℕ} {s : List ℕ} {at : ℕ} → Ready m s at → at < length s → EndsLine m s at Loose → Outer m s at (Failed 4 at)
+unfolding refusalAt
+outer-loose {m} {s} {at} q h f = record { ends = q .most; agrees = loose-stops m s at [] q h f }
 
-  module _ (e r : ℕ) (f : First s at (Whole e)) (m : move (rest 0 (take e s) at) [] ≡ outward r) where
-    pub outer-fault : (r ≡ 0 → ⊥) → Outer s at (Failed r at)
-    unfolding onward pick
-    outer-fault h = record { ends = omega (arith, f .0, f .1); agrees = line-moves s at e [] f ∙ rw (m, ne-eqb r 0 h) }
+module _ {m : ℕ} {s : List ℕ} {at e n : ℕ} (r : ℕ) (q : Ready m s at) (f : LineEnds m s at e n) (x : move (rest m (take e s) at) [] ≡ outward r) where
+  pub outer-fault : (r ≡ 0 → ⊥) → Outer m s at (Failed r at)
+  unfolding onward pick
+  outer-fault h = record { ends = q .most; agrees = line-moves q f [] ∙ rw (x, ne-eqb r 0 h) }
 
-    later : (t : Step) → Ends s (e + 2) t → Ends s at t
-    later (Closed next) x = (omega (arith, f .0, x .0), x .1)
-    later (Failed n p) x = x
+  later : (t : Step) → Ends m s n t → Ends m s at t
+  later (Closed next) z = let l = line-low q f in (omega (arith, l, z .0), z .1)
+  later (Failed i p) z = z
 
-    pub outer-body : (t : Step) → r ≡ 0 → Body 0 s (e + 2) t → Outer s at t
-    unfolding onward pick
-    outer-body t h b = record { ends = later t (b .ends); agrees = line-moves s at e [] f ∙ rw (m, eq-eqb r 0 h) (b .agrees []) }
+  pub outer-body : (t : Step) → r ≡ 0 → Body 0 m s n t → Outer m s at t
+  unfolding onward pick
+  outer-body t h b = record { ends = later t (b .ends); agrees = line-moves q f [] ∙ rw (x, eq-eqb r 0 h) (b .agrees []) }

@@ -1,32 +1,33 @@
 // A component, from the line behind its BEGIN to its END.
 ghost use mathlib.Core.Path.{_≡_};
-ghost use Prim.Native.Nat.{_≤_, _<_};
+ghost use Prim.Native.Nat.{_<_};
 ghost use lib.Dec.{eqb};
 ghost use lib.ListN.{length};
 ghost use Rattle.octets.specs.Pick.{pick};
+ghost use Rattle.lines.specs.Ready.{Ready};
 ghost use Rattle.frame.specs.Turns.{Turned, Body};
 use crate::Kind;
 use crate::Step;
 use crate::Turn;
 use crate::line::line_kind;
-use folding::lines::Ending;
-use folding::lines::line_end;
+use lines::Ending;
+use lines::line_end;
 use schema::bump;
 use schema::complete_counts;
 
 // The line at a place in the component of the number `k`, in which a subcomponent has come or not.
-fn next_line(k: usize, inner: bool, s: &[u8], at: usize) -> Turn
-    requires { ⌜ (k < 9) × (at < length (now s)) ⌝ }
-    ensures { λ r. ⌜ Turned k inner (now (s .entry)) at r ⌝ }
+fn next_line(k: usize, inner: bool, mode: usize, s: &[u8], at: usize) -> Turn
+    requires { ⌜ (k < 9) × Ready mode (now s) at × (at < length (now s)) ⌝ }
+    ensures { λ r. ⌜ Turned k inner mode (now (s .entry)) at r ⌝ }
 {
-    let Ending::Whole(e) = line_end(s, at) else {
+    let Ending::Whole(e, next) = line_end(mode, s, at) else {
         return Turn {
             kind: Kind::Faulty(4),
             next: s.len(),
         };
     };
-    let kind = line_kind(k, inner, &s[..e], at);
-    Turn { kind, next: e + 2 }
+    let kind = line_kind(k, inner, mode, &s[..e], at);
+    Turn { kind, next }
 }
 
 // The number of ACTION's word behind a property of the number `p`.
@@ -40,19 +41,19 @@ fn action_after(p: usize, a: usize, last: usize) -> usize
 }
 
 // The component of the number `k`, from the line behind its BEGIN on.
-pub fn body(s: &[u8], from: usize, k: usize) -> Step
-    requires { ⌜ (from ≤ length (now s)) × (k < 9) ⌝ }
-    ensures { λ r. ⌜ Body k (now (s .entry)) from r ⌝ }
+pub fn body(mode: usize, s: &[u8], from: usize, k: usize) -> Step
+    requires { ⌜ Ready mode (now s) from × (k < 9) ⌝ }
+    ensures { λ r. ⌜ Body k mode (now (s .entry)) from r ⌝ }
 {
     let mut at = from;
     let mut counts = [0u8; 46];
     let mut action = 3;
     let mut inner = false;
     while at < s.len() {
-        let l = next_line(k, inner, s, at);
+        let l = next_line(k, inner, mode, s, at);
         let kind = l.kind;
         match kind {
-            Kind::Starts(n) => match body(s, l.next, n) {
+            Kind::Starts(n) => match body(mode, s, l.next, n) {
                 Step::Closed(next) => {
                     inner = true;
                     at = next;

@@ -1,6 +1,6 @@
 // What a line is in an open component, by the component's number. A line is cut at its end: it is all that stands from `at` on.
 ghost use mathlib.Core.Path.{_≡_};
-ghost use mathlib.Core.Bool.{not};
+ghost use mathlib.Core.Bool.{true, not};
 ghost use mathlib.Core.List.{List};
 ghost use Prim.Native.Nat.{ℕ, _≤_, _<_};
 ghost use lib.Dec.{eqb};
@@ -8,7 +8,7 @@ ghost use lib.ListN.{length};
 ghost use Rattle.octets.specs.Pick.{pick, _or_};
 ghost use Rattle.octets.specs.Class.{upper};
 ghost use Rattle.octets.specs.Words.{isEmpty};
-ghost use Rattle.source.specs.Source.{rest};
+ghost use Rattle.source.specs.Source.{rest, cuts};
 ghost use Rattle.names.specs.Table.{placeOf};
 ghost use Rattle.schema.specs.Numbers.{componentName};
 ghost use Rattle.schema.specs.Properties.{propertyNames};
@@ -32,10 +32,10 @@ use schema::property_number;
 use statement::property_fault;
 
 // The line, whose name ends at `e`, has no parameters.
-pub fn no_params(s: &[u8], e: usize) -> bool
-    ensures { λ r. ⌜ r ≡ isEmpty (paramsAt 0 (now (s .entry)) e) ⌝ }
+pub fn no_params(mode: usize, s: &[u8], e: usize) -> bool
+    ensures { λ r. ⌜ r ≡ isEmpty (paramsAt mode (now (s .entry)) e) ⌝ }
 {
-    let p = next_param(0, s, e);
+    let p = next_param(mode, s, e);
     if p.there {
         if p.ok {
             return false;
@@ -46,14 +46,14 @@ pub fn no_params(s: &[u8], e: usize) -> bool
 }
 
 // The kind of a BEGIN, whose name ends at `e`, and whose value stands at `v`.
-fn begin_line(k: usize, s: &[u8], e: usize, v: usize) -> Kind
+fn begin_line(k: usize, mode: usize, s: &[u8], e: usize, v: usize) -> Kind
     requires { ⌜ k < 9 ⌝ }
-    ensures { λ r. ⌜ ((w : List ℕ) → KindIs (beginKind (componentName k) (lineFrom w (now (s .entry)) e v)) r) ⌝ }
+    ensures { λ r. ⌜ ((w : List ℕ) → KindIs (beginKind (componentName k) (lineFrom w mode (now (s .entry)) e v)) r) ⌝ }
 {
-    let n = component_number(0, s, v);
+    let n = component_number(mode, s, v);
     let may = may_begin(k, n);
     if may {
-        let bare = no_params(s, e);
+        let bare = no_params(mode, s, e);
         if bare {
             return Kind::Starts(n);
         }
@@ -63,13 +63,13 @@ fn begin_line(k: usize, s: &[u8], e: usize, v: usize) -> Kind
 }
 
 // The kind of an END.
-fn end_line(k: usize, s: &[u8], e: usize, v: usize) -> Kind
+fn end_line(k: usize, mode: usize, s: &[u8], e: usize, v: usize) -> Kind
     requires { ⌜ k < 9 ⌝ }
-    ensures { λ r. ⌜ ((w : List ℕ) → KindIs (endKind (componentName k) (lineFrom w (now (s .entry)) e v)) r) ⌝ }
+    ensures { λ r. ⌜ ((w : List ℕ) → KindIs (endKind (componentName k) (lineFrom w mode (now (s .entry)) e v)) r) ⌝ }
 {
-    let n = component_number(0, s, v);
+    let n = component_number(mode, s, v);
     if n == k {
-        let bare = no_params(s, e);
+        let bare = no_params(mode, s, e);
         if bare {
             return Kind::Stops;
         }
@@ -104,25 +104,25 @@ fn may_hold(k: usize, inner: bool, p: usize) -> bool
 }
 
 // The number of the word of ACTION, 3 where the property is another.
-fn action_of(p: usize, s: &[u8], v: usize) -> usize
-    ensures { λ r. ⌜ r ≡ pick (eqb p 38) (placeOf (upper (rest 0 (now (s .entry)) v)) actionNames) 3 ⌝ }
+fn action_of(p: usize, mode: usize, s: &[u8], v: usize) -> usize
+    ensures { λ r. ⌜ r ≡ pick (eqb p 38) (placeOf (upper (rest mode (now (s .entry)) v)) actionNames) 3 ⌝ }
 {
     if p == 38 {
-        return action_number(false, 0, s, v);
+        return action_number(false, mode, s, v);
     }
     3
 }
 
 // The kind of a line that is a property of the number `p`.
-fn numbered_line(k: usize, inner: bool, p: usize, s: &[u8], e: usize, v: usize) -> Kind
-    requires { ⌜ k < 9 ⌝ }
-    ensures { λ r. ⌜ ((w : List ℕ) → p ≡ placeOf (upper w) propertyNames → KindIs (propertyKind (componentName k) inner (lineFrom w (now (s .entry)) e v)) r) ⌝ }
+fn numbered_line(k: usize, inner: bool, p: usize, mode: usize, s: &[u8], e: usize, v: usize) -> Kind
+    requires { ⌜ (k < 9) × (cuts mode ≡ true) ⌝ }
+    ensures { λ r. ⌜ ((w : List ℕ) → p ≡ placeOf (upper w) propertyNames → KindIs (propertyKind (componentName k) inner (lineFrom w mode (now (s .entry)) e v)) r) ⌝ }
 {
     let may = may_hold(k, inner, p);
     if may {
-        let f = property_fault(k, p, s, e, v);
+        let f = property_fault(k, p, mode, s, e, v);
         if f == 0 {
-            let a = action_of(p, s, v);
+            let a = action_of(p, mode, s, v);
             return Kind::Holds(p, a);
         }
         return Kind::Faulty(f);
@@ -131,41 +131,49 @@ fn numbered_line(k: usize, inner: bool, p: usize, s: &[u8], e: usize, v: usize) 
 }
 
 // The kind of a line that is a property.
-fn property_line(k: usize, inner: bool, s: &[u8], at: usize, e: usize, v: usize) -> Kind
-    requires { ⌜ (k < 9) × (at ≤ length (now s)) × Parts 0 (now s) at e v ⌝ }
-    ensures { λ r. ⌜ KindIs (propertyKind (componentName k) inner (named (now (s .entry)) at e v)) r ⌝ }
+fn property_line(
+    k: usize,
+    inner: bool,
+    mode: usize,
+    s: &[u8],
+    at: usize,
+    e: usize,
+    v: usize,
+) -> Kind
+    requires { ⌜ (k < 9) × (at ≤ length (now s)) × Parts mode (now s) at e v × (cuts mode ≡ true) ⌝ }
+    ensures { λ r. ⌜ KindIs (propertyKind (componentName k) inner (named mode (now (s .entry)) at e v)) r ⌝ }
 {
-    let p = property_number(0, &s[..e], at);
-    numbered_line(k, inner, p, s, e, v)
+    let p = property_number(mode, &s[..e], at);
+    numbered_line(k, inner, p, mode, s, e, v)
 }
 
 // The kind of a content line.
-fn content_line(k: usize, inner: bool, s: &[u8], at: usize, e: usize, v: usize) -> Kind
-    requires { ⌜ (k < 9) × (at ≤ length (now s)) × Parts 0 (now s) at e v ⌝ }
-    ensures { λ r. ⌜ KindIs (kindBy (componentName k) inner (named (now (s .entry)) at e v)) r ⌝ }
+fn content_line(k: usize, inner: bool, mode: usize, s: &[u8], at: usize, e: usize, v: usize) -> Kind
+    requires { ⌜ (k < 9) × (at ≤ length (now s)) × Parts mode (now s) at e v × (cuts mode ≡ true) ⌝ }
+    ensures { λ r. ⌜ KindIs (kindBy (componentName k) inner (named mode (now (s .entry)) at e v)) r ⌝ }
 {
-    let good = names_carried(0, s, at, e);
+    let good = names_carried(mode, s, at, e);
     if good {
-        let begin = is_word_any_case(0, &s[..e], at, b"BEGIN");
+        let begin = is_word_any_case(mode, &s[..e], at, b"BEGIN");
         if begin {
-            return begin_line(k, s, e, v);
+            return begin_line(k, mode, s, e, v);
         }
-        let end = is_word_any_case(0, &s[..e], at, b"END");
+        let end = is_word_any_case(mode, &s[..e], at, b"END");
         if end {
-            return end_line(k, s, e, v);
+            return end_line(k, mode, s, e, v);
         }
-        return property_line(k, inner, s, at, e, v);
+        return property_line(k, inner, mode, s, at, e, v);
     }
     Kind::Faulty(5)
 }
 
 // The kind of a line in the component of the number `k`, in which a subcomponent has come or not.
-pub fn line_kind(k: usize, inner: bool, s: &[u8], at: usize) -> Kind
-    requires { ⌜ (k < 9) × (at ≤ length (now s)) ⌝ }
-    ensures { λ r. ⌜ KindIs (lineKind (componentName k) inner (rest 0 (now (s .entry)) at)) r ⌝ }
+pub fn line_kind(k: usize, inner: bool, mode: usize, s: &[u8], at: usize) -> Kind
+    requires { ⌜ (k < 9) × (at ≤ length (now s)) × (cuts mode ≡ true) ⌝ }
+    ensures { λ r. ⌜ KindIs (lineKind (componentName k) inner (rest mode (now (s .entry)) at)) r ⌝ }
 {
-    let LineRead::Line(e, v) = line_at(0, s, at) else {
+    let LineRead::Line(e, v) = line_at(mode, s, at) else {
         return Kind::Faulty(4);
     };
-    content_line(k, inner, s, at, e, v)
+    content_line(k, inner, mode, s, at, e, v)
 }

@@ -1,5 +1,5 @@
 -- Parts of a content line read through a cursor: what the readers answer, as contracts and their laws. `rest m s c` is what stands from the cursor c on.
---     Onward m s c r        the cursor r is at or behind c, and within bounds
+--     Onward m s c r        the cursor r is at or behind c, within bounds, and reached from c by whole steps
 --     RunEnds p m s c r     the run of characters that pass p, from c on, ends at r;   inLine, charOf: its tests, `passing` its rules;   run-is, run-cut: what stands there
 --     ItemAt p m s c ..     what p reads from c on: no item, an item and the cursor behind it, or a fault
 --     valuesAt, paramsAt    the values of a parameter from its first on, the parameters of a line, up to the first that is none
@@ -17,8 +17,8 @@ use Rattle.octets.specs.Append.{_⊕_}
 use Rattle.octets.specs.Scan.{spanLen}
 use Rattle.octets.specs.Runs.{afterByte, afterRun, runOf, run-joined}
 use Rattle.octets.specs.Many.{One, got, bad}
-use Rattle.source.specs.Source.{rest, spell, Reads}
-use Rattle.source.specs.Facts.{rest-byte, cut-is}
+use Rattle.source.specs.Source.{rest, spell, cuts, Reach, Reads}
+use Rattle.source.specs.Facts.{rest-byte, cut-is, reach-here, reach-on}
 use Rattle.source.specs.declared.Step.{Step}
 use Rattle.lines.specs.ContentLine.{ParamValue, RawParameter, isQSafeChar, isSafeChar, isValueChar, paramValue, nextValue, nextParam}
 use Rattle.lines.specs.Items.{items}
@@ -30,19 +30,20 @@ use Rattle.lines.specs.declared.Chars.the-variants.{Safe, Quoted, Valued
 pub record Onward (m : ℕ) (s : List ℕ) (c r : ℕ) : Type 0 where
   pub onward : c ≤ r
   pub inside : r ≤ max c (4 * length s)
-  pub plain : m ≡ 0 → c ≤ length s → r ≤ length s
+  pub plain : cuts m ≡ true → c ≤ length s → r ≤ length s
+  pub reach : Reach m s c r
 
 module _ {m : ℕ} {s : List ℕ} where
   pub onward-here : (c : ℕ) → Onward m s c c
-  onward-here c = record { onward = omega arith; inside = omega arith; plain = λ z h. h }
+  onward-here c = record { onward = omega arith; inside = omega arith; plain = λ z h. h; reach = reach-here m s c }
 
   pub onward-both : {a b c : ℕ} → Onward m s a b → Onward m s b c → Onward m s a c
-  onward-both p q = record { onward = omega arith; inside = omega arith; plain = λ z h. q .plain z (p .plain z h) }
+  onward-both p q = record { onward = omega arith; inside = omega arith; plain = λ z h. q .plain z (p .plain z h); reach = reach-on (p .onward) (q .onward) (p .reach) (q .reach) }
 
   pub onward-byte : {c : ℕ} {n : Step} → Reads m s c n → (n .u ≡ 256 → ⊥) → Onward m s c (n .next)
   onward-byte {c} {n} p h =
       let k : n .u < 256 = omega (arith, p .small, h) in
-      record { onward = omega arith; inside = omega arith; plain = λ z l. p .plain z h }
+      record { onward = omega arith; inside = omega arith; plain = λ z l. p .plain z h; reach = p .reach }
 
 -- ---- a byte at a cursor
 
@@ -78,9 +79,9 @@ pub record RunEnds (p : ℕ → Bool) (m : ℕ) (s : List ℕ) (c r : ℕ) : Typ
 pub run-is : {p : ℕ → Bool} {m : ℕ} {s : List ℕ} {c r : ℕ} → RunEnds p m s c r → rest m s c ≡ runOf p (rest m s c) ⊕ rest m s r
 run-is {p} {m} {s} {c} {r} t = rw (t .left) (sym (run-joined p (rest m s c)))
 
--- bytes as they stand, cut at the run's end, are the run
-pub run-cut : {p : ℕ → Bool} {s : List ℕ} {c r : ℕ} → RunEnds p 0 s c r → rest 0 (take r s) c ≡ runOf p (rest 0 s c)
-run-cut {p} {s} {c} {r} t = cut-is s (runOf p (rest 0 s c)) c r (t .to .onward) (run-is t)
+-- what is lent, cut at the run's end, is the run
+pub run-cut : {p : ℕ → Bool} {m : ℕ} {s : List ℕ} {c r : ℕ} → cuts m ≡ true → RunEnds p m s c r → rest m (take r s) c ≡ runOf p (rest m s c)
+run-cut {p} {m} {s} {c} {r} y t = cut-is m s (runOf p (rest m s c)) c r y (t .to .onward) (t .to .reach) (run-is t)
 
 -- what is left behind the run is the same from c₀ as from c
 pub record Passing (p : ℕ → Bool) (m : ℕ) (s : List ℕ) (c₀ c : ℕ) : Type 0 where
@@ -112,7 +113,11 @@ module _ {p : ℕ → Bool} {m : ℕ} {s : List ℕ} {c₀ c : ℕ} {n : Step} (
       go true k = refl
       go false k = rw k
 
-pub ruleset passing = (passing-start, passing-more, passing-less, passing-stop, flag-yes, flag-no, needs)
+-- the encoding's number was tested
+pub run-as : {p : ℕ → Bool} {m k : ℕ} {s : List ℕ} {c r : ℕ} → m ≡ k → RunEnds p k s c r → RunEnds p m s c r
+run-as e q = rw e q
+
+pub ruleset passing = (passing-start, passing-more, passing-less, passing-stop, run-as, flag-yes, flag-no, needs)
 
 -- ---- an item at a cursor
 

@@ -1,4 +1,4 @@
--- Content lines that are read, refused and written, and names, by computation.
+-- Content lines that are read, refused and written, names, and a text with its folds, by computation.
 use mathlib.Core.Path.{_≡_, refl}
 use mathlib.Core.Bool.{true, false}
 use mathlib.Core.List.{List, [], _∷_, _++_, map}
@@ -10,6 +10,10 @@ use Rattle.lines.specs.ContentLine.{ParamValue, RawParameter, ContentLin
 use Rattle.lines.specs.Write.{writeContentLine}
 use Rattle.lines.specs.Names.{isCarriedName}
 use Rattle.lines.specs.Items.{items}
+use Rattle.folding.specs.Lines.{whole, lines}
+use Rattle.folding.specs.Computing.{folding-compute}
+use Rattle.source.specs.Source.{rest, skipping}
+use Rattle.lines.specs.LineEnd.{index, linesAt}
 use Rattle.lines.specs.Computing.{lines-compute}
 
 abbrev bare : List ℕ → ParamValue
@@ -90,3 +94,22 @@ names = refl
 pub parameters : map (items nextParam) (ascii ";A=1,\"2\";B=:v" ∷ ascii ";A=1;B" ∷ ascii ":v" ∷ []) ≡ ((parameter (ascii "A") (bare (ascii "1") ∷ quote (ascii "2") ∷ []) ∷ parameter (ascii "B") (bare [] ∷ []) ∷ []) ∷ (parameter (ascii "A") (bare (ascii "1") ∷ []) ∷ []) ∷ [] ∷ [])
 unfolding lines-compute
 parameters = refl
+
+-- ---- a text with its folds in place, read in the encoding 2: folds in a name and in a value, before the first line, between CR and LF, and behind the last line
+
+folded : List ℕ
+folded = ascii "\r\n A\r\n B:c\r\n\td\r\r\n \nE:f\r\n\r\n "
+
+kept : rest 2 folded 0 ≡ ascii "AB:cd\r\nE:f\r\n"
+unfolding folding-compute rest folded
+kept = refl
+
+-- CR, a fold, LF ends the first line; the second begins at the cursor 19, which is the place 7 of what is kept
+both-lines : (lines (rest 2 folded 0) ≡ whole 0 (ascii "AB:cd") ∷ whole 7 (ascii "E:f") ∷ []) × (linesAt 2 folded 19 ≡ whole 7 (ascii "E:f") ∷ [])
+unfolding folding-compute rest linesAt index folded
+both-lines = (refl, refl)
+
+-- a cursor within a fold is not reached
+within-fold : (skipping 2 folded 0 19 ≡ 0) × (skipping 2 folded 0 2 ≡ 1)
+unfolding folding-compute skipping folded
+within-fold = (refl, refl)

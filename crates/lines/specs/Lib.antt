@@ -11,6 +11,8 @@
 --     Values       values of a parameter, through a cursor
 --     Params       parameters, through a cursor
 --     Line         a content line, through a cursor
+--     LineEnd      where a line ends, through a cursor
+--     Ready        cursors where a line may begin, and their places
 --     Carried      names that can be carried, through a cursor
 --     Written      parts of a parameter written one after another
 --     Computing    opens all of these, for examples that compute
@@ -27,6 +29,8 @@ pub mod Repeating
 pub mod Values
 pub mod Params
 pub mod Line
+pub mod LineEnd
+pub mod Ready
 pub mod Carried
 pub mod Written
 pub mod Computing

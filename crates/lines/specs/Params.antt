@@ -15,7 +15,7 @@ use Rattle.octets.specs.Words.{isEmpty}
 use Rattle.octets.specs.Scan.{spanLen}
 use Rattle.octets.specs.Runs.{afterByte, afterRun, runOf}
 use Rattle.octets.specs.Many.{One, bad}
-use Rattle.source.specs.Source.{rest, spell, Reads}
+use Rattle.source.specs.Source.{rest, spell, cuts, Reads}
 use Rattle.source.specs.Facts.{rest-byte}
 use Rattle.source.specs.declared.Step.{Step}
 use Rattle.names.specs.Runs.{RunEnds as NameRun, run-cut as name-cut}
@@ -40,7 +40,7 @@ NameEnds m s c e = NameRun isNameChar m s c e
 
 module _ {m : ℕ} {s : List ℕ} {c : ℕ} where
   pub name-onward : {e : ℕ} → NameEnds m s c e → Onward m s c e
-  name-onward n = record { onward = n .onward; inside = n .inside; plain = n .plain }
+  name-onward n = record { onward = n .onward; inside = n .inside; plain = n .plain; reach = n .reach }
 
   pub name-run : {e : ℕ} → NameEnds m s c e → RunEnds isNameChar m s c e
   unfolding afterRun
@@ -59,10 +59,10 @@ module _ {m : ℕ} {s : List ℕ} {c : ℕ} where
         go true = refl
         go false = let k : isNameChar (n .u) ≡ false = sym e ∙ h in rw k
 
--- bytes as they stand, cut at the name's end, are the name
-pub name-chars : {s : List ℕ} {c e : ℕ} → NameEnds 0 s c e → rest 0 (take e s) c ≡ runOf isNameChar (rest 0 s c)
+-- what is lent, cut at the name's end, is the name
+pub name-chars : {m : ℕ} {s : List ℕ} {c e : ℕ} → cuts m ≡ true → NameEnds m s c e → rest m (take e s) c ≡ runOf isNameChar (rest m s c)
 unfolding runOf
-name-chars {s} {c} {e} n = name-cut isNameChar s c e n
+name-chars y n = name-cut y n
 
 -- ---- a parameter
 

@@ -11,7 +11,7 @@ use native.Mathlib.Omega.{arith}
 use lib.ListN.{length, take}
 use Rattle.octets.specs.Runs.{afterRun, runOf, byte-case}
 use Rattle.octets.specs.Many.{One, got, bad, ok}
-use Rattle.source.specs.Source.{rest, Reads}
+use Rattle.source.specs.Source.{rest, cuts, Reads}
 use Rattle.source.specs.declared.Step.{Step}
 use Rattle.lines.specs.ContentLine.{ParamValue, isQSafeChar, isSafeChar, paramtext, quotedString, paramValue, nextValue, withValues, withFirst}
 use Rattle.lines.specs.Items.{items}
@@ -159,6 +159,7 @@ module _ {m : ℕ} {s : List ℕ} {c : ℕ} {r : ParamAt} (v : ValueAt nextValue
   pub value-fault : r .there ≡ true → r .ok ≡ false → items nextValue (rest m s c) ≡ []
   value-fault = items-bad-here (v .item)
 
--- bytes as they stand, cut at the end of a value's characters, are these
-pub value-chars : {p : List ℕ → One ParamValue} {s : List ℕ} {c : ℕ} {r : ParamAt} → ValueAt p 0 s c r → r .there ≡ true → rest 0 (take (r .to) s) (r .from) ≡ runOf (charsIn (r .quoted)) (rest 0 s (r .from))
-value-chars v h = run-cut (v .chars h)
+-- what is lent, cut at the end of a value's characters, is these
+pub value-chars : {p : List ℕ → One ParamValue} {m : ℕ} {s : List ℕ} {c : ℕ} {r : ParamAt} → cuts m ≡ true → ValueAt p m s c r → r .there ≡ true →
+    rest m (take (r .to) s) (r .from) ≡ runOf (charsIn (r .quoted)) (rest m s (r .from))
+value-chars y v h = run-cut y (v .chars h)

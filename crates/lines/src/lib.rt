@@ -1,6 +1,7 @@
 // Content lines, RFC 5545, section 3.1, read through a cursor: the source is cut at the line's end by the caller. Definitions and laws are in specs/.
 
 mod carried;
+mod ends;
 mod line;
 mod param;
 mod runs;
@@ -9,6 +10,7 @@ mod written;
 
 pub use carried::is_carried_name;
 pub use carried::names_carried;
+pub use ends::line_end;
 pub use line::line_at;
 pub use param::next_param;
 pub use value::next_value;
@@ -54,4 +56,10 @@ pub struct AllRead {
 pub enum LineRead {
     Line(usize, usize),
     Bad,
+}
+
+// Where a line ends: the cursor of its CRLF, and the one behind it; or no CRLF follows it.
+pub enum Ending {
+    Whole(usize, usize),
+    Loose,
 }

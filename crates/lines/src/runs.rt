@@ -1,5 +1,6 @@
 // The characters of a line. See specs/ContentLine.antt.
 use crate::Chars;
+use source::plain_unit;
 use source::unit;
 ghost use mathlib.Core.Path.{_≡_};
 ghost use lib.Dec.{eqb};
@@ -89,10 +90,29 @@ fn is_in(k: Chars, u: usize) -> bool
     }
 }
 
+// The same over bytes as they stand.
+fn run_end_plain(k: Chars, s: &[u8], at: usize) -> usize
+    ensures { λ r. ⌜ RunEnds (charOf k) 0 (now (s .entry)) at r ⌝ }
+{
+    let mut c = at;
+    loop {
+        let n = plain_unit(s, c);
+        let part = is_in(k, n.u);
+        if part {
+            c = n.next;
+        } else {
+            return c;
+        }
+    }
+}
+
 // The cursor after the characters of a class.
 pub fn run_end(k: Chars, mode: usize, s: &[u8], at: usize) -> usize
     ensures { λ r. ⌜ RunEnds (charOf k) mode (now (s .entry)) at r ⌝ }
 {
+    if mode == 0 {
+        return run_end_plain(k, s, at);
+    }
     let mut c = at;
     loop {
         let n = unit(mode, s, c);

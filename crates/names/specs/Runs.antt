@@ -19,8 +19,8 @@ use Rattle.octets.specs.Runs.{runOf, afterRun, run-joined}
 use Rattle.octets.specs.Class.{isNameChar}
 use Rattle.octets.specs.Words.{same, isEmpty}
 use Rattle.sink.specs.Sink.{Put, Todo, todo-all, todo-step, todo-done, put-length}
-use Rattle.source.specs.Source.{rest, spell, Reads}
-use Rattle.source.specs.Facts.{rest-byte, rest-end, byte-small, cut-is}
+use Rattle.source.specs.Source.{rest, spell, cuts, Reach, Reads}
+use Rattle.source.specs.Facts.{rest-byte, rest-end, byte-small, cut-is, reach-here, reach-on}
 use Rattle.source.specs.declared.Step.{Step}
 use Rattle.names.specs.Case.{cased, casedByte, cased-none, cased-more, same-step, same-empty}
 use Rattle.names.specs.declared.Case.{Case}
@@ -33,21 +33,23 @@ pub record RunEnds (p : ℕ → Bool) (m : ℕ) (s : List ℕ) (c r : ℕ) : Typ
   pub left : rest m s r ≡ afterRun p (rest m s c)
   pub onward : c ≤ r
   pub inside : r ≤ max c (4 * length s)
-  pub plain : m ≡ 0 → c ≤ length s → r ≤ length s
+  pub plain : cuts m ≡ true → c ≤ length s → r ≤ length s
+  pub reach : Reach m s c r
 
--- bytes as they stand, cut at the run's end, are the run
-pub run-cut : (p : ℕ → Bool) (s : List ℕ) (c r : ℕ) → RunEnds p 0 s c r → rest 0 (take r s) c ≡ runOf p (rest 0 s c)
-run-cut p s c r q = cut-is s (runOf p (rest 0 s c)) c r (q .onward) (q .is)
+-- what is lent, cut at the run's end, is the run
+pub run-cut : {p : ℕ → Bool} {m : ℕ} {s : List ℕ} {c r : ℕ} → cuts m ≡ true → RunEnds p m s c r → rest m (take r s) c ≡ runOf p (rest m s c)
+run-cut {p} {m} {s} {c} {r} y q = cut-is m s (runOf p (rest m s c)) c r y (q .onward) (q .reach) (q .is)
 
 -- what is left behind the run is the same from c₀ as from c
 pub record Running (p : ℕ → Bool) (m : ℕ) (s : List ℕ) (c₀ c : ℕ) : Type 0 where
   pub left : afterRun p (rest m s c₀) ≡ afterRun p (rest m s c)
   pub onward : c₀ ≤ c
   pub inside : c ≤ max c₀ (4 * length s)
-  pub plain : m ≡ 0 → c₀ ≤ length s → c ≤ length s
+  pub plain : cuts m ≡ true → c₀ ≤ length s → c ≤ length s
+  pub reach : Reach m s c₀ c
 
 pub run-start : (p : ℕ → Bool) (m : ℕ) (s : List ℕ) (c : ℕ) → Running p m s c c
-run-start p m s c = record { left = refl; onward = omega arith; inside = omega arith; plain = λ z h. h }
+run-start p m s c = record { left = refl; onward = omega arith; inside = omega arith; plain = λ z h. h; reach = reach-here m s c }
 
 -- p is a test that the sign of the end does not pass
 no-end : (p : ℕ → Bool) (u : ℕ) → p 256 ≡ false → p u ≡ true → u ≡ 256 → ⊥
@@ -63,6 +65,7 @@ run-ends {p} {m} {s} {c₀} {c} t h =
       onward = t .onward;
       inside = t .inside;
       plain = t .plain;
+      reach = t .reach;
     }
 
 module _ {p : ℕ → Bool} {m : ℕ} {s : List ℕ} {c₀ c : ℕ} {n : Step} (t : Running p m s c₀ c) (q : Reads m s c n) where
@@ -74,6 +77,7 @@ module _ {p : ℕ → Bool} {m : ℕ} {s : List ℕ} {c₀ c : ℕ} {n : Step} (
         onward = omega arith;
         inside = omega arith;
         plain = λ e l. q .plain e (no-end p (n .u) z h);
+        reach = reach-on (t .onward) (omega arith) (t .reach) (q .reach);
       }
 
   pub run-less : p 256 ≡ false → p (n .u) ≡ true → 4 * length s - n .next < 4 * length s - c

@@ -3,25 +3,24 @@
 --     put-word, put-raw, put-typed      a value, by what its parameter takes
 --     put-first, put-no-first           the values of a parameter, from the first on
 --     put-parameter, put-value-name, put-other-name     a parameter
---     past-same, past-value, past-own   a slice whose cut is past its end
+--     least-value, least-own            a slice cut at its length, or before
 --     put-unread, put-only, put-shown   the element `parameters`, or nothing
 use mathlib.Core.Path.{_≡_, refl, sym, _∙_, subst}
 use mathlib.Core.Bool.{Bool, true, false, false≢true}
 use mathlib.Core.List.{List, [], _∷_, map}
 use mathlib.Core.Option.{Option, none, some}
-use Prim.Native.Nat.{ℕ, _*_, _^_, _<_}
-use native.Mathlib.Omega.{arith}
+use Prim.Native.Nat.{ℕ, _*_, _^_, min, _<_}
 use lib.ListN.{length, take}
-use lib.Seq.{take-all}
 use borrow.Author.Tests.{eq-eqb, ne-eqb}
 use Rattle.octets.specs.Ascii.{ascii}
+use Rattle.octets.specs.Scan.{take-least}
 use Rattle.octets.specs.Append.{joined}
 use Rattle.octets.specs.Class.{upper, lower}
 use Rattle.octets.specs.Words.{same, isEmpty}
 use Rattle.octets.specs.Reading.{isRead, readOr, orNothing, each-empty}
 use Rattle.model.specs.Calendar.{ical, text, Parameter}
 use Rattle.sink.specs.Sink.{Put, put-none, put-yes, put-no, _▷_}
-use Rattle.source.specs.Source.{rest}
+use Rattle.source.specs.Source.{rest, cuts}
 use Rattle.names.specs.Table.{placeOf}
 use Rattle.schema.specs.Types.{sameType, typePlace, place-type}
 use Rattle.schema.specs.Parameters.{ParameterRow, parameterNames}
@@ -61,13 +60,13 @@ module _ {d e : List ℕ} {o r : ℕ} (q : ℕ) (l : List ℕ) {t : Bool} (h : t
 
 -- ---- the values of a parameter
 
-module _ (p : ParameterRow) {s : List ℕ} {c : ℕ} {r : ParamAt} (v : ValueAt paramValue 0 s c r) {d : List ℕ} {o : ℕ} where
-  pub put-first : {e f : List ℕ} {a n : ℕ} → r .ok ≡ true → Put d e o a (valueShown p (rest 0 (take (r .to) s) (r .from))) →
-      Put e f a n (joined (map (charsShown p) (items nextValue (rest 0 s (r .next))))) → Put d f o n (joined (map (charsShown p) (valuesAt 0 s c)))
+module _ (p : ParameterRow) {m : ℕ} {s : List ℕ} {c : ℕ} {r : ParamAt} (y : cuts m ≡ true) (v : ValueAt paramValue m s c r) {d : List ℕ} {o : ℕ} where
+  pub put-first : {e f : List ℕ} {a n : ℕ} → r .ok ≡ true → Put d e o a (valueShown p (rest m (take (r .to) s) (r .from))) →
+      Put e f a n (joined (map (charsShown p) (items nextValue (rest m s (r .next))))) → Put d f o n (joined (map (charsShown p) (valuesAt m s c)))
   unfolding joined
-  put-first {e} {f} {a} {n} h x y = rw (value-first v h) (subst (λ (l : List ℕ). Put d e o a (valueShown p l)) (value-chars v (value-there v)) x ▷ y)
+  put-first {e} {f} {a} {n} h x w = rw (value-first v h) (subst (λ (l : List ℕ). Put d e o a (valueShown p l)) (value-chars y v (value-there v)) x ▷ w)
 
-  pub put-no-first : r .ok ≡ false → length d * 1 < 2 ^ 63 → Put d d o o (joined (map (charsShown p) (valuesAt 0 s c)))
+  pub put-no-first : r .ok ≡ false → length d * 1 < 2 ^ 63 → Put d d o o (joined (map (charsShown p) (valuesAt m s c)))
   unfolding joined valuesOf
   put-no-first h z = rw (item-bad (v .item) (value-there v) h) (put-none d o z)
 
@@ -86,21 +85,14 @@ module _ {d : List ℕ} {o : ℕ} (n : List ℕ) (vs : List ParamValue) {t : Boo
   pub put-other-name : {e : List ℕ} {r : ℕ} → t ≡ false → Put d e o r (shown (record { name = n; values = vs })) → Put d e o r (ownShown (record { name = n; values = vs }))
   put-other-name k p = put-no _ _ _ (sym h ∙ k) p
 
--- ---- a slice whose cut is past its end
+-- ---- a slice cut at its length, or before
 
-uncut : (s : List ℕ) (e : ℕ) → length s < e → take e s ≡ s
-uncut s e h = take-all e s (omega arith)
+module _ {d f : List ℕ} {o r e : ℕ} (m : ℕ) (s : List ℕ) (c to : ℕ) (h : e ≡ min to (length s)) where
+  pub least-value : (p : ParameterRow) → Put d f o r (valueShown p (rest m (take e s) c)) → Put d f o r (valueShown p (rest m (take to s) c))
+  least-value p w = rw (← (take-least s to), ← h) w
 
-module _ (s : List ℕ) (e c : ℕ) (h : length s < e) where
-  pub past-same : {t : Bool} (w : List ℕ) → t ≡ same (upper (rest 0 s c)) w → t ≡ same (upper (rest 0 (take e s) c)) w
-  past-same w q = rw (uncut s e h) q
-
-  module _ {d f : List ℕ} {o r : ℕ} where
-    pub past-value : (p : ParameterRow) → Put d f o r (valueShown p (rest 0 s c)) → Put d f o r (valueShown p (rest 0 (take e s) c))
-    past-value p w = rw (uncut s e h) w
-
-    pub past-own : (first : ℕ) → Put d f o r (ownShown (record { name = rest 0 s c; values = valuesAt 0 s first })) → Put d f o r (ownShown (paramCut s c e first))
-    past-own first w = rw (uncut s e h) w
+  pub least-own : (first : ℕ) → Put d f o r (ownShown (paramCut m s c e first)) → Put d f o r (ownShown (paramCut m s c to first))
+  least-own first w = rw (← (take-least s to), ← h) w
 
 -- ---- all parameters
 

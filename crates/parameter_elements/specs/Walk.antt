@@ -15,7 +15,7 @@ use Rattle.octets.specs.Append.{_⊕_, joined}
 use Rattle.octets.specs.Class.{upper}
 use Rattle.octets.specs.Words.{same, isEmpty}
 use Rattle.sink.specs.Sink.{Put, put-length, Todo, todo-all, todo-step, todo-done}
-use Rattle.source.specs.Source.{rest}
+use Rattle.source.specs.Source.{rest, cuts}
 use Rattle.schema.specs.Parameters.{ParameterRow}
 use Rattle.lines.specs.ContentLine.{ParamValue, RawParameter, nextValue, nextParam}
 use Rattle.lines.specs.Items.{items}
@@ -46,11 +46,11 @@ module _ {A : Type 0} {f : A → List ℕ} {d₀ : List ℕ} {at₀ : ℕ} {all 
 
 -- ---- the values that follow the first
 
-module _ (p : ParameterRow) {d₀ : List ℕ} {at₀ : ℕ} {all : List ParamValue} {d : List ℕ} {at : ℕ} {s : List ℕ} {c : ℕ} {r : ParamAt}
-    (t : Writing (charsShown p) d₀ at₀ all d at (items nextValue (rest 0 s c))) (v : ValueAt nextValue 0 s c r) where
-  pub value-written : {e : List ℕ} {m : ℕ} → r .there ≡ true → r .ok ≡ true → Put d e at m (valueShown p (rest 0 (take (r .to) s) (r .from))) →
-      Writing (charsShown p) d₀ at₀ all e m (items nextValue (rest 0 s (r .next)))
-  value-written {e} {m} h k w = writing-more t _ _ (value-more v h k) (subst (λ (x : List ℕ). Put d e at m (valueShown p x)) (value-chars v h) w)
+module _ (p : ParameterRow) {d₀ : List ℕ} {at₀ : ℕ} {all : List ParamValue} {d : List ℕ} {at n : ℕ} {s : List ℕ} {c : ℕ} {r : ParamAt}
+    (y : cuts n ≡ true) (t : Writing (charsShown p) d₀ at₀ all d at (items nextValue (rest n s c))) (v : ValueAt nextValue n s c r) where
+  pub value-written : {e : List ℕ} {m : ℕ} → r .there ≡ true → r .ok ≡ true → Put d e at m (valueShown p (rest n (take (r .to) s) (r .from))) →
+      Writing (charsShown p) d₀ at₀ all e m (items nextValue (rest n s (r .next)))
+  value-written {e} {m} h k w = writing-more t _ _ (value-more v h k) (subst (λ (x : List ℕ). Put d e at m (valueShown p x)) (value-chars y v h) w)
 
   pub values-over : r .there ≡ false → Put d₀ d at₀ at (joined (map (charsShown p) all))
   values-over h = writing-end t (value-over v h)
@@ -60,15 +60,15 @@ module _ (p : ParameterRow) {d₀ : List ℕ} {at₀ : ℕ} {all : List ParamVal
 
 -- ---- the parameters of a line
 
-module _ {s : List ℕ} {c : ℕ} {r : ParamRead} (a : ParamOf nextParam 0 s c r) (h : r .there ≡ true) (k : r .ok ≡ true) where
-  pub cut-more : paramsAt 0 s c ≡ paramCut s (r .name) (r .end) (r .first) ∷ paramsAt 0 s (r .next)
-  cut-more = param-more a h k ∙ rw (name-chars (a .named h k))
+module _ {n : ℕ} {s : List ℕ} {c : ℕ} {r : ParamRead} (y : cuts n ≡ true) (a : ParamOf nextParam n s c r) (h : r .there ≡ true) (k : r .ok ≡ true) where
+  pub cut-more : paramsAt n s c ≡ paramCut n s (r .name) (r .end) (r .first) ∷ paramsAt n s (r .next)
+  cut-more = param-more a h k ∙ rw (name-chars y (a .named h k))
 
-module _ {d₀ : List ℕ} {at₀ : ℕ} {all : List RawParameter} {d : List ℕ} {at : ℕ} {s : List ℕ} {c : ℕ} {r : ParamRead}
-    (t : Writing ownShown d₀ at₀ all d at (paramsAt 0 s c)) (a : ParamOf nextParam 0 s c r) where
-  pub param-written : {e : List ℕ} {m : ℕ} → r .there ≡ true → r .ok ≡ true → Put d e at m (ownShown (paramCut s (r .name) (r .end) (r .first))) →
-      Writing ownShown d₀ at₀ all e m (paramsAt 0 s (r .next))
-  param-written h k w = writing-more t _ _ (cut-more a h k) w
+module _ {d₀ : List ℕ} {at₀ : ℕ} {all : List RawParameter} {d : List ℕ} {at n : ℕ} {s : List ℕ} {c : ℕ} {r : ParamRead}
+    (y : cuts n ≡ true) (t : Writing ownShown d₀ at₀ all d at (paramsAt n s c)) (a : ParamOf nextParam n s c r) where
+  pub param-written : {e : List ℕ} {m : ℕ} → r .there ≡ true → r .ok ≡ true → Put d e at m (ownShown (paramCut n s (r .name) (r .end) (r .first))) →
+      Writing ownShown d₀ at₀ all e m (paramsAt n s (r .next))
+  param-written h k w = writing-more t _ _ (cut-more y a h k) w
 
   pub params-over : r .there ≡ false → Put d₀ d at₀ at (joined (map ownShown all))
   params-over h = writing-end t (param-over a h)
@@ -78,15 +78,15 @@ module _ {d₀ : List ℕ} {at₀ : ℕ} {all : List RawParameter} {d : List ℕ
 
 -- ---- whether there is one besides VALUE
 
-module _ {s : List ℕ} {c : ℕ} {v : Bool} {r : ParamRead} (e : v ≡ isEmpty (ownParameters (paramsAt 0 s c))) (a : ParamOf nextParam 0 s c r) where
-  module _ {t : Bool} (h : r .there ≡ true) (k : r .ok ≡ true) (q : t ≡ same (upper (rest 0 (take (r .end) s) (r .name))) (ascii "VALUE")) where
-    pub only-more : t ≡ true → v ≡ isEmpty (ownParameters (paramsAt 0 s (r .next)))
+module _ {n : ℕ} {s : List ℕ} {c : ℕ} {v : Bool} {r : ParamRead} (y : cuts n ≡ true) (e : v ≡ isEmpty (ownParameters (paramsAt n s c))) (a : ParamOf nextParam n s c r) where
+  module _ {t : Bool} (h : r .there ≡ true) (k : r .ok ≡ true) (q : t ≡ same (upper (rest n (take (r .end) s) (r .name))) (ascii "VALUE")) where
+    pub only-more : t ≡ true → v ≡ isEmpty (ownParameters (paramsAt n s (r .next)))
     unfolding ownParameters pick
-    only-more z = e ∙ rw (cut-more a h k, ← q, z)
+    only-more z = e ∙ rw (cut-more y a h k, ← q, z)
 
     pub only-stop : t ≡ false → false ≡ v
     unfolding ownParameters pick
-    only-stop z = sym (e ∙ rw (cut-more a h k, ← q, z))
+    only-stop z = sym (e ∙ rw (cut-more y a h k, ← q, z))
 
   pub only-over : r .there ≡ false → true ≡ v
   unfolding ownParameters

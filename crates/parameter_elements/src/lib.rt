@@ -1,4 +1,4 @@
-// The XML of a line's parameters (RFC 6321, section 3.5), out of bytes as they stand. Definitions and laws are in specs/.
+// The XML of a line's parameters (RFC 6321, section 3.5). Definitions and laws are in specs/.
 mod line;
 mod parameter;
 mod value;

@@ -4,13 +4,16 @@ use elements::put_value_element;
 use elements::put_word_element;
 use lines::next_value;
 use lines::param_value;
+use octets::smaller;
 use schema::parameter_has_words;
 use schema::parameter_type;
+ghost use mathlib.Core.Path.{_≡_};
+ghost use mathlib.Core.Bool.{true};
 ghost use mathlib.Core.List.{map};
 ghost use lib.ListN.{take};
 ghost use Rattle.octets.specs.Append.{joined};
 ghost use Rattle.sink.specs.Sink.{Put};
-ghost use Rattle.source.specs.Source.{rest};
+ghost use Rattle.source.specs.Source.{rest, cuts};
 ghost use Rattle.lines.specs.ContentLine.{nextValue};
 ghost use Rattle.lines.specs.Items.{items};
 ghost use Rattle.lines.specs.Cursor.{valuesAt};
@@ -18,41 +21,50 @@ ghost use Rattle.parameter_elements.specs.Shown.{valueShown, charsShown}
 ghost use Rattle.parameter_elements.specs.Parts.{rowAt};
 
 // The value of the parameter `q` that stands from the cursor on.
-fn put_value(out: &mut [u8], o: usize, q: usize, s: &[u8], at: usize) -> usize
-    ensures { λ r. ⌜ Put (now (out .entry)) (now (out .exit)) o r (valueShown (rowAt q) (rest 0 (now (s .entry)) at)) ⌝ }
+fn put_value(out: &mut [u8], o: usize, q: usize, mode: usize, s: &[u8], at: usize) -> usize
+    requires { ⌜ cuts mode ≡ true ⌝ }
+    ensures { λ r. ⌜ Put (now (out .entry)) (now (out .exit)) o r (valueShown (rowAt q) (rest mode (now (s .entry)) at)) ⌝ }
 {
     let words = parameter_has_words(q);
     if words {
-        return put_word_element(out, o, s, at);
+        return put_word_element(out, o, mode, s, at);
     }
     let t = parameter_type(q);
     if t == 10 {
-        return put_raw_element(out, o, s, at);
+        return put_raw_element(out, o, mode, s, at);
     }
-    put_value_element(out, o, t, s, at)
+    put_value_element(out, o, t, mode, s, at)
 }
 
 // The same from the cursor `from` to the cursor `to`.
-fn put_cut_value(out: &mut [u8], o: usize, q: usize, s: &[u8], from: usize, to: usize) -> usize
-    ensures { λ r. ⌜ Put (now (out .entry)) (now (out .exit)) o r (valueShown (rowAt q) (rest 0 (take to (now (s .entry))) from)) ⌝ }
+fn put_cut_value(
+    out: &mut [u8],
+    o: usize,
+    q: usize,
+    mode: usize,
+    s: &[u8],
+    from: usize,
+    to: usize,
+) -> usize
+    requires { ⌜ cuts mode ≡ true ⌝ }
+    ensures { λ r. ⌜ Put (now (out .entry)) (now (out .exit)) o r (valueShown (rowAt q) (rest mode (take to (now (s .entry))) from)) ⌝ }
 {
-    if to <= s.len() {
-        return put_value(out, o, q, &s[..to], from);
-    }
-    put_value(out, o, q, s, from)
+    let e = smaller(to, s.len());
+    put_value(out, o, q, mode, &s[..e], from)
 }
 
 // All values that follow another.
-fn put_next_values(out: &mut [u8], o: usize, q: usize, s: &[u8], at: usize) -> usize
-    ensures { λ r. ⌜ Put (now (out .entry)) (now (out .exit)) o r (joined (map (charsShown (rowAt q)) (items nextValue (rest 0 (now (s .entry)) at)))) ⌝ }
+fn put_next_values(out: &mut [u8], o: usize, q: usize, mode: usize, s: &[u8], at: usize) -> usize
+    requires { ⌜ cuts mode ≡ true ⌝ }
+    ensures { λ r. ⌜ Put (now (out .entry)) (now (out .exit)) o r (joined (map (charsShown (rowAt q)) (items nextValue (rest mode (now (s .entry)) at)))) ⌝ }
 {
     let mut p = o;
     let mut c = at;
     loop {
-        let v = next_value(0, s, c);
+        let v = next_value(mode, s, c);
         if v.there {
             if v.ok {
-                p = put_cut_value(out, p, q, s, v.from, v.to);
+                p = put_cut_value(out, p, q, mode, s, v.from, v.to);
                 c = v.next;
             } else {
                 return p;
@@ -64,13 +76,14 @@ fn put_next_values(out: &mut [u8], o: usize, q: usize, s: &[u8], at: usize) -> u
 }
 
 // All values of the parameter `q`, from its first on.
-pub fn put_values(out: &mut [u8], o: usize, q: usize, s: &[u8], at: usize) -> usize
-    ensures { λ r. ⌜ Put (now (out .entry)) (now (out .exit)) o r (joined (map (charsShown (rowAt q)) (valuesAt 0 (now (s .entry)) at))) ⌝ }
+pub fn put_values(out: &mut [u8], o: usize, q: usize, mode: usize, s: &[u8], at: usize) -> usize
+    requires { ⌜ cuts mode ≡ true ⌝ }
+    ensures { λ r. ⌜ Put (now (out .entry)) (now (out .exit)) o r (joined (map (charsShown (rowAt q)) (valuesAt mode (now (s .entry)) at))) ⌝ }
 {
-    let v = param_value(0, s, at);
+    let v = param_value(mode, s, at);
     if v.ok {
-        let a = put_cut_value(out, o, q, s, v.from, v.to);
-        return put_next_values(out, a, q, s, v.next);
+        let a = put_cut_value(out, o, q, mode, s, v.from, v.to);
+        return put_next_values(out, a, q, mode, s, v.next);
     }
     o
 }

@@ -105,11 +105,11 @@ module _ {s : List ℕ} {from at i : ℕ} {seen : List (List ℕ)} (f : Fresh s 
 
 -- the first k are collected, in f and t; the others stand from c on
 pub record Collecting (s : List ℕ) (from : ℕ) (f t : List ℕ) (k c : ℕ) : Type 0 where
-  pub kept : (m : ℕ) → m ≤ k → firstNames (nodesAt s from) m ≡ listed m (wordAt s f t) []
-  pub ahead : (j : ℕ) → firstNames (nodesAt s from) (k + j) ≡ listed k (wordAt s f t) (firstNames (nodesAt s c) j)
+  pub kept : (m : ℕ) → m ≤ k → firstNames (nodesAt s from) m ≡ listed m (wordAt 0 s f t) []
+  pub ahead : (j : ℕ) → firstNames (nodesAt s from) (k + j) ≡ listed k (wordAt 0 s f t) (firstNames (nodesAt s c) j)
 
 abbrev pub Collected : List ℕ → ℕ → List ℕ → List ℕ → ℕ → Type 0
-Collected s from f t n = (m : ℕ) → m ≤ n → firstNames (nodesAt s from) m ≡ listed m (wordAt s f t) []
+Collected s from f t n = (m : ℕ) → m ≤ n → firstNames (nodesAt s from) m ≡ listed m (wordAt 0 s f t) []
 
 pub collect-none : (s : List ℕ) (from : ℕ) (f t : List ℕ) → Collected s from f t 0
 unfolding listed
@@ -120,17 +120,17 @@ unfolding listed
 collect-start s from f t = record { kept = collect-none s from f t; ahead = λ j. let z : 0 + j ≡ j = omega arith in rw z }
 
 module _ {s : List ℕ} {from : ℕ} {f t g u : List ℕ} {k c : ℕ} {r : Child} (i : Collecting s from f t k c) (a : ChildAt s c r) (h : r .there ≡ true) (p : Keeps f t k (r .name) (r .«name_end») g u) where
-  ahead-more : (j : ℕ) → firstNames (nodesAt s from) (k + 1 + j) ≡ listed (k + 1) (wordAt s g u) (firstNames (nodesAt s (r .next)) j)
+  ahead-more : (j : ℕ) → firstNames (nodesAt s from) (k + 1 + j) ≡ listed (k + 1) (wordAt 0 s g u) (firstNames (nodesAt s (r .next)) j)
   ahead-more j =
       let z : k + 1 + j ≡ k + (j + 1) = omega arith in
       let n : firstNames (nodesAt s c) (j + 1) ≡ upper (nameOf s (r .name) (r .«name_end»)) ∷ firstNames (nodesAt s (r .next)) j =
       skipped (λ (kids : Nodes). firstNames kids (j + 1)) (skips-first (j + 1)) (nodesAt s c) ∙ ap (λ (kids : Nodes). firstNames kids (j + 1)) (a .some h) ∙ first-more _ _ _ _ _ j in
       let w : upper (nameOf s (r .name) (r .«name_end»)) ≡ upper (rest 0 (take (r .«name_end») s) (r .name)) = rw (rest-part s (r .name) (r .«name_end»)) in
-      rw z (i .ahead (j + 1) ∙ rw (n, w) (keeps-more s p (firstNames (nodesAt s (r .next)) j)))
+      rw z (i .ahead (j + 1) ∙ rw (n, w) (keeps-more 0 s p (firstNames (nodesAt s (r .next)) j)))
 
   pub collect-more : Collecting s from g u (k + 1) (r .next)
   collect-more = record { kept = λ m l. go m l (eqb m (k + 1)) refl; ahead = ahead-more }
     where
-      go : (m : ℕ) → m ≤ k + 1 → (b : Bool) → eqb m (k + 1) ≡ b → firstNames (nodesAt s from) m ≡ listed m (wordAt s g u) []
+      go : (m : ℕ) → m ≤ k + 1 → (b : Bool) → eqb m (k + 1) ≡ b → firstNames (nodesAt s from) m ≡ listed m (wordAt 0 s g u) []
       go m l true e = let z : m ≡ k + 1 + 0 = omega (arith, eqb-true m (k + 1) e) in let y : k + 1 + 0 ≡ k + 1 = omega arith in rw z (ahead-more 0 ∙ rw (first-none (nodesAt s (r .next)), y))
-      go m l false e = let n : m ≤ k = omega (arith, eqb-false m (k + 1) e) in i .kept m n ∙ listed-same m (wordAt s f t) (wordAt s g u) [] (λ j q. keeps-others s p j (omega arith))
+      go m l false e = let n : m ≤ k = omega (arith, eqb-false m (k + 1) e) in i .kept m n ∙ listed-same m (wordAt 0 s f t) (wordAt 0 s g u) [] (λ j q. keeps-others 0 s p j (omega arith))

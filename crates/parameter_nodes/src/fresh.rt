@@ -35,9 +35,9 @@ fn collect(s: &[u8], inside: usize, from: &mut [u16], to: &mut [u16]) -> usize
 
 // How many of the first `n` words are distinct: all, or as many as a search by halves finds.
 fn longest(s: &[u8], from: &[u16], to: &[u16], n: usize) -> usize
-    ensures { λ r. ⌜ (r ≤ n) × (distinct (listed r (wordAt (now (s .entry)) (now (from .entry)) (now (to .entry))) []) ≡ true) ⌝ }
+    ensures { λ r. ⌜ (r ≤ n) × (distinct (listed r (wordAt 0 (now (s .entry)) (now (from .entry)) (now (to .entry))) []) ≡ true) ⌝ }
 {
-    let all = are_distinct(s, from, to, n);
+    let all = are_distinct(0, s, from, to, n);
     if all {
         return n;
     }
@@ -45,7 +45,7 @@ fn longest(s: &[u8], from: &[u16], to: &[u16], n: usize) -> usize
     let mut high = n;
     while 1 < high - low {
         let half = low + (high - low) / 2;
-        let some = are_distinct(s, from, to, half);
+        let some = are_distinct(0, s, from, to, half);
         if some {
             low = half;
         } else {

@@ -9,30 +9,31 @@ use Rattle.lines.specs.ContentLine.{RawParameter, nextParam}
 use Rattle.lines.specs.Cursor.{paramsAt}
 use Rattle.lines.specs.Params.{ParamOf}
 use Rattle.lines.specs.declared.ParamRead.{ParamRead}
+use Rattle.source.specs.Source.{cuts}
 use Rattle.distinct.specs.Listed.{wordAt, listed}
 use Rattle.distinct.specs.Keeping.{Keeps, keeps-more}
 use Rattle.distinct.specs.declared.Kept.{Kept}
 use Rattle.parameters.specs.Cutting.{params-step, params-over, params-fault}
 use Rattle.parameters.specs.Comparing.{namesOf}
 
-pub record Collecting (s : List ℕ) (e : ℕ) (f t : List ℕ) (k c : ℕ) : Type 0 where
-  pub are : namesOf (paramsAt 0 s e) ≡ listed k (wordAt s f t) (namesOf (paramsAt 0 s c))
+pub record Collecting (m : ℕ) (s : List ℕ) (e : ℕ) (f t : List ℕ) (k c : ℕ) : Type 0 where
+  pub are : namesOf (paramsAt m s e) ≡ listed k (wordAt m s f t) (namesOf (paramsAt m s c))
 
-abbrev pub Collected : List ℕ → ℕ → List ℕ → List ℕ → Kept → Type 0
-Collected s e f t r = r .all ≡ true → namesOf (paramsAt 0 s e) ≡ listed (r .n) (wordAt s f t) []
+abbrev pub Collected : ℕ → List ℕ → ℕ → List ℕ → List ℕ → Kept → Type 0
+Collected m s e f t r = r .all ≡ true → namesOf (paramsAt m s e) ≡ listed (r .n) (wordAt m s f t) []
 
-pub collect-start : (s : List ℕ) (e : ℕ) (f t : List ℕ) → Collecting s e f t 0 e
+pub collect-start : (m : ℕ) (s : List ℕ) (e : ℕ) (f t : List ℕ) → Collecting m s e f t 0 e
 unfolding listed
-collect-start s e f t = record { are = refl }
+collect-start m s e f t = record { are = refl }
 
-module _ {s : List ℕ} {e : ℕ} {f t : List ℕ} {k c : ℕ} {r : ParamRead} (i : Collecting s e f t k c) (a : ParamOf nextParam 0 s c r) where
-  pub collect-more : {g u : List ℕ} → r .there ≡ true → r .ok ≡ true → Keeps f t k (r .name) (r .end) g u → Collecting s e g u (k + 1) (r .next)
+module _ {m : ℕ} {s : List ℕ} {e : ℕ} {f t : List ℕ} {k c : ℕ} {r : ParamRead} (y : cuts m ≡ true) (i : Collecting m s e f t k c) (a : ParamOf nextParam m s c r) where
+  pub collect-more : {g u : List ℕ} → r .there ≡ true → r .ok ≡ true → Keeps f t k (r .name) (r .end) g u → Collecting m s e g u (k + 1) (r .next)
   collect-more h j p = record {
-    are = params-step (λ (rs : List RawParameter). listed k (wordAt s f t) (namesOf rs)) (i .are) a h j ∙ keeps-more s p (namesOf (paramsAt 0 s (r .next)));
+    are = params-step y (λ (rs : List RawParameter). listed k (wordAt m s f t) (namesOf rs)) (i .are) a h j ∙ keeps-more m s p (namesOf (paramsAt m s (r .next)));
   }
 
-  pub collect-over : r .there ≡ false → namesOf (paramsAt 0 s e) ≡ listed k (wordAt s f t) []
-  collect-over h = params-over (λ (rs : List RawParameter). listed k (wordAt s f t) (namesOf rs)) (i .are) a h
+  pub collect-over : r .there ≡ false → namesOf (paramsAt m s e) ≡ listed k (wordAt m s f t) []
+  collect-over h = params-over y (λ (rs : List RawParameter). listed k (wordAt m s f t) (namesOf rs)) (i .are) a h
 
-  pub collect-fault : r .there ≡ true → r .ok ≡ false → namesOf (paramsAt 0 s e) ≡ listed k (wordAt s f t) []
-  collect-fault h j = params-fault (λ (rs : List RawParameter). listed k (wordAt s f t) (namesOf rs)) (i .are) a h j
+  pub collect-fault : r .there ≡ true → r .ok ≡ false → namesOf (paramsAt m s e) ≡ listed k (wordAt m s f t) []
+  collect-fault h j = params-fault y (λ (rs : List RawParameter). listed k (wordAt m s f t) (namesOf rs)) (i .are) a h j

@@ -12,7 +12,7 @@ use lib.ListN.{length, take}
 use Rattle.octets.specs.Class.{upper}
 use Rattle.octets.specs.Words.{isEmpty}
 use Rattle.octets.specs.Scan.{take-least}
-use Rattle.source.specs.Source.{rest}
+use Rattle.source.specs.Source.{rest, cuts}
 use Rattle.lines.specs.ContentLine.{ParamValue, RawParameter, paramValue, nextValue, nextParam}
 use Rattle.lines.specs.Items.{items}
 use Rattle.lines.specs.Cursor.{valuesOf, valuesAt, paramsAt}
@@ -22,20 +22,20 @@ use Rattle.lines.specs.Params.{ParamOf, name-chars, param-more, param-over, par
 use Rattle.lines.specs.declared.ParamAt.{ParamAt}
 use Rattle.lines.specs.declared.ParamRead.{ParamRead}
 
-pub cut-at : {A : Type 0} (f : List ℕ → A) {r : A} {e : ℕ} (s : List ℕ) (c to : ℕ) → e ≡ min to (length s) → r ≡ f (rest 0 (take e s) c) → r ≡ f (rest 0 (take to s) c)
-cut-at f s c to h p = p ∙ ap (λ (l : List ℕ). f (rest 0 l c)) (rw h (take-least s to))
+pub cut-at : {A : Type 0} (f : List ℕ → A) {r : A} {e : ℕ} (m : ℕ) (s : List ℕ) (c to : ℕ) → e ≡ min to (length s) → r ≡ f (rest m (take e s) c) → r ≡ f (rest m (take to s) c)
+cut-at f m s c to h p = p ∙ ap (λ (l : List ℕ). f (rest m l c)) (rw h (take-least s to))
 
 -- ---- parameters
 
-abbrev pub nameCut : List ℕ → ℕ → ℕ → List ℕ
-nameCut s name end = upper (rest 0 (take end s) name)
+abbrev pub nameCut : ℕ → List ℕ → ℕ → ℕ → List ℕ
+nameCut m s name end = upper (rest m (take end s) name)
 
-abbrev pub paramCut : List ℕ → ℕ → ℕ → ℕ → RawParameter
-paramCut s name end first = record { name = rest 0 (take end s) name; values = valuesAt 0 s first }
+abbrev pub paramCut : ℕ → List ℕ → ℕ → ℕ → ℕ → RawParameter
+paramCut m s name end first = record { name = rest m (take end s) name; values = valuesAt m s first }
 
-module _ {A : Type 0} (F : List RawParameter → A) {v : A} {s : List ℕ} {c : ℕ} {r : ParamRead} (e : v ≡ F (paramsAt 0 s c)) (a : ParamOf nextParam 0 s c r) where
-  pub params-step : r .there ≡ true → r .ok ≡ true → v ≡ F (paramCut s (r .name) (r .end) (r .first) ∷ paramsAt 0 s (r .next))
-  params-step h k = e ∙ ap F (param-more a h k) ∙ rw (name-chars (a .named h k))
+module _ {m : ℕ} (y : cuts m ≡ true) {A : Type 0} (F : List RawParameter → A) {v : A} {s : List ℕ} {c : ℕ} {r : ParamRead} (e : v ≡ F (paramsAt m s c)) (a : ParamOf nextParam m s c r) where
+  pub params-step : r .there ≡ true → r .ok ≡ true → v ≡ F (paramCut m s (r .name) (r .end) (r .first) ∷ paramsAt m s (r .next))
+  params-step h k = e ∙ ap F (param-more a h k) ∙ rw (name-chars y (a .named h k))
 
   pub params-over : r .there ≡ false → v ≡ F []
   params-over h = e ∙ ap F (param-over a h)
@@ -45,20 +45,20 @@ module _ {A : Type 0} (F : List RawParameter → A) {v : A} {s : List ℕ} {c : 
 
 -- ---- values
 
-abbrev pub valueCut : List ℕ → Bool → ℕ → ℕ → ParamValue
-valueCut s quoted from to = record { quoted = quoted; chars = rest 0 (take to s) from }
+abbrev pub valueCut : ℕ → List ℕ → Bool → ℕ → ℕ → ParamValue
+valueCut m s quoted from to = record { quoted = quoted; chars = rest m (take to s) from }
 
-module _ {s : List ℕ} {c : ℕ} {r : ParamAt} (v : ValueAt paramValue 0 s c r) where
-  pub values-first : r .ok ≡ true → valuesAt 0 s c ≡ valueCut s (r .quoted) (r .from) (r .to) ∷ items nextValue (rest 0 s (r .next))
-  values-first h = value-first v h ∙ rw (value-chars v (value-there v))
+module _ {m : ℕ} {s : List ℕ} {c : ℕ} {r : ParamAt} (y : cuts m ≡ true) (v : ValueAt paramValue m s c r) where
+  pub values-first : r .ok ≡ true → valuesAt m s c ≡ valueCut m s (r .quoted) (r .from) (r .to) ∷ items nextValue (rest m s (r .next))
+  values-first h = value-first v h ∙ rw (value-chars y v (value-there v))
 
-  pub values-none : r .ok ≡ false → valuesAt 0 s c ≡ []
+  pub values-none : r .ok ≡ false → valuesAt m s c ≡ []
   unfolding valuesOf
   values-none h = rw (item-bad (v .item) (value-there v) h)
 
-module _ {A : Type 0} (F : List ParamValue → A) {x : A} {s : List ℕ} {c : ℕ} {r : ParamAt} (e : x ≡ F (items nextValue (rest 0 s c))) (v : ValueAt nextValue 0 s c r) where
-  pub values-step : r .there ≡ true → r .ok ≡ true → x ≡ F (valueCut s (r .quoted) (r .from) (r .to) ∷ items nextValue (rest 0 s (r .next)))
-  values-step h k = e ∙ ap F (value-more v h k) ∙ rw (value-chars v h)
+module _ {m : ℕ} (y : cuts m ≡ true) {A : Type 0} (F : List ParamValue → A) {x : A} {s : List ℕ} {c : ℕ} {r : ParamAt} (e : x ≡ F (items nextValue (rest m s c))) (v : ValueAt nextValue m s c r) where
+  pub values-step : r .there ≡ true → r .ok ≡ true → x ≡ F (valueCut m s (r .quoted) (r .from) (r .to) ∷ items nextValue (rest m s (r .next)))
+  values-step h k = e ∙ ap F (value-more v h k) ∙ rw (value-chars y v h)
 
   pub values-over : r .there ≡ false → x ≡ F []
   values-over h = e ∙ ap F (value-over v h)
@@ -67,12 +67,12 @@ module _ {A : Type 0} (F : List ParamValue → A) {x : A} {s : List ℕ} {c : �
   values-fault h k = e ∙ ap F (value-fault v h k)
 
 -- whether a value follows
-module _ {s : List ℕ} {c : ℕ} {r : ParamAt} (v : ValueAt nextValue 0 s c r) where
-  pub last-more : r .there ≡ true → r .ok ≡ true → false ≡ isEmpty (items nextValue (rest 0 s c))
-  last-more h k = sym (values-step isEmpty refl v h k)
+module _ {m : ℕ} {s : List ℕ} {c : ℕ} {r : ParamAt} (y : cuts m ≡ true) (v : ValueAt nextValue m s c r) where
+  pub last-more : r .there ≡ true → r .ok ≡ true → false ≡ isEmpty (items nextValue (rest m s c))
+  last-more h k = sym (values-step y isEmpty refl v h k)
 
-  pub last-fault : r .there ≡ true → r .ok ≡ false → true ≡ isEmpty (items nextValue (rest 0 s c))
-  last-fault h k = sym (values-fault isEmpty refl v h k)
+  pub last-fault : r .there ≡ true → r .ok ≡ false → true ≡ isEmpty (items nextValue (rest m s c))
+  last-fault h k = sym (values-fault y isEmpty refl v h k)
 
-  pub last-over : r .there ≡ false → true ≡ isEmpty (items nextValue (rest 0 s c))
-  last-over h = sym (values-over isEmpty refl v h)
+  pub last-over : r .there ≡ false → true ≡ isEmpty (items nextValue (rest m s c))
+  last-over h = sym (values-over y isEmpty refl v h)

@@ -14,7 +14,7 @@ use Rattle.octets.specs.Class.{upper}
 use Rattle.octets.specs.Words.{same, isEmpty}
 use Rattle.octets.specs.Lists.{every, anyOne, distinct}
 use Rattle.octets.specs.Reading.{isRead}
-use Rattle.source.specs.Source.{rest}
+use Rattle.source.specs.Source.{rest, cuts}
 use Rattle.names.specs.Table.{placeOf}
 use Rattle.schema.specs.Types.{sameType}
 use Rattle.schema.specs.Properties.{propertyNames, permitsParameter}
@@ -62,16 +62,16 @@ module _ {b : Bool} (n : List ℕ) (e : b ≡ same n (ascii "VALUE")) where
   pub permits-other : {r : Bool} {q : ℕ} (p t : ℕ) → b ≡ false → q ≡ placeOf n parameterNames → r ≡ permitsAt p t q → r ≡ permitsName p t n
   permits-other p t h k f = or-skip _ _ _ (sym e ∙ h) (f ∙ rw k)
 
-module _ (w : List ℕ) {s : List ℕ} {c : ℕ} {r : ParamAt} (v : ValueAt paramValue 0 s c r) where
-  module _ {b : Bool} (h : r .ok ≡ true) (e : b ≡ same (nameCut s (r .from) (r .to)) w) where
-    pub word-one : {a : Bool} → b ≡ true → a ≡ isEmpty (items nextValue (rest 0 s (r .next))) → a ≡ isWord w (valuesAt 0 s c)
-    word-one k f = and-go _ _ _ (sym e ∙ k) f ∙ sym (ap (isWord w) (values-first v h))
+module _ {m : ℕ} (y : cuts m ≡ true) (w : List ℕ) {s : List ℕ} {c : ℕ} {r : ParamAt} (v : ValueAt paramValue m s c r) where
+  module _ {b : Bool} (h : r .ok ≡ true) (e : b ≡ same (nameCut m s (r .from) (r .to)) w) where
+    pub word-one : {a : Bool} → b ≡ true → a ≡ isEmpty (items nextValue (rest m s (r .next))) → a ≡ isWord w (valuesAt m s c)
+    word-one k f = and-go _ _ _ (sym e ∙ k) f ∙ sym (ap (isWord w) (values-first y v h))
 
-    pub word-other : b ≡ false → false ≡ isWord w (valuesAt 0 s c)
-    word-other k = and-stop _ _ (sym e ∙ k) ∙ sym (ap (isWord w) (values-first v h))
+    pub word-other : b ≡ false → false ≡ isWord w (valuesAt m s c)
+    word-other k = and-stop _ _ (sym e ∙ k) ∙ sym (ap (isWord w) (values-first y v h))
 
-  pub word-none : r .ok ≡ false → false ≡ isWord w (valuesAt 0 s c)
-  word-none h = sym (ap (isWord w) (values-none v h))
+  pub word-none : r .ok ≡ false → false ≡ isWord w (valuesAt m s c)
+  word-none h = sym (ap (isWord w) (values-none y v h))
 
 module _ {t : ℕ} (a : Bool) where
   pub encoded-binary : {r : Bool} → t ≡ 0 → r ≡ a → r ≡ (not (eqb t 0) or a)

@@ -15,7 +15,7 @@ use Rattle.octets.specs.Words.{same, isEmpty}
 use Rattle.octets.specs.Lists.{every}
 use Rattle.octets.specs.Reading.{isRead, andThen, consRead, readEach}
 use Rattle.model.specs.Calendar.{Value, Parameter}
-use Rattle.source.specs.Source.{rest}
+use Rattle.source.specs.Source.{rest, cuts}
 use Rattle.names.specs.Table.{placeOf}
 use Rattle.schema.specs.Parameters.{ParameterRow, parameterNames, isListedParameter}
 use Rattle.schema.specs.Numbers.{parameterAt, parameter-place}
@@ -79,27 +79,27 @@ all-read rs = each-read readParameter (λ r. isRead (readParameter r)) (λ r. re
 -- ---- for code
 
 -- the values of a parameter, tested one by one
-module _ (p : ParamValue → Bool) {s : List ℕ} {c : ℕ} {r : ParamAt} {t : Bool} (q : t ≡ p (valueCut s (r .quoted) (r .from) (r .to))) where
-  module _ (v : ValueAt paramValue 0 s c r) (h : r .ok ≡ true) where
-    pub first-go : {b : Bool} → t ≡ true → b ≡ every p (items nextValue (rest 0 s (r .next))) → b ≡ every p (valuesAt 0 s c)
-    first-go z e = e ∙ sym (ap (every p) (values-first v h) ∙ every-go p _ _ q z)
+module _ {m : ℕ} (y : cuts m ≡ true) (p : ParamValue → Bool) {s : List ℕ} {c : ℕ} {r : ParamAt} {t : Bool} (q : t ≡ p (valueCut m s (r .quoted) (r .from) (r .to))) where
+  module _ (v : ValueAt paramValue m s c r) (h : r .ok ≡ true) where
+    pub first-go : {b : Bool} → t ≡ true → b ≡ every p (items nextValue (rest m s (r .next))) → b ≡ every p (valuesAt m s c)
+    first-go z e = e ∙ sym (ap (every p) (values-first y v h) ∙ every-go p _ _ q z)
 
-    pub first-halt : t ≡ false → false ≡ every p (valuesAt 0 s c)
-    first-halt z = sym (ap (every p) (values-first v h) ∙ every-halt p _ _ q z)
+    pub first-halt : t ≡ false → false ≡ every p (valuesAt m s c)
+    first-halt z = sym (ap (every p) (values-first y v h) ∙ every-halt p _ _ q z)
 
-  module _ {b : Bool} (e : b ≡ every p (items nextValue (rest 0 s c))) (v : ValueAt nextValue 0 s c r) (h : r .there ≡ true) (k : r .ok ≡ true) where
-    pub later-go : t ≡ true → b ≡ every p (items nextValue (rest 0 s (r .next)))
-    later-go z = values-step (every p) e v h k ∙ every-go p _ _ q z
+  module _ {b : Bool} (e : b ≡ every p (items nextValue (rest m s c))) (v : ValueAt nextValue m s c r) (h : r .there ≡ true) (k : r .ok ≡ true) where
+    pub later-go : t ≡ true → b ≡ every p (items nextValue (rest m s (r .next)))
+    later-go z = values-step y (every p) e v h k ∙ every-go p _ _ q z
 
     pub later-halt : t ≡ false → false ≡ b
-    later-halt z = sym (values-step (every p) e v h k ∙ every-halt p _ _ q z)
+    later-halt z = sym (values-step y (every p) e v h k ∙ every-halt p _ _ q z)
 
-module _ {s : List ℕ} {c : ℕ} {r : ParamAt} (v : ValueAt paramValue 0 s c r) where
-  pub single-first : {b : Bool} → r .ok ≡ true → b ≡ isEmpty (items nextValue (rest 0 s (r .next))) → b ≡ isSingle (valuesAt 0 s c)
-  single-first h e = e ∙ sym (ap isSingle (values-first v h))
+module _ {m : ℕ} {s : List ℕ} {c : ℕ} {r : ParamAt} (y : cuts m ≡ true) (v : ValueAt paramValue m s c r) where
+  pub single-first : {b : Bool} → r .ok ≡ true → b ≡ isEmpty (items nextValue (rest m s (r .next))) → b ≡ isSingle (valuesAt m s c)
+  single-first h e = e ∙ sym (ap isSingle (values-first y v h))
 
-  pub single-none : r .ok ≡ false → false ≡ isSingle (valuesAt 0 s c)
-  single-none h = sym (ap isSingle (values-none v h))
+  pub single-none : r .ok ≡ false → false ≡ isSingle (valuesAt m s c)
+  single-none h = sym (ap isSingle (values-none y v h))
 
 module _ (n : List ℕ) (vs : List ParamValue) {b : Bool} (e : b ≡ same (upper n) (ascii "VALUE")) where
   pub readable-value : b ≡ true → true ≡ isReadable (record { name = n; values = vs })

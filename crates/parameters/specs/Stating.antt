@@ -15,7 +15,7 @@ use Rattle.octets.specs.Pick.{pick}
 use Rattle.octets.specs.Class.{upper}
 use Rattle.octets.specs.Words.{same, isEmpty}
 use Rattle.model.specs.Calendar.{ValueType, UNKNOWN}
-use Rattle.source.specs.Source.{rest}
+use Rattle.source.specs.Source.{rest, cuts}
 use Rattle.names.specs.Table.{placeOf, nth}
 use Rattle.schema.specs.Types.{valueTypes, typeNamed, typePlace, place-type}
 use Rattle.schema.specs.Properties.{PropertyRow, propertyNames}
@@ -81,48 +81,48 @@ type-at u {t} e = record {
 
 -- ---- VALUE's one value
 
-module _ {s : List ℕ} {c : ℕ} {r : ParamAt} (v : ValueAt paramValue 0 s c r) where
-  module _ {b : Bool} (h : r .ok ≡ true) (e : b ≡ isEmpty (items nextValue (rest 0 s (r .next)))) where
-    pub value-single : {t : TypeRead} → b ≡ true → TypeOf (typeNamed (upper (rest 0 (take (r .to) s) (r .from)))) t → TypeOf (typeIn (valuesAt 0 s c)) t
+module _ {m : ℕ} {s : List ℕ} {c : ℕ} {r : ParamAt} (y : cuts m ≡ true) (v : ValueAt paramValue m s c r) where
+  module _ {b : Bool} (h : r .ok ≡ true) (e : b ≡ isEmpty (items nextValue (rest m s (r .next)))) where
+    pub value-single : {t : TypeRead} → b ≡ true → TypeOf (typeNamed (upper (rest m (take (r .to) s) (r .from)))) t → TypeOf (typeIn (valuesAt m s c)) t
     unfolding pick
-    value-single k p = rw (values-first v h, ← e, k) p
+    value-single k p = rw (values-first y v h, ← e, k) p
 
-    pub value-several : b ≡ false → TypeOf (typeIn (valuesAt 0 s c)) Bad
+    pub value-several : b ≡ false → TypeOf (typeIn (valuesAt m s c)) Bad
     unfolding pick
-    value-several k = type-bad (rw (values-first v h, ← e, k))
+    value-several k = type-bad (rw (values-first y v h, ← e, k))
 
-  pub value-none : r .ok ≡ false → TypeOf (typeIn (valuesAt 0 s c)) Bad
-  value-none h = type-bad (rw (values-none v h))
+  pub value-none : r .ok ≡ false → TypeOf (typeIn (valuesAt m s c)) Bad
+  value-none h = type-bad (rw (values-none y v h))
 
 -- ---- the parameters of a line
 
-pub record StatedAt (p : ℕ) (s : List ℕ) (e : ℕ) (r : TypeRead) : Type 0 where
-  pub is : (w : List ℕ) → p ≡ placeOf w propertyNames → statedType w (paramsAt 0 s e) ≡ typeRead r
+pub record StatedAt (p m : ℕ) (s : List ℕ) (e : ℕ) (r : TypeRead) : Type 0 where
+  pub is : (w : List ℕ) → p ≡ placeOf w propertyNames → statedType w (paramsAt m s e) ≡ typeRead r
   pub known : (t : ℕ) → r ≡ Known t → t ≤ 14
 
 -- VALUE is not among those before c
-pub record Stating (s : List ℕ) (e c : ℕ) : Type 0 where
-  pub is : (w : List ℕ) → statedType w (paramsAt 0 s e) ≡ statedType w (paramsAt 0 s c)
+pub record Stating (m : ℕ) (s : List ℕ) (e c : ℕ) : Type 0 where
+  pub is : (w : List ℕ) → statedType w (paramsAt m s e) ≡ statedType w (paramsAt m s c)
 
-pub stated-start : (s : List ℕ) (e : ℕ) → Stating s e e
-stated-start s e = record { is = λ w. refl }
+pub stated-start : (m : ℕ) (s : List ℕ) (e : ℕ) → Stating m s e e
+stated-start m s e = record { is = λ w. refl }
 
-module _ {s : List ℕ} {e c : ℕ} {r : ParamRead} (i : Stating s e c) (a : ParamOf nextParam 0 s c r) where
-  module _ {b : Bool} (h : r .there ≡ true) (k : r .ok ≡ true) (q : b ≡ same (upper (rest 0 (take (r .end) s) (r .name))) (ascii "VALUE")) where
-    pub stated-more : b ≡ false → Stating s e (r .next)
+module _ {m : ℕ} {s : List ℕ} {e c : ℕ} {r : ParamRead} (y : cuts m ≡ true) (i : Stating m s e c) (a : ParamOf nextParam m s c r) where
+  module _ {b : Bool} (h : r .there ≡ true) (k : r .ok ≡ true) (q : b ≡ same (upper (rest m (take (r .end) s) (r .name))) (ascii "VALUE")) where
+    pub stated-more : b ≡ false → Stating m s e (r .next)
     unfolding statedType pick
-    stated-more z = record { is = λ w. params-step (statedType w) (i .is w) a h k ∙ rw (← q, z) }
+    stated-more z = record { is = λ w. params-step y (statedType w) (i .is w) a h k ∙ rw (← q, z) }
 
-    pub stated-here : {t : TypeRead} (p : ℕ) → b ≡ true → TypeOf (typeIn (valuesAt 0 s (r .first))) t → StatedAt p s e t
+    pub stated-here : {t : TypeRead} (p : ℕ) → b ≡ true → TypeOf (typeIn (valuesAt m s (r .first))) t → StatedAt p m s e t
     unfolding statedType pick
-    stated-here p z o = record { is = λ w u. params-step (statedType w) (i .is w) a h k ∙ rw (← q, z) (o .is); known = o .known }
+    stated-here p z o = record { is = λ w u. params-step y (statedType w) (i .is w) a h k ∙ rw (← q, z) (o .is); known = o .known }
 
-  ended : {t : TypeRead} (p : ℕ) → ((w : List ℕ) → statedType w (paramsAt 0 s e) ≡ statedType w []) → TypeOf (some (propertyAt p .default)) t → StatedAt p s e t
+  ended : {t : TypeRead} (p : ℕ) → ((w : List ℕ) → statedType w (paramsAt m s e) ≡ statedType w []) → TypeOf (some (propertyAt p .default)) t → StatedAt p m s e t
   unfolding statedType
   ended p f o = record { is = λ w u. f w ∙ ap (λ (x : PropertyRow). some (x .default)) (property-place w) ∙ rw (← u) (o .is); known = o .known }
 
-  pub stated-over : {t : TypeRead} (p : ℕ) → r .there ≡ false → TypeOf (some (propertyAt p .default)) t → StatedAt p s e t
-  stated-over p h = ended p (λ w. params-over (statedType w) (i .is w) a h)
+  pub stated-over : {t : TypeRead} (p : ℕ) → r .there ≡ false → TypeOf (some (propertyAt p .default)) t → StatedAt p m s e t
+  stated-over p h = ended p (λ w. params-over y (statedType w) (i .is w) a h)
 
-  pub stated-fault : {t : TypeRead} (p : ℕ) → r .there ≡ true → r .ok ≡ false → TypeOf (some (propertyAt p .default)) t → StatedAt p s e t
-  stated-fault p h k = ended p (λ w. params-fault (statedType w) (i .is w) a h k)
+  pub stated-fault : {t : TypeRead} (p : ℕ) → r .there ≡ true → r .ok ≡ false → TypeOf (some (propertyAt p .default)) t → StatedAt p m s e t
+  stated-fault p h k = ended p (λ w. params-fault y (statedType w) (i .is w) a h k)

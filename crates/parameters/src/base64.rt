@@ -4,47 +4,52 @@ use crate::several::is_last;
 use lines::next_param;
 use lines::param_value;
 ghost use mathlib.Core.Path.{_≡_};
+ghost use mathlib.Core.Bool.{true};
 ghost use Rattle.octets.specs.Ascii.{ascii};
 ghost use Rattle.octets.specs.Lists.{anyOne};
+ghost use Rattle.source.specs.Source.{cuts};
 ghost use Rattle.lines.specs.Cursor.{valuesAt, paramsAt};
 ghost use Rattle.ical.specs.Parameters.{isWord, isBase64};
 ghost use Rattle.parameters.specs.Cutting.{paramCut};
 
 // The one value is BASE64.
-fn is_base64_value(s: &[u8], first: usize) -> bool
-    ensures { λ r. ⌜ r ≡ isWord (ascii "BASE64") (valuesAt 0 (now (s .entry)) first) ⌝ }
+fn is_base64_value(mode: usize, s: &[u8], first: usize) -> bool
+    requires { ⌜ cuts mode ≡ true ⌝ }
+    ensures { λ r. ⌜ r ≡ isWord (ascii "BASE64") (valuesAt mode (now (s .entry)) first) ⌝ }
 {
-    let v = param_value(0, s, first);
+    let v = param_value(mode, s, first);
     if v.ok {
-        let base64 = is_named(s, v.from, v.to, b"BASE64");
+        let base64 = is_named(mode, s, v.from, v.to, b"BASE64");
         if base64 {
-            return is_last(s, v.next);
+            return is_last(mode, s, v.next);
         }
         return false;
     }
     false
 }
 
-fn is_base64(s: &[u8], name: usize, end: usize, first: usize) -> bool
-    ensures { λ r. ⌜ r ≡ isBase64 (paramCut (now (s .entry)) name end first) ⌝ }
+fn is_base64(mode: usize, s: &[u8], name: usize, end: usize, first: usize) -> bool
+    requires { ⌜ cuts mode ≡ true ⌝ }
+    ensures { λ r. ⌜ r ≡ isBase64 (paramCut mode (now (s .entry)) name end first) ⌝ }
 {
-    let encoding = is_named(s, name, end, b"ENCODING");
+    let encoding = is_named(mode, s, name, end, b"ENCODING");
     if encoding {
-        return is_base64_value(s, first);
+        return is_base64_value(mode, s, first);
     }
     false
 }
 
 // A parameter from the cursor `e` on is ENCODING=BASE64.
-pub fn has_base64(s: &[u8], e: usize) -> bool
-    ensures { λ r. ⌜ r ≡ anyOne isBase64 (paramsAt 0 (now (s .entry)) e) ⌝ }
+pub fn has_base64(mode: usize, s: &[u8], e: usize) -> bool
+    requires { ⌜ cuts mode ≡ true ⌝ }
+    ensures { λ r. ⌜ r ≡ anyOne isBase64 (paramsAt mode (now (s .entry)) e) ⌝ }
 {
     let mut c = e;
     loop {
-        let a = next_param(0, s, c);
+        let a = next_param(mode, s, c);
         if a.there {
             if a.ok {
-                let found = is_base64(s, a.name, a.end, a.first);
+                let found = is_base64(mode, s, a.name, a.end, a.first);
                 if found {
                     return true;
                 }

@@ -12,24 +12,24 @@ ghost use Rattle.names.specs.Table.{placeOf};
 ghost use Rattle.schema.specs.Parameters.{parameterNames};
 
 // The word is `w`, which has no small letters, in any case.
-pub fn is_named(s: &[u8], from: usize, to: usize, w: &[u8]) -> bool
-    ensures { λ r. ⌜ r ≡ same (upper (rest 0 (take to (now (s .entry))) from)) (now (w .entry)) ⌝ }
+pub fn is_named(mode: usize, s: &[u8], from: usize, to: usize, w: &[u8]) -> bool
+    ensures { λ r. ⌜ r ≡ same (upper (rest mode (take to (now (s .entry))) from)) (now (w .entry)) ⌝ }
 {
     let e = smaller(to, s.len());
-    is_word_any_case(0, &s[..e], from, w)
+    is_word_any_case(mode, &s[..e], from, w)
 }
 
 // The name is VALUE.
-pub fn is_value_name(s: &[u8], from: usize, to: usize) -> bool
-    ensures { λ r. ⌜ r ≡ same (upper (rest 0 (take to (now (s .entry))) from)) (ascii "VALUE") ⌝ }
+pub fn is_value_name(mode: usize, s: &[u8], from: usize, to: usize) -> bool
+    ensures { λ r. ⌜ r ≡ same (upper (rest mode (take to (now (s .entry))) from)) (ascii "VALUE") ⌝ }
 {
-    is_named(s, from, to, b"VALUE")
+    is_named(mode, s, from, to, b"VALUE")
 }
 
 // The number of a parameter's name.
-pub fn number_of(s: &[u8], from: usize, to: usize) -> usize
-    ensures { λ r. ⌜ r ≡ placeOf (upper (rest 0 (take to (now (s .entry))) from)) parameterNames ⌝ }
+pub fn number_of(mode: usize, s: &[u8], from: usize, to: usize) -> usize
+    ensures { λ r. ⌜ r ≡ placeOf (upper (rest mode (take to (now (s .entry))) from)) parameterNames ⌝ }
 {
     let e = smaller(to, s.len());
-    parameter_number(0, &s[..e], from)
+    parameter_number(mode, &s[..e], from)
 }

@@ -7,7 +7,7 @@ use crate::read::are_read;
 use lines::next_param;
 use schema::permits_parameter;
 ghost use mathlib.Core.Path.{_≡_};
-ghost use mathlib.Core.Bool.{not};
+ghost use mathlib.Core.Bool.{true, not};
 ghost use mathlib.Core.List.{List};
 ghost use Prim.Native.Nat.{ℕ, _≤_};
 ghost use lib.Dec.{eqb};
@@ -16,33 +16,36 @@ ghost use Rattle.octets.specs.Lists.{every, anyOne};
 ghost use Rattle.names.specs.Table.{placeOf};
 ghost use Rattle.schema.specs.Properties.{propertyNames};
 ghost use Rattle.schema.specs.Numbers.{typeAt};
+ghost use Rattle.source.specs.Source.{cuts};
 ghost use Rattle.lines.specs.Cursor.{paramsAt};
 ghost use Rattle.ical.specs.Parameters.{isBase64, parametersGood};
 ghost use Rattle.parameters.specs.Cutting.{nameCut};
 ghost use Rattle.parameters.specs.Permitted.{permitsName, permitsIt, goodAt};
 
 // The name is VALUE, or that of a parameter which the property `p`, whose values have the type `t`, permits.
-fn is_permitted(p: usize, t: usize, s: &[u8], name: usize, end: usize) -> bool
-    ensures { λ r. ⌜ r ≡ permitsName p t (nameCut (now (s .entry)) name end) ⌝ }
+fn is_permitted(p: usize, t: usize, mode: usize, s: &[u8], name: usize, end: usize) -> bool
+    requires { ⌜ cuts mode ≡ true ⌝ }
+    ensures { λ r. ⌜ r ≡ permitsName p t (nameCut mode (now (s .entry)) name end) ⌝ }
 {
-    let value = is_value_name(s, name, end);
+    let value = is_value_name(mode, s, name, end);
     if value {
         return true;
     }
-    let q = number_of(s, name, end);
+    let q = number_of(mode, s, name, end);
     permits_parameter(p, t, q)
 }
 
 // All parameters from the cursor `e` on are permitted.
-fn are_permitted(p: usize, t: usize, s: &[u8], e: usize) -> bool
-    ensures { λ r. ⌜ r ≡ every (permitsIt p t) (paramsAt 0 (now (s .entry)) e) ⌝ }
+fn are_permitted(p: usize, t: usize, mode: usize, s: &[u8], e: usize) -> bool
+    requires { ⌜ cuts mode ≡ true ⌝ }
+    ensures { λ r. ⌜ r ≡ every (permitsIt p t) (paramsAt mode (now (s .entry)) e) ⌝ }
 {
     let mut c = e;
     loop {
-        let a = next_param(0, s, c);
+        let a = next_param(mode, s, c);
         if a.there {
             if a.ok {
-                let good = is_permitted(p, t, s, a.name, a.end);
+                let good = is_permitted(p, t, mode, s, a.name, a.end);
                 if good {
                     c = a.next;
                 } else {
@@ -58,25 +61,27 @@ fn are_permitted(p: usize, t: usize, s: &[u8], e: usize) -> bool
 }
 
 // BINARY, the type of number 0, has ENCODING=BASE64.
-fn is_encoded(t: usize, s: &[u8], e: usize) -> bool
-    ensures { λ r. ⌜ r ≡ (not (eqb t 0) or anyOne isBase64 (paramsAt 0 (now (s .entry)) e)) ⌝ }
+fn is_encoded(t: usize, mode: usize, s: &[u8], e: usize) -> bool
+    requires { ⌜ cuts mode ≡ true ⌝ }
+    ensures { λ r. ⌜ r ≡ (not (eqb t 0) or anyOne isBase64 (paramsAt mode (now (s .entry)) e)) ⌝ }
 {
     if t == 0 {
-        return has_base64(s, e);
+        return has_base64(mode, s, e);
     }
     true
 }
 
-fn are_good_at(p: usize, t: usize, s: &[u8], e: usize) -> bool
-    ensures { λ r. ⌜ r ≡ goodAt p t (paramsAt 0 (now (s .entry)) e) ⌝ }
+fn are_good_at(p: usize, t: usize, mode: usize, s: &[u8], e: usize) -> bool
+    requires { ⌜ cuts mode ≡ true ⌝ }
+    ensures { λ r. ⌜ r ≡ goodAt p t (paramsAt mode (now (s .entry)) e) ⌝ }
 {
-    let distinct = are_distinct(s, e);
+    let distinct = are_distinct(mode, s, e);
     if distinct {
-        let read = are_read(s, e);
+        let read = are_read(mode, s, e);
         if read {
-            let permitted = are_permitted(p, t, s, e);
+            let permitted = are_permitted(p, t, mode, s, e);
             if permitted {
-                return is_encoded(t, s, e);
+                return is_encoded(t, mode, s, e);
             }
             return false;
         }
@@ -86,8 +91,9 @@ fn are_good_at(p: usize, t: usize, s: &[u8], e: usize) -> bool
 }
 
 // The parameters from the cursor `e` on are those of the property of the number `p` with values of the type `t`.
-pub fn are_good(p: usize, t: usize, s: &[u8], e: usize) -> bool
-    ensures { λ r. ⌜ ((w : List ℕ) → p ≡ placeOf w propertyNames → t ≤ 14 → r ≡ parametersGood w (typeAt t) (paramsAt 0 (now (s .entry)) e)) ⌝ }
+pub fn are_good(p: usize, t: usize, mode: usize, s: &[u8], e: usize) -> bool
+    requires { ⌜ cuts mode ≡ true ⌝ }
+    ensures { λ r. ⌜ ((w : List ℕ) → p ≡ placeOf w propertyNames → t ≤ 14 → r ≡ parametersGood w (typeAt t) (paramsAt mode (now (s .entry)) e)) ⌝ }
 {
-    are_good_at(p, t, s, e)
+    are_good_at(p, t, mode, s, e)
 }

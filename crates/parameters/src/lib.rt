@@ -9,6 +9,7 @@ mod several;
 mod stated;
 mod typed;
 
+pub use cut::is_value_name;
 pub use good::are_good;
 pub use read::are_read;
 pub use stated::stated_type;

@@ -4,9 +4,10 @@ use lines::next_value;
 use lines::param_value;
 use octets::smaller;
 ghost use mathlib.Core.Path.{_≡_};
+ghost use mathlib.Core.Bool.{true};
 ghost use Rattle.octets.specs.Lists.{every};
 ghost use Rattle.octets.specs.Words.{isEmpty};
-ghost use Rattle.source.specs.Source.{rest};
+ghost use Rattle.source.specs.Source.{rest, cuts};
 ghost use Rattle.schema.specs.Numbers.{parameterAt};
 ghost use Rattle.lines.specs.ContentLine.{nextValue};
 ghost use Rattle.lines.specs.Items.{items};
@@ -16,10 +17,11 @@ ghost use Rattle.parameters.specs.Cutting.{valueCut};
 ghost use Rattle.parameters.specs.Typing.{isValueBy};
 
 // No value follows.
-pub fn is_last(s: &[u8], at: usize) -> bool
-    ensures { λ r. ⌜ r ≡ isEmpty (items nextValue (rest 0 (now (s .entry)) at)) ⌝ }
+pub fn is_last(mode: usize, s: &[u8], at: usize) -> bool
+    requires { ⌜ cuts mode ≡ true ⌝ }
+    ensures { λ r. ⌜ r ≡ isEmpty (items nextValue (rest mode (now (s .entry)) at)) ⌝ }
 {
-    let v = next_value(0, s, at);
+    let v = next_value(mode, s, at);
     if v.there {
         if v.ok {
             return false;
@@ -30,34 +32,37 @@ pub fn is_last(s: &[u8], at: usize) -> bool
 }
 
 // There is one value.
-pub fn is_single(s: &[u8], at: usize) -> bool
-    ensures { λ r. ⌜ r ≡ isSingle (valuesAt 0 (now (s .entry)) at) ⌝ }
+pub fn is_single(mode: usize, s: &[u8], at: usize) -> bool
+    requires { ⌜ cuts mode ≡ true ⌝ }
+    ensures { λ r. ⌜ r ≡ isSingle (valuesAt mode (now (s .entry)) at) ⌝ }
 {
-    let v = param_value(0, s, at);
+    let v = param_value(mode, s, at);
     if v.ok {
-        return is_last(s, v.next);
+        return is_last(mode, s, v.next);
     }
     false
 }
 
 // The characters between two cursors are a value of the parameter of the number `q`.
-fn is_cut_value(q: usize, quoted: bool, s: &[u8], from: usize, to: usize) -> bool
-    ensures { λ r. ⌜ r ≡ isValueBy (parameterAt q) (valueCut (now (s .entry)) quoted from to) ⌝ }
+fn is_cut_value(q: usize, quoted: bool, mode: usize, s: &[u8], from: usize, to: usize) -> bool
+    requires { ⌜ cuts mode ≡ true ⌝ }
+    ensures { λ r. ⌜ r ≡ isValueBy (parameterAt q) (valueCut mode (now (s .entry)) quoted from to) ⌝ }
 {
     let e = smaller(to, s.len());
-    is_value_at(q, quoted, &s[..e], from)
+    is_value_at(q, quoted, mode, &s[..e], from)
 }
 
 // Those that follow another value are values of the parameter.
-fn are_later_values(q: usize, s: &[u8], at: usize) -> bool
-    ensures { λ r. ⌜ r ≡ every (isValueBy (parameterAt q)) (items nextValue (rest 0 (now (s .entry)) at)) ⌝ }
+fn are_later_values(q: usize, mode: usize, s: &[u8], at: usize) -> bool
+    requires { ⌜ cuts mode ≡ true ⌝ }
+    ensures { λ r. ⌜ r ≡ every (isValueBy (parameterAt q)) (items nextValue (rest mode (now (s .entry)) at)) ⌝ }
 {
     let mut c = at;
     loop {
-        let v = next_value(0, s, c);
+        let v = next_value(mode, s, c);
         if v.there {
             if v.ok {
-                let good = is_cut_value(q, v.quoted, s, v.from, v.to);
+                let good = is_cut_value(q, v.quoted, mode, s, v.from, v.to);
                 if good {
                     c = v.next;
                 } else {
@@ -73,14 +78,15 @@ fn are_later_values(q: usize, s: &[u8], at: usize) -> bool
 }
 
 // All are values of the parameter.
-pub fn are_values(q: usize, s: &[u8], at: usize) -> bool
-    ensures { λ r. ⌜ r ≡ every (isValueBy (parameterAt q)) (valuesAt 0 (now (s .entry)) at) ⌝ }
+pub fn are_values(q: usize, mode: usize, s: &[u8], at: usize) -> bool
+    requires { ⌜ cuts mode ≡ true ⌝ }
+    ensures { λ r. ⌜ r ≡ every (isValueBy (parameterAt q)) (valuesAt mode (now (s .entry)) at) ⌝ }
 {
-    let v = param_value(0, s, at);
+    let v = param_value(mode, s, at);
     if v.ok {
-        let good = is_cut_value(q, v.quoted, s, v.from, v.to);
+        let good = is_cut_value(q, v.quoted, mode, s, v.from, v.to);
         if good {
-            return are_later_values(q, s, v.next);
+            return are_later_values(q, mode, s, v.next);
         }
         return false;
     }

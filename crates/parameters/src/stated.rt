@@ -7,10 +7,12 @@ use lines::param_value;
 use octets::smaller;
 use schema::default_type;
 use schema::type_number;
+ghost use mathlib.Core.Path.{_≡_};
+ghost use mathlib.Core.Bool.{true};
 ghost use mathlib.Core.Option.{some};
 ghost use lib.ListN.{take};
 ghost use Rattle.octets.specs.Class.{upper};
-ghost use Rattle.source.specs.Source.{rest};
+ghost use Rattle.source.specs.Source.{rest, cuts};
 ghost use Rattle.schema.specs.Types.{typeNamed};
 ghost use Rattle.schema.specs.Numbers.{propertyAt};
 ghost use Rattle.lines.specs.Cursor.{valuesAt};
@@ -18,11 +20,11 @@ ghost use Rattle.ical.specs.Parameters.{typeIn};
 ghost use Rattle.parameters.specs.Stating.{TypeOf, StatedAt};
 
 // The type of a name.
-fn named_type(s: &[u8], from: usize, to: usize) -> TypeRead
-    ensures { λ r. ⌜ TypeOf (typeNamed (upper (rest 0 (take to (now (s .entry))) from))) r ⌝ }
+fn named_type(mode: usize, s: &[u8], from: usize, to: usize) -> TypeRead
+    ensures { λ r. ⌜ TypeOf (typeNamed (upper (rest mode (take to (now (s .entry))) from))) r ⌝ }
 {
     let e = smaller(to, s.len());
-    let t = type_number(0, &s[..e], from);
+    let t = type_number(mode, &s[..e], from);
     if t < 14 {
         return TypeRead::Type(t);
     }
@@ -30,14 +32,15 @@ fn named_type(s: &[u8], from: usize, to: usize) -> TypeRead
 }
 
 // The type that VALUE's one value names.
-fn type_in(s: &[u8], at: usize) -> TypeRead
-    ensures { λ r. ⌜ TypeOf (typeIn (valuesAt 0 (now (s .entry)) at)) r ⌝ }
+fn type_in(mode: usize, s: &[u8], at: usize) -> TypeRead
+    requires { ⌜ cuts mode ≡ true ⌝ }
+    ensures { λ r. ⌜ TypeOf (typeIn (valuesAt mode (now (s .entry)) at)) r ⌝ }
 {
-    let v = param_value(0, s, at);
+    let v = param_value(mode, s, at);
     if v.ok {
-        let last = is_last(s, v.next);
+        let last = is_last(mode, s, v.next);
         if last {
-            return named_type(s, v.from, v.to);
+            return named_type(mode, s, v.from, v.to);
         }
         return TypeRead::Bad;
     }
@@ -53,17 +56,18 @@ fn default_read(p: usize) -> TypeRead
 }
 
 // The type that VALUE names, of the parameters from the cursor `e` on, or the default of the property of the number `p`.
-pub fn stated_type(p: usize, s: &[u8], e: usize) -> TypeRead
-    ensures { λ r. ⌜ StatedAt p (now (s .entry)) e r ⌝ }
+pub fn stated_type(p: usize, mode: usize, s: &[u8], e: usize) -> TypeRead
+    requires { ⌜ cuts mode ≡ true ⌝ }
+    ensures { λ r. ⌜ StatedAt p mode (now (s .entry)) e r ⌝ }
 {
     let mut c = e;
     loop {
-        let a = next_param(0, s, c);
+        let a = next_param(mode, s, c);
         if a.there {
             if a.ok {
-                let value = is_value_name(s, a.name, a.end);
+                let value = is_value_name(mode, s, a.name, a.end);
                 if value {
-                    return type_in(s, a.first);
+                    return type_in(mode, s, a.first);
                 }
                 c = a.next;
             } else {

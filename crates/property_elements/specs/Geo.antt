@@ -23,10 +23,10 @@ use Rattle.xml.specs.Escape.{elementOf}
 use Rattle.values.specs.Bare.{float-bare}
 use Rattle.xcal.specs.WriteXml.{valueXml}
 
-abbrev pub coordinatesXml : List ℕ → ℕ → ℕ → List ℕ
-coordinatesXml s c g =
-    elementOf (ascii "latitude") (orNothing writeFloat (readFloat (until 59 0 s c)))
-    ⊕ elementOf (ascii "longitude") (orNothing writeFloat (readFloat (rest 0 s g)))
+abbrev pub coordinatesXml : ℕ → List ℕ → ℕ → ℕ → List ℕ
+coordinatesXml m s c g =
+    elementOf (ascii "latitude") (orNothing writeFloat (readFloat (until 59 m s c)))
+    ⊕ elementOf (ascii "longitude") (orNothing writeFloat (readFloat (rest m s g)))
 
 -- ---- laws
 
@@ -42,15 +42,15 @@ both-xml x y = go (readFloat x) (readFloat y) refl refl
     go (some la) none e f h = absurd (false≢true h)
     go (some la) (some lo) e f h = rw (float-bare x la e, float-bare y lo f)
 
-pub geo-xml : {s : List ℕ} {c g : ℕ} → ReadsGeo 0 s c (At g) → orNothing valueXml (readGeo (rest 0 s c)) ≡ coordinatesXml s c g
-geo-xml {s} {c} {g} r =
-    ap (orNothing valueXml) (r .is) ∙ both-xml (until 59 0 s c) (rest 0 s g) (ap isRead (sym (r .is)) ∙ r .good)
+pub geo-xml : {m : ℕ} {s : List ℕ} {c g : ℕ} → ReadsGeo m s c (At g) → orNothing valueXml (readGeo (rest m s c)) ≡ coordinatesXml m s c g
+geo-xml {m} {s} {c} {g} r =
+    ap (orNothing valueXml) (r .is) ∙ both-xml (until 59 m s c) (rest m s g) (ap isRead (sym (r .is)) ∙ r .good)
 
 -- ---- rules for the code
 
-module _ {d : List ℕ} {at : ℕ} {s : List ℕ} {c : ℕ} {r : GeoRead} (t : ReadsGeo 0 s c r) where
-  pub put-geo : {e : List ℕ} {o : ℕ} (g : ℕ) → r ≡ At g → Put d e at o (coordinatesXml s c g) → Put d e at o (orNothing valueXml (readGeo (rest 0 s c)))
-  put-geo g h w = let k : ReadsGeo 0 s c (At g) = rw h at t in rw (geo-xml k) w
+module _ {d : List ℕ} {at m : ℕ} {s : List ℕ} {c : ℕ} {r : GeoRead} (t : ReadsGeo m s c r) where
+  pub put-geo : {e : List ℕ} {o : ℕ} (g : ℕ) → r ≡ At g → Put d e at o (coordinatesXml m s c g) → Put d e at o (orNothing valueXml (readGeo (rest m s c)))
+  put-geo g h w = let k : ReadsGeo m s c (At g) = rw h at t in rw (geo-xml k) w
 
-  pub put-no-geo : r ≡ Bad → length d * 1 < 2 ^ 63 → Put d d at at (orNothing valueXml (readGeo (rest 0 s c)))
-  put-no-geo h z = let k : ReadsGeo 0 s c Bad = rw h at t in rw (k .is) (put-none d at z)
+  pub put-no-geo : r ≡ Bad → length d * 1 < 2 ^ 63 → Put d d at at (orNothing valueXml (readGeo (rest m s c)))
+  put-no-geo h z = let k : ReadsGeo m s c Bad = rw h at t in rw (k .is) (put-none d at z)

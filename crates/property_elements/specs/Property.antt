@@ -4,12 +4,13 @@
 --     contentXml     those of its parameters and its values
 --     partsXml       the whole element;   property-xml: what is written of the line;   name-inside: where its name ends
 use mathlib.Core.Path.{_≡_, refl, sym, ap, _∙_}
+use mathlib.Core.Bool.{true}
 use mathlib.Core.List.{List, []}
 use mathlib.Core.Option.{none}
 use Prim.Native.Nat.{ℕ, _≤_}
 use native.Mathlib.Omega.{arith}
 use native.Mathlib.Decide.{decLe}
-use lib.ListN.{length, take, drop-of-length-le}
+use lib.ListN.{length, take}
 use Rattle.octets.specs.Pick.{pick}
 use Rattle.octets.specs.Append.{_⊕_}
 use Rattle.octets.specs.Class.{isNameChar, upper, lower}
@@ -20,7 +21,8 @@ use Rattle.octets.specs.Reading.{readOr, orNothing, none-some}
 use Rattle.names.specs.Table.{placeOf}
 use Rattle.model.specs.Calendar.{TEXT}
 use Rattle.sink.specs.Sink.{Put}
-use Rattle.source.specs.Source.{rest}
+use Rattle.source.specs.Source.{rest, cuts}
+use Rattle.source.specs.Facts.{rest-past}
 use Rattle.schema.specs.Properties.{propertyNames}
 use Rattle.schema.specs.Numbers.{typeAt, componentName, propertyName}
 use Rattle.xml.specs.Escape.{elementOf}
@@ -38,18 +40,18 @@ use Rattle.parameters.specs.Stating.{StatedAt}
 use Rattle.parameters.specs.declared.TypeRead.{TypeRead}
 use Rattle.parameters.specs.declared.TypeRead.the-variants.{«Type» as Typed, Bad as NoType}
 
-abbrev pub nameIn : List ℕ → ℕ → ℕ → List ℕ
-nameIn s c e = rest 0 (take e s) c
+abbrev pub nameIn : ℕ → List ℕ → ℕ → ℕ → List ℕ
+nameIn m s c e = rest m (take e s) c
 
-abbrev pub statedXml : ℕ → List ℕ → ℕ → ℕ → ℕ → List ℕ
-statedXml k s c e v =
-    valuesXml (readOr [] (readValues (componentName k) (upper (nameIn s c e)) (readOr TEXT (statedType (upper (nameIn s c e)) (paramsAt 0 s e))) (rest 0 s v)))
+abbrev pub statedXml : ℕ → ℕ → List ℕ → ℕ → ℕ → ℕ → List ℕ
+statedXml k m s c e v =
+    valuesXml (readOr [] (readValues (componentName k) (upper (nameIn m s c e)) (readOr TEXT (statedType (upper (nameIn m s c e)) (paramsAt m s e))) (rest m s v)))
 
-abbrev pub contentXml : ℕ → List ℕ → ℕ → ℕ → ℕ → List ℕ
-contentXml k s c e v = parametersElement (readOr [] (readParameters (paramsAt 0 s e))) ⊕ statedXml k s c e v
+abbrev pub contentXml : ℕ → ℕ → List ℕ → ℕ → ℕ → ℕ → List ℕ
+contentXml k m s c e v = parametersElement (readOr [] (readParameters (paramsAt m s e))) ⊕ statedXml k m s c e v
 
-abbrev pub partsXml : ℕ → List ℕ → ℕ → ℕ → ℕ → List ℕ
-partsXml k s c e v = elementOf (lower (nameIn s c e)) (contentXml k s c e v)
+abbrev pub partsXml : ℕ → ℕ → List ℕ → ℕ → ℕ → ℕ → List ℕ
+partsXml k m s c e v = elementOf (lower (nameIn m s c e)) (contentXml k m s c e v)
 
 -- ---- laws
 
@@ -57,38 +59,37 @@ no-line : contentLine [] ≡ none
 unfolding contentLine runOf spanLen pick
 no-line = refl
 
-module _ {s : List ℕ} {c e v : ℕ} (a : LineAt 0 s c (Line e v)) where
+module _ {m : ℕ} {s : List ℕ} {c e v : ℕ} (y : cuts m ≡ true) (a : LineAt m s c (Line e v)) where
   pub name-inside : e ≤ length s
-  unfolding rest pick
   name-inside = go (decLe c (length s))
     where
       go : Dec (c ≤ length s) → e ≤ length s
-      go (yes h) = a .parts .name .plain refl h
+      go (yes h) = a .parts .name .plain y h
       go (no h) =
           let l : length s ≤ c = omega arith in
-          let z : rest 0 s c ≡ [] = drop-of-length-le s l in
+          let z : rest m s c ≡ [] = rest-past m s c y l in
           none-some (sym (ap contentLine z ∙ no-line) ∙ a .is)
 
-  pub property-xml : (k : ℕ) → orNothing (λ l. propertyXml (propertyOf (componentName k) l)) (contentLine (rest 0 s c)) ≡ partsXml k s c e v
+  pub property-xml : (k : ℕ) → orNothing (λ l. propertyXml (propertyOf (componentName k) l)) (contentLine (rest m s c)) ≡ partsXml k m s c e v
   unfolding propertyXml propertyOf
   property-xml k =
       ap (orNothing (λ l. propertyXml (propertyOf (componentName k) l))) (a .is)
-      ∙ rw (name-chars (a .parts .name), lower-any-case (runOf isNameChar (rest 0 s c)))
+      ∙ rw (name-chars y (a .parts .name), lower-any-case (runOf isNameChar (rest m s c)))
 
 -- ---- for the code
 
 -- the values, by the number of the line's name and by the type that was found
-module _ {d f : List ℕ} {at o : ℕ} (k : ℕ) {p : ℕ} {s : List ℕ} (c : ℕ) {e : ℕ} (v : ℕ) {r : TypeRead} (h : p ≡ placeOf (upper (nameIn s c e)) propertyNames) (a : StatedAt p s e r) where
-  pub put-typed : (t : ℕ) → r ≡ Typed t → Put d f at o (valuesXml (readOr [] (readValues (componentName k) (propertyName p) (typeAt t) (rest 0 s v)))) →
-      Put d f at o (statedXml k s c e v)
+module _ {d f : List ℕ} {at o : ℕ} (k : ℕ) {p m : ℕ} {s : List ℕ} (c : ℕ) {e : ℕ} (v : ℕ) {r : TypeRead} (h : p ≡ placeOf (upper (nameIn m s c e)) propertyNames) (a : StatedAt p m s e r) where
+  pub put-typed : (t : ℕ) → r ≡ Typed t → Put d f at o (valuesXml (readOr [] (readValues (componentName k) (propertyName p) (typeAt t) (rest m s v)))) →
+      Put d f at o (statedXml k m s c e v)
   unfolding readOr
   put-typed t z w =
-      let b : StatedAt p s e (Typed t) = rw z at a in
-      rw (b .is (upper (nameIn s c e)) h, ← (values-named (componentName k) (upper (nameIn s c e)) p (typeAt t) (rest 0 s v) h)) w
+      let b : StatedAt p m s e (Typed t) = rw z at a in
+      rw (b .is (upper (nameIn m s c e)) h, ← (values-named (componentName k) (upper (nameIn m s c e)) p (typeAt t) (rest m s v) h)) w
 
-  pub put-untyped : r ≡ NoType → Put d f at o (valuesXml (readOr [] (readValues (componentName k) (propertyName p) (typeAt 10) (rest 0 s v)))) →
-      Put d f at o (statedXml k s c e v)
+  pub put-untyped : r ≡ NoType → Put d f at o (valuesXml (readOr [] (readValues (componentName k) (propertyName p) (typeAt 10) (rest m s v)))) →
+      Put d f at o (statedXml k m s c e v)
   unfolding readOr
   put-untyped z w =
-      let b : StatedAt p s e NoType = rw z at a in
-      rw (b .is (upper (nameIn s c e)) h, ← (values-named (componentName k) (upper (nameIn s c e)) p TEXT (rest 0 s v) h)) w
+      let b : StatedAt p m s e NoType = rw z at a in
+      rw (b .is (upper (nameIn m s c e)) h, ← (values-named (componentName k) (upper (nameIn m s c e)) p TEXT (rest m s v) h)) w

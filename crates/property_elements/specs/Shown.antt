@@ -156,9 +156,9 @@ values-shown c w t l h =
 -- ---- for the code
 
 -- the answer r of reading: whether the values of each component and property of these numbers can be read
-abbrev pub ValuesAsked : ℕ → ℕ → ℕ → List ℕ → ℕ → ValuesRead → Type 0
-ValuesAsked k p t s at r =
-    (c w : List ℕ) → k ≡ placeOf c componentNames → p ≡ placeOf w propertyNames → t ≤ 14 → r ≡ valuesRead t (isRead (readValues c w (typeAt t) (rest 0 s at)))
+abbrev pub ValuesAsked : ℕ → ℕ → ℕ → ℕ → List ℕ → ℕ → ValuesRead → Type 0
+ValuesAsked k p t m s at r =
+    (c w : List ℕ) → k ≡ placeOf c componentNames → p ≡ placeOf w propertyNames → t ≤ 14 → r ≡ valuesRead t (isRead (readValues c w (typeAt t) (rest m s at)))
 
 -- the numbers of the component, the property and the type are a, b, u, and r is what reading answered
 
@@ -170,24 +170,24 @@ bad-no : (t : ℕ) (b : Bool) → Bad ≡ valuesRead t b → b ≡ false
 bad-no t true h = let z : _≡_ {A = ℕ} 0 1 = cc in absurd (omega arith)
 bad-no t false h = refl
 
-module _ {a b u : ℕ} (k p t : ℕ) (s : List ℕ) (c : ℕ) {r : ValuesRead} (f : a ≡ placeOf (componentName k) componentNames) (g : b ≡ placeOf (propertyName p) propertyNames)
+module _ {a b u : ℕ} (k p t m : ℕ) (s : List ℕ) (c : ℕ) {r : ValuesRead} (f : a ≡ placeOf (componentName k) componentNames) (g : b ≡ placeOf (propertyName p) propertyNames)
     (h : (typeAt u ≡ typeAt t) × (u ≤ 14))
-    (q : ValuesAsked a b u s c r) where
-  asked : r ≡ valuesRead u (isRead (readValues (componentName k) (propertyName p) (typeAt t) (rest 0 s c)))
-  asked = q (componentName k) (propertyName p) f g (h .1) ∙ ap (λ (x : ValueType). valuesRead u (isRead (readValues (componentName k) (propertyName p) x (rest 0 s c)))) (h .0)
+    (q : ValuesAsked a b u m s c r) where
+  asked : r ≡ valuesRead u (isRead (readValues (componentName k) (propertyName p) (typeAt t) (rest m s c)))
+  asked = q (componentName k) (propertyName p) f g (h .1) ∙ ap (λ (x : ValueType). valuesRead u (isRead (readValues (componentName k) (propertyName p) x (rest m s c)))) (h .0)
 
-  pub put-shown : {d e : List ℕ} {at o : ℕ} (n : ℕ) → r ≡ Good n → Put d e at o (shownXml a b u (rest 0 s c)) →
-      Put d e at o (valuesXml (readOr [] (readValues (componentName k) (propertyName p) (typeAt t) (rest 0 s c))))
+  pub put-shown : {d e : List ℕ} {at o : ℕ} (n : ℕ) → r ≡ Good n → Put d e at o (shownXml a b u (rest m s c)) →
+      Put d e at o (valuesXml (readOr [] (readValues (componentName k) (propertyName p) (typeAt t) (rest m s c))))
   put-shown n z w =
-      let y : isRead (readValues (componentName k) (propertyName p) (typeAt t) (rest 0 s c)) ≡ true = good-yes u (isRead (readValues (componentName k) (propertyName p) (typeAt t) (rest 0 s c))) (sym z ∙ asked) in
-      let x = values-shown (componentName k) (propertyName p) u (rest 0 s c) (ap (λ (v : ValueType). isRead (readValues (componentName k) (propertyName p) v (rest 0 s c))) (h .0) ∙ y) in
+      let y : isRead (readValues (componentName k) (propertyName p) (typeAt t) (rest m s c)) ≡ true = good-yes u (isRead (readValues (componentName k) (propertyName p) (typeAt t) (rest m s c))) (sym z ∙ asked) in
+      let x = values-shown (componentName k) (propertyName p) u (rest m s c) (ap (λ (v : ValueType). isRead (readValues (componentName k) (propertyName p) v (rest m s c))) (h .0) ∙ y) in
       rw (← (h .0), ← x, ← f, ← g) w
 
   pub put-no-values : {d : List ℕ} {at : ℕ} → r ≡ Bad → length d * 1 < 2 ^ 63 →
-      Put d d at at (valuesXml (readOr [] (readValues (componentName k) (propertyName p) (typeAt t) (rest 0 s c))))
+      Put d d at at (valuesXml (readOr [] (readValues (componentName k) (propertyName p) (typeAt t) (rest m s c))))
   unfolding isRead readOr valuesXml
   put-no-values {d} {at} z y =
-      go (readValues (componentName k) (propertyName p) (typeAt t) (rest 0 s c)) (bad-no u (isRead (readValues (componentName k) (propertyName p) (typeAt t) (rest 0 s c))) (sym z ∙ asked))
+      go (readValues (componentName k) (propertyName p) (typeAt t) (rest m s c)) (bad-no u (isRead (readValues (componentName k) (propertyName p) (typeAt t) (rest m s c))) (sym z ∙ asked))
     where
       go : (o : Option (List Value)) → isRead o ≡ false → Put d d at at (valuesXml (readOr [] o))
       go none e = put-none d at y

@@ -17,35 +17,35 @@ ghost use Rattle.xcal.specs.WriteXml.{valueXml};
 ghost use Rattle.property_elements.specs.Geo.{coordinatesXml};
 
 // The number up to the semicolon.
-fn put_latitude(out: &mut [u8], o: usize, s: &[u8], at: usize) -> usize
-    ensures { λ r. ⌜ Put (now (out .entry)) (now (out .exit)) o r (elementOf (ascii "latitude") (orNothing writeFloat (readFloat (until 59 0 (now (s .entry)) at)))) ⌝ }
+fn put_latitude(out: &mut [u8], o: usize, mode: usize, s: &[u8], at: usize) -> usize
+    ensures { λ r. ⌜ Put (now (out .entry)) (now (out .exit)) o r (elementOf (ascii "latitude") (orNothing writeFloat (readFloat (until 59 mode (now (s .entry)) at)))) ⌝ }
 {
     let a = put_start_tag(out, o, b"latitude");
-    let b = put_float_to(out, a, 59, 0, s, at);
+    let b = put_float_to(out, a, 59, mode, s, at);
     put_end_tag(out, b, b"latitude")
 }
 
-fn put_longitude(out: &mut [u8], o: usize, s: &[u8], at: usize) -> usize
-    ensures { λ r. ⌜ Put (now (out .entry)) (now (out .exit)) o r (elementOf (ascii "longitude") (orNothing writeFloat (readFloat (rest 0 (now (s .entry)) at)))) ⌝ }
+fn put_longitude(out: &mut [u8], o: usize, mode: usize, s: &[u8], at: usize) -> usize
+    ensures { λ r. ⌜ Put (now (out .entry)) (now (out .exit)) o r (elementOf (ascii "longitude") (orNothing writeFloat (readFloat (rest mode (now (s .entry)) at)))) ⌝ }
 {
     let a = put_start_tag(out, o, b"longitude");
-    let b = put_float(out, a, 0, s, at);
+    let b = put_float(out, a, mode, s, at);
     put_end_tag(out, b, b"longitude")
 }
 
-fn put_coordinates(out: &mut [u8], o: usize, s: &[u8], at: usize, g: usize) -> usize
-    ensures { λ r. ⌜ Put (now (out .entry)) (now (out .exit)) o r (coordinatesXml (now (s .entry)) at g) ⌝ }
+fn put_coordinates(out: &mut [u8], o: usize, mode: usize, s: &[u8], at: usize, g: usize) -> usize
+    ensures { λ r. ⌜ Put (now (out .entry)) (now (out .exit)) o r (coordinatesXml mode (now (s .entry)) at g) ⌝ }
 {
-    let a = put_latitude(out, o, s, at);
-    put_longitude(out, a, s, g)
+    let a = put_latitude(out, o, mode, s, at);
+    put_longitude(out, a, mode, s, g)
 }
 
 // Nothing where it is none.
-pub fn put_geo(out: &mut [u8], o: usize, s: &[u8], at: usize) -> usize
-    ensures { λ r. ⌜ Put (now (out .entry)) (now (out .exit)) o r (orNothing valueXml (readGeo (rest 0 (now (s .entry)) at))) ⌝ }
+pub fn put_geo(out: &mut [u8], o: usize, mode: usize, s: &[u8], at: usize) -> usize
+    ensures { λ r. ⌜ Put (now (out .entry)) (now (out .exit)) o r (orNothing valueXml (readGeo (rest mode (now (s .entry)) at))) ⌝ }
 {
-    let GeoRead::At(g) = read_geo(0, s, at) else {
+    let GeoRead::At(g) = read_geo(mode, s, at) else {
         return o;
     };
-    put_coordinates(out, o, s, at, g)
+    put_coordinates(out, o, mode, s, at, g)
 }

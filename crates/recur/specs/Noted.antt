@@ -21,22 +21,22 @@ use Rattle.recur.specs.Pieces.{pieceName}
 use Rattle.recur.specs.declared.rule.RuleParts.{RuleParts}
 
 -- 59 is ;
-abbrev pub pieceFrom : List ℕ → ℕ → Option (List ℕ)
-pieceFrom s zero = none
-pieceFrom s (suc c) = some (upTo (λ (b : ℕ). eqb b 59) (rest 0 s c))
+abbrev pub pieceFrom : ℕ → List ℕ → ℕ → Option (List ℕ)
+pieceFrom m s zero = none
+pieceFrom m s (suc c) = some (upTo (λ (b : ℕ). eqb b 59) (rest m s c))
 
 -- the first piece of the part at a place
 abbrev pub named : ℕ → List (List ℕ) → Option (List ℕ)
 named p ws = rowOf pieceName (getD partNames p []) ws
 
-pub record Standing (s : List ℕ) (at : ℕ) (t : List ℕ) : Type 0 where
-  pub is : (p : ℕ) → p < 14 → named p (cutAt 59 (rest 0 s at)) ≡ pieceFrom s (getD t p 0)
+pub record Standing (m : ℕ) (s : List ℕ) (at : ℕ) (t : List ℕ) : Type 0 where
+  pub is : (p : ℕ) → p < 14 → named p (cutAt 59 (rest m s at)) ≡ pieceFrom m s (getD t p 0)
   pub inside : (p : ℕ) → getD t p 0 ≤ length s + 1
 
 -- FREQ is noted; UNTIL and COUNT are not both noted
 abbrev pub wholeIn : List ℕ → Bool
 wholeIn t = pick (eqb (getD t 0 0) 0) false (pick (eqb (getD t 1 0) 0) true (eqb (getD t 2 0) 0))
 
-pub record Parted (s : List ℕ) (at : ℕ) (r : RuleParts) : Type 0 where
-  pub is : isRead (readRule (rest 0 s at)) ≡ r .good
-  pub standing : r .good ≡ true → Standing s at (r .begins)
+pub record Parted (m : ℕ) (s : List ℕ) (at : ℕ) (r : RuleParts) : Type 0 where
+  pub is : isRead (readRule (rest m s at)) ≡ r .good
+  pub standing : r .good ≡ true → Standing m s at (r .begins)

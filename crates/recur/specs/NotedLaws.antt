@@ -18,7 +18,7 @@ use Rattle.octets.specs.Pick.{pick, _and_, _or_, and-no-left, and-no-right, pic
 use Rattle.octets.specs.Words.{same, cutAt, rowOf}
 use Rattle.octets.specs.Reading.{isRead}
 use Rattle.octets.specs.Front.{upTo}
-use Rattle.source.specs.Source.{rest, Reads}
+use Rattle.source.specs.Source.{rest, cuts, Within, Reads}
 use Rattle.source.specs.declared.Step.{Step}
 use Rattle.names.specs.Table.{placeOf}
 use Rattle.names.specs.Places.{place-back}
@@ -84,9 +84,9 @@ new-noted t q v h z (w ∷ ws) = rw (set-at t q v h (placeAt w), new-noted t q v
 
 -- ---- the pieces vs are left of the pieces ws
 
-pub record Noting (s : List ℕ) (ws : List (List ℕ)) (t : List ℕ) (vs : List (List ℕ)) : Type 0 where
+pub record Noting (m : ℕ) (s : List ℕ) (ws : List (List ℕ)) (t : List ℕ) (vs : List (List ℕ)) : Type 0 where
   pub each : eachPart ws ≡ (areNew t vs and eachPart vs)
-  pub found : (p : ℕ) → p < 14 → named p ws ≡ orOther (pieceFrom s (getD t p 0)) (named p vs)
+  pub found : (p : ℕ) → p < 14 → named p ws ≡ orOther (pieceFrom m s (getD t p 0)) (named p vs)
   pub within : (p : ℕ) → getD t p 0 ≤ length s + 1
   pub sized : length t ≡ 14
 
@@ -101,9 +101,9 @@ module _ (t : List ℕ) (z : (p : ℕ) → getD t p 0 ≡ 0) where
   all-new [] = refl
   all-new (w ∷ ws) = rw (z (placeAt w)) (all-new ws)
 
-  none-noted : (s : List ℕ) (ws : List (List ℕ)) → length t ≡ 14 → Noting s ws t ws
+  none-noted : (m : ℕ) (s : List ℕ) (ws : List (List ℕ)) → length t ≡ 14 → Noting m s ws t ws
   unfolding _and_
-  none-noted s ws l = record {
+  none-noted m s ws l = record {
     each = rw (all-new ws);
     found = λ p h. rw (z p);
     within = λ p. rw (z p) (omega arith);
@@ -111,7 +111,7 @@ module _ (t : List ℕ) (z : (p : ℕ) → getD t p 0 ≡ 0) where
   }
 
 -- the piece w, of a part that is not noted, is noted at the cursor c
-module _ {s : List ℕ} {ws : List (List ℕ)} {t w : List ℕ} {vs : List (List ℕ)} {g : ℕ} (i : Noting s ws t (w ∷ vs)) (q : g ≡ placeAt w) (h : isRead (readPart w) ≡ true)
+module _ {m : ℕ} {s : List ℕ} {ws : List (List ℕ)} {t w : List ℕ} {vs : List (List ℕ)} {g : ℕ} (i : Noting m s ws t (w ∷ vs)) (q : g ≡ placeAt w) (h : isRead (readPart w) ≡ true)
     (z : getD t g 0 ≡ 0) where
   pub noted-place : g < length t
   noted-place = let k = known w h in omega (arith, i .sized)
@@ -124,16 +124,16 @@ module _ {s : List ℕ} {ws : List (List ℕ)} {t w : List ℕ} {vs : List (List
       go true a = and-no-right a false refl
       go false a = refl
 
-  found-on : (c : ℕ) → w ≡ upTo (λ (b : ℕ). eqb b 59) (rest 0 s c) → (p : ℕ) → p < 14 →
-      orOther (pieceFrom s (getD t p 0)) (named p (w ∷ vs)) ≡ orOther (pieceFrom s (getD (set t g (suc c)) p 0)) (named p vs)
+  found-on : (c : ℕ) → w ≡ upTo (λ (b : ℕ). eqb b 59) (rest m s c) → (p : ℕ) → p < 14 →
+      orOther (pieceFrom m s (getD t p 0)) (named p (w ∷ vs)) ≡ orOther (pieceFrom m s (getD (set t g (suc c)) p 0)) (named p vs)
   unfolding rowOf pick
   found-on c u p k = rw (named-at p w k, ← q, set-at t g (suc c) noted-place p, swap p g) (go (eqb g p) refl)
     where
-      go : (b : Bool) → eqb g p ≡ b → orOther (pieceFrom s (getD t p 0)) (pick b (some w) (named p vs)) ≡ orOther (pieceFrom s (pick b (suc c) (getD t p 0))) (named p vs)
+      go : (b : Bool) → eqb g p ≡ b → orOther (pieceFrom m s (getD t p 0)) (pick b (some w) (named p vs)) ≡ orOther (pieceFrom m s (pick b (suc c) (getD t p 0))) (named p vs)
       go true e = rw (← (eqb-true g p e), z) (ap some u)
       go false e = refl
 
-  pub one-noted : (c : ℕ) → w ≡ upTo (λ (b : ℕ). eqb b 59) (rest 0 s c) → c ≤ length s → Noting s ws (set t g (c + 1)) vs
+  pub one-noted : (c : ℕ) → w ≡ upTo (λ (b : ℕ). eqb b 59) (rest m s c) → c ≤ length s → Noting m s ws (set t g (c + 1)) vs
   one-noted c u l = rw add-one record {
     each = i .each ∙ each-on c;
     found = λ p k. i .found p k ∙ found-on c u p k;
@@ -143,29 +143,29 @@ module _ {s : List ℕ} {ws : List (List ℕ)} {t w : List ℕ} {vs : List (List
 
 -- ---- the answers
 
-no-parts : (s : List ℕ) (c : ℕ) (t : List ℕ) → eachPart (cutAt 59 (rest 0 s c)) ≡ false → Parted s c (record { good = false; begins = t })
+no-parts : (m : ℕ) (s : List ℕ) (c : ℕ) (t : List ℕ) → eachPart (cutAt 59 (rest m s c)) ≡ false → Parted m s c (record { good = false; begins = t })
 unfolding _and_
-no-parts s c t h = record { is = rule-read (rest 0 s c) ∙ rw h; standing = λ k. absurd (false≢true k) }
+no-parts m s c t h = record { is = rule-read (rest m s c) ∙ rw h; standing = λ k. absurd (false≢true k) }
 
 -- all pieces are noted
-module _ (s : List ℕ) (c : ℕ) {t : List ℕ} (i : Noting s (cutAt 59 (rest 0 s c)) t []) where
-  all-standing : Standing s c t
+module _ (m : ℕ) (s : List ℕ) (c : ℕ) {t : List ℕ} (i : Noting m s (cutAt 59 (rest m s c)) t []) where
+  all-standing : Standing m s c t
   unfolding rowOf
-  all-standing = record { is = λ p h. i .found p h ∙ other (pieceFrom s (getD t p 0)); inside = i .within }
+  all-standing = record { is = λ p h. i .found p h ∙ other (pieceFrom m s (getD t p 0)); inside = i .within }
     where
       other : (o : Option (List ℕ)) → orOther o none ≡ o
       other none = refl
       other (some w) = refl
 
-  has-noted : (p : ℕ) → p < 14 → hasPlace p (cutAt 59 (rest 0 s c)) ≡ not (eqb (getD t p 0) 0)
+  has-noted : (p : ℕ) → p < 14 → hasPlace p (cutAt 59 (rest m s c)) ≡ not (eqb (getD t p 0) 0)
   unfolding isRead
-  has-noted p h = place-named p h (cutAt 59 (rest 0 s c)) ∙ rw (all-standing .is p h) (go (getD t p 0))
+  has-noted p h = place-named p h (cutAt 59 (rest m s c)) ∙ rw (all-standing .is p h) (go (getD t p 0))
     where
-      go : (n : ℕ) → isRead (pieceFrom s n) ≡ not (eqb n 0)
+      go : (n : ℕ) → isRead (pieceFrom m s n) ≡ not (eqb n 0)
       go zero = refl
       go (suc n) = sym (rw (ne-eqb (suc n) 0 (λ e. omega arith)))
 
-  whole-noted : isWhole (cutAt 59 (rest 0 s c)) ≡ wholeIn t
+  whole-noted : isWhole (cutAt 59 (rest m s c)) ≡ wholeIn t
   unfolding _and_ pick
   whole-noted = rw (has-noted 0 (omega arith), has-noted 1 (omega arith), has-noted 2 (omega arith)) (go (eqb (getD t 0 0) 0) (eqb (getD t 1 0) 0) (eqb (getD t 2 0) 0))
     where
@@ -175,40 +175,40 @@ module _ (s : List ℕ) (c : ℕ) {t : List ℕ} (i : Noting s (cutAt 59 (rest 0
       go false false true = refl
       go false false false = refl
 
-  all-parts : {r : Bool} → r ≡ wholeIn t → Parted s c (record { good = r; begins = t })
+  all-parts : {r : Bool} → r ≡ wholeIn t → Parted m s c (record { good = r; begins = t })
   unfolding areNew eachPart _and_
-  all-parts h = record { is = rule-read (rest 0 s c) ∙ rw (i .each, whole-noted) (sym h); standing = λ k. all-standing }
+  all-parts h = record { is = rule-read (rest m s c) ∙ rw (i .each, whole-noted) (sym h); standing = λ k. all-standing }
 
-pub parts-beyond : (s : List ℕ) (c : ℕ) (t : List ℕ) → length s < c → Parted s c (record { good = false; begins = t })
-parts-beyond s c t h = record { is = rule-beyond s c h; standing = λ k. absurd (false≢true k) }
+pub parts-beyond : (m : ℕ) (s : List ℕ) (c : ℕ) (t : List ℕ) → cuts m ≡ true → length s < c → Parted m s c (record { good = false; begins = t })
+parts-beyond m s c t y h = record { is = rule-beyond m s c y h; standing = λ k. absurd (false≢true k) }
 
 -- ---- the loop over the pieces, from the cursor c₀ to the cursor c
 
-pub record Walked (s : List ℕ) (c₀ : ℕ) (t : List ℕ) (c : ℕ) : Type 0 where
-  pub noting : Noting s (cutAt 59 (rest 0 s c₀)) t (cutAt 59 (rest 0 s c))
-  pub inside : c ≤ length s
+pub record Walked (m : ℕ) (s : List ℕ) (c₀ : ℕ) (t : List ℕ) (c : ℕ) : Type 0 where
+  pub noting : Noting m s (cutAt 59 (rest m s c₀)) t (cutAt 59 (rest m s c))
+  pub inside : Within m s c
 
-pub walk-start : (s : List ℕ) (c : ℕ) → c ≤ length s → Walked s c (replicate 14 0) c
-walk-start s c h = record { noting = none-noted (replicate 14 0) (zero-at 14) s (cutAt 59 (rest 0 s c)) refl; inside = h }
+pub walk-start : (m : ℕ) (s : List ℕ) (c : ℕ) → Within m s c → Walked m s c (replicate 14 0) c
+walk-start m s c h = record { noting = none-noted (replicate 14 0) (zero-at 14) m s (cutAt 59 (rest m s c)) refl; inside = h }
 
-module _ {s : List ℕ} {c₀ : ℕ} {t : List ℕ} {c e g : ℕ} (i : Walked s c₀ t c) (d : Ends 59 s c e) (q : g ≡ placeAt (rest 0 (take e s) c)) where
+module _ {m : ℕ} {s : List ℕ} {c₀ : ℕ} {t : List ℕ} {c e g : ℕ} (i : Walked m s c₀ t c) (d : Ends 59 m s c e) (q : g ≡ placeAt (rest m (take e s) c)) where
   -- the piece at hand is no part
-  pub walk-bad : isRead (readPart (rest 0 (take e s) c)) ≡ false → Parted s c₀ (record { good = false; begins = t })
+  pub walk-bad : isRead (readPart (rest m (take e s) c)) ≡ false → Parted m s c₀ (record { good = false; begins = t })
   unfolding eachPart _and_
-  walk-bad h = no-parts s c₀ t (i .noting .each ∙ and-no-right (areNew t (cutAt 59 (rest 0 s c))) (eachPart (cutAt 59 (rest 0 s c))) (rw (pieces-any d, h)))
+  walk-bad h = no-parts m s c₀ t (i .noting .each ∙ and-no-right (areNew t (cutAt 59 (rest m s c))) (eachPart (cutAt 59 (rest m s c))) (rw (pieces-any d, h)))
 
   -- its part is noted already
-  pub walk-again : (getD t g 0 ≡ 0 → ⊥) → Parted s c₀ (record { good = false; begins = t })
+  pub walk-again : (getD t g 0 ≡ 0 → ⊥) → Parted m s c₀ (record { good = false; begins = t })
   unfolding areNew _and_
-  walk-again h = no-parts s c₀ t (i .noting .each ∙ and-no-left (areNew t (cutAt 59 (rest 0 s c))) (eachPart (cutAt 59 (rest 0 s c))) (rw (pieces-any d, ← q, ne-eqb (getD t g 0) 0 h)))
+  walk-again h = no-parts m s c₀ t (i .noting .each ∙ and-no-left (areNew t (cutAt 59 (rest m s c))) (eachPart (cutAt 59 (rest m s c))) (rw (pieces-any d, ← q, ne-eqb (getD t g 0) 0 h)))
 
-  module _ (h : isRead (readPart (rest 0 (take e s) c)) ≡ true) where
+  module _ (h : isRead (readPart (rest m (take e s) c)) ≡ true) where
     pub walk-place : g < 14
-    walk-place = rw q (known (rest 0 (take e s) c) h)
+    walk-place = rw q (known (rest m (take e s) c) h)
 
-    module _ (z : getD t g 0 ≡ 0) {n : Step} (p : Reads 0 s e n) where
-      pub walk-last : {r : Bool} → n .u ≡ 256 → r ≡ wholeIn (set t g (c + 1)) → Parted s c₀ (record { good = r; begins = set t g (c + 1) })
-      walk-last k b = all-parts s c₀ (one-noted (rw (pieces-last d p k) at (i .noting)) q h z c (piece-is d) (i .inside)) b
+    module _ (z : getD t g 0 ≡ 0) {n : Step} (p : Reads m s e n) where
+      pub walk-last : {r : Bool} → n .u ≡ 256 → r ≡ wholeIn (set t g (c + 1)) → Parted m s c₀ (record { good = r; begins = set t g (c + 1) })
+      walk-last k b = all-parts m s c₀ (one-noted (rw (pieces-last d p k) at (i .noting)) q h z c (piece-is d) (i .inside .most)) b
 
-      pub walk-more : (n .u ≡ 256 → ⊥) → Walked s c₀ (set t g (c + 1)) (n .next)
-      walk-more k = record { noting = one-noted (rw (pieces-more d p k) at (i .noting)) q h z c (piece-is d) (i .inside); inside = step-less p k .1 }
+      pub walk-more : (n .u ≡ 256 → ⊥) → Walked m s c₀ (set t g (c + 1)) (n .next)
+      walk-more k = record { noting = one-noted (rw (pieces-more d p k) at (i .noting)) q h z c (piece-is d) (i .inside .most); inside = step-less (d .inside) p k .1 }

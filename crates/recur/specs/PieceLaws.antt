@@ -2,15 +2,15 @@
 --     ending-start, -more, -stop, -here     the loop of `byte_end`
 --     pieces-any, pieces-last, pieces-more  the first piece, cut out of the slice, and those after it
 --     Left                                  the invariant of a loop over pieces;   items-..: its ways over the items of a part
---     cons-read, rest-gone                  one more read; what stands past the end
+--     cons-read                             one more read
 use mathlib.Core.Path.{_≡_, refl, sym, ap, _∙_}
-use mathlib.Core.Bool.{Bool, true, false}
+use mathlib.Core.Bool.{Bool, true, false, false≢true}
 use mathlib.Core.List.{List, [], _∷_}
 use mathlib.Core.Option.{Option, none, some}
-use Prim.Native.Nat.{ℕ, _-_, _≤_, _<_}
+use Prim.Native.Nat.{ℕ, zero, suc, _-_, _≤_, _<_}
 use native.Mathlib.Omega.{arith}
 use lib.Dec.{eqb}
-use lib.ListN.{length, take, getD, drop-of-length-le}
+use lib.ListN.{length, take, getD}
 use lib.Seq.{length-take-le}
 use borrow.Author.Tests.{eq-eqb, ne-eqb}
 use Rattle.octets.specs.Pick.{pick, _and_}
@@ -19,8 +19,8 @@ use Rattle.octets.specs.Words.{onto, cutAt}
 use Rattle.octets.specs.Reading.{andThen, isRead, consRead}
 use Rattle.octets.specs.Front.{upTo, fromOn}
 use Rattle.model.specs.Calendar.{ical}
-use Rattle.source.specs.Source.{rest, Reads}
-use Rattle.source.specs.Facts.{rest-byte, rest-end, byte-small, cut-is}
+use Rattle.source.specs.Source.{rest, Within, Reads, Reach}
+use Rattle.source.specs.Facts.{rest-byte, rest-end, byte-small, cut-is, reach-here, reach-on}
 use Rattle.source.specs.declared.Step.{Step}
 use Rattle.recur.specs.Parts.{partNames}
 use Rattle.recur.specs.Item.{readItem}
@@ -54,100 +54,99 @@ cut-first k (b ∷ s) = go (eqb b k) (cut-first k s)
 
 -- ---- the first byte k
 
-pub record Ending (k : ℕ) (s : List ℕ) (c₀ c : ℕ) : Type 0 where
-  pub left : fromOn (λ (b : ℕ). eqb b k) (rest 0 s c₀) ≡ fromOn (λ (b : ℕ). eqb b k) (rest 0 s c)
+pub record Ending (k m : ℕ) (s : List ℕ) (c₀ c : ℕ) : Type 0 where
+  pub left : fromOn (λ (b : ℕ). eqb b k) (rest m s c₀) ≡ fromOn (λ (b : ℕ). eqb b k) (rest m s c)
   pub onward : c₀ ≤ c
-  pub inside : c ≤ length s
+  pub inside : Within m s c
+  pub reach : Reach m s c₀ c
 
-pub ending-start : (k : ℕ) (s : List ℕ) (c : ℕ) → c ≤ length s → Ending k s c c
-ending-start k s c h = record { left = refl; onward = omega arith; inside = h }
+pub ending-start : (k m : ℕ) (s : List ℕ) (c : ℕ) → Within m s c → Ending k m s c c
+ending-start k m s c h = record { left = refl; onward = omega arith; inside = h; reach = reach-here m s c }
 
-pub step-less : {s : List ℕ} {c : ℕ} {r : Step} → Reads 0 s c r → (r .u ≡ 256 → ⊥) → (c < r .next) × (r .next ≤ length s)
-step-less {s} {c} {r} q h = let b = byte-small q h in let m = q .moved in (omega arith, q .plain refl h)
+pub step-less : {m : ℕ} {s : List ℕ} {c : ℕ} {r : Step} → Within m s c → Reads m s c r → (r .u ≡ 256 → ⊥) → (c < r .next) × Within m s (r .next)
+step-less {m} {s} {c} {r} w q h = let b = byte-small q h in let m = q .moved in (omega arith, record { cut = w .cut; most = q .plain (w .cut) h })
 
-module _ {k : ℕ} {s : List ℕ} {c₀ c : ℕ} {r : Step} (t : Ending k s c₀ c) (q : Reads 0 s c r) where
-  ended : fromOn (λ (b : ℕ). eqb b k) (rest 0 s c) ≡ rest 0 s c → Ends k s c₀ c
+module _ {k m : ℕ} {s : List ℕ} {c₀ c : ℕ} {r : Step} (t : Ending k m s c₀ c) (q : Reads m s c r) where
+  ended : fromOn (λ (b : ℕ). eqb b k) (rest m s c) ≡ rest m s c → Ends k m s c₀ c
   ended h =
-      let e : rest 0 s c ≡ fromOn (λ (b : ℕ). eqb b k) (rest 0 s c₀) = sym (t .left ∙ h) in record {
-        is = sym (up-from (λ (b : ℕ). eqb b k) (rest 0 s c₀)) ∙ ap (λ (l : List ℕ). upTo (λ (b : ℕ). eqb b k) (rest 0 s c₀) ⊕ l) (sym e);
+      let e : rest m s c ≡ fromOn (λ (b : ℕ). eqb b k) (rest m s c₀) = sym (t .left ∙ h) in record {
+        is = sym (up-from (λ (b : ℕ). eqb b k) (rest m s c₀)) ∙ ap (λ (l : List ℕ). upTo (λ (b : ℕ). eqb b k) (rest m s c₀) ⊕ l) (sym e);
         left = e;
         onward = t .onward;
         inside = t .inside;
+        reach = t .reach;
       }
 
-  pub ending-stop : r .u ≡ 256 → Ends k s c₀ c
+  pub ending-stop : r .u ≡ 256 → Ends k m s c₀ c
   unfolding fromOn
   ending-stop h = ended (rw (rest-end q h))
 
-  pub ending-here : (r .u ≡ 256 → ⊥) → r .u ≡ k → Ends k s c₀ c
+  pub ending-here : (r .u ≡ 256 → ⊥) → r .u ≡ k → Ends k m s c₀ c
   unfolding fromOn pick
   ending-here h e = ended (rw (rest-byte q h, eq-eqb (r .u) k e))
 
-  pub ending-more : (r .u ≡ 256 → ⊥) → (r .u ≡ k → ⊥) → Ending k s c₀ (r .next)
+  pub ending-more : (r .u ≡ 256 → ⊥) → (r .u ≡ k → ⊥) → Ending k m s c₀ (r .next)
   unfolding fromOn pick
   ending-more h e =
-      let l = step-less q h in
-      record { left = t .left ∙ rw (rest-byte q h, ne-eqb (r .u) k e); onward = omega arith; inside = l .1 }
+      let l = step-less (t .inside) q h in
+      let o = l .0 in
+      record { left = t .left ∙ rw (rest-byte q h, ne-eqb (r .u) k e); onward = omega arith; inside = l .1; reach = reach-on (t .onward) (omega arith) (t .reach) (q .reach) }
 
 -- ---- the pieces
 
-module _ {k : ℕ} {s : List ℕ} {c e : ℕ} (p : Ends k s c e) where
-  pub piece-is : rest 0 (take e s) c ≡ upTo (λ (b : ℕ). eqb b k) (rest 0 s c)
-  piece-is = cut-is s (upTo (λ (b : ℕ). eqb b k) (rest 0 s c)) c e (p .onward) (p .is)
+module _ {k m : ℕ} {s : List ℕ} {c e : ℕ} (p : Ends k m s c e) where
+  pub piece-is : rest m (take e s) c ≡ upTo (λ (b : ℕ). eqb b k) (rest m s c)
+  piece-is = cut-is m s (upTo (λ (b : ℕ). eqb b k) (rest m s c)) c e (p .inside .cut) (p .onward) (p .reach) (p .is)
 
-  pub cut-inside : c ≤ length (take e s)
-  cut-inside = rw (length-take-le e s (p .inside)) (p .onward)
+  pub cut-inside : Within m (take e s) c
+  cut-inside = record { cut = p .inside .cut; most = rw (length-take-le e s (p .inside .most)) (p .onward) }
 
   pub cut-count : e ≡ length (take e s)
-  cut-count = sym (length-take-le e s (p .inside))
+  cut-count = sym (length-take-le e s (p .inside .most))
 
-  pub pieces-any : cutAt k (rest 0 s c) ≡ rest 0 (take e s) c ∷ laterOf k (rest 0 s e)
-  pieces-any = cut-first k (rest 0 s c) ∙ rw (piece-is, ← (p .left))
+  pub pieces-any : cutAt k (rest m s c) ≡ rest m (take e s) c ∷ laterOf k (rest m s e)
+  pieces-any = cut-first k (rest m s c) ∙ rw (piece-is, ← (p .left))
 
-  module _ {n : Step} (q : Reads 0 s e n) where
-    pub pieces-last : n .u ≡ 256 → cutAt k (rest 0 s c) ≡ rest 0 (take e s) c ∷ []
+  module _ {n : Step} (q : Reads m s e n) where
+    pub pieces-last : n .u ≡ 256 → cutAt k (rest m s c) ≡ rest m (take e s) c ∷ []
     unfolding laterOf
     pieces-last h = pieces-any ∙ rw (rest-end q h)
 
-    pub pieces-more : (n .u ≡ 256 → ⊥) → cutAt k (rest 0 s c) ≡ rest 0 (take e s) c ∷ cutAt k (rest 0 s (n .next))
+    pub pieces-more : (n .u ≡ 256 → ⊥) → cutAt k (rest m s c) ≡ rest m (take e s) c ∷ cutAt k (rest m s (n .next))
     unfolding laterOf
     pieces-more h = pieces-any ∙ rw (rest-byte q h)
 
     pub pieces-less : (n .u ≡ 256 → ⊥) → length s - n .next < length s - c
-    pieces-less h = let l = step-less q h in let o = p .onward in omega arith
+    pieces-less h = let l = step-less (p .inside) q h in let o = p .onward in let a = l .0 in let b = l .1 .most in omega arith
 
 -- what F says of the pieces is the same from c₀ as from c
-pub record Left {A : Type 0} (F : List (List ℕ) → A) (k : ℕ) (s : List ℕ) (c₀ c : ℕ) : Type 0 where
-  pub left : F (cutAt k (rest 0 s c₀)) ≡ F (cutAt k (rest 0 s c))
-  pub inside : c ≤ length s
+pub record Left {A : Type 0} (F : List (List ℕ) → A) (k m : ℕ) (s : List ℕ) (c₀ c : ℕ) : Type 0 where
+  pub left : F (cutAt k (rest m s c₀)) ≡ F (cutAt k (rest m s c))
+  pub inside : Within m s c
 
-pub left-start : {A : Type 0} (F : List (List ℕ) → A) (k : ℕ) (s : List ℕ) (c : ℕ) → c ≤ length s → Left F k s c c
-left-start F k s c h = record { left = refl; inside = h }
+pub left-start : {A : Type 0} (F : List (List ℕ) → A) (k m : ℕ) (s : List ℕ) (c : ℕ) → Within m s c → Left F k m s c c
+left-start F k m s c h = record { left = refl; inside = h }
 
 -- ---- items
 
-module _ (p : ℕ) {s : List ℕ} {c₀ c e : ℕ} (t : Left (areItems p) 44 s c₀ c) (d : Ends 44 s c e) where
-  pub items-bad : isRead (readItem ical (getD partNames p []) (rest 0 (take e s) c)) ≡ false → false ≡ areItems p (cutAt 44 (rest 0 s c₀))
+module _ (p : ℕ) {m : ℕ} {s : List ℕ} {c₀ c e : ℕ} (t : Left (areItems p) 44 m s c₀ c) (d : Ends 44 m s c e) where
+  pub items-bad : isRead (readItem ical (getD partNames p []) (rest m (take e s) c)) ≡ false → false ≡ areItems p (cutAt 44 (rest m s c₀))
   unfolding areItems _and_
   items-bad h = sym (t .left ∙ rw (pieces-any d, h))
 
-  module _ {n : Step} (q : Reads 0 s e n) (h : isRead (readItem ical (getD partNames p []) (rest 0 (take e s) c)) ≡ true) where
-    pub items-last : n .u ≡ 256 → true ≡ areItems p (cutAt 44 (rest 0 s c₀))
+  module _ {n : Step} (q : Reads m s e n) (h : isRead (readItem ical (getD partNames p []) (rest m (take e s) c)) ≡ true) where
+    pub items-last : n .u ≡ 256 → true ≡ areItems p (cutAt 44 (rest m s c₀))
     unfolding areItems _and_
     items-last z = sym (t .left ∙ rw (pieces-last d q z, h))
 
-    pub items-more : (n .u ≡ 256 → ⊥) → Left (areItems p) 44 s c₀ (n .next)
+    pub items-more : (n .u ≡ 256 → ⊥) → Left (areItems p) 44 m s c₀ (n .next)
     unfolding areItems _and_
-    items-more z = record { left = t .left ∙ rw (pieces-more d q z, h); inside = step-less q z .1 }
+    items-more z = record { left = t .left ∙ rw (pieces-more d q z, h); inside = step-less (d .inside) q z .1 }
 
--- ---- one more read, and what stands past the end
+-- ---- one more read
 
 pub cons-read : {A : Type 0} (o : Option A) (q : Option (List A)) → isRead (andThen o (λ b. consRead b q)) ≡ (isRead o and isRead q)
 unfolding andThen consRead isRead _and_
 cons-read none q = refl
 cons-read (some a) none = refl
 cons-read (some a) (some l) = refl
-
-pub rest-gone : (s : List ℕ) (c : ℕ) → length s < c → rest 0 s c ≡ []
-unfolding rest pick
-rest-gone s c h = let l : length s ≤ c = omega arith in drop-of-length-le s l

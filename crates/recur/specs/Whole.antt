@@ -20,8 +20,8 @@ use Rattle.octets.specs.Reading.{andThen, isRead, consRead, readEach, andThen-s
 use Rattle.octets.specs.Computing.{octets-compute}
 use Rattle.octets.specs.Front.{fromOn, past}
 use Rattle.model.specs.Calendar.{ical, RulePart}
-use Rattle.source.specs.Source.{rest, Reads}
-use Rattle.source.specs.Facts.{rest-byte, rest-end}
+use Rattle.source.specs.Source.{rest, cuts, Reads}
+use Rattle.source.specs.Facts.{rest-byte, rest-end, rest-past}
 use Rattle.source.specs.declared.Step.{Step}
 use Rattle.names.specs.Keys.{apart, keys-compute}
 use Rattle.names.specs.Table.{placeOf, nth, row-place, one-of-place}
@@ -32,7 +32,7 @@ use Rattle.recur.specs.Rule.{rulePart, isEquals, itemsOf, readPart, name
 use Rattle.recur.specs.Fits.{part-at, beyond, read-then, provided-is}
 use Rattle.recur.specs.Computing.{recur-compute}
 use Rattle.recur.specs.Pieces.{Ends, pieceName, placeAt, areItems, hasPlace, eachPart, isWhole}
-use Rattle.recur.specs.PieceLaws.{piece-is, cons-read, rest-gone}
+use Rattle.recur.specs.PieceLaws.{piece-is, cons-read}
 
 -- ---- the characters after the first that passes a test
 
@@ -55,16 +55,16 @@ pub names-apart : apart partNames ≡ true
 unfolding keys-compute
 names-apart = refl
 
-pub name-found : (s : List ℕ) (c e : ℕ) {n : ℕ} → Ends 61 s c e → n ≡ placeOf (upper (rest 0 (take e s) c)) partNames → n ≡ placeAt (rest 0 s c)
+pub name-found : (m : ℕ) (s : List ℕ) (c e : ℕ) {n : ℕ} → Ends 61 m s c e → n ≡ placeOf (upper (rest m (take e s) c)) partNames → n ≡ placeAt (rest m s c)
 unfolding placeAt
-name-found s c e d h = h ∙ rw (piece-is d)
+name-found m s c e d h = h ∙ rw (piece-is d)
 
-module _ {s : List ℕ} {c e : ℕ} {n : Step} (d : Ends 61 s c e) (q : Reads 0 s e n) where
-  pub value-none : n .u ≡ 256 → past isEquals (rest 0 s c) ≡ rest 0 s e
-  value-none h = past-from isEquals (rest 0 s c) ∙ rw (← (d .left), rest-end q h)
+module _ {m : ℕ} {s : List ℕ} {c e : ℕ} {n : Step} (d : Ends 61 m s c e) (q : Reads m s e n) where
+  pub value-none : n .u ≡ 256 → past isEquals (rest m s c) ≡ rest m s e
+  value-none h = past-from isEquals (rest m s c) ∙ rw (← (d .left), rest-end q h)
 
-  pub value-after : (n .u ≡ 256 → ⊥) → past isEquals (rest 0 s c) ≡ rest 0 s (n .next)
-  value-after h = past-from isEquals (rest 0 s c) ∙ rw (← (d .left), rest-byte q h)
+  pub value-after : (n .u ≡ 256 → ⊥) → past isEquals (rest m s c) ≡ rest m s (n .next)
+  value-after h = past-from isEquals (rest m s c) ∙ rw (← (d .left), rest-byte q h)
 
 pub listed-at : (p : ℕ) → eqb (getD (0 ∷ 0 ∷ 0 ∷ 0 ∷ 1 ∷ 1 ∷ 1 ∷ 1 ∷ 1 ∷ 1 ∷ 1 ∷ 1 ∷ 1 ∷ 0 ∷ []) p 0) 1 ≡ isListed (partOf (getD partNames p []))
 unfolding octets-compute
@@ -198,5 +198,5 @@ no-rule : isRead (readRule []) ≡ false
 unfolding recur-compute
 no-rule = refl
 
-pub rule-beyond : (s : List ℕ) (c : ℕ) → length s < c → isRead (readRule (rest 0 s c)) ≡ false
-rule-beyond s c h = rw (rest-gone s c h) no-rule
+pub rule-beyond : (m : ℕ) (s : List ℕ) (c : ℕ) → cuts m ≡ true → length s < c → isRead (readRule (rest m s c)) ≡ false
+rule-beyond m s c y h = let l : length s ≤ c = omega arith in rw (rest-past m s c y l) no-rule

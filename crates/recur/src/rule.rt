@@ -1,13 +1,13 @@
-// A whole rule in text, over bytes as they stand. See specs/Pieces.antt and specs/Noted.antt.
+// A whole rule in text, over an encoding whose cursors are indices. See specs/Pieces.antt and specs/Noted.antt.
 ghost use mathlib.Core.Path.{_≡_};
+ghost use mathlib.Core.Bool.{true};
 ghost use mathlib.Core.List.{[]};
-ghost use Prim.Native.Nat.{_≤_, _<_};
-ghost use lib.ListN.{length, getD};
+ghost use lib.ListN.{getD};
 ghost use Rattle.octets.specs.Class.{upper};
 ghost use Rattle.octets.specs.Words.{cutAt};
 ghost use Rattle.octets.specs.Reading.{isRead};
 ghost use Rattle.octets.specs.Front.{past};
-ghost use Rattle.source.specs.Source.{rest};
+ghost use Rattle.source.specs.Source.{rest, cuts, Within};
 ghost use Rattle.names.specs.Table.{placeOf};
 ghost use Rattle.recur.specs.Parts.{partNames, partOf, isListed};
 ghost use Rattle.recur.specs.Rule.{isEquals, readPart, readRule};
@@ -33,13 +33,13 @@ pub struct RuleParts {
 const LISTED: [u8; 14] = [0, 0, 0, 0, 1, 1, 1, 1, 1, 1, 1, 1, 1, 0];
 
 // The cursor at the first byte `k`, or at the end.
-pub fn byte_end(k: usize, s: &[u8], at: usize) -> usize
-    requires { ⌜ at ≤ length (now s) ⌝ }
-    ensures { λ r. ⌜ Ends k (now (s .entry)) at r ⌝ }
+pub fn byte_end(k: usize, mode: usize, s: &[u8], at: usize) -> usize
+    requires { ⌜ Within mode (now s) at ⌝ }
+    ensures { λ r. ⌜ Ends k mode (now (s .entry)) at r ⌝ }
 {
     let mut c = at;
     loop {
-        let t = unit(0, s, c);
+        let t = unit(mode, s, c);
         let u = t.u;
         if u == 256 {
             return c;
@@ -52,45 +52,45 @@ pub fn byte_end(k: usize, s: &[u8], at: usize) -> usize
 }
 
 // The place of a part's name, in any case, by its key (specs/Keys.antt of crate names); 14 where no part has that name.
-fn part_number(s: &[u8], at: usize) -> usize
-    ensures { λ r. ⌜ r ≡ placeOf (upper (rest 0 (now (s .entry)) at)) partNames ⌝ }
+fn part_number(mode: usize, s: &[u8], at: usize) -> usize
+    ensures { λ r. ⌜ r ≡ placeOf (upper (rest mode (now (s .entry)) at)) partNames ⌝ }
 {
-    let h = name_key(0, s, at);
+    let h = name_key(mode, s, at);
     match h {
-        76 => named(0, s, at, b"FREQ", 0, 14),
-        229 => named(0, s, at, b"UNTIL", 1, 14),
-        221 => named(0, s, at, b"COUNT", 2, 14),
-        125 => named(0, s, at, b"INTERVAL", 3, 14),
-        170 => named(0, s, at, b"BYSECOND", 4, 14),
-        52 => named(0, s, at, b"BYMINUTE", 5, 14),
-        32 => named(0, s, at, b"BYHOUR", 6, 14),
-        217 => named(0, s, at, b"BYDAY", 7, 14),
-        176 => named(0, s, at, b"BYMONTHDAY", 8, 14),
-        12 => named(0, s, at, b"BYYEARDAY", 9, 14),
-        15 => named(0, s, at, b"BYWEEKNO", 10, 14),
-        62 => named(0, s, at, b"BYMONTH", 11, 14),
-        174 => named(0, s, at, b"BYSETPOS", 12, 14),
-        161 => named(0, s, at, b"WKST", 13, 14),
+        76 => named(mode, s, at, b"FREQ", 0, 14),
+        229 => named(mode, s, at, b"UNTIL", 1, 14),
+        221 => named(mode, s, at, b"COUNT", 2, 14),
+        125 => named(mode, s, at, b"INTERVAL", 3, 14),
+        170 => named(mode, s, at, b"BYSECOND", 4, 14),
+        52 => named(mode, s, at, b"BYMINUTE", 5, 14),
+        32 => named(mode, s, at, b"BYHOUR", 6, 14),
+        217 => named(mode, s, at, b"BYDAY", 7, 14),
+        176 => named(mode, s, at, b"BYMONTHDAY", 8, 14),
+        12 => named(mode, s, at, b"BYYEARDAY", 9, 14),
+        15 => named(mode, s, at, b"BYWEEKNO", 10, 14),
+        62 => named(mode, s, at, b"BYMONTH", 11, 14),
+        174 => named(mode, s, at, b"BYSETPOS", 12, 14),
+        161 => named(mode, s, at, b"WKST", 13, 14),
         _ => 14,
     }
 }
 
 // The place of a piece's name.
-fn part_place(s: &[u8], at: usize) -> usize
-    requires { ⌜ at ≤ length (now s) ⌝ }
-    ensures { λ r. ⌜ r ≡ placeAt (rest 0 (now (s .entry)) at) ⌝ }
+fn part_place(mode: usize, s: &[u8], at: usize) -> usize
+    requires { ⌜ Within mode (now s) at ⌝ }
+    ensures { λ r. ⌜ r ≡ placeAt (rest mode (now (s .entry)) at) ⌝ }
 {
-    let e = byte_end(61, s, at);
-    part_number(&s[..e], at)
+    let e = byte_end(61, mode, s, at);
+    part_number(mode, &s[..e], at)
 }
 
 // The cursor after a piece's name and =.
-pub fn value_at(s: &[u8], at: usize) -> usize
-    requires { ⌜ at ≤ length (now s) ⌝ }
-    ensures { λ r. ⌜ (past isEquals (rest 0 (now (s .entry)) at) ≡ rest 0 (now (s .entry)) r) × (r ≤ length (now (s .entry))) ⌝ }
+pub fn value_at(mode: usize, s: &[u8], at: usize) -> usize
+    requires { ⌜ Within mode (now s) at ⌝ }
+    ensures { λ r. ⌜ (past isEquals (rest mode (now (s .entry)) at) ≡ rest mode (now (s .entry)) r) × Within mode (now (s .entry)) r ⌝ }
 {
-    let e = byte_end(61, s, at);
-    let n = unit(0, s, e);
+    let e = byte_end(61, mode, s, at);
+    let n = unit(mode, s, e);
     if n.u == 256 {
         return e;
     }
@@ -108,16 +108,16 @@ pub fn is_list_part(p: usize) -> bool
 }
 
 // Each piece between commas is an item of the part at the place `p`.
-fn are_items(p: usize, s: &[u8], at: usize) -> bool
-    requires { ⌜ at ≤ length (now s) ⌝ }
-    ensures { λ r. ⌜ r ≡ areItems p (cutAt 44 (rest 0 (now (s .entry)) at)) ⌝ }
+fn are_items(p: usize, mode: usize, s: &[u8], at: usize) -> bool
+    requires { ⌜ Within mode (now s) at ⌝ }
+    ensures { λ r. ⌜ r ≡ areItems p (cutAt 44 (rest mode (now (s .entry)) at)) ⌝ }
 {
     let mut c = at;
     loop {
-        let e = byte_end(44, s, c);
-        let fits = is_item(p, false, 0, &s[..e], c);
+        let e = byte_end(44, mode, s, c);
+        let fits = is_item(p, false, mode, &s[..e], c);
         if fits {
-            let n = unit(0, s, e);
+            let n = unit(mode, s, e);
             let u = n.u;
             if u == 256 {
                 return true;
@@ -130,16 +130,16 @@ fn are_items(p: usize, s: &[u8], at: usize) -> bool
 }
 
 // A piece, whose name is at the place `p`, is a part.
-fn is_part(p: usize, s: &[u8], at: usize) -> bool
-    requires { ⌜ (p ≡ placeAt (rest 0 (now s) at)) × (at ≤ length (now s)) ⌝ }
-    ensures { λ r. ⌜ r ≡ isRead (readPart (rest 0 (now (s .entry)) at)) ⌝ }
+fn is_part(p: usize, mode: usize, s: &[u8], at: usize) -> bool
+    requires { ⌜ (p ≡ placeAt (rest mode (now s) at)) × Within mode (now s) at ⌝ }
+    ensures { λ r. ⌜ r ≡ isRead (readPart (rest mode (now (s .entry)) at)) ⌝ }
 {
-    let v = value_at(s, at);
+    let v = value_at(mode, s, at);
     let listed = is_list_part(p);
     if listed {
-        return are_items(p, s, v);
+        return are_items(p, mode, s, v);
     }
-    is_item(p, false, 0, s, v)
+    is_item(p, false, mode, s, v)
 }
 
 // FREQ is there; UNTIL and COUNT are not both there.
@@ -156,20 +156,20 @@ fn is_whole(begins: [usize; 14]) -> bool
 }
 
 // The parts from the cursor `at` to the end: each piece is one, and no two have the same name.
-fn find_parts(s: &[u8], at: usize) -> RuleParts
-    requires { ⌜ at ≤ length (now s) ⌝ }
-    ensures { λ r. ⌜ Parted (now (s .entry)) at r ⌝ }
+fn find_parts(mode: usize, s: &[u8], at: usize) -> RuleParts
+    requires { ⌜ Within mode (now s) at ⌝ }
+    ensures { λ r. ⌜ Parted mode (now (s .entry)) at r ⌝ }
 {
     let mut begins = [0usize; 14];
     let mut c = at;
     loop {
-        let e = byte_end(59, s, c);
-        let p = part_place(&s[..e], c);
-        let fits = is_part(p, &s[..e], c);
+        let e = byte_end(59, mode, s, c);
+        let p = part_place(mode, &s[..e], c);
+        let fits = is_part(p, mode, &s[..e], c);
         if fits {
             if begins[p] == 0 {
                 begins[p] = c + 1;
-                let n = unit(0, s, e);
+                let n = unit(mode, s, e);
                 let u = n.u;
                 if u == 256 {
                     let good = is_whole(begins);
@@ -192,8 +192,9 @@ fn find_parts(s: &[u8], at: usize) -> RuleParts
 }
 
 // The rule from the cursor `at` to the end, and where its parts stand.
-pub fn read_parts(s: &[u8], at: usize) -> RuleParts
-    ensures { λ r. ⌜ Parted (now (s .entry)) at r ⌝ }
+pub fn read_parts(mode: usize, s: &[u8], at: usize) -> RuleParts
+    requires { ⌜ cuts mode ≡ true ⌝ }
+    ensures { λ r. ⌜ Parted mode (now (s .entry)) at r ⌝ }
 {
     if s.len() < at {
         let begins = [0usize; 14];
@@ -202,14 +203,15 @@ pub fn read_parts(s: &[u8], at: usize) -> RuleParts
             begins,
         };
     }
-    find_parts(s, at)
+    find_parts(mode, s, at)
 }
 
 // The rule from the cursor `at` to the end.
-pub fn read_rule(s: &[u8], at: usize) -> RuleRead
-    ensures { λ r. ⌜ isRead (readRule (rest 0 (now (s .entry)) at)) ≡ good r ⌝ }
+pub fn read_rule(mode: usize, s: &[u8], at: usize) -> RuleRead
+    requires { ⌜ cuts mode ≡ true ⌝ }
+    ensures { λ r. ⌜ isRead (readRule (rest mode (now (s .entry)) at)) ≡ good r ⌝ }
 {
-    let r = read_parts(s, at);
+    let r = read_parts(mode, s, at);
     if r.good {
         return RuleRead::Rule;
     }

@@ -6,7 +6,7 @@
 --     ampersand-here, ampersand-one, ampersand-two    where the `&` is found
 --     within-step            the step at a cursor within a reference's character;   astray-step: where there is none
 use mathlib.Core.Path.{_≡_, refl, sym, ap, _∙_}
-use mathlib.Core.Bool.{Bool, true, false}
+use mathlib.Core.Bool.{Bool, true, false, false≢true}
 use mathlib.Core.List.{List, [], _∷_}
 use Prim.Native.Nat.{ℕ, _+_, _-_, _*_, _/_, _^_, _≤_, _<_}
 use native.Mathlib.Omega.{arith}
@@ -25,7 +25,7 @@ use Rattle.xml.specs.ReferenceBytes.{reference-begins, reference-second, refere
 use Rattle.xml.specs.declared.CharRead.{CharRead}
 use Rattle.source.specs.Characters.{ampersand, remaining, charsWithin, charsFrom, chars-even, chars-odd}
 use Rattle.source.specs.Source.{rest, spell, Reads}
-use Rattle.source.specs.Facts.{spell-byte, spell-end}
+use Rattle.source.specs.Facts.{spell-byte, spell-end, reach-other}
 use Rattle.source.specs.declared.Step.{Step}
 
 rest-xml : (s : List ℕ) (c : ℕ) → rest 1 s c ≡ charsFrom s c
@@ -163,7 +163,8 @@ module _ (s : List ℕ) (p : ℕ) {r : CharRead} (q : Character (charIn (drop p 
         small = omega arith;
         moved = omega (arith, b .0);
         inside = omega (arith, b .1);
-        plain = λ z b. omega arith;
+        plain = λ z b. absurd (false≢true z);
+        reach = reach-other 1 s _ _ refl;
       }
 
   pub none-step : (c : ℕ) → c ≡ 2 * p → r .u ≡ 256 → c < 2 ^ 64 → Reads 1 s c (record { u = 256; next = c })
@@ -173,6 +174,7 @@ module _ (s : List ℕ) (p : ℕ) {r : CharRead} (q : Character (charIn (drop p 
     moved = omega arith;
     inside = omega arith;
     plain = λ z b. absurd (b refl);
+    reach = reach-other 1 s _ _ refl;
   }
 
   pub begin-step : {t : Step} (c : ℕ) → c ≡ 2 * p → 256 < r .u → Left s p (r .u - 257) (r .next) 0 t → Reads 1 s c t
@@ -186,7 +188,8 @@ module _ (s : List ℕ) (p : ℕ) {r : CharRead} (q : Character (charIn (drop p 
         small = g .small;
         moved = omega (arith, g .moved);
         inside = omega (arith, g .inside);
-        plain = λ z b. omega arith;
+        plain = λ z b. absurd (false≢true z);
+        reach = reach-other 1 s _ _ refl;
       }
 
 -- ---- the step within
@@ -229,6 +232,7 @@ module _ (s : List ℕ) (i p : ℕ) (a : p ≡ ampersand s i) {r : CharRead} (q 
     moved = omega arith;
     inside = omega arith;
     plain = λ z b. absurd (b refl);
+    reach = reach-other 1 s _ _ refl;
   }
 
   pub within-step : {t : Step} (c : ℕ) → c ≡ 2 * i + 1 → p ≤ i → 256 < r .u → Left s p (r .u - 257) (r .next) (i - p + 1) t → Reads 1 s c t
@@ -238,5 +242,6 @@ module _ (s : List ℕ) (i p : ℕ) (a : p ≡ ampersand s i) {r : CharRead} (q 
     small = g .small;
     moved = omega (arith, g .moved);
     inside = omega (arith, g .inside);
-    plain = λ z b. omega arith;
+    plain = λ z b. absurd (false≢true z);
+    reach = reach-other 1 s _ _ refl;
   }

@@ -2,9 +2,10 @@
 mod characters;
 
 pub use characters::xml_unit;
+use folding::skip::skip_folds;
 use octets::wide;
 ghost use mathlib.Core.Path.{_≡_};
-ghost use Rattle.source.specs.Source.{Reads};
+ghost use Rattle.source.specs.Source.{Reads, Settled};
 
 // A character's next byte, or 256 at the value's end; and the cursor after it.
 pub struct Step {
@@ -13,7 +14,7 @@ pub struct Step {
 }
 
 // Bytes as they stand, to the end of what is lent.
-fn plain_unit(s: &[u8], at: usize) -> Step
+pub fn plain_unit(s: &[u8], at: usize) -> Step
     ensures { λ r. ⌜ Reads 0 (now (s .entry)) at r ⌝ }
 {
     if at < s.len() {
@@ -25,15 +26,46 @@ fn plain_unit(s: &[u8], at: usize) -> Step
     Step { u: 256, next: at }
 }
 
+// The bytes of a text with its folds in place: folds are passed over.
+pub fn folded_unit(s: &[u8], at: usize) -> Step
+    ensures { λ r. ⌜ Reads 2 (now (s .entry)) at r ⌝ }
+{
+    if at < s.len() {
+        let n = skip_folds(s, at);
+        if n < s.len() {
+            return Step {
+                u: wide(s[n]),
+                next: n + 1,
+            };
+        }
+        return Step { u: 256, next: at };
+    }
+    Step { u: 256, next: at }
+}
+
+// The cursor behind what has no byte of its own: if it is within what is lent, a byte stands there.
+pub fn settled(mode: usize, s: &[u8], at: usize) -> usize
+    ensures { λ r. ⌜ Settled mode (now (s .entry)) at r ⌝ }
+{
+    if mode == 2 {
+        if at < s.len() {
+            return skip_folds(s, at);
+        }
+        return at;
+    }
+    at
+}
+
 // An encoding that there is not has no characters.
 fn no_unit(s: &[u8], at: usize, mode: usize) -> Step
-    requires { ⌜ (mode ≡ 0 → ⊥) × (mode ≡ 1 → ⊥) ⌝ }
+    requires { ⌜ (mode ≡ 0 → ⊥) × (mode ≡ 1 → ⊥) × (mode ≡ 2 → ⊥) ⌝ }
     ensures { λ r. ⌜ Reads mode (now (s .entry)) at r ⌝ }
 {
     Step { u: 256, next: at }
 }
 
-// The byte at the cursor `at`, in the encoding that `mode` names: 0 for bytes as they stand, 1 for the characters of an XML element.
+// The byte at the cursor `at`, in the encoding that `mode` names: 0 for bytes as they stand, 1 for the characters of an XML element,
+// 2 for a text with its folds in place.
 pub fn unit(mode: usize, s: &[u8], at: usize) -> Step
     ensures { λ r. ⌜ Reads mode (now (s .entry)) at r ⌝ }
 {
@@ -42,6 +74,9 @@ pub fn unit(mode: usize, s: &[u8], at: usize) -> Step
     }
     if mode == 1 {
         return xml_unit(s, at);
+    }
+    if mode == 2 {
+        return folded_unit(s, at);
     }
     no_unit(s, at, mode)
 }

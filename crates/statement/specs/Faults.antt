@@ -32,8 +32,8 @@ faultNumber none = 0
 faultNumber (some r) = numberOf r
 
 -- the line l in a component c, by numbers and cursors: its parameters stand from e on, its value is `bytes`
-module _ {k p : ℕ} {s : List ℕ} {e : ℕ} {bytes : List ℕ} {x : TypeRead} (a : StatedAt p s e x) (c : List ℕ) (l : ContentLine)
-    (i : k ≡ placeOf c componentNames) (j : p ≡ placeOf (upper (l .name)) propertyNames) (f : l .parameters ≡ paramsAt 0 s e) (g : l .value ≡ bytes) where
+module _ {k p m : ℕ} {s : List ℕ} {e : ℕ} {bytes : List ℕ} {x : TypeRead} (a : StatedAt p m s e x) (c : List ℕ) (l : ContentLine)
+    (i : k ≡ placeOf c componentNames) (j : p ≡ placeOf (upper (l .name)) propertyNames) (f : l .parameters ≡ paramsAt m s e) (g : l .value ≡ bytes) where
   stated : statedType (upper (l .name)) (l .parameters) ≡ typeRead x
   stated = rw f (a .is (upper (l .name)) j)
 
@@ -44,7 +44,7 @@ module _ {k p : ℕ} {s : List ℕ} {e : ℕ} {bytes : List ℕ} {x : TypeRead} 
   unfolding faultAs
   fault-type h = rw (fault-is h)
 
-  module _ {t : ℕ} {b : Bool} (h : x ≡ Known t) (q : (w : List ℕ) → p ≡ placeOf w propertyNames → t ≤ 14 → b ≡ parametersGood w (typeAt t) (paramsAt 0 s e)) where
+  module _ {t : ℕ} {b : Bool} (h : x ≡ Known t) (q : (w : List ℕ) → p ≡ placeOf w propertyNames → t ≤ 14 → b ≡ parametersGood w (typeAt t) (paramsAt m s e)) where
     small : t ≤ 14
     small = a .known t h
 

@@ -15,13 +15,14 @@ use Rattle.octets.specs.Pick.{pick, _and_}
 use Rattle.octets.specs.Words.{cutAt}
 use Rattle.octets.specs.Reading.{andThen, isRead, consRead, readEach}
 use Rattle.model.specs.Calendar.{ical, ValueType, TEXT, UNKNOWN, Value, text}
-use Rattle.source.specs.Source.{rest, Reads}
+use Rattle.source.specs.Source.{rest, cuts, Reads}
+use Rattle.source.specs.Facts.{rest-past}
 use Rattle.source.specs.declared.Step.{Step}
 use Rattle.schema.specs.Types.{valueTypes, sameType}
 use Rattle.schema.specs.Numbers.{typeAt}
 use Rattle.schema.specs.Places.{type-back}
 use Rattle.recur.specs.Pieces.{Ends}
-use Rattle.recur.specs.PieceLaws.{Left, step-less, pieces-any, pieces-last, pieces-more, cons-read, rest-gone}
+use Rattle.recur.specs.PieceLaws.{Left, step-less, pieces-any, pieces-last, pieces-more, cons-read}
 use Rattle.texts.specs.TextList.{readTexts}
 use Rattle.values.specs.ReadValue.{readValue}
 use Rattle.values.specs.ValueAt.{mapped}
@@ -40,19 +41,19 @@ each-none : (t : ValueType) → eachValue t [] ≡ true
 unfolding readEach isRead
 each-none t = refl
 
-module _ (t : ValueType) {s : List ℕ} {c₀ c e : ℕ} (l : Left (eachValue t) 44 s c₀ c) (d : Ends 44 s c e) where
-  pub each-bad : isRead (readValue ical t (rest 0 (take e s) c)) ≡ false → false ≡ eachValue t (cutAt 44 (rest 0 s c₀))
+module _ (t : ValueType) {m : ℕ} {s : List ℕ} {c₀ c e : ℕ} (l : Left (eachValue t) 44 m s c₀ c) (d : Ends 44 m s c e) where
+  pub each-bad : isRead (readValue ical t (rest m (take e s) c)) ≡ false → false ≡ eachValue t (cutAt 44 (rest m s c₀))
   unfolding _and_
   each-bad h = sym (l .left ∙ ap (eachValue t) (pieces-any d) ∙ each-first t _ _ ∙ rw h)
 
-  module _ {n : Step} (q : Reads 0 s e n) (h : isRead (readValue ical t (rest 0 (take e s) c)) ≡ true) where
-    pub each-last : n .u ≡ 256 → true ≡ eachValue t (cutAt 44 (rest 0 s c₀))
+  module _ {n : Step} (q : Reads m s e n) (h : isRead (readValue ical t (rest m (take e s) c)) ≡ true) where
+    pub each-last : n .u ≡ 256 → true ≡ eachValue t (cutAt 44 (rest m s c₀))
     unfolding _and_
     each-last z = sym (l .left ∙ ap (eachValue t) (pieces-last d q z) ∙ each-first t _ _ ∙ rw h (each-none t))
 
-    pub each-more : (n .u ≡ 256 → ⊥) → Left (eachValue t) 44 s c₀ (n .next)
+    pub each-more : (n .u ≡ 256 → ⊥) → Left (eachValue t) 44 m s c₀ (n .next)
     unfolding _and_
-    each-more z = record { left = l .left ∙ ap (eachValue t) (pieces-more d q z) ∙ each-first t _ _ ∙ rw h; inside = step-less q z .1 }
+    each-more z = record { left = l .left ∙ ap (eachValue t) (pieces-more d q z) ∙ each-first t _ _ ∙ rw h; inside = step-less (d .inside) q z .1 }
 
 alone : (o : Option Value) → isRead (andThen o (λ v. consRead v (some []))) ≡ isRead o
 unfolding andThen consRead isRead
@@ -63,8 +64,8 @@ gone-is : {r : Bool} (t : ValueType) → r ≡ isRead (readValue ical t []) → 
 unfolding cutAt readEach
 gone-is t e = e ∙ sym (alone (readValue ical t []))
 
-pub each-gone : {r : Bool} (t : ValueType) (s : List ℕ) (c : ℕ) → length s < c → r ≡ isRead (readValue ical t (rest 0 s c)) → r ≡ eachValue t (cutAt 44 (rest 0 s c))
-each-gone t s c h e = rw (rest-gone s c h) (gone-is t (rw (rest-gone s c h) at e))
+pub each-gone : {r : Bool} (t : ValueType) (m : ℕ) (s : List ℕ) (c : ℕ) → cuts m ≡ true → length s < c → r ≡ isRead (readValue ical t (rest m s c)) → r ≡ eachValue t (cutAt 44 (rest m s c))
+each-gone t m s c y h e = let p = rest-past m s c y (omega arith) in rw p (gone-is t (rw p at e))
 
 -- ---- a list
 

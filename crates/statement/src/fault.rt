@@ -1,9 +1,10 @@
 // The faults of a property's line. See specs/Faults.antt.
 ghost use mathlib.Core.Path.{_≡_};
+ghost use mathlib.Core.Bool.{true};
 ghost use mathlib.Core.List.{List};
 ghost use Prim.Native.Nat.{ℕ};
 ghost use Rattle.octets.specs.Class.{upper};
-ghost use Rattle.source.specs.Source.{rest};
+ghost use Rattle.source.specs.Source.{rest, cuts};
 ghost use Rattle.names.specs.Table.{placeOf};
 ghost use Rattle.schema.specs.Components.{componentNames};
 ghost use Rattle.schema.specs.Properties.{propertyNames};
@@ -18,15 +19,16 @@ use parameters::are_good;
 use parameters::stated_type;
 
 // The lowest fault of a line of the property `p` in the component `k`, 7 PARAMETER or 8 VALUE, or 0: its parameters stand from `e` on, its value from `v` on.
-pub fn property_fault(k: usize, p: usize, s: &[u8], e: usize, v: usize) -> u8
-    ensures { λ r. ⌜ ((c : List ℕ) (l : ContentLine) → k ≡ placeOf c componentNames → p ≡ placeOf (upper (l .name)) propertyNames → l .parameters ≡ paramsAt 0 (now (s .entry)) e → l .value ≡ rest 0 (now (s .entry)) v → r ≡ faultNumber (propertyFault c l)) ⌝ }
+pub fn property_fault(k: usize, p: usize, mode: usize, s: &[u8], e: usize, v: usize) -> u8
+    requires { ⌜ cuts mode ≡ true ⌝ }
+    ensures { λ r. ⌜ ((c : List ℕ) (l : ContentLine) → k ≡ placeOf c componentNames → p ≡ placeOf (upper (l .name)) propertyNames → l .parameters ≡ paramsAt mode (now (s .entry)) e → l .value ≡ rest mode (now (s .entry)) v → r ≡ faultNumber (propertyFault c l)) ⌝ }
 {
-    let TypeRead::Type(t) = stated_type(p, s, e) else {
+    let TypeRead::Type(t) = stated_type(p, mode, s, e) else {
         return 7;
     };
-    let good = are_good(p, t, s, e);
+    let good = are_good(p, t, mode, s, e);
     if good {
-        let ValuesRead::Good(n) = read_values(k, p, t, s, v) else {
+        let ValuesRead::Good(n) = read_values(k, p, t, mode, s, v) else {
             return 8;
         };
         return 0;

@@ -1,10 +1,9 @@
 // Lists of values, from a cursor to the end. See specs/Listed.antt.
 ghost use mathlib.Core.Path.{_≡_};
-ghost use Prim.Native.Nat.{_≤_};
-ghost use lib.ListN.{length};
+ghost use mathlib.Core.Bool.{true};
 ghost use Rattle.octets.specs.Words.{cutAt};
 ghost use Rattle.octets.specs.Reading.{isRead};
-ghost use Rattle.source.specs.Source.{rest};
+ghost use Rattle.source.specs.Source.{rest, cuts, Within};
 ghost use Rattle.schema.specs.Numbers.{typeAt};
 ghost use Rattle.ical.specs.Values.{readListed};
 ghost use Rattle.statement.specs.Listed.{eachValue};
@@ -15,16 +14,16 @@ use texts::is_kept;
 use texts::read_text;
 
 // Each piece between commas is a value.
-fn are_pieces(t: usize, s: &[u8], at: usize) -> bool
-    requires { ⌜ at ≤ length (now s) ⌝ }
-    ensures { λ r. ⌜ r ≡ eachValue (typeAt t) (cutAt 44 (rest 0 (now (s .entry)) at)) ⌝ }
+fn are_pieces(t: usize, mode: usize, s: &[u8], at: usize) -> bool
+    requires { ⌜ Within mode (now s) at ⌝ }
+    ensures { λ r. ⌜ r ≡ eachValue (typeAt t) (cutAt 44 (rest mode (now (s .entry)) at)) ⌝ }
 {
     let mut c = at;
     loop {
-        let e = byte_end(44, s, c);
-        let fits = is_of_type(t, &s[..e], c);
+        let e = byte_end(44, mode, s, c);
+        let fits = is_of_type(t, mode, &s[..e], c);
         if fits {
-            let n = unit(0, s, e);
+            let n = unit(mode, s, e);
             let u = n.u;
             if u == 256 {
                 return true;
@@ -37,22 +36,24 @@ fn are_pieces(t: usize, s: &[u8], at: usize) -> bool
 }
 
 // The same from any cursor: past the end stands one empty piece.
-fn are_values(t: usize, s: &[u8], at: usize) -> bool
-    ensures { λ r. ⌜ r ≡ eachValue (typeAt t) (cutAt 44 (rest 0 (now (s .entry)) at)) ⌝ }
+fn are_values(t: usize, mode: usize, s: &[u8], at: usize) -> bool
+    requires { ⌜ cuts mode ≡ true ⌝ }
+    ensures { λ r. ⌜ r ≡ eachValue (typeAt t) (cutAt 44 (rest mode (now (s .entry)) at)) ⌝ }
 {
     if at <= s.len() {
-        return are_pieces(t, s, at);
+        return are_pieces(t, mode, s, at);
     }
-    is_of_type(t, s, at)
+    is_of_type(t, mode, s, at)
 }
 
 // A list of TEXT, 10, or of another type.
-pub fn are_listed(t: usize, s: &[u8], at: usize) -> bool
-    ensures { λ r. ⌜ r ≡ isRead (readListed (typeAt t) (rest 0 (now (s .entry)) at)) ⌝ }
+pub fn are_listed(t: usize, mode: usize, s: &[u8], at: usize) -> bool
+    requires { ⌜ cuts mode ≡ true ⌝ }
+    ensures { λ r. ⌜ r ≡ isRead (readListed (typeAt t) (rest mode (now (s .entry)) at)) ⌝ }
 {
     if t == 10 {
-        let k = read_text(44, 0, s, at);
+        let k = read_text(44, mode, s, at);
         return is_kept(k);
     }
-    are_values(t, s, at)
+    are_values(t, mode, s, at)
 }

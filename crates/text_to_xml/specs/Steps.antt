@@ -12,11 +12,16 @@ use Rattle.octets.specs.Pick.{pick}
 use Rattle.octets.specs.Append.{_⊕_}
 use Rattle.model.specs.Calendar.{Calendar}
 use Rattle.model.specs.Refusal.{Refusal, CHARACTER, LENGTH, WORK, Verdict, fine, refuse, answer, characters, _otherwise_, limit, refusalAt}
+use Rattle.sink.specs.Sink.{Put}
+use Rattle.source.specs.Source.{rest}
 use Rattle.folding.specs.Unfold.{unfolded, origin, Unfolds, unfolded-front, length-unfolded}
 use Rattle.folding.specs.Lines.{lines}
+use Rattle.lines.specs.Ready.{index-plain}
 use Rattle.utf8.specs.Utf8.{firstBad}
 use Rattle.ical.specs.Tree.{calendarOf}
 use Rattle.ical.specs.ReadText.{linesVerdict, keptVerdict, placed, textVerdict, readCalendar}
+use Rattle.frame.specs.Answers.{Checks}
+use Rattle.frame.specs.declared.Checked.the-variants.{Fine, Refused}
 use Rattle.xcal.specs.WriteXml.{writeDocument}
 use Rattle.lengths.specs.Documents.{xml-short}
 use Rattle.conversion.specs.Conversion.{Converted, converted, Outcome, refusal, outcome, contents}
@@ -32,6 +37,24 @@ keptGives s u v = converted writeDocument (answer (placed s v) (calendarOf (line
 -- the contract of the call: all that it answers, and leaves in the output and in the work room
 abbrev pub Converts : List ℕ → List ℕ → List ℕ → List ℕ → List ℕ → Answer → Type 0
 Converts s w w′ d d′ r = (outcomeOf r ≡ toXmlOutcome s w d) × (d′ ≡ toXmlOutput s w d) × (w′ ≡ toXmlWork s w)
+
+-- ---- the check and the writer read the unfolded text as bytes as they stand
+
+pub kept-plain : (u : List ℕ) → rest 0 u 0 ≡ u
+unfolding rest pick
+kept-plain u = refl
+
+module _ {u : List ℕ} where
+  pub check-fine : Checks 0 u Fine → linesVerdict (length u) (lines u) ≡ fine
+  check-fine k = rw (kept-plain u) at (k .is)
+
+  pub check-refused : {n p : ℕ} → Checks 0 u (Refused n p) → linesVerdict (length u) (lines u) ≡ refuse (refusalAt n) p
+  check-refused {n} {p} k = (rw (kept-plain u) at (k .is)) ∙ ap (refuse (refusalAt n)) (index-plain u p (k .place))
+
+pub put-kept : (u : List ℕ) {d e : List ℕ} {o r : ℕ} → Put d e o r (writeDocument (calendarOf (lines (rest 0 u 0)))) → Put d e o r (writeDocument (calendarOf (lines u)))
+put-kept u w = rw (kept-plain u) at w
+
+-- ---- the steps
 
 module _ (s u d : List ℕ) where
   -- a refused line

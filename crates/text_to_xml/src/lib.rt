@@ -26,7 +26,7 @@ fn written_at_once(kept: &[u8], out: &mut [u8]) -> Answer
     requires { ⌜ (length (now kept) ≤ 65535) × (19 * length (now kept) + 109 ≤ length (now out)) ⌝ }
     ensures { λ r. ⌜ Done (converted writeDocument (answer fine (calendarOf (lines (now (kept .entry)))))) (now (out .entry)) (now (out .exit)) r ⌝ }
 {
-    let n = put_document(out, 0, kept);
+    let n = put_document(out, 0, 0, kept);
     Answer::Written(n)
 }
 
@@ -35,9 +35,9 @@ fn measured(kept: &[u8], out: &mut [u8]) -> Answer
     requires { ⌜ length (now kept) ≤ 65535 ⌝ }
     ensures { λ r. ⌜ Done (converted writeDocument (answer fine (calendarOf (lines (now (kept .entry)))))) (now (out .entry)) (now (out .exit)) r ⌝ }
 {
-    let need = put_document(&mut out[..0], 0, kept);
+    let need = put_document(&mut out[..0], 0, 0, kept);
     if need <= out.len() {
-        put_document(out, 0, kept);
+        put_document(out, 0, 0, kept);
         return Answer::Written(need);
     }
     Answer::Room(need)
@@ -60,7 +60,7 @@ fn checked(input: &[u8], kept: &[u8], out: &mut [u8]) -> Answer
     requires { ⌜ length (now kept) ≤ 65535 ⌝ }
     ensures { λ r. ⌜ Done (keptGives (now (input .entry)) (now (kept .entry)) (linesVerdict (length (now (kept .entry))) (lines (now (kept .entry))))) (now (out .entry)) (now (out .exit)) r ⌝ }
 {
-    match check(kept) {
+    match check(0, kept) {
         Checked::Refused(n, p) => {
             let q = place_of(input, p);
             refused(n, q)

@@ -17,8 +17,8 @@ use Rattle.octets.specs.Pick.{pick, _and_, _or_, and-both}
 use Rattle.octets.specs.Append.{_⊕_}
 use Rattle.octets.specs.Words.{onto}
 use Rattle.octets.specs.Reading.{andThen, consRead}
-use Rattle.source.specs.Source.{rest, Reads}
-use Rattle.source.specs.Facts.{rest-byte, rest-end, byte-small, cut-is}
+use Rattle.source.specs.Source.{rest, cuts, Reach, Reads}
+use Rattle.source.specs.Facts.{rest-byte, rest-end, byte-small, cut-is, reach-here, reach-on}
 use Rattle.source.specs.declared.Step.{Step}
 use Rattle.texts.specs.Text.{Sign, char, opening, separator, fault, isBreak, bareSign, signOf, opens, ontoRead, withSign, splitFrom, splitText, textSign, textFrom, readText, text-end, text-step}
 use Rattle.texts.specs.Unescaped.{isSeparator, separator-none}
@@ -119,24 +119,25 @@ pub record ItemEnds (sep m : ℕ) (s : List ℕ) (c r : ℕ) : Type 0 where
   pub left : rest m s r ≡ behindFrom false sep (rest m s c)
   pub onward : c ≤ r
   pub inside : r ≤ max c (4 * length s)
-  pub plain : m ≡ 0 → c ≤ length s → r ≤ length s
+  pub plain : cuts m ≡ true → c ≤ length s → r ≤ length s
+  pub reach : Reach m s c r
 
--- bytes as they stand, cut at the item's end, are the item
-pub item-cut : (sep : ℕ) (s : List ℕ) (c r : ℕ) → ItemEnds sep 0 s c r → rest 0 (take r s) c ≡ itemFrom false sep (rest 0 s c)
-item-cut sep s c r p = cut-is s (itemFrom false sep (rest 0 s c)) c r (p .onward) (rw (p .left) (sym (item-behind (rest 0 s c) false sep)))
+-- what is lent, cut at the item's end, is the item
+pub item-cut : (sep m : ℕ) (s : List ℕ) (c r : ℕ) → cuts m ≡ true → ItemEnds sep m s c r → rest m (take r s) c ≡ itemFrom false sep (rest m s c)
+item-cut sep m s c r y p = cut-is m s (itemFrom false sep (rest m s c)) c r y (p .onward) (p .reach) (rw (p .left) (sym (item-behind (rest m s c) false sep)))
 
 -- the list from c on: the item at c, which is the last where nothing stands behind it
-pub item-first : (sep : ℕ) (s : List ℕ) (c r : ℕ) → ItemEnds sep 0 s c r →
-    splitText sep (rest 0 s c) ≡ andThen (readText (rest 0 (take r s) c)) (λ p. consRead p (piecesBehind sep (rest 0 s r)))
-item-first sep s c r p = rw (item-cut sep s c r p, p .left) (split-item (rest 0 s c) false sep)
+pub item-first : (sep m : ℕ) (s : List ℕ) (c r : ℕ) → cuts m ≡ true → ItemEnds sep m s c r →
+    splitText sep (rest m s c) ≡ andThen (readText (rest m (take r s) c)) (λ p. consRead p (piecesBehind sep (rest m s r)))
+item-first sep m s c r y p = rw (item-cut sep m s c r y p, p .left) (split-item (rest m s c) false sep)
 
-module _ {sep : ℕ} {s : List ℕ} {c r : ℕ} {n : Step} (p : ItemEnds sep 0 s c r) (q : Reads 0 s r n) where
-  pub item-last : n .u ≡ 256 → splitText sep (rest 0 s c) ≡ andThen (readText (rest 0 (take r s) c)) (λ p. some (p ∷ []))
+module _ {sep m : ℕ} {s : List ℕ} {c r : ℕ} {n : Step} (y : cuts m ≡ true) (p : ItemEnds sep m s c r) (q : Reads m s r n) where
+  pub item-last : n .u ≡ 256 → splitText sep (rest m s c) ≡ andThen (readText (rest m (take r s) c)) (λ p. some (p ∷ []))
   unfolding consRead
-  item-last h = item-first sep s c r p ∙ rw (rest-end q h)
+  item-last h = item-first sep m s c r y p ∙ rw (rest-end q h)
 
-  pub item-more : (n .u ≡ 256 → ⊥) → splitText sep (rest 0 s c) ≡ andThen (readText (rest 0 (take r s) c)) (λ p. consRead p (splitText sep (rest 0 s (n .next))))
-  item-more h = item-first sep s c r p ∙ rw (rest-byte q h)
+  pub item-more : (n .u ≡ 256 → ⊥) → splitText sep (rest m s c) ≡ andThen (readText (rest m (take r s) c)) (λ p. consRead p (splitText sep (rest m s (n .next))))
+  item-more h = item-first sep m s c r y p ∙ rw (rest-byte q h)
 
 -- ---- the loop of `item_end`
 
@@ -144,10 +145,11 @@ pub record Walking (sep m : ℕ) (s : List ℕ) (c₀ : ℕ) (after : Bool) (c :
   pub left : behindFrom false sep (rest m s c₀) ≡ behindFrom after sep (rest m s c)
   pub onward : c₀ ≤ c
   pub inside : c ≤ max c₀ (4 * length s)
-  pub plain : m ≡ 0 → c₀ ≤ length s → c ≤ length s
+  pub plain : cuts m ≡ true → c₀ ≤ length s → c ≤ length s
+  pub reach : Reach m s c₀ c
 
 pub walk-start : (sep m : ℕ) (s : List ℕ) (c : ℕ) → Walking sep m s c false c
-walk-start sep m s c = record { left = refl; onward = omega arith; inside = omega arith; plain = λ z h. h }
+walk-start sep m s c = record { left = refl; onward = omega arith; inside = omega arith; plain = λ z h. h; reach = reach-here m s c }
 
 module _ {sep m : ℕ} {s : List ℕ} {c₀ : ℕ} {after : Bool} {c : ℕ} {n : Step} (w : Walking sep m s c₀ after c) (p : Reads m s c n) where
   pub walk-more : {t after′ : Bool} → (n .u ≡ 256 → ⊥) → t ≡ isBetween after sep (n .u) → t ≡ false → after′ ≡ opens after (n .u) → Walking sep m s c₀ after′ (n .next)
@@ -158,14 +160,15 @@ module _ {sep m : ℕ} {s : List ℕ} {c₀ : ℕ} {after : Bool} {c : ℕ} {n :
         onward = omega arith;
         inside = omega arith;
         plain = λ z b. p .plain z h;
+        reach = reach-on (w .onward) (omega arith) (w .reach) (p .reach);
       }
 
   pub walk-stop : {t : Bool} → (n .u ≡ 256 → ⊥) → t ≡ isBetween after sep (n .u) → t ≡ true → ItemEnds sep m s c₀ c
   unfolding behindFrom pick
-  walk-stop h k l = record { left = sym (w .left ∙ rw (rest-byte p h, ← k, l)); onward = w .onward; inside = w .inside; plain = w .plain }
+  walk-stop h k l = record { left = sym (w .left ∙ rw (rest-byte p h, ← k, l)); onward = w .onward; inside = w .inside; plain = w .plain; reach = w .reach }
 
   pub walk-end : n .u ≡ 256 → ItemEnds sep m s c₀ c
   unfolding behindFrom
-  walk-end h = record { left = sym (w .left ∙ rw (rest-end p h)); onward = w .onward; inside = w .inside; plain = w .plain }
+  walk-end h = record { left = sym (w .left ∙ rw (rest-end p h)); onward = w .onward; inside = w .inside; plain = w .plain; reach = w .reach }
 
 pub ruleset walking = (walk-start, walk-more, walk-stop, walk-end, needs)

@@ -12,7 +12,7 @@ use borrow.Author.Needs.{needs}
 use Rattle.octets.specs.Pick.{_and_}
 use Rattle.octets.specs.Words.{isEmpty}
 use Rattle.octets.specs.Reading.{andThen, isRead, consRead, andThen-some, consRead-some}
-use Rattle.source.specs.Source.{rest, Reads}
+use Rattle.source.specs.Source.{rest, cuts, Reads}
 use Rattle.source.specs.Facts.{rest-byte, rest-end}
 use Rattle.source.specs.declared.Step.{Step}
 use Rattle.texts.specs.Text.{splitText, textFrom, split-some}
@@ -93,7 +93,7 @@ status-is s = go (splitText 59 s) refl
 pub record PartEnds (m : ℕ) (s : List ℕ) (c a d b : ℕ) : Type 0 where
   pub code : ItemEnds 59 m s c a
   pub behind : piecesBehind 59 (rest m s a) ≡ splitText 59 (rest m s d)
-  pub plain : m ≡ 0 → d ≤ length s
+  pub plain : cuts m ≡ true → d ≤ length s
   pub description : ItemEnds 59 m s d b
 
 abbrev pub isStatus : Status → Bool

@@ -15,7 +15,7 @@ use Rattle.octets.specs.Words.{isEmpty, empty-is}
 use Rattle.octets.specs.Reading.{andThen, isRead, consRead, orNothing, andThen-some, consRead-some, none-some}
 use Rattle.model.specs.Calendar.{Value, binary, boolean, calAddress, date, dateTime, duration, float, integer, periodExplicit, periodStart, recur, text, time, uri, utcOffset, unknown, geo, requestStatus}
 use Rattle.sink.specs.Sink.{Put, put-none, writing}
-use Rattle.source.specs.Source.{rest, Reads}
+use Rattle.source.specs.Source.{rest, cuts, Reads}
 use Rattle.source.specs.Facts.{rest-byte, rest-end}
 use Rattle.source.specs.declared.Step.{Step}
 use Rattle.xml.specs.Escape.{escaped, elementOf}
@@ -98,42 +98,42 @@ data-behind (x ∷ s) h = go (splitText 59 s) refl h
     go (some (p ∷ [])) e k = rw (piece-alone s p e)
     go (some (p ∷ q ∷ ps)) e k = absurd (false≢true k)
 
-abbrev pub partsXml : List ℕ → ℕ → ℕ → ℕ → ℕ → List ℕ
-partsXml s c a d b =
-    elementOf (ascii "code") (orNothing escaped (readText (rest 0 (take a s) c)))
-    ⊕ elementOf (ascii "description") (orNothing escaped (readText (rest 0 (take b s) d)))
-    ⊕ dataBehind (rest 0 s b)
+abbrev pub partsXml : ℕ → List ℕ → ℕ → ℕ → ℕ → ℕ → List ℕ
+partsXml m s c a d b =
+    elementOf (ascii "code") (orNothing escaped (readText (rest m (take a s) c)))
+    ⊕ elementOf (ascii "description") (orNothing escaped (readText (rest m (take b s) d)))
+    ⊕ dataBehind (rest m s b)
 
-pub status-xml : {s : List ℕ} {c a d b : ℕ} → StatusEnds 0 s c (Parts a d b) → orNothing statusXml (readRequestStatus (rest 0 s c)) ≡ partsXml s c a d b
-status-xml {s} {c} {a} {d} {b} st =
-    let p : PartEnds 0 s c a d b = st .parts in
-    let x : Option (List ℕ) = readText (rest 0 (take a s) c) in
-    let y : Option (List ℕ) = readText (rest 0 (take b s) d) in
-    let q : Option (List (List ℕ)) = piecesBehind 59 (rest 0 s b) in
-    let e : splitText 59 (rest 0 s c) ≡ andThen x (λ u. consRead u (andThen y (λ v. consRead v q))) =
-    item-first 59 s c a (p .code) ∙ rw (p .behind, item-first 59 s d b (p .description)) in
+pub status-xml : {m : ℕ} {s : List ℕ} {c a d b : ℕ} → cuts m ≡ true → StatusEnds m s c (Parts a d b) → orNothing statusXml (readRequestStatus (rest m s c)) ≡ partsXml m s c a d b
+status-xml {m} {s} {c} {a} {d} {b} g st =
+    let p : PartEnds m s c a d b = st .parts in
+    let x : Option (List ℕ) = readText (rest m (take a s) c) in
+    let y : Option (List ℕ) = readText (rest m (take b s) d) in
+    let q : Option (List (List ℕ)) = piecesBehind 59 (rest m s b) in
+    let e : splitText 59 (rest m s c) ≡ andThen x (λ u. consRead u (andThen y (λ v. consRead v q))) =
+    item-first 59 m s c a g (p .code) ∙ rw (p .behind, item-first 59 m s d b g (p .description)) in
     let f = parts-xml x y q (ap (λ (o : Option (List (List ℕ))). isRead (andThen o statusOf)) (sym e) ∙ sym (st .is)) in
     ap (λ (o : Option (List (List ℕ))). orNothing statusXml (andThen o statusOf)) e ∙ f .0
-    ∙ ap (λ (l : List ℕ). elementOf (ascii "code") (orNothing escaped x) ⊕ elementOf (ascii "description") (orNothing escaped y) ⊕ l) (data-behind (rest 0 s b) (f .1))
+    ∙ ap (λ (l : List ℕ). elementOf (ascii "code") (orNothing escaped x) ⊕ elementOf (ascii "description") (orNothing escaped y) ⊕ l) (data-behind (rest m s b) (f .1))
 
 -- ---- rules for the code
 
-module _ {d₀ : List ℕ} {at : ℕ} {s : List ℕ} {c : ℕ} {r : Status} (st : StatusEnds 0 s c r) where
-  pub put-status : {e : List ℕ} {o : ℕ} (a d b : ℕ) → r ≡ Parts a d b → Put d₀ e at o (partsXml s c a d b) → Put d₀ e at o (orNothing statusXml (readRequestStatus (rest 0 s c)))
-  put-status a d b h w = let k : StatusEnds 0 s c (Parts a d b) = rw h at st in rw (status-xml k) w
+module _ {d₀ : List ℕ} {at m : ℕ} {s : List ℕ} {c : ℕ} {r : Status} (st : StatusEnds m s c r) where
+  pub put-status : {e : List ℕ} {o : ℕ} (a d b : ℕ) → cuts m ≡ true → r ≡ Parts a d b → Put d₀ e at o (partsXml m s c a d b) → Put d₀ e at o (orNothing statusXml (readRequestStatus (rest m s c)))
+  put-status a d b y h w = let k : StatusEnds m s c (Parts a d b) = rw h at st in rw (status-xml y k) w
 
-  pub put-no-status : r ≡ NoStatus → length d₀ * 1 < 2 ^ 63 → Put d₀ d₀ at at (orNothing statusXml (readRequestStatus (rest 0 s c)))
+  pub put-no-status : r ≡ NoStatus → length d₀ * 1 < 2 ^ 63 → Put d₀ d₀ at at (orNothing statusXml (readRequestStatus (rest m s c)))
   unfolding isRead
-  put-no-status h z = go (readRequestStatus (rest 0 s c)) (ap isStatus (sym h) ∙ st .is)
+  put-no-status h z = go (readRequestStatus (rest m s c)) (ap isStatus (sym h) ∙ st .is)
     where
       go : (o : Option Value) → false ≡ isRead o → Put d₀ d₀ at at (orNothing statusXml o)
       go none x = put-none d₀ at z
       go (some v) x = absurd (false≢true x)
 
-module _ {d₀ : List ℕ} {at : ℕ} {s : List ℕ} {b : ℕ} {n : Step} (p : Reads 0 s b n) where
-  pub put-no-data : n .u ≡ 256 → length d₀ * 1 < 2 ^ 63 → Put d₀ d₀ at at (dataBehind (rest 0 s b))
+module _ {d₀ : List ℕ} {at m : ℕ} {s : List ℕ} {b : ℕ} {n : Step} (p : Reads m s b n) where
+  pub put-no-data : n .u ≡ 256 → length d₀ * 1 < 2 ^ 63 → Put d₀ d₀ at at (dataBehind (rest m s b))
   put-no-data h z = rw (rest-end p h) (put-none d₀ at z)
 
-  pub put-data : {e : List ℕ} {o : ℕ} → (n .u ≡ 256 → ⊥) → Put d₀ e at o (elementOf (ascii "data") (orNothing escaped (readText (rest 0 (take (length s) s) (n .next))))) →
-      Put d₀ e at o (dataBehind (rest 0 s b))
+  pub put-data : {e : List ℕ} {o : ℕ} → (n .u ≡ 256 → ⊥) → Put d₀ e at o (elementOf (ascii "data") (orNothing escaped (readText (rest m (take (length s) s) (n .next))))) →
+      Put d₀ e at o (dataBehind (rest m s b))
   put-data h w = rw (rest-byte p h) (rw (take-length s) at w)

@@ -1,4 +1,4 @@
-// TEXT of iCalendar text as elements of XML, out of bytes as they stand. See specs/Elements.antt.
+// TEXT of iCalendar text as elements of XML. See specs/Elements.antt.
 use crate::is_kept;
 use crate::items::item_end;
 use crate::text::read_text;
@@ -13,7 +13,7 @@ ghost use lib.ListN.{take};
 ghost use Rattle.octets.specs.Ascii.{ascii};
 ghost use Rattle.octets.specs.Reading.{isRead, orNothing};
 ghost use Rattle.sink.specs.Sink.{Put};
-ghost use Rattle.source.specs.Source.{rest};
+ghost use Rattle.source.specs.Source.{rest, cuts};
 ghost use Rattle.xml.specs.Escape.{escaped, elementOf};
 ghost use Rattle.texts.specs.Text.{readText};
 ghost use Rattle.texts.specs.TextList.{readTexts};
@@ -24,34 +24,35 @@ pub fn put_text_element(
     out: &mut [u8],
     at: usize,
     name: &[u8],
+    mode: usize,
     s: &[u8],
     from: usize,
     end: usize,
 ) -> usize
-    ensures { λ r. ⌜ Put (now (out .entry)) (now (out .exit)) at r (elementOf (now (name .entry)) (orNothing escaped (readText (rest 0 (take end (now (s .entry))) from)))) ⌝ }
+    ensures { λ r. ⌜ Put (now (out .entry)) (now (out .exit)) at r (elementOf (now (name .entry)) (orNothing escaped (readText (rest mode (take end (now (s .entry))) from)))) ⌝ }
 {
     let e = smaller(end, s.len());
     let o = put_start_tag(out, at, name);
-    let p = put_text_xml(out, o, 0, &s[..e], from);
+    let p = put_text_xml(out, o, mode, &s[..e], from);
     put_end_tag(out, p, name)
 }
 
-fn put_item_xml(out: &mut [u8], at: usize, s: &[u8], from: usize, end: usize) -> usize
-    ensures { λ r. ⌜ Put (now (out .entry)) (now (out .exit)) at r (elementOf (ascii "text") (orNothing escaped (readText (rest 0 (take end (now (s .entry))) from)))) ⌝ }
+fn put_item_xml(out: &mut [u8], at: usize, mode: usize, s: &[u8], from: usize, end: usize) -> usize
+    ensures { λ r. ⌜ Put (now (out .entry)) (now (out .exit)) at r (elementOf (ascii "text") (orNothing escaped (readText (rest mode (take end (now (s .entry))) from)))) ⌝ }
 {
-    put_text_element(out, at, b"text", s, from, end)
+    put_text_element(out, at, b"text", mode, s, from, end)
 }
 
-fn put_items_xml(out: &mut [u8], at: usize, s: &[u8], from: usize) -> usize
-    requires { ⌜ isRead (readTexts (rest 0 (now s) from)) ≡ true ⌝ }
-    ensures { λ r. ⌜ Put (now (out .entry)) (now (out .exit)) at r (orNothing textsXml (readTexts (rest 0 (now (s .entry)) from))) ⌝ }
+fn put_items_xml(out: &mut [u8], at: usize, mode: usize, s: &[u8], from: usize) -> usize
+    requires { ⌜ (cuts mode ≡ true) × (isRead (readTexts (rest mode (now s) from)) ≡ true) ⌝ }
+    ensures { λ r. ⌜ Put (now (out .entry)) (now (out .exit)) at r (orNothing textsXml (readTexts (rest mode (now (s .entry)) from))) ⌝ }
 {
     let mut o = at;
     let mut c = from;
     loop {
-        let e = item_end(44, 0, s, c);
-        o = put_item_xml(out, o, s, c, e);
-        let n = unit(0, s, e);
+        let e = item_end(44, mode, s, c);
+        o = put_item_xml(out, o, mode, s, c, e);
+        let n = unit(mode, s, e);
         let u = n.u;
         if u == 256 {
             return o;
@@ -61,12 +62,13 @@ fn put_items_xml(out: &mut [u8], at: usize, s: &[u8], from: usize) -> usize
 }
 
 // A list of TEXT: an element `text` for each, also for an empty one. Nothing where it is none.
-pub fn put_texts_xml(out: &mut [u8], at: usize, s: &[u8], from: usize) -> usize
-    ensures { λ r. ⌜ Put (now (out .entry)) (now (out .exit)) at r (orNothing textsXml (readTexts (rest 0 (now (s .entry)) from))) ⌝ }
+pub fn put_texts_xml(out: &mut [u8], at: usize, mode: usize, s: &[u8], from: usize) -> usize
+    requires { ⌜ cuts mode ≡ true ⌝ }
+    ensures { λ r. ⌜ Put (now (out .entry)) (now (out .exit)) at r (orNothing textsXml (readTexts (rest mode (now (s .entry)) from))) ⌝ }
 {
-    let k = read_text(44, 0, s, from);
+    let k = read_text(44, mode, s, from);
     if is_kept(k) {
-        return put_items_xml(out, at, s, from);
+        return put_items_xml(out, at, mode, s, from);
     }
     at
 }

@@ -6,9 +6,10 @@ use crate::items::item_end;
 use crate::text::read_text;
 use source::unit;
 ghost use mathlib.Core.Path.{_≡_};
+ghost use mathlib.Core.Bool.{true};
 ghost use Rattle.octets.specs.Reading.{orNothing};
 ghost use Rattle.sink.specs.Sink.{Put};
-ghost use Rattle.source.specs.Source.{rest};
+ghost use Rattle.source.specs.Source.{rest, cuts};
 ghost use Rattle.texts.specs.RequestStatus.{readRequestStatus};
 ghost use Rattle.texts.specs.StatusParts.{soonOver, PartsFound, StatusEnds};
 ghost use Rattle.texts.specs.StatusXml.{statusXml, dataBehind, partsXml};
@@ -59,39 +60,47 @@ pub fn read_request_status(mode: usize, s: &[u8], at: usize) -> Status
 }
 
 // The element `data`, where a semicolon stands at the cursor.
-fn put_data_xml(out: &mut [u8], at: usize, s: &[u8], from: usize) -> usize
-    ensures { λ r. ⌜ Put (now (out .entry)) (now (out .exit)) at r (dataBehind (rest 0 (now (s .entry)) from)) ⌝ }
+fn put_data_xml(out: &mut [u8], at: usize, mode: usize, s: &[u8], from: usize) -> usize
+    ensures { λ r. ⌜ Put (now (out .entry)) (now (out .exit)) at r (dataBehind (rest mode (now (s .entry)) from)) ⌝ }
 {
-    let n = unit(0, s, from);
+    let n = unit(mode, s, from);
     let u = n.u;
     if u == 256 {
         return at;
     }
-    put_text_element(out, at, b"data", s, n.next, s.len())
+    put_text_element(out, at, b"data", mode, s, n.next, s.len())
 }
 
 fn put_parts_xml(
     out: &mut [u8],
     at: usize,
+    mode: usize,
     s: &[u8],
     from: usize,
     a: usize,
     d: usize,
     b: usize,
 ) -> usize
-    ensures { λ r. ⌜ Put (now (out .entry)) (now (out .exit)) at r (partsXml (now (s .entry)) from a d b) ⌝ }
+    ensures { λ r. ⌜ Put (now (out .entry)) (now (out .exit)) at r (partsXml mode (now (s .entry)) from a d b) ⌝ }
 {
-    let o = put_text_element(out, at, b"code", s, from, a);
-    let e = put_text_element(out, o, b"description", s, d, b);
-    put_data_xml(out, e, s, b)
+    let o = put_text_element(out, at, b"code", mode, s, from, a);
+    let e = put_text_element(out, o, b"description", mode, s, d, b);
+    put_data_xml(out, e, mode, s, b)
 }
 
-// A REQUEST-STATUS as its elements, out of bytes as they stand; nothing where it is none.
-pub fn put_request_status_xml(out: &mut [u8], at: usize, s: &[u8], from: usize) -> usize
-    ensures { λ r. ⌜ Put (now (out .entry)) (now (out .exit)) at r (orNothing statusXml (readRequestStatus (rest 0 (now (s .entry)) from))) ⌝ }
+// A REQUEST-STATUS as its elements; nothing where it is none.
+pub fn put_request_status_xml(
+    out: &mut [u8],
+    at: usize,
+    mode: usize,
+    s: &[u8],
+    from: usize,
+) -> usize
+    requires { ⌜ cuts mode ≡ true ⌝ }
+    ensures { λ r. ⌜ Put (now (out .entry)) (now (out .exit)) at r (orNothing statusXml (readRequestStatus (rest mode (now (s .entry)) from))) ⌝ }
 {
-    let Status::Parts(a, d, b) = read_request_status(0, s, from) else {
+    let Status::Parts(a, d, b) = read_request_status(mode, s, from) else {
         return at;
     };
-    put_parts_xml(out, at, s, from, a, d, b)
+    put_parts_xml(out, at, mode, s, from, a, d, b)
 }

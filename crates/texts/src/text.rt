@@ -1,5 +1,6 @@
 // TEXT as iCalendar text writes it, single or between separators. See specs/Text.antt and specs/Unescaped.antt.
 use crate::Kept;
+use source::plain_unit;
 use source::unit;
 ghost use mathlib.Core.Path.{_≡_};
 ghost use mathlib.Core.Bool.{true, false};
@@ -84,10 +85,34 @@ fn ended(after: bool) -> Kept
     Kept::Good
 }
 
+// The same over bytes as they stand.
+fn read_text_plain(sep: usize, s: &[u8], at: usize) -> Kept
+    ensures { λ r. ⌜ isKept r ≡ isRead (splitText sep (rest 0 (now (s .entry)) at)) ⌝ }
+{
+    let mut after = false;
+    let mut c = at;
+    loop {
+        let t = plain_unit(s, c);
+        let u = t.u;
+        if u == 256 {
+            return ended(after);
+        }
+        if in_text(after, sep, u) {
+            after = is_opening(after, u);
+            c = t.next;
+        } else {
+            return Kept::Bad;
+        }
+    }
+}
+
 // Texts between bare separators: 44 comma, 59 semicolon, 0 none.
 pub fn read_text(sep: usize, mode: usize, s: &[u8], at: usize) -> Kept
     ensures { λ r. ⌜ isKept r ≡ isRead (splitText sep (rest mode (now (s .entry)) at)) ⌝ }
 {
+    if mode == 0 {
+        return read_text_plain(sep, s, at);
+    }
     let mut after = false;
     let mut c = at;
     loop {

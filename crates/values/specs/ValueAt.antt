@@ -6,7 +6,7 @@
 --     mapped       what was read, made into another thing
 --     timing, counting, keeping, choosing    the rules for types of dates and times, of numbers, of characters; for the choice of a type
 use mathlib.Core.Path.{_≡_, refl, sym, ap, _∙_}
-use mathlib.Core.Bool.{Bool, true, false}
+use mathlib.Core.Bool.{Bool, true, false, false≢true}
 use mathlib.Core.List.{List, [], _∷_}
 use mathlib.Core.Option.{Option, none, some, Option·map}
 use Prim.Native.Nat.{ℕ, zero, suc, _≤_}
@@ -17,7 +17,7 @@ use borrow.Author.Tests.{eq-eqb, ne-eqb}
 use Rattle.octets.specs.Pick.{pick, _and_}
 use Rattle.octets.specs.Reading.{isRead, andThen}
 use Rattle.model.specs.Calendar.{Format, ical, formatOf, Value, ValueType, BINARY, BOOLEAN, CAL-ADDRESS, DATE, DATE-TIME, DURATION, FLOAT, INTEGER, PERIOD, RECUR, TEXT, TIME, URI, UTC-OFFSET, UNKNOWN}
-use Rattle.source.specs.Source.{rest}
+use Rattle.source.specs.Source.{rest, cuts}
 use Rattle.schema.specs.Numbers.{typeAt}
 use Rattle.times.specs.Date.{readDate}
 use Rattle.times.specs.DateAlong.{dayOf}
@@ -299,19 +299,31 @@ pub recur-xml : {x : Bool} (l : List ℕ) → x ≡ true → false ≡ isRead (r
 unfolding readValue isRead
 recur-xml l h = rw h
 
-module _ {x : Bool} (m : ℕ) (s : List ℕ) (c : ℕ) (e : x ≡ false) where
-  pub recur-is : {b : Bool} → m ≡ 0 → b ≡ isRead (readRule (rest 0 s c)) → b ≡ isRead (readValue (formatOf x) RECUR (rest m s c))
-  unfolding readValue
-  recur-is h q = rw (e, h) (q ∙ sym (mapped _ (readRule (rest 0 s c))))
+pub cuts-plain : (m : ℕ) → m ≡ 0 → cuts m ≡ true
+cuts-plain m h = rw h
 
-  -- the text format is read from bytes as they stand
-  pub recur-no : {b : Bool} → (m ≡ 0 → ⊥) → (x ≡ false → m ≡ 0) → b ≡ isRead (readValue (formatOf x) RECUR (rest m s c))
-  recur-no h g = absurd (h (g e))
+pub cuts-folded : (m : ℕ) → m ≡ 2 → cuts m ≡ true
+cuts-folded m h = rw h
+
+module _ {x : Bool} (m : ℕ) (s : List ℕ) (c : ℕ) (e : x ≡ false) where
+  pub recur-is : {b : Bool} → b ≡ isRead (readRule (rest m s c)) → b ≡ isRead (readValue (formatOf x) RECUR (rest m s c))
+  unfolding readValue
+  recur-is q = rw e (q ∙ sym (mapped _ (readRule (rest m s c))))
+
+  -- the text format is read from an encoding that can be cut
+  pub recur-no : {b : Bool} → (m ≡ 0 → ⊥) → (m ≡ 2 → ⊥) → (x ≡ false → cuts m ≡ true) → b ≡ isRead (readValue (formatOf x) RECUR (rest m s c))
+  recur-no h k g = absurd (go m h k (g e))
+    where
+      go : (m : ℕ) → (m ≡ 0 → ⊥) → (m ≡ 2 → ⊥) → cuts m ≡ true → ⊥
+      go zero h k y = h refl
+      go (suc zero) h k y = false≢true y
+      go (suc (suc zero)) h k y = k refl
+      go (suc (suc (suc m))) h k y = false≢true y
 
 pub ruleset timing = (date-yes, date-no, date-time-yes, date-time-no, time-yes, time-no, offset-yes, offset-no, duration-yes, duration-no, period-xml, period-yes, period-no, needs)
 
 pub ruleset counting = (boolean-yes, boolean-no, integer-yes, integer-no, float-yes, float-no, needs)
 
-pub ruleset keeping = (binary-is, address-is, uri-is, unknown-is, text-xml, text-is, rule-yes, rule-no, recur-xml, recur-is, recur-no, needs)
+pub ruleset keeping = (binary-is, address-is, uri-is, unknown-is, text-xml, text-is, rule-yes, rule-no, recur-xml, recur-is, recur-no, cuts-plain, cuts-folded, needs)
 
 pub ruleset choosing = (type-yes, type-no, value-yes, value-no, needs)

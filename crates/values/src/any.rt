@@ -1,9 +1,9 @@
 // A value of a type by the type's number. See specs/ValueAt.antt.
 ghost use mathlib.Core.Path.{_≡_};
-ghost use mathlib.Core.Bool.{false};
+ghost use mathlib.Core.Bool.{true, false};
 ghost use Rattle.octets.specs.Reading.{isRead};
 ghost use Rattle.model.specs.Calendar.{formatOf};
-ghost use Rattle.source.specs.Source.{rest};
+ghost use Rattle.source.specs.Source.{rest, cuts};
 ghost use Rattle.schema.specs.Numbers.{typeAt};
 ghost use Rattle.values.specs.ReadValue.{readValue};
 ghost use Rattle.values.specs.ValueAt.{fromTime, fromInteger, fromDate, fromBinary, valueRead};
@@ -42,7 +42,7 @@ fn is_from_time(xcal: bool, t: usize, mode: usize, s: &[u8], at: usize) -> bool
 
 // A value of INTEGER, or of a type after it.
 fn is_from_integer(xcal: bool, t: usize, mode: usize, s: &[u8], at: usize) -> bool
-    ensures { λ r. ⌜ ((xcal ≡ false → mode ≡ 0) → r ≡ isRead (readValue (formatOf xcal) (fromInteger t) (rest mode (now (s .entry)) at))) ⌝ }
+    ensures { λ r. ⌜ ((xcal ≡ false → cuts mode ≡ true) → r ≡ isRead (readValue (formatOf xcal) (fromInteger t) (rest mode (now (s .entry)) at))) ⌝ }
 {
     if t == 7 {
         return is_integer(xcal, mode, s, at);
@@ -61,7 +61,7 @@ fn is_from_integer(xcal: bool, t: usize, mode: usize, s: &[u8], at: usize) -> bo
 
 // A value of DATE, or of a type after it.
 fn is_from_date(xcal: bool, t: usize, mode: usize, s: &[u8], at: usize) -> bool
-    ensures { λ r. ⌜ ((xcal ≡ false → mode ≡ 0) → r ≡ isRead (readValue (formatOf xcal) (fromDate t) (rest mode (now (s .entry)) at))) ⌝ }
+    ensures { λ r. ⌜ ((xcal ≡ false → cuts mode ≡ true) → r ≡ isRead (readValue (formatOf xcal) (fromDate t) (rest mode (now (s .entry)) at))) ⌝ }
 {
     if t == 3 {
         return is_date(xcal, mode, s, at);
@@ -80,7 +80,7 @@ fn is_from_date(xcal: bool, t: usize, mode: usize, s: &[u8], at: usize) -> bool
 
 // A value of BINARY, or of a type after it.
 fn is_from_binary(xcal: bool, t: usize, mode: usize, s: &[u8], at: usize) -> bool
-    ensures { λ r. ⌜ ((xcal ≡ false → mode ≡ 0) → r ≡ isRead (readValue (formatOf xcal) (fromBinary t) (rest mode (now (s .entry)) at))) ⌝ }
+    ensures { λ r. ⌜ ((xcal ≡ false → cuts mode ≡ true) → r ≡ isRead (readValue (formatOf xcal) (fromBinary t) (rest mode (now (s .entry)) at))) ⌝ }
 {
     if t == 0 {
         return is_binary(xcal, mode, s, at);
@@ -94,9 +94,9 @@ fn is_from_binary(xcal: bool, t: usize, mode: usize, s: &[u8], at: usize) -> boo
     is_from_date(xcal, t, mode, s, at)
 }
 
-// The value of the type at the place `t`, from the cursor to the end; of the text format in bytes as they stand.
+// The value of the type at the place `t`, from the cursor to the end; of the text format in an encoding that can be cut.
 pub fn read_value(xcal: bool, t: usize, mode: usize, s: &[u8], at: usize) -> ValueRead
-    ensures { λ r. ⌜ ((xcal ≡ false → mode ≡ 0) → r ≡ valueRead t (isRead (readValue (formatOf xcal) (typeAt t) (rest mode (now (s .entry)) at)))) ⌝ }
+    ensures { λ r. ⌜ ((xcal ≡ false → cuts mode ≡ true) → r ≡ valueRead t (isRead (readValue (formatOf xcal) (typeAt t) (rest mode (now (s .entry)) at)))) ⌝ }
 {
     let ok = is_from_binary(xcal, t, mode, s, at);
     if ok {

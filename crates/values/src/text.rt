@@ -1,9 +1,9 @@
 // BINARY, CAL-ADDRESS, RECUR, TEXT, URI and values of no known type: whether there is a value from the cursor to the end.
 ghost use mathlib.Core.Path.{_≡_};
-ghost use mathlib.Core.Bool.{false};
+ghost use mathlib.Core.Bool.{true, false};
 ghost use Rattle.octets.specs.Reading.{isRead};
 ghost use Rattle.model.specs.Calendar.{formatOf, BINARY, CAL-ADDRESS, RECUR, TEXT, URI, UNKNOWN};
-ghost use Rattle.source.specs.Source.{rest};
+ghost use Rattle.source.specs.Source.{rest, cuts};
 ghost use Rattle.recur.specs.Rule.{readRule};
 ghost use Rattle.values.specs.ReadValue.{readValue};
 use recur::rule::RuleRead;
@@ -28,25 +28,29 @@ pub fn is_cal_address(xcal: bool, mode: usize, s: &[u8], at: usize) -> bool
     is_kept(k)
 }
 
-fn is_rule(s: &[u8], at: usize) -> bool
-    ensures { λ r. ⌜ r ≡ isRead (readRule (rest 0 (now (s .entry)) at)) ⌝ }
+fn is_rule(mode: usize, s: &[u8], at: usize) -> bool
+    requires { ⌜ cuts mode ≡ true ⌝ }
+    ensures { λ r. ⌜ r ≡ isRead (readRule (rest mode (now (s .entry)) at)) ⌝ }
 {
-    let r = read_rule(s, at);
+    let r = read_rule(mode, s, at);
     match r {
         RuleRead::Rule => true,
         RuleRead::Bad => false,
     }
 }
 
-// RECUR is made of elements in XML, and in text it stands in bytes as they are.
+// RECUR is made of elements in XML, and in text it stands in an encoding that can be cut.
 pub fn is_recur(xcal: bool, mode: usize, s: &[u8], at: usize) -> bool
-    ensures { λ r. ⌜ ((xcal ≡ false → mode ≡ 0) → r ≡ isRead (readValue (formatOf xcal) RECUR (rest mode (now (s .entry)) at))) ⌝ }
+    ensures { λ r. ⌜ ((xcal ≡ false → cuts mode ≡ true) → r ≡ isRead (readValue (formatOf xcal) RECUR (rest mode (now (s .entry)) at))) ⌝ }
 {
     if xcal {
         return false;
     }
     if mode == 0 {
-        return is_rule(s, at);
+        return is_rule(mode, s, at);
+    }
+    if mode == 2 {
+        return is_rule(mode, s, at);
     }
     false
 }

@@ -9,6 +9,8 @@ unit-spec = tie.close (tie.spec
     (λ c. search stepping)  -- returns
     (λ c κs. search stepping)  -- xml-unit-requires
     (λ c. search stepping)  -- returns-2
-    (λ c κs. search stepping)  -- no-unit-requires
+    (λ c κs. search stepping)  -- folded-unit-requires
     (λ c. search stepping)  -- returns-3
+    (λ c κs. search stepping)  -- no-unit-requires
+    (λ c. search stepping)  -- returns-4
     )

@@ -1,20 +1,20 @@
 -- `text_to_xml::checked` meets its contract.
-use mathlib.Core.Path.{_≡_, sym, ap, subst, _∙_}
+use mathlib.Core.Path.{_≡_, refl, sym, ap, subst, _∙_}
 use borrow.Author.Needs.{needs}
 use Rattle.frame.specs.Answers.{Checks}
-use Rattle.text_to_xml.specs.Steps.{lines-refused, lines-fine}
+use Rattle.text_to_xml.specs.Steps.{check-fine, check-refused, lines-refused, lines-fine}
 use Rattle.text_to_xml.proofs.checked.Statement.{statement}
 use Rattle.text_to_xml.proofs.checked.Tie as tie
 
 pub checked-spec : {M : Type 1} → statement M
 checked-spec = tie.close (tie.spec
-    (λ c κs. search needs)  -- check-requires
+    (λ c κs. refl)  -- check-requires
     (λ c. search needs)  -- enum-known-n
     (λ c κs. search needs)  -- place-of-requires
     (λ c κs. search needs)  -- refused-requires
     (λ c. search needs)  -- enum-told
     (λ c κs. search needs)  -- written-requires
-    (λ c. lines-refused (c .before .before .before .before .before .before .before .before .before .args .input .now) (c .before .before .before .before .before .before .before .before .before .args .kept .now) (c .before .before .before .before .before .before .before .before .before .args .out .now) (c .before .before .before .n .given .0 .0) (subst (Checks _) (c .before .before .before .n .given .1) (c .before .before .before .before .before .check .ensures) .is) (c .before .place-of .ensures) (c .refused .ensures))  -- returns
+    (λ c. lines-refused (c .before .before .before .before .before .before .before .before .before .args .input .now) (c .before .before .before .before .before .before .before .before .before .args .kept .now) (c .before .before .before .before .before .before .before .before .before .args .out .now) (c .before .before .before .n .given .0 .0) (check-refused (subst (Checks _ _) (c .before .before .before .n .given .1) (c .before .before .before .before .before .check .ensures))) (c .before .place-of .ensures) (c .refused .ensures))  -- returns
     (λ c. search needs)  -- same-length
-    (λ c. lines-fine (c .before .before .before .before .before .before .before .before .before .before .args .input .now) (c .before .before .before .before .before .before .before .before .before .before .args .kept .now) (c .before .before .before .before .before .before .before .before .before .before .args .out .now) (subst (Checks _) (c .before .before .before .before .enum-told .given .1) (c .before .before .before .before .before .before .check .ensures) .is) (c .before .before .written .ensures))  -- returns-2
+    (λ c. lines-fine (c .before .before .before .before .before .before .before .before .before .before .args .input .now) (c .before .before .before .before .before .before .before .before .before .before .args .kept .now) (c .before .before .before .before .before .before .before .before .before .before .args .out .now) (check-fine (subst (Checks _ _) (c .before .before .before .before .enum-told .given .1) (c .before .before .before .before .before .before .check .ensures))) (c .before .before .written .ensures))  -- returns-2
     )

@@ -1,11 +1,12 @@
 -- `text_to_xml::measured` meets its contract.
+use mathlib.Core.Path.{refl}
 use Prim.Native.Nat.{_^_, _<_}
 use native.Mathlib.Omega.{arith}
 use borrow.Author.Needs.{needs}
 use lib.ListN.{length}
 use Rattle.sink.specs.Sink.{writing}
 use Rattle.conversion.specs.Answered.{done-written, done-room}
-use Rattle.text_to_xml.specs.Steps.{xml-counted}
+use Rattle.text_to_xml.specs.Steps.{put-kept, xml-counted}
 use Rattle.folding.specs.Lines.{lines}
 use Rattle.ical.specs.Tree.{calendarOf}
 use Rattle.xcal.specs.WriteXml.{writeDocument}
@@ -16,10 +17,10 @@ pub measured-spec : {M : Type 1} → statement M
 measured-spec = tie.close (tie.spec
     (λ c. search writing)  -- slice-relend-prefix-put-document
     (λ c. search writing)  -- slice-aggregate-put-document
-    (λ c κs. search needs)  -- put-document-requires
-    (λ c κs. search needs)  -- put-document-requires-2
+    (λ c κs. refl)  -- put-document-requires
+    (λ c κs. refl)  -- put-document-requires-2
     (λ c. search writing)  -- same-length
-    (λ c. let k : length (writeDocument (calendarOf (lines (c .before .before .before .before .before .before .before .before .before .before .before .args .kept .now)))) < 2 ^ 63 = xml-counted _ (c .before .before .before .before .before .before .before .before .before .before .before .pre) in done-written k (c .before .before .before .before .before .before .before .put-document .ensures) (omega (arith, c .before .before .before .before .if1 .taken)) (c .before .before .put-document2 .ensures))  -- returns
+    (λ c. let k : length (writeDocument (calendarOf (lines (c .before .before .before .before .before .before .before .before .before .before .before .args .kept .now)))) < 2 ^ 63 = xml-counted _ (c .before .before .before .before .before .before .before .before .before .before .before .pre) in done-written k (put-kept (c .before .before .before .before .before .before .before .before .before .before .before .args .kept .now) (c .before .before .before .before .before .before .before .put-document .ensures)) (omega (arith, c .before .before .before .before .if1 .taken)) (put-kept (c .before .before .before .before .before .before .before .before .before .before .before .args .kept .now) (c .before .before .put-document2 .ensures)))  -- returns
     (λ c. search writing)  -- same-length-2
-    (λ c. let k : length (writeDocument (calendarOf (lines (c .before .before .before .before .before .before .before .args .kept .now)))) < 2 ^ 63 = xml-counted _ (c .before .before .before .before .before .before .before .pre) in done-room k (c .before .before .before .put-document .ensures) (omega (arith, c .if1 .left)))  -- returns-2
+    (λ c. let k : length (writeDocument (calendarOf (lines (c .before .before .before .before .before .before .before .args .kept .now)))) < 2 ^ 63 = xml-counted _ (c .before .before .before .before .before .before .before .pre) in done-room k (put-kept (c .before .before .before .before .before .before .before .args .kept .now) (c .before .before .before .put-document .ensures)) (omega (arith, c .if1 .left)))  -- returns-2
     )

@@ -1,14 +1,15 @@
 -- `text_to_xml::written_at_once` meets its contract.
+use mathlib.Core.Path.{refl}
 use borrow.Author.Needs.{needs}
 use Rattle.lengths.specs.Documents.{xml-fits}
 use Rattle.conversion.specs.Answered.{done-at-once}
-use Rattle.text_to_xml.specs.Steps.{xml-counted}
+use Rattle.text_to_xml.specs.Steps.{put-kept, xml-counted}
 use Rattle.text_to_xml.proofs.written_at_once.Statement.{statement}
 use Rattle.text_to_xml.proofs.written_at_once.Tie as tie
 
 pub written-at-once-spec : {M : Type 1} → statement M
 written-at-once-spec = tie.close (tie.spec
-    (λ c κs. search needs)  -- put-document-requires
+    (λ c κs. refl)  -- put-document-requires
     (λ c. search needs)  -- same-length
-    (λ c. done-at-once (xml-counted _ (c .before .before .before .before .before .before .pre .0)) (xml-fits _ _ (c .before .before .before .before .before .before .pre .1)) (c .before .before .put-document .ensures))  -- returns
+    (λ c. done-at-once (xml-counted _ (c .before .before .before .before .before .before .pre .0)) (xml-fits _ _ (c .before .before .before .before .before .before .pre .1)) (put-kept (c .before .before .before .before .before .before .args .kept .now) (c .before .before .put-document .ensures)))  -- returns
     )

@@ -10,11 +10,11 @@ use Rattle.distinct.proofs.compare.compare_from.Statement.{statement}
 use Rattle.distinct.proofs.compare.compare_from.Tie as tie
 
 abbrev Inv-loop : tie.InvT-loop
-Inv-loop s a t b c₀ d₀ c d =
-    order (upper (rest 0 s a)) (upper (rest 0 t b)) ≡ order (upper (rest 0 s c)) (upper (rest 0 t d))
+Inv-loop mode s a t b c₀ d₀ c d =
+    order (upper (rest mode s a)) (upper (rest mode t b)) ≡ order (upper (rest mode s c)) (upper (rest mode t d))
 
 abbrev μ-loop : tie.MeasureT-loop
-μ-loop s a t b c₀ d₀ c d = 4 * length s - c
+μ-loop mode s a t b c₀ d₀ c d = 4 * length s - c
 
 pub compare-from-spec : {M : Type 1} → statement M
 compare-from-spec = tie.close (tie.spec

@@ -6,10 +6,10 @@ use Rattle.distinct.proofs.heap.make_heap.Statement.{statement}
 use Rattle.distinct.proofs.heap.make_heap.Tie as tie
 
 abbrev Inv-loop : tie.InvT-loop
-Inv-loop s from to order₀ n i₀ order i = length order ≡ length order₀
+Inv-loop mode s from to order₀ n i₀ order i = length order ≡ length order₀
 
 abbrev μ-loop : tie.MeasureT-loop
-μ-loop s from to order₀ n i₀ order i = i
+μ-loop mode s from to order₀ n i₀ order i = i
 
 pub make-heap-spec : {M : Type 1} → statement M
 make-heap-spec = tie.close (tie.spec

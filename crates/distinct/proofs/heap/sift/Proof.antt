@@ -7,10 +7,10 @@ use Rattle.distinct.proofs.heap.sift.Statement.{statement}
 use Rattle.distinct.proofs.heap.sift.Tie as tie
 
 abbrev Inv-loop : tie.InvT-loop
-Inv-loop s from to order₀ start n i₀ order i = length order ≡ length order₀
+Inv-loop mode s from to order₀ start n i₀ order i = length order ≡ length order₀
 
 abbrev μ-loop : tie.MeasureT-loop
-μ-loop s from to order₀ start n i₀ order i = n - i
+μ-loop mode s from to order₀ start n i₀ order i = n - i
 
 pub sift-spec : {M : Type 1} → statement M
 sift-spec = tie.close (tie.spec

@@ -7,10 +7,10 @@ use Rattle.distinct.proofs.heap.sort.Statement.{statement}
 use Rattle.distinct.proofs.heap.sort.Tie as tie
 
 abbrev Inv-loop : tie.InvT-loop
-Inv-loop s from to order₀ n m₀ order m = (length order ≡ length order₀) × (m ≤ n)
+Inv-loop mode s from to order₀ n m₀ order m = (length order ≡ length order₀) × (m ≤ n)
 
 abbrev μ-loop : tie.MeasureT-loop
-μ-loop s from to order₀ n m₀ order m = m
+μ-loop mode s from to order₀ n m₀ order m = m
 
 pub sort-spec : {M : Type 1} → statement M
 sort-spec = tie.close (tie.spec

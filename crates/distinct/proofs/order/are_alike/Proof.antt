@@ -15,7 +15,7 @@ are-alike-spec = tie.close (tie.spec
     (λ c κs. search needs)  -- number-at-requires-2
     (λ c. λ h. absurd (false≢true h))  -- returns-2
     (λ c κs. search needs)  -- compare-requires
-    (λ c. λ h. alike (wordAt (c .before .before .before .before .before .before .before .before .before .before .before .args .s .now) (c .before .before .before .before .before .before .before .before .before .before .before .args .from .now) (c .before .before .before .before .before .before .before .before .before .before .before .args .to .now)) (c .before .before .if3 .taken) (c .before .if4 .taken) (c .before .before .before .if2 .left) (c .compare .ensures) (eqb-true (c .compare .result) 0 h))  -- returns-3
+    (λ c. λ h. alike (wordAt (c .before .before .before .before .before .before .before .before .before .before .before .args .mode) (c .before .before .before .before .before .before .before .before .before .before .before .args .s .now) (c .before .before .before .before .before .before .before .before .before .before .before .args .from .now) (c .before .before .before .before .before .before .before .before .before .before .before .args .to .now)) (c .before .before .if3 .taken) (c .before .if4 .taken) (c .before .before .before .if2 .left) (c .compare .ensures) (eqb-true (c .compare .result) 0 h))  -- returns-3
     (λ c. λ h. absurd (false≢true h))  -- returns-4
     (λ c. λ h. absurd (false≢true h))  -- returns-5
     )

@@ -8,10 +8,10 @@ use Rattle.distinct.proofs.order.rise.Statement.{statement}
 use Rattle.distinct.proofs.order.rise.Tie as tie
 
 abbrev Inv-loop : tie.InvT-loop
-Inv-loop s from to order n i₀ i = Rising (wordAt s from to) order (i + 1) × (i < 2 ^ 64 - 1)
+Inv-loop mode s from to order n i₀ i = Rising (wordAt mode s from to) order (i + 1) × (i < 2 ^ 64 - 1)
 
 abbrev μ-loop : tie.MeasureT-loop
-μ-loop s from to order n i₀ i = n - i
+μ-loop mode s from to order n i₀ i = n - i
 
 pub rise-spec : {M : Type 1} → statement M
 rise-spec = tie.close (tie.spec

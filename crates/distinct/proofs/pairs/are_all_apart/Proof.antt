@@ -7,10 +7,10 @@ use Rattle.distinct.proofs.pairs.are_all_apart.Statement.{statement}
 use Rattle.distinct.proofs.pairs.are_all_apart.Tie as tie
 
 abbrev Inv-loop : tie.InvT-loop
-Inv-loop s from to n j₀ j = AllApart (wordAt s from to) j
+Inv-loop mode s from to n j₀ j = AllApart (wordAt mode s from to) j
 
 abbrev μ-loop : tie.MeasureT-loop
-μ-loop s from to n j₀ j = n - j
+μ-loop mode s from to n j₀ j = n - j
 
 pub are-all-apart-spec : {M : Type 1} → statement M
 are-all-apart-spec = tie.close (tie.spec

@@ -7,10 +7,10 @@ use Rattle.distinct.proofs.pairs.is_again.Statement.{statement}
 use Rattle.distinct.proofs.pairs.is_again.Tie as tie
 
 abbrev Inv-loop : tie.InvT-loop
-Inv-loop s from to j i₀ i = Apart (wordAt s from to) j i
+Inv-loop mode s from to j i₀ i = Apart (wordAt mode s from to) j i
 
 abbrev μ-loop : tie.MeasureT-loop
-μ-loop s from to j i₀ i = j - i
+μ-loop mode s from to j i₀ i = j - i
 
 pub is-again-spec : {M : Type 1} → statement M
 is-again-spec = tie.close (tie.spec

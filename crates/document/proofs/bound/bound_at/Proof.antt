@@ -1,7 +1,6 @@
 -- `document::bound::bound_at` meets its contract.
 use borrow.Author.Needs.{needs}
-use Rattle.octets.specs.Pick.{flag-no}
-use Rattle.document.specs.Bounds.{found-bound}
+use Rattle.document.specs.Bounds.{found-bound, opens-not}
 use Rattle.document.proofs.bound.bound_at.Statement.{statement}
 use Rattle.document.proofs.bound.bound_at.Tie as tie
 
@@ -11,6 +10,6 @@ bound-at-spec = tie.close (tie.spec
     (λ c κs. search needs)  -- opens-bound-requires
     (λ c κs. search needs)  -- entry-at-requires
     (λ c. search (found-bound, needs))  -- returns
-    (λ c κs. search (flag-no, needs))  -- line-aside-requires
+    (λ c κs. search (opens-not, needs))  -- line-aside-requires
     (λ c. search needs)  -- returns-2
     )

@@ -10,10 +10,10 @@ use Rattle.elements.proofs.rule.put_items_xml.Statement.{statement}
 use Rattle.elements.proofs.rule.put_items_xml.Tie as tie
 
 abbrev Inv-loop : tie.InvT-loop
-Inv-loop out₀ o p s at q₀ c₀ out q c = Itemizing (getD partNames p []) out₀ o s at out q c
+Inv-loop out₀ o p mode s at q₀ c₀ out q c = Itemizing (getD partNames p []) out₀ o mode s at out q c
 
 abbrev μ-loop : tie.MeasureT-loop
-μ-loop out₀ o p s at q₀ c₀ out q c = length s - c
+μ-loop out₀ o p mode s at q₀ c₀ out q c = length s - c
 
 pub put-items-xml-spec : {M : Type 1} → statement M
 put-items-xml-spec = tie.close (tie.spec

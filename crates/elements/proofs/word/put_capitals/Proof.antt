@@ -11,11 +11,11 @@ use Rattle.elements.proofs.word.put_capitals.Statement.{statement}
 use Rattle.elements.proofs.word.put_capitals.Tie as tie
 
 abbrev Inv-loop : tie.InvT-loop
-Inv-loop out₀ o s at p₀ c₀ out p c =
-    Todo out₀ o (each capitalByte (rest 0 s at)) out p (each capitalByte (rest 0 s c)) × (length out ≡ length out₀)
+Inv-loop out₀ o mode s at p₀ c₀ out p c =
+    Todo out₀ o (each capitalByte (rest mode s at)) out p (each capitalByte (rest mode s c)) × (length out ≡ length out₀)
 
 abbrev μ-loop : tie.MeasureT-loop
-μ-loop out₀ o s at p₀ c₀ out p c = 4 * length s - c
+μ-loop out₀ o mode s at p₀ c₀ out p c = 4 * length s - c
 
 pub put-capitals-spec : {M : Type 1} → statement M
 put-capitals-spec = tie.close (tie.spec

@@ -11,10 +11,10 @@ use Rattle.frame.proofs.line.numbered_line.Tie as tie
 
 pub numbered-line-spec : {M : Type 1} → statement M
 numbered-line-spec = tie.close (tie.spec
-    (λ c κs. c .before .pre)  -- may-hold-requires
+    (λ c κs. c .before .pre .0)  -- may-hold-requires
     (λ c κs. search needs)  -- property-fault-requires
     (λ c κs. search needs)  -- action-of-requires
-    (λ c. λ w e. property-held (lineFrom w (c .before .before .before .before .before .before .args .s .now) (c .before .before .before .before .before .before .args .e) (c .before .before .before .before .before .before .args .v)) (c .before .before .before .before .before .before .args .k) (c .before .before .before .before .before .before .args .inner) e (c .before .before .before .before .may-hold .ensures (upper w) e) (c .before .before .before .if1 .taken) (c .before .before .property-fault .ensures (componentName (c .before .before .before .before .before .before .args .k)) (lineFrom w (c .before .before .before .before .before .before .args .s .now) (c .before .before .before .before .before .before .args .e) (c .before .before .before .before .before .before .args .v)) (sym (component-at _ (c .before .before .before .before .before .before .pre))) e refl refl) (c .before .if2 .taken) (c .action-of .ensures))  -- returns
-    (λ c. λ w e. property-faulty (lineFrom w (c .before .before .before .before .before .args .s .now) (c .before .before .before .before .before .args .e) (c .before .before .before .before .before .args .v)) (c .before .before .before .before .before .args .k) (c .before .before .before .before .before .args .inner) e (c .before .before .before .may-hold .ensures (upper w) e) (c .before .before .if1 .taken) (c .before .property-fault .ensures (componentName (c .before .before .before .before .before .args .k)) (lineFrom w (c .before .before .before .before .before .args .s .now) (c .before .before .before .before .before .args .e) (c .before .before .before .before .before .args .v)) (sym (component-at _ (c .before .before .before .before .before .pre))) e refl refl) (c .if2 .left))  -- returns-2
-    (λ c. λ w e. property-not (lineFrom w (c .before .before .before .args .s .now) (c .before .before .before .args .e) (c .before .before .before .args .v)) (c .before .before .before .args .k) (c .before .before .before .args .inner) e (c .before .may-hold .ensures (upper w) e) (c .if1 .left))  -- returns-3
+    (λ c. λ w e. property-held (lineFrom w (c .before .before .before .before .before .before .args .mode) (c .before .before .before .before .before .before .args .s .now) (c .before .before .before .before .before .before .args .e) (c .before .before .before .before .before .before .args .v)) (c .before .before .before .before .before .before .args .k) (c .before .before .before .before .before .before .args .inner) e (c .before .before .before .before .may-hold .ensures (upper w) e) (c .before .before .before .if1 .taken) (c .before .before .property-fault .ensures (componentName (c .before .before .before .before .before .before .args .k)) (lineFrom w (c .before .before .before .before .before .before .args .mode) (c .before .before .before .before .before .before .args .s .now) (c .before .before .before .before .before .before .args .e) (c .before .before .before .before .before .before .args .v)) (sym (component-at _ (c .before .before .before .before .before .before .pre .0))) e refl refl) (c .before .if2 .taken) (c .action-of .ensures))  -- returns
+    (λ c. λ w e. property-faulty (lineFrom w (c .before .before .before .before .before .args .mode) (c .before .before .before .before .before .args .s .now) (c .before .before .before .before .before .args .e) (c .before .before .before .before .before .args .v)) (c .before .before .before .before .before .args .k) (c .before .before .before .before .before .args .inner) e (c .before .before .before .may-hold .ensures (upper w) e) (c .before .before .if1 .taken) (c .before .property-fault .ensures (componentName (c .before .before .before .before .before .args .k)) (lineFrom w (c .before .before .before .before .before .args .mode) (c .before .before .before .before .before .args .s .now) (c .before .before .before .before .before .args .e) (c .before .before .before .before .before .args .v)) (sym (component-at _ (c .before .before .before .before .before .pre .0))) e refl refl) (c .if2 .left))  -- returns-2
+    (λ c. λ w e. property-not (lineFrom w (c .before .before .before .args .mode) (c .before .before .before .args .s .now) (c .before .before .before .args .e) (c .before .before .before .args .v)) (c .before .before .before .args .k) (c .before .before .before .args .inner) e (c .before .may-hold .ensures (upper w) e) (c .if1 .left))  -- returns-3
     )

@@ -6,8 +6,8 @@ use Rattle.frame.proofs.line.property_line.Tie as tie
 
 pub property-line-spec : {M : Type 1} → statement M
 property-line-spec = tie.close (tie.spec
-    (λ c. name-count (c .before .before .pre .2) (c .before .before .pre .1))  -- slice-aggregate-property-number
+    (λ c. name-count (c .before .before .pre .3) (c .before .before .pre .2) (c .before .before .pre .1))  -- slice-aggregate-property-number
     (λ c κs. search needs)  -- property-number-requires
-    (λ c κs. c .before .before .before .pre .0)  -- numbered-line-requires
-    (λ c. c .numbered-line .ensures _ (name-number (c .before .before .before .before .pre .2) (c .before .property-number .ensures)))  -- returns
+    (λ c κs. (c .before .before .before .pre .0, c .before .before .before .pre .3))  -- numbered-line-requires
+    (λ c. c .numbered-line .ensures _ (name-number (c .before .before .before .before .pre .3) (c .before .before .before .before .pre .2) (c .before .property-number .ensures)))  -- returns
     )

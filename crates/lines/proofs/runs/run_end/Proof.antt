@@ -15,10 +15,12 @@ pub run-end-spec : {M : Type 1} → statement M
 run-end-spec = tie.close (tie.spec
     Inv-loop
     μ-loop
+    (λ c κs. search passing)  -- run-end-plain-requires
+    (λ c. search passing)  -- returns
     (λ c. search passing)  -- loop-holds
     (λ c κs. search passing)  -- unit-requires
     (λ c κs. search passing)  -- is-in-requires
     (λ c. search passing)  -- loop-less
     (λ c. search passing)  -- loop-again
-    (λ c. search passing)  -- returns
+    (λ c. search passing)  -- returns-2
     )

@@ -12,10 +12,10 @@ use Rattle.parameter_elements.proofs.line.is_bare.Statement.{statement}
 use Rattle.parameter_elements.proofs.line.is_bare.Tie as tie
 
 abbrev Inv-loop : tie.InvT-loop
-Inv-loop s at c₀ c = isEmpty (ownParameters (paramsAt 0 s at)) ≡ isEmpty (ownParameters (paramsAt 0 s c))
+Inv-loop mode s at c₀ c = isEmpty (ownParameters (paramsAt mode s at)) ≡ isEmpty (ownParameters (paramsAt mode s c))
 
 abbrev μ-loop : tie.MeasureT-loop
-μ-loop s at c₀ c = 4 * length s - c
+μ-loop mode s at c₀ c = 4 * length s - c
 
 pub is-bare-spec : {M : Type 1} → statement M
 is-bare-spec = tie.close (tie.spec
@@ -23,10 +23,10 @@ is-bare-spec = tie.close (tie.spec
     μ-loop
     (λ c. refl)  -- loop-holds
     (λ c κs. search writing)  -- next-param-requires
-    (λ c κs. search writing)  -- is-value-requires
+    (λ c κs. search writing)  -- is-value-name-requires
     (λ c. param-less (c .before .before .before .before .next-param .ensures) (c .before .before .before .if1 .taken) (c .before .before .if2 .taken))  -- loop-less
-    (λ c. only-more (c .before .before .before .before .before .loop .inv) (c .before .before .before .before .next-param .ensures) (c .before .before .before .if1 .taken) (c .before .before .if2 .taken) (c .before .is-value .ensures) (c .if3 .taken))  -- loop-again
-    (λ c. only-stop (c .before .before .before .before .before .loop .inv) (c .before .before .before .before .next-param .ensures) (c .before .before .before .if1 .taken) (c .before .before .if2 .taken) (c .before .is-value .ensures) (c .if3 .left))  -- returns
-    (λ c. only-fault (c .before .before .before .loop .inv) (c .before .before .next-param .ensures) (c .before .if1 .taken) (c .if2 .left))  -- returns-2
-    (λ c. only-over (c .before .before .loop .inv) (c .before .next-param .ensures) (c .if1 .left))  -- returns-3
+    (λ c. only-more (c .before .before .before .before .before .before .before .pre) (c .before .before .before .before .before .loop .inv) (c .before .before .before .before .next-param .ensures) (c .before .before .before .if1 .taken) (c .before .before .if2 .taken) (c .before .is-value-name .ensures) (c .if3 .taken))  -- loop-again
+    (λ c. only-stop (c .before .before .before .before .before .before .before .pre) (c .before .before .before .before .before .loop .inv) (c .before .before .before .before .next-param .ensures) (c .before .before .before .if1 .taken) (c .before .before .if2 .taken) (c .before .is-value-name .ensures) (c .if3 .left))  -- returns
+    (λ c. only-fault (c .before .before .before .before .before .pre) (c .before .before .before .loop .inv) (c .before .before .next-param .ensures) (c .before .if1 .taken) (c .if2 .left))  -- returns-2
+    (λ c. only-over (c .before .before .before .before .pre) (c .before .before .loop .inv) (c .before .next-param .ensures) (c .if1 .left))  -- returns-3
     )

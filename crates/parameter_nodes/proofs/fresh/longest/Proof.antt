@@ -12,7 +12,7 @@ use Rattle.parameter_nodes.proofs.fresh.longest.Statement.{statement}
 use Rattle.parameter_nodes.proofs.fresh.longest.Tie as tie
 
 abbrev Inv-loop : tie.InvT-loop
-Inv-loop s from to n all low₀ high₀ low high = (low ≤ high) × (high ≤ n) × (distinct (listed low (wordAt s from to) []) ≡ true)
+Inv-loop s from to n all low₀ high₀ low high = (low ≤ high) × (high ≤ n) × (distinct (listed low (wordAt 0 s from to) []) ≡ true)
 
 abbrev μ-loop : tie.MeasureT-loop
 μ-loop s from to n all low₀ high₀ low high = high - low

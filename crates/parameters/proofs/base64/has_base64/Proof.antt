@@ -13,10 +13,10 @@ use Rattle.parameters.proofs.base64.has_base64.Statement.{statement}
 use Rattle.parameters.proofs.base64.has_base64.Tie as tie
 
 abbrev Inv-loop : tie.InvT-loop
-Inv-loop s e c₀ c = anyOne isBase64 (paramsAt 0 s e) ≡ anyOne isBase64 (paramsAt 0 s c)
+Inv-loop mode s e c₀ c = anyOne isBase64 (paramsAt mode s e) ≡ anyOne isBase64 (paramsAt mode s c)
 
 abbrev μ-loop : tie.MeasureT-loop
-μ-loop s e c₀ c = 4 * length s - c
+μ-loop mode s e c₀ c = 4 * length s - c
 
 pub has-base64-spec : {M : Type 1} → statement M
 has-base64-spec = tie.close (tie.spec
@@ -25,9 +25,9 @@ has-base64-spec = tie.close (tie.spec
     (λ c. refl)  -- loop-holds
     (λ c κs. search needs)  -- next-param-requires
     (λ c κs. search needs)  -- is-base64-requires
-    (λ c. sym (params-step (anyOne isBase64) (c .before .before .before .before .before .loop .inv) (c .before .before .before .before .next-param .ensures) (c .before .before .before .if1 .taken) (c .before .before .if2 .taken) ∙ any-halt isBase64 _ _ (c .before .is-base64 .ensures) (c .if3 .taken)))  -- returns
+    (λ c. sym (params-step (c .before .before .before .before .before .before .before .pre) (anyOne isBase64) (c .before .before .before .before .before .loop .inv) (c .before .before .before .before .next-param .ensures) (c .before .before .before .if1 .taken) (c .before .before .if2 .taken) ∙ any-halt isBase64 _ _ (c .before .is-base64 .ensures) (c .if3 .taken)))  -- returns
     (λ c. param-less (c .before .before .before .before .next-param .ensures) (c .before .before .before .if1 .taken) (c .before .before .if2 .taken))  -- loop-less
-    (λ c. params-step (anyOne isBase64) (c .before .before .before .before .before .loop .inv) (c .before .before .before .before .next-param .ensures) (c .before .before .before .if1 .taken) (c .before .before .if2 .taken) ∙ any-go isBase64 _ _ (c .before .is-base64 .ensures) (c .if3 .left))  -- loop-again
-    (λ c. sym (params-fault (anyOne isBase64) (c .before .before .before .loop .inv) (c .before .before .next-param .ensures) (c .before .if1 .taken) (c .if2 .left) ∙ any-nil isBase64))  -- returns-2
-    (λ c. sym (params-over (anyOne isBase64) (c .before .before .loop .inv) (c .before .next-param .ensures) (c .if1 .left) ∙ any-nil isBase64))  -- returns-3
+    (λ c. params-step (c .before .before .before .before .before .before .before .pre) (anyOne isBase64) (c .before .before .before .before .before .loop .inv) (c .before .before .before .before .next-param .ensures) (c .before .before .before .if1 .taken) (c .before .before .if2 .taken) ∙ any-go isBase64 _ _ (c .before .is-base64 .ensures) (c .if3 .left))  -- loop-again
+    (λ c. sym (params-fault (c .before .before .before .before .before .pre) (anyOne isBase64) (c .before .before .before .loop .inv) (c .before .before .next-param .ensures) (c .before .if1 .taken) (c .if2 .left) ∙ any-nil isBase64))  -- returns-2
+    (λ c. sym (params-over (c .before .before .before .before .pre) (anyOne isBase64) (c .before .before .loop .inv) (c .before .next-param .ensures) (c .if1 .left) ∙ any-nil isBase64))  -- returns-3
     )

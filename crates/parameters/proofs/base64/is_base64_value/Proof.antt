@@ -11,7 +11,7 @@ is-base64-value-spec = tie.close (tie.spec
     (λ c. search needs)  -- slice-aggregate-is-named
     (λ c κs. search needs)  -- is-named-requires
     (λ c κs. search needs)  -- is-last-requires
-    (λ c. word-one (ascii "BASE64") (c .before .before .before .before .before .param-value .ensures) (c .before .before .before .before .if1 .taken) (c .before .before .is-named .ensures) (c .before .if2 .taken) (c .is-last .ensures))  -- returns
-    (λ c. word-other (ascii "BASE64") (c .before .before .before .before .param-value .ensures) (c .before .before .before .if1 .taken) (c .before .is-named .ensures) (c .if2 .left))  -- returns-2
-    (λ c. word-none (ascii "BASE64") (c .before .param-value .ensures) (c .if1 .left))  -- returns-3
+    (λ c. word-one (c .before .before .before .before .before .before .before .pre) (ascii "BASE64") (c .before .before .before .before .before .param-value .ensures) (c .before .before .before .before .if1 .taken) (c .before .before .is-named .ensures) (c .before .if2 .taken) (c .is-last .ensures))  -- returns
+    (λ c. word-other (c .before .before .before .before .before .before .pre) (ascii "BASE64") (c .before .before .before .before .param-value .ensures) (c .before .before .before .if1 .taken) (c .before .is-named .ensures) (c .if2 .left))  -- returns-2
+    (λ c. word-none (c .before .before .before .pre) (ascii "BASE64") (c .before .param-value .ensures) (c .if1 .left))  -- returns-3
     )

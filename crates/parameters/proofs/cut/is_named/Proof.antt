@@ -13,5 +13,5 @@ is-named-spec = tie.close (tie.spec
     (λ c κs. search needs)  -- smaller-requires
     (λ c. simp length-take (omega arith))  -- slice-aggregate-is-word-any-case
     (λ c κs. search needs)  -- is-word-any-case-requires
-    (λ c. cut-at (λ l. same (upper l) (c .before .before .before .before .before .args .w .now)) (c .before .before .before .before .before .args .s .now) (c .before .before .before .before .before .args .from) (c .before .before .before .before .before .args .to) (c .before .before .smaller .ensures) (c .is-word-any-case .ensures))  -- returns
+    (λ c. cut-at (λ l. same (upper l) (c .before .before .before .before .before .args .w .now)) (c .before .before .before .before .before .args .mode) (c .before .before .before .before .before .args .s .now) (c .before .before .before .before .before .args .from) (c .before .before .before .before .before .args .to) (c .before .before .smaller .ensures) (c .is-word-any-case .ensures))  -- returns
     )

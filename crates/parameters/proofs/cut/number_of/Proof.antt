@@ -14,5 +14,5 @@ number-of-spec = tie.close (tie.spec
     (λ c κs. search needs)  -- smaller-requires
     (λ c. simp length-take (omega arith))  -- slice-aggregate-parameter-number
     (λ c κs. search needs)  -- parameter-number-requires
-    (λ c. cut-at (λ l. placeOf (upper l) parameterNames) (c .before .before .before .before .args .s .now) (c .before .before .before .before .args .from) (c .before .before .before .before .args .to) (c .before .before .smaller .ensures) (c .parameter-number .ensures))  -- returns
+    (λ c. cut-at (λ l. placeOf (upper l) parameterNames) (c .before .before .before .before .args .mode) (c .before .before .before .before .args .s .now) (c .before .before .before .before .args .from) (c .before .before .before .before .args .to) (c .before .before .smaller .ensures) (c .parameter-number .ensures))  -- returns
     )

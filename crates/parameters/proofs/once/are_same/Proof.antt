@@ -11,10 +11,10 @@ use Rattle.parameters.proofs.once.are_same.Statement.{statement}
 use Rattle.parameters.proofs.once.are_same.Tie as tie
 
 abbrev Inv-loop : tie.InvT-loop
-Inv-loop s a t b c₀ d₀ c d = same (upper (rest 0 s a)) (upper (rest 0 t b)) ≡ same (upper (rest 0 s c)) (upper (rest 0 t d))
+Inv-loop mode s a t b c₀ d₀ c d = same (upper (rest mode s a)) (upper (rest mode t b)) ≡ same (upper (rest mode s c)) (upper (rest mode t d))
 
 abbrev μ-loop : tie.MeasureT-loop
-μ-loop s a t b c₀ d₀ c d = 4 * length s - c
+μ-loop mode s a t b c₀ d₀ c d = 4 * length s - c
 
 pub are-same-spec : {M : Type 1} → statement M
 are-same-spec = tie.close (tie.spec

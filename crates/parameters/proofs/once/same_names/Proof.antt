@@ -16,5 +16,5 @@ same-names-spec = tie.close (tie.spec
     (λ c. simp length-take (omega arith))  -- slice-aggregate-are-same
     (λ c. simp length-take (omega arith))  -- slice-aggregate-are-same-2
     (λ c κs. search needs)  -- are-same-requires
-    (λ c. cut-at (λ l. same (upper l) (nameCut (c .before .before .before .before .before .before .args .s .now) (c .before .before .before .before .before .before .args .b) (c .before .before .before .before .before .before .args .f))) (c .before .before .before .before .before .before .args .s .now) (c .before .before .before .before .before .before .args .a) (c .before .before .before .before .before .before .args .e) (c .before .before .before .before .smaller .ensures) (cut-at (λ l. same (upper (rest 0 (take (c .before .before .before .before .smaller .result) (c .before .before .before .before .before .before .args .s .now)) (c .before .before .before .before .before .before .args .a))) (upper l)) (c .before .before .before .before .before .before .args .s .now) (c .before .before .before .before .before .before .args .b) (c .before .before .before .before .before .before .args .f) (c .before .before .before .smaller2 .ensures) (c .are-same .ensures)))  -- returns
+    (λ c. cut-at (λ l. same (upper l) (nameCut (c .before .before .before .before .before .before .args .mode) (c .before .before .before .before .before .before .args .s .now) (c .before .before .before .before .before .before .args .b) (c .before .before .before .before .before .before .args .f))) (c .before .before .before .before .before .before .args .mode) (c .before .before .before .before .before .before .args .s .now) (c .before .before .before .before .before .before .args .a) (c .before .before .before .before .before .before .args .e) (c .before .before .before .before .smaller .ensures) (cut-at (λ l. same (upper (rest (c .before .before .before .before .before .before .args .mode) (take (c .before .before .before .before .smaller .result) (c .before .before .before .before .before .before .args .s .now)) (c .before .before .before .before .before .before .args .a))) (upper l)) (c .before .before .before .before .before .before .args .mode) (c .before .before .before .before .before .before .args .s .now) (c .before .before .before .before .before .before .args .b) (c .before .before .before .before .before .before .args .f) (c .before .before .before .smaller2 .ensures) (c .are-same .ensures)))  -- returns
     )

@@ -15,10 +15,10 @@ use Rattle.parameters.proofs.read.are_read.Statement.{statement}
 use Rattle.parameters.proofs.read.are_read.Tie as tie
 
 abbrev Inv-loop : tie.InvT-loop
-Inv-loop s e c₀ c = isRead (readParameters (paramsAt 0 s e)) ≡ every isReadable (paramsAt 0 s c)
+Inv-loop mode s e c₀ c = isRead (readParameters (paramsAt mode s e)) ≡ every isReadable (paramsAt mode s c)
 
 abbrev μ-loop : tie.MeasureT-loop
-μ-loop s e c₀ c = 4 * length s - c
+μ-loop mode s e c₀ c = 4 * length s - c
 
 pub are-read-spec : {M : Type 1} → statement M
 are-read-spec = tie.close (tie.spec
@@ -28,8 +28,8 @@ are-read-spec = tie.close (tie.spec
     (λ c κs. search needs)  -- next-param-requires
     (λ c κs. search needs)  -- is-readable-requires
     (λ c. param-less (c .before .before .before .before .next-param .ensures) (c .before .before .before .if1 .taken) (c .before .before .if2 .taken))  -- loop-less
-    (λ c. params-step (every isReadable) (c .before .before .before .before .before .loop .inv) (c .before .before .before .before .next-param .ensures) (c .before .before .before .if1 .taken) (c .before .before .if2 .taken) ∙ every-go isReadable _ _ (c .before .is-readable .ensures) (c .if3 .taken))  -- loop-again
-    (λ c. sym (params-step (every isReadable) (c .before .before .before .before .before .loop .inv) (c .before .before .before .before .next-param .ensures) (c .before .before .before .if1 .taken) (c .before .before .if2 .taken) ∙ every-halt isReadable _ _ (c .before .is-readable .ensures) (c .if3 .left)))  -- returns
-    (λ c. sym (params-fault (every isReadable) (c .before .before .before .loop .inv) (c .before .before .next-param .ensures) (c .before .if1 .taken) (c .if2 .left) ∙ every-nil isReadable))  -- returns-2
-    (λ c. sym (params-over (every isReadable) (c .before .before .loop .inv) (c .before .next-param .ensures) (c .if1 .left) ∙ every-nil isReadable))  -- returns-3
+    (λ c. params-step (c .before .before .before .before .before .before .before .pre) (every isReadable) (c .before .before .before .before .before .loop .inv) (c .before .before .before .before .next-param .ensures) (c .before .before .before .if1 .taken) (c .before .before .if2 .taken) ∙ every-go isReadable _ _ (c .before .is-readable .ensures) (c .if3 .taken))  -- loop-again
+    (λ c. sym (params-step (c .before .before .before .before .before .before .before .pre) (every isReadable) (c .before .before .before .before .before .loop .inv) (c .before .before .before .before .next-param .ensures) (c .before .before .before .if1 .taken) (c .before .before .if2 .taken) ∙ every-halt isReadable _ _ (c .before .is-readable .ensures) (c .if3 .left)))  -- returns
+    (λ c. sym (params-fault (c .before .before .before .before .before .pre) (every isReadable) (c .before .before .before .loop .inv) (c .before .before .next-param .ensures) (c .before .if1 .taken) (c .if2 .left) ∙ every-nil isReadable))  -- returns-2
+    (λ c. sym (params-over (c .before .before .before .before .pre) (every isReadable) (c .before .before .loop .inv) (c .before .next-param .ensures) (c .if1 .left) ∙ every-nil isReadable))  -- returns-3
     )

@@ -17,10 +17,10 @@ use Rattle.parameters.proofs.several.are_later_values.Statement.{statem
 use Rattle.parameters.proofs.several.are_later_values.Tie as tie
 
 abbrev Inv-loop : tie.InvT-loop
-Inv-loop q s at c₀ c = every (isValueBy (parameterAt q)) (items nextValue (rest 0 s at)) ≡ every (isValueBy (parameterAt q)) (items nextValue (rest 0 s c))
+Inv-loop q mode s at c₀ c = every (isValueBy (parameterAt q)) (items nextValue (rest mode s at)) ≡ every (isValueBy (parameterAt q)) (items nextValue (rest mode s c))
 
 abbrev μ-loop : tie.MeasureT-loop
-μ-loop q s at c₀ c = 4 * length s - c
+μ-loop q mode s at c₀ c = 4 * length s - c
 
 pub are-later-values-spec : {M : Type 1} → statement M
 are-later-values-spec = tie.close (tie.spec
@@ -30,8 +30,8 @@ are-later-values-spec = tie.close (tie.spec
     (λ c κs. search needs)  -- next-value-requires
     (λ c κs. search needs)  -- is-cut-value-requires
     (λ c. value-less (c .before .before .before .before .next-value .ensures) (c .before .before .before .if1 .taken) (c .before .before .if2 .taken))  -- loop-less
-    (λ c. later-go (isValueBy (parameterAt (c .before .before .before .before .before .before .before .args .q))) (c .before .is-cut-value .ensures) (c .before .before .before .before .before .loop .inv) (c .before .before .before .before .next-value .ensures) (c .before .before .before .if1 .taken) (c .before .before .if2 .taken) (c .if3 .taken))  -- loop-again
-    (λ c. later-halt (isValueBy (parameterAt (c .before .before .before .before .before .before .before .args .q))) (c .before .is-cut-value .ensures) (c .before .before .before .before .before .loop .inv) (c .before .before .before .before .next-value .ensures) (c .before .before .before .if1 .taken) (c .before .before .if2 .taken) (c .if3 .left))  -- returns
-    (λ c. let p = isValueBy (parameterAt (c .before .before .before .before .before .args .q)) in sym (values-fault (every p) (c .before .before .before .loop .inv) (c .before .before .next-value .ensures) (c .before .if1 .taken) (c .if2 .left) ∙ every-nil p))  -- returns-2
-    (λ c. let p = isValueBy (parameterAt (c .before .before .before .before .args .q)) in sym (values-over (every p) (c .before .before .loop .inv) (c .before .next-value .ensures) (c .if1 .left) ∙ every-nil p))  -- returns-3
+    (λ c. later-go (c .before .before .before .before .before .before .before .pre) (isValueBy (parameterAt (c .before .before .before .before .before .before .before .args .q))) (c .before .is-cut-value .ensures) (c .before .before .before .before .before .loop .inv) (c .before .before .before .before .next-value .ensures) (c .before .before .before .if1 .taken) (c .before .before .if2 .taken) (c .if3 .taken))  -- loop-again
+    (λ c. later-halt (c .before .before .before .before .before .before .before .pre) (isValueBy (parameterAt (c .before .before .before .before .before .before .before .args .q))) (c .before .is-cut-value .ensures) (c .before .before .before .before .before .loop .inv) (c .before .before .before .before .next-value .ensures) (c .before .before .before .if1 .taken) (c .before .before .if2 .taken) (c .if3 .left))  -- returns
+    (λ c. let p = isValueBy (parameterAt (c .before .before .before .before .before .args .q)) in sym (values-fault (c .before .before .before .before .before .pre) (every p) (c .before .before .before .loop .inv) (c .before .before .next-value .ensures) (c .before .if1 .taken) (c .if2 .left) ∙ every-nil p))  -- returns-2
+    (λ c. let p = isValueBy (parameterAt (c .before .before .before .before .args .q)) in sym (values-over (c .before .before .before .before .pre) (every p) (c .before .before .loop .inv) (c .before .next-value .ensures) (c .if1 .left) ∙ every-nil p))  -- returns-3
     )

@@ -15,7 +15,7 @@ are-values-spec = tie.close (tie.spec
     (λ c κs. search needs)  -- param-value-requires
     (λ c κs. search needs)  -- is-cut-value-requires
     (λ c κs. search needs)  -- are-later-values-requires
-    (λ c. first-go (isValueBy (parameterAt (c .before .before .before .before .before .before .args .q))) (c .before .before .is-cut-value .ensures) (c .before .before .before .before .param-value .ensures) (c .before .before .before .if1 .taken) (c .before .if2 .taken) (c .are-later-values .ensures))  -- returns
-    (λ c. first-halt (isValueBy (parameterAt (c .before .before .before .before .before .args .q))) (c .before .is-cut-value .ensures) (c .before .before .before .param-value .ensures) (c .before .before .if1 .taken) (c .if2 .left))  -- returns-2
-    (λ c. let p = isValueBy (parameterAt (c .before .before .before .args .q)) in sym (ap (every p) (values-none (c .before .param-value .ensures) (c .if1 .left)) ∙ every-nil p))  -- returns-3
+    (λ c. first-go (c .before .before .before .before .before .before .pre) (isValueBy (parameterAt (c .before .before .before .before .before .before .args .q))) (c .before .before .is-cut-value .ensures) (c .before .before .before .before .param-value .ensures) (c .before .before .before .if1 .taken) (c .before .if2 .taken) (c .are-later-values .ensures))  -- returns
+    (λ c. first-halt (c .before .before .before .before .before .pre) (isValueBy (parameterAt (c .before .before .before .before .before .args .q))) (c .before .is-cut-value .ensures) (c .before .before .before .param-value .ensures) (c .before .before .if1 .taken) (c .if2 .left))  -- returns-2
+    (λ c. let p = isValueBy (parameterAt (c .before .before .before .args .q)) in sym (ap (every p) (values-none (c .before .before .before .pre) (c .before .param-value .ensures) (c .if1 .left)) ∙ every-nil p))  -- returns-3
     )

@@ -13,5 +13,5 @@ is-cut-value-spec = tie.close (tie.spec
     (λ c κs. search needs)  -- smaller-requires
     (λ c. simp length-take (omega arith))  -- slice-aggregate-is-value-at
     (λ c κs. search needs)  -- is-value-at-requires
-    (λ c. cut-at (λ l. isValueBy (parameterAt (c .before .before .before .before .args .q)) (record { quoted = c .before .before .before .before .args .quoted; chars = l })) (c .before .before .before .before .args .s .now) (c .before .before .before .before .args .from) (c .before .before .before .before .args .to) (c .before .before .smaller .ensures) (c .is-value-at .ensures))  -- returns
+    (λ c. cut-at (λ l. isValueBy (parameterAt (c .before .before .before .before .args .q)) (record { quoted = c .before .before .before .before .args .quoted; chars = l })) (c .before .before .before .before .args .mode) (c .before .before .before .before .args .s .now) (c .before .before .before .before .args .from) (c .before .before .before .before .args .to) (c .before .before .smaller .ensures) (c .is-value-at .ensures))  -- returns
     )

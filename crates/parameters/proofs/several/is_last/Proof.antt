@@ -7,7 +7,7 @@ use Rattle.parameters.proofs.several.is_last.Tie as tie
 pub is-last-spec : {M : Type 1} → statement M
 is-last-spec = tie.close (tie.spec
     (λ c κs. search needs)  -- next-value-requires
-    (λ c. last-more (c .before .before .next-value .ensures) (c .before .if1 .taken) (c .if2 .taken))  -- returns
-    (λ c. last-fault (c .before .before .next-value .ensures) (c .before .if1 .taken) (c .if2 .left))  -- returns-2
-    (λ c. last-over (c .before .next-value .ensures) (c .if1 .left))  -- returns-3
+    (λ c. last-more (c .before .before .before .before .pre) (c .before .before .next-value .ensures) (c .before .if1 .taken) (c .if2 .taken))  -- returns
+    (λ c. last-fault (c .before .before .before .before .pre) (c .before .before .next-value .ensures) (c .before .if1 .taken) (c .if2 .left))  -- returns-2
+    (λ c. last-over (c .before .before .before .pre) (c .before .next-value .ensures) (c .if1 .left))  -- returns-3
     )

@@ -15,6 +15,6 @@ named-type-spec = tie.close (tie.spec
     (λ c κs. search needs)  -- smaller-requires
     (λ c. simp length-take (omega arith))  -- slice-aggregate-type-number
     (λ c κs. search needs)  -- type-number-requires
-    (λ c. type-some _ (cut-at (λ l. placeOf (upper l) typeNames) (c .before .before .before .before .before .args .s .now) (c .before .before .before .before .before .args .from) (c .before .before .before .before .before .args .to) (c .before .before .before .smaller .ensures) (c .before .type-number .ensures)) (c .if1 .taken))  -- returns
-    (λ c. type-none _ (cut-at (λ l. placeOf (upper l) typeNames) (c .before .before .before .before .before .args .s .now) (c .before .before .before .before .before .args .from) (c .before .before .before .before .before .args .to) (c .before .before .before .smaller .ensures) (c .before .type-number .ensures)) (c .if1 .left))  -- returns-2
+    (λ c. type-some _ (cut-at (λ l. placeOf (upper l) typeNames) (c .before .before .before .before .before .args .mode) (c .before .before .before .before .before .args .s .now) (c .before .before .before .before .before .args .from) (c .before .before .before .before .before .args .to) (c .before .before .before .smaller .ensures) (c .before .type-number .ensures)) (c .if1 .taken))  -- returns
+    (λ c. type-none _ (cut-at (λ l. placeOf (upper l) typeNames) (c .before .before .before .before .before .args .mode) (c .before .before .before .before .before .args .s .now) (c .before .before .before .before .before .args .from) (c .before .before .before .before .before .args .to) (c .before .before .before .smaller .ensures) (c .before .type-number .ensures)) (c .if1 .left))  -- returns-2
     )

@@ -10,6 +10,6 @@ is-of-type-spec = tie.close (tie.spec
     (λ c κs. search needs)  -- read-value-requires
     (λ c. search needs)  -- enum-told
     (λ c. search needs)  -- enum-told-2
-    (λ c. search (c .before .before .read-value .ensures (λ h. refl), good-yes, needs))  -- returns
-    (λ c. search (c .before .before .read-value .ensures (λ h. refl), good-no, needs))  -- returns-2
+    (λ c. search (c .before .before .read-value .ensures (λ h. c .before .before .before .before .pre), good-yes, needs))  -- returns
+    (λ c. search (c .before .before .read-value .ensures (λ h. c .before .before .before .before .pre), good-no, needs))  -- returns-2
     )

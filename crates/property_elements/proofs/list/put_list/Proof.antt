@@ -1,5 +1,5 @@
 -- `property_elements::put_list` meets its contract.
-use Rattle.property_elements.specs.Pieces.{put-list-texts, put-list-past, put-list-pieces}
+use Rattle.property_elements.specs.Pieces.{put-list-texts, put-list-past, put-list-pieces, end-within, index-within}
 use Rattle.sink.specs.Sink.{writing}
 use Rattle.property_elements.proofs.list.put_list.Statement.{statement}
 use Rattle.property_elements.proofs.list.put_list.Tie as tie
@@ -9,10 +9,10 @@ put-list-spec = tie.close (tie.spec
     (λ c κs. search writing)  -- put-texts-xml-requires
     (λ c. search writing)  -- same-length
     (λ c. search (put-list-texts, writing))  -- returns
-    (λ c κs. search writing)  -- put-pieces-requires
+    (λ c κs. search (end-within, writing))  -- put-pieces-requires
     (λ c. search writing)  -- same-length-2
     (λ c. search (put-list-past, writing))  -- returns-2
-    (λ c κs. search writing)  -- put-pieces-requires-2
+    (λ c κs. search (index-within, writing))  -- put-pieces-requires-2
     (λ c. search writing)  -- same-length-3
     (λ c. search (put-list-pieces, writing))  -- returns-3
     )

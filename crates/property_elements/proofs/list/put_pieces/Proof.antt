@@ -6,10 +6,10 @@ use Rattle.property_elements.proofs.list.put_pieces.Statement.{statemen
 use Rattle.property_elements.proofs.list.put_pieces.Tie as tie
 
 abbrev Inv-loop : tie.InvT-loop
-Inv-loop out₀ at t s from o₀ c₀ out o c = Piecing t out₀ at s from out o c
+Inv-loop out₀ at t mode s from o₀ c₀ out o c = Piecing t out₀ at mode s from out o c
 
 abbrev μ-loop : tie.MeasureT-loop
-μ-loop out₀ at t s from o₀ c₀ out o c = length s - c
+μ-loop out₀ at t mode s from o₀ c₀ out o c = length s - c
 
 pub put-pieces-spec : {M : Type 1} → statement M
 put-pieces-spec = tie.close (tie.spec

@@ -9,16 +9,16 @@ use Rattle.recur.proofs.rule.are_items.Statement.{statement}
 use Rattle.recur.proofs.rule.are_items.Tie as tie
 
 abbrev Inv-loop : tie.InvT-loop
-Inv-loop p s at c₀ c = Left (areItems p) 44 s at c
+Inv-loop p mode s at c₀ c = Left (areItems p) 44 mode s at c
 
 abbrev μ-loop : tie.MeasureT-loop
-μ-loop p s at c₀ c = length s - c
+μ-loop p mode s at c₀ c = length s - c
 
 pub are-items-spec : {M : Type 1} → statement M
 are-items-spec = tie.close (tie.spec
     Inv-loop
     μ-loop
-    (λ c. left-start _ _ _ _ (c .before .pre))  -- loop-holds
+    (λ c. left-start _ _ _ _ _ (c .before .pre))  -- loop-holds
     (λ c κs. c .loop .inv .inside)  -- byte-end-requires
     (λ c. cut-count (c .before .byte-end .ensures))  -- slice-aggregate-is-item
     (λ c κs. search needs)  -- is-item-requires

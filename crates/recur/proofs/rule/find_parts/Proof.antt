@@ -10,16 +10,16 @@ use Rattle.recur.proofs.rule.find_parts.Statement.{statement}
 use Rattle.recur.proofs.rule.find_parts.Tie as tie
 
 abbrev Inv-loop : tie.InvT-loop
-Inv-loop s at begins₀ c₀ begins c = Walked s at begins c
+Inv-loop mode s at begins₀ c₀ begins c = Walked mode s at begins c
 
 abbrev μ-loop : tie.MeasureT-loop
-μ-loop s at begins₀ c₀ begins c = length s - c
+μ-loop mode s at begins₀ c₀ begins c = length s - c
 
 pub find-parts-spec : {M : Type 1} → statement M
 find-parts-spec = tie.close (tie.spec
     Inv-loop
     μ-loop
-    (λ c. walk-start _ _ (c .before .pre))  -- loop-holds
+    (λ c. walk-start _ _ _ (c .before .pre))  -- loop-holds
     (λ c κs. c .loop .inv .inside)  -- byte-end-requires
     (λ c. cut-count (c .before .byte-end .ensures))  -- slice-aggregate-part-place
     (λ c κs. cut-inside (c .before .byte-end .ensures))  -- part-place-requires
@@ -27,7 +27,7 @@ find-parts-spec = tie.close (tie.spec
     (λ c κs. (c .before .part-place .ensures, cut-inside (c .before .before .before .byte-end .ensures)))  -- is-part-requires
     (λ c. let k = walk-place (c .before .before .before .before .before .before .loop .inv) (c .before .before .before .before .before .byte-end .ensures) (c .before .before .before .part-place .ensures) (flag-yes _ _ (c .before .is-part .ensures) (c .if1 .taken)) in omega arith)  -- mul-if2
     (λ c. walk-place (c .before .before .before .before .before .before .loop .inv) (c .before .before .before .before .before .byte-end .ensures) (c .before .before .before .part-place .ensures) (flag-yes _ _ (c .before .is-part .ensures) (c .if1 .taken)))  -- array-read-if2
-    (λ c. let k = c .before .before .before .before .before .before .before .loop .inv .inside in search needs)  -- add-begins
+    (λ c. let k = c .before .before .before .before .before .before .before .loop .inv .inside .most in search needs)  -- add-begins
     (λ c. let k = walk-place (c .before .before .before .before .before .before .before .loop .inv) (c .before .before .before .before .before .before .byte-end .ensures) (c .before .before .before .before .part-place .ensures) (flag-yes _ _ (c .before .before .is-part .ensures) (c .before .if1 .taken)) in omega arith)  -- mul-begins
     (λ c. walk-place (c .before .before .before .before .before .before .before .loop .inv) (c .before .before .before .before .before .before .byte-end .ensures) (c .before .before .before .before .part-place .ensures) (flag-yes _ _ (c .before .before .is-part .ensures) (c .before .if1 .taken)))  -- array-write-begins
     (λ c κs. search needs)  -- unit-requires

@@ -11,7 +11,7 @@ is-part-spec = tie.close (tie.spec
     (λ c κs. c .before .pre .1)  -- value-at-requires
     (λ c κs. search needs)  -- is-list-part-requires
     (λ c κs. c .before .before .value-at .ensures .1)  -- are-items-requires
-    (λ c. part-listed (rest 0 (c .before .before .before .before .before .args .s .now) (c .before .before .before .before .before .args .at)) (rw (← (c .before .before .before .before .before .pre .0)) (flag-yes _ _ (c .before .before .is-list-part .ensures) (c .before .if1 .taken))) (rw (← (c .before .before .before .before .before .pre .0), c .before .before .before .value-at .ensures .0) (c .are-items .ensures)))  -- returns
+    (λ c. part-listed (rest (c .before .before .before .before .before .args .mode) (c .before .before .before .before .before .args .s .now) (c .before .before .before .before .before .args .at)) (rw (← (c .before .before .before .before .before .pre .0)) (flag-yes _ _ (c .before .before .is-list-part .ensures) (c .before .if1 .taken))) (rw (← (c .before .before .before .before .before .pre .0), c .before .before .before .value-at .ensures .0) (c .are-items .ensures)))  -- returns
     (λ c κs. search needs)  -- is-item-requires
-    (λ c. part-single (rest 0 (c .before .before .before .before .before .args .s .now) (c .before .before .before .before .before .args .at)) (rw (← (c .before .before .before .before .before .pre .0)) (flag-no _ _ (c .before .before .is-list-part .ensures) (c .before .if1 .left))) (rw (← (c .before .before .before .before .before .pre .0), c .before .before .before .value-at .ensures .0) (c .is-item .ensures)))  -- returns-2
+    (λ c. part-single (rest (c .before .before .before .before .before .args .mode) (c .before .before .before .before .before .args .s .now) (c .before .before .before .before .before .args .at)) (rw (← (c .before .before .before .before .before .pre .0)) (flag-no _ _ (c .before .before .is-list-part .ensures) (c .before .if1 .left))) (rw (← (c .before .before .before .before .before .pre .0), c .before .before .before .value-at .ensures .0) (c .is-item .ensures)))  -- returns-2
     )

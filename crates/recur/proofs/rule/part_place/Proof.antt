@@ -10,5 +10,5 @@ part-place-spec = tie.close (tie.spec
     (λ c κs. c .before .pre)  -- byte-end-requires
     (λ c. cut-count (c .before .byte-end .ensures))  -- slice-aggregate-part-number
     (λ c κs. search needs)  -- part-number-requires
-    (λ c. name-found (c .before .before .before .before .args .s .now) (c .before .before .before .before .args .at) (c .before .before .byte-end .result) (c .before .before .byte-end .ensures) (c .part-number .ensures))  -- returns
+    (λ c. name-found (c .before .before .before .before .args .mode) (c .before .before .before .before .args .s .now) (c .before .before .before .before .args .at) (c .before .before .byte-end .result) (c .before .before .byte-end .ensures) (c .part-number .ensures))  -- returns
     )

@@ -10,5 +10,5 @@ value-at-spec = tie.close (tie.spec
     (λ c κs. c .before .pre)  -- byte-end-requires
     (λ c κs. search needs)  -- unit-requires
     (λ c. (value-none (c .before .before .before .byte-end .ensures) (c .before .before .unit .ensures) (c .if1 .taken), c .before .before .before .byte-end .ensures .inside))  -- returns
-    (λ c. (value-after (c .before .before .before .byte-end .ensures) (c .before .before .unit .ensures) (c .if1 .left), step-less (c .before .before .unit .ensures) (c .if1 .left) .1))  -- returns-2
+    (λ c. (value-after (c .before .before .before .byte-end .ensures) (c .before .before .unit .ensures) (c .if1 .left), step-less (c .before .before .before .byte-end .ensures .inside) (c .before .before .unit .ensures) (c .if1 .left) .1))  -- returns-2
     )

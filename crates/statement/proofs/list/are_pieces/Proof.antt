@@ -10,16 +10,16 @@ use Rattle.statement.proofs.list.are_pieces.Statement.{statement}
 use Rattle.statement.proofs.list.are_pieces.Tie as tie
 
 abbrev Inv-loop : tie.InvT-loop
-Inv-loop t s at c₀ c = Left (eachValue (typeAt t)) 44 s at c
+Inv-loop t mode s at c₀ c = Left (eachValue (typeAt t)) 44 mode s at c
 
 abbrev μ-loop : tie.MeasureT-loop
-μ-loop t s at c₀ c = length s - c
+μ-loop t mode s at c₀ c = length s - c
 
 pub are-pieces-spec : {M : Type 1} → statement M
 are-pieces-spec = tie.close (tie.spec
     Inv-loop
     μ-loop
-    (λ c. left-start _ _ _ _ (c .before .pre))  -- loop-holds
+    (λ c. left-start _ _ _ _ _ (c .before .pre))  -- loop-holds
     (λ c κs. c .loop .inv .inside)  -- byte-end-requires
     (λ c. cut-count (c .before .byte-end .ensures))  -- slice-aggregate-is-of-type
     (λ c κs. search needs)  -- is-of-type-requires

@@ -6,10 +6,10 @@ use Rattle.texts.proofs.elements.put_items_xml.Statement.{statement}
 use Rattle.texts.proofs.elements.put_items_xml.Tie as tie
 
 abbrev Inv-loop : tie.InvT-loop
-Inv-loop out₀ at s from o₀ c₀ out o c = Listing out₀ at s from out o c
+Inv-loop out₀ at mode s from o₀ c₀ out o c = Listing out₀ at mode s from out o c
 
 abbrev μ-loop : tie.MeasureT-loop
-μ-loop out₀ at s from o₀ c₀ out o c = 4 * length s - c
+μ-loop out₀ at mode s from o₀ c₀ out o c = 4 * length s - c
 
 pub put-items-xml-spec : {M : Type 1} → statement M
 put-items-xml-spec = tie.close (tie.spec

@@ -19,13 +19,15 @@ pub read-text-spec : {M : Type 1} → statement M
 read-text-spec = tie.close (tie.spec
     Inv-loop
     μ-loop
+    (λ c κs. search reading-text)  -- read-text-plain-requires
+    (λ c. rw (c .before .if1 .taken) (c .read-text-plain .ensures))  -- returns
     (λ c. search reading-text)  -- loop-holds
     (λ c κs. search reading-text)  -- unit-requires
     (λ c κs. search reading-text)  -- ended-requires
-    (λ c. search reading-text)  -- returns
+    (λ c. search reading-text)  -- returns-2
     (λ c κs. search reading-text)  -- in-text-requires
     (λ c κs. search reading-text)  -- is-opening-requires
     (λ c. search reading-text)  -- loop-less
     (λ c. search reading-text)  -- loop-again
-    (λ c. search reading-text)  -- returns-2
+    (λ c. search reading-text)  -- returns-3
     )

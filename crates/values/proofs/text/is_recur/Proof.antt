@@ -8,5 +8,7 @@ is-recur-spec = tie.close (tie.spec
     (λ c g. search keeping)  -- returns
     (λ c κs. search keeping)  -- is-rule-requires
     (λ c g. search keeping)  -- returns-2
+    (λ c κs. search keeping)  -- is-rule-requires-2
     (λ c g. search keeping)  -- returns-3
+    (λ c g. search keeping)  -- returns-4
     )

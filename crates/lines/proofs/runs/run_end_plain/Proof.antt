@@ -1,0 +1,24 @@
+-- `lines::runs::run_end_plain` meets its contract.
+use Prim.Native.Nat.{_*_, _-_}
+use lib.ListN.{length}
+use Rattle.lines.specs.Cursor.{charOf, Passing, passing}
+use Rattle.lines.proofs.runs.run_end_plain.Statement.{statement}
+use Rattle.lines.proofs.runs.run_end_plain.Tie as tie
+
+abbrev Inv-loop : tie.InvT-loop
+Inv-loop k s at c₀ c = Passing (charOf k) 0 s at c
+
+abbrev μ-loop : tie.MeasureT-loop
+μ-loop k s at c₀ c = 4 * length s - c
+
+pub run-end-plain-spec : {M : Type 1} → statement M
+run-end-plain-spec = tie.close (tie.spec
+    Inv-loop
+    μ-loop
+    (λ c. search passing)  -- loop-holds
+    (λ c κs. search passing)  -- plain-unit-requires
+    (λ c κs. search passing)  -- is-in-requires
+    (λ c. search passing)  -- loop-less
+    (λ c. search passing)  -- loop-again
+    (λ c. search passing)  -- returns
+    )
