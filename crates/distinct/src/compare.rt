@@ -36,7 +36,10 @@ fn compare_from(mode: usize, s: &[u8], a: usize, t: &[u8], b: usize) -> usize
 
 // The same of the words of the numbers `i` and `j`.
 pub fn compare(mode: usize, s: &[u8], from: &[u16], to: &[u16], i: usize, j: usize) -> usize
-    ensures { λ r. ⌜ r ≡ order (wordAt mode (now (s .entry)) (now (from .entry)) (now (to .entry)) i) (wordAt mode (now (s .entry)) (now (from .entry)) (now (to .entry)) j) ⌝ }
+    ensures { λ r. ⌜
+        r
+        ≡ order (wordAt mode (now (s .entry)) (now (from .entry)) (now (to .entry)) i)
+        (wordAt mode (now (s .entry)) (now (from .entry)) (now (to .entry)) j) ⌝ }
 {
     let a = number_at(from, i);
     let b = number_at(from, j);

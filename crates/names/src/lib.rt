@@ -3,6 +3,16 @@
 mod keys;
 mod plain;
 
+use keys::key;
+use octets::is_name_char;
+use octets::lower_unit;
+use octets::upper_unit;
+use octets::wide;
+use plain::is_cased_plain;
+use plain::name_end_plain;
+use plain::put_plain;
+use sink::put;
+use source::unit;
 ghost use mathlib.Core.Path.{_≡_};
 ghost use Prim.Native.Nat.{_≤_};
 ghost use lib.ListN.{length};
@@ -16,16 +26,6 @@ ghost use Rattle.names.specs.Table.{placeOf, namesIn};
 ghost use Rattle.names.specs.Keys.{keyOf};
 ghost use Rattle.names.specs.Matching.{Turned, Passes};
 ghost use Rattle.names.specs.Runs.{RunEnds};
-use keys::key;
-use octets::is_name_char;
-use octets::lower_unit;
-use octets::upper_unit;
-use octets::wide;
-use plain::is_cased_plain;
-use plain::name_end_plain;
-use plain::put_plain;
-use sink::put;
-use source::unit;
 
 // The case in which a word is compared or written.
 pub enum Case {
@@ -165,7 +165,8 @@ pub fn named(mode: usize, s: &[u8], at: usize, w: &[u8], n: usize, none: usize) 
 
 // The number of a word, in any case in text, as it stands in XML.
 pub fn find_word(xcal: bool, mode: usize, s: &[u8], at: usize, table: &[u8]) -> usize
-    ensures { λ r. ⌜ r ≡ placeOf (cased (caseOf xcal) (rest mode (now (s .entry)) at)) (namesIn (now (table .entry))) ⌝ }
+    ensures { λ r. ⌜
+        r ≡ placeOf (cased (caseOf xcal) (rest mode (now (s .entry)) at)) (namesIn (now (table .entry))) ⌝ }
 {
     let k = case_of(xcal);
     find_cased(k, mode, s, at, table)

@@ -1,4 +1,13 @@
 // FLOAT: read from the cursor up to the byte `stop`, to the end where it is 256; and written.
+use crate::scan::digits_end;
+use crate::scan::has_minus;
+use crate::scan::only_digits;
+use crate::scan::only_zeros;
+use crate::scan::sign_end;
+use crate::scan::unit_to;
+use crate::scan::zeros_end;
+use octets::is_digit;
+use sink::put;
 ghost use mathlib.Core.Path.{_≡_};
 ghost use mathlib.Core.Bool.{not};
 ghost use mathlib.Core.List.{[], _∷_};
@@ -13,15 +22,6 @@ ghost use Rattle.numbers.specs.Float.{decimal, noTrailing, orZero, after
 ghost use Rattle.numbers.specs.Until.{until};
 ghost use Rattle.numbers.specs.FloatParts.{front};
 ghost use Rattle.numbers.specs.ReadFloat.{Shaped, floatOf};
-use crate::scan::digits_end;
-use crate::scan::has_minus;
-use crate::scan::only_digits;
-use crate::scan::only_zeros;
-use crate::scan::sign_end;
-use crate::scan::unit_to;
-use crate::scan::zeros_end;
-use octets::is_digit;
-use sink::put;
 
 // A number: whether it is negative, the cursor of the first digit that counts, and the cursor of the digits after the point.
 pub enum FloatRead {
@@ -64,7 +64,11 @@ fn read_shape(stop: usize, mode: usize, s: &[u8], at: usize) -> Shape
 
 // Whether the minus counts: it does not where the number is zero.
 fn is_minus(neg: bool, stop: usize, mode: usize, s: &[u8], first: usize, after: usize) -> bool
-    ensures { λ r. ⌜ r ≡ (not (isEmpty (front (until stop mode (now (s .entry)) first)) and isEmpty (noTrailing (until stop mode (now (s .entry)) after))) and neg) ⌝ }
+    ensures { λ r. ⌜
+        r
+        ≡ (not (isEmpty (front (until stop mode (now (s .entry)) first))
+        and isEmpty (noTrailing (until stop mode (now (s .entry)) after)))
+        and neg) ⌝ }
 {
     let t = unit_to(stop, mode, s, first);
     let d = is_digit(t.u);
@@ -126,7 +130,8 @@ fn put_front(out: &mut [u8], o: usize, stop: usize, mode: usize, s: &[u8], at: u
 
 // The digits before the point, or 0 where there are none.
 fn put_before(out: &mut [u8], o: usize, stop: usize, mode: usize, s: &[u8], at: usize) -> usize
-    ensures { λ r. ⌜ Put (now (out .entry)) (now (out .exit)) o r (orZero (front (until stop mode (now (s .entry)) at))) ⌝ }
+    ensures { λ r. ⌜
+        Put (now (out .entry)) (now (out .exit)) o r (orZero (front (until stop mode (now (s .entry)) at))) ⌝ }
 {
     let t = unit_to(stop, mode, s, at);
     let d = is_digit(t.u);
@@ -182,7 +187,8 @@ fn put_waiting(out: &mut [u8], o: usize, k: usize, b: u8) -> usize
 
 // A point and the digits after it, if any count.
 fn put_after(out: &mut [u8], o: usize, stop: usize, mode: usize, s: &[u8], at: usize) -> usize
-    ensures { λ r. ⌜ Put (now (out .entry)) (now (out .exit)) o r (afterPoint (noTrailing (until stop mode (now (s .entry)) at))) ⌝ }
+    ensures { λ r. ⌜
+        Put (now (out .entry)) (now (out .exit)) o r (afterPoint (noTrailing (until stop mode (now (s .entry)) at))) ⌝ }
 {
     let z = only_zeros(stop, mode, s, at);
     if z {
@@ -201,7 +207,9 @@ fn put_magnitude(
     first: usize,
     after: usize,
 ) -> usize
-    ensures { λ r. ⌜ Put (now (out .entry)) (now (out .exit)) o r (orZero (front (until stop mode (now (s .entry)) first)) ⊕ afterPoint (noTrailing (until stop mode (now (s .entry)) after))) ⌝ }
+    ensures { λ r. ⌜
+        Put (now (out .entry)) (now (out .exit)) o r (orZero (front (until stop mode (now (s .entry)) first)) ⊕
+        afterPoint (noTrailing (until stop mode (now (s .entry)) after))) ⌝ }
 {
     let q = put_before(out, o, stop, mode, s, first);
     put_after(out, q, stop, mode, s, after)
@@ -217,7 +225,10 @@ fn put_decimal(
     first: usize,
     after: usize,
 ) -> usize
-    ensures { λ r. ⌜ Put (now (out .entry)) (now (out .exit)) o r (writeFloat (decimal minus (front (until stop mode (now (s .entry)) first)) (noTrailing (until stop mode (now (s .entry)) after)))) ⌝ }
+    ensures { λ r. ⌜
+        Put (now (out .entry)) (now (out .exit)) o r (writeFloat (decimal minus
+        (front (until stop mode (now (s .entry)) first))
+        (noTrailing (until stop mode (now (s .entry)) after)))) ⌝ }
 {
     if minus {
         let q = put(out, o, b'-');
@@ -234,7 +245,9 @@ pub fn put_float_to(
     s: &[u8],
     at: usize,
 ) -> usize
-    ensures { λ r. ⌜ Put (now (out .entry)) (now (out .exit)) o r (orNothing writeFloat (readFloat (until stop mode (now (s .entry)) at))) ⌝ }
+    ensures { λ r. ⌜
+        Put (now (out .entry)) (now (out .exit)) o r
+        (orNothing writeFloat (readFloat (until stop mode (now (s .entry)) at))) ⌝ }
 {
     let FloatRead::Good(minus, first, after) = float_to(stop, mode, s, at) else {
         return o;
@@ -243,7 +256,9 @@ pub fn put_float_to(
 }
 
 pub fn put_float(out: &mut [u8], o: usize, mode: usize, s: &[u8], at: usize) -> usize
-    ensures { λ r. ⌜ Put (now (out .entry)) (now (out .exit)) o r (orNothing writeFloat (readFloat (rest mode (now (s .entry)) at))) ⌝ }
+    ensures { λ r. ⌜
+        Put (now (out .entry)) (now (out .exit)) o r
+        (orNothing writeFloat (readFloat (rest mode (now (s .entry)) at))) ⌝ }
 {
     put_float_to(out, o, 256, mode, s, at)
 }

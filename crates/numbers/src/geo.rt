@@ -1,13 +1,13 @@
 // GEO in text: two FLOAT values with a semicolon between them. `float::put_float_to` writes the latitude, up to byte 59 from where GEO begins, and
 // `float::put_float` the longitude, from the cursor that `read_geo` answers.
+use crate::float::FloatRead;
+use crate::float::float_to;
+use source::unit;
 ghost use mathlib.Core.Path.{_≡_};
 ghost use Rattle.octets.specs.Reading.{isRead};
 ghost use Rattle.numbers.specs.Float.{readFloat};
 ghost use Rattle.numbers.specs.Until.{until};
 ghost use Rattle.numbers.specs.ReadGeo.{Parted, ReadsGeo};
-use crate::float::FloatRead;
-use crate::float::float_to;
-use source::unit;
 
 // The cursor of the longitude.
 pub enum GeoRead {

@@ -1,4 +1,7 @@
 // INTEGER: read from the cursor to the end, and written.
+use crate::numeral::worth;
+use sink::put;
+use source::unit;
 ghost use mathlib.Core.Path.{_≡_};
 ghost use mathlib.Core.List.{List};
 ghost use Prim.Native.Nat.{_+_, _<_, _≤_};
@@ -8,9 +11,6 @@ ghost use Rattle.source.specs.Source.{rest};
 ghost use Rattle.sink.specs.Sink.{Put};
 ghost use Rattle.numbers.specs.Integer.{whole, writeWhole, readInteger, writeInteger};
 ghost use Rattle.numbers.specs.ReadInteger.{numberIn, wholeFrom, wholeOf, wholeIs};
-use crate::numeral::worth;
-use sink::put;
-use source::unit;
 
 // A number: whether it is negative, and its magnitude.
 pub enum IntegerRead {
@@ -92,7 +92,9 @@ pub fn put_whole(out: &mut [u8], o: usize, neg: bool, m: u32) -> usize
 }
 
 pub fn put_integer(out: &mut [u8], o: usize, mode: usize, s: &[u8], at: usize) -> usize
-    ensures { λ r. ⌜ Put (now (out .entry)) (now (out .exit)) o r (orNothing writeInteger (readInteger (rest mode (now (s .entry)) at))) ⌝ }
+    ensures { λ r. ⌜
+        Put (now (out .entry)) (now (out .exit)) o r
+        (orNothing writeInteger (readInteger (rest mode (now (s .entry)) at))) ⌝ }
 {
     let IntegerRead::Value(neg, m) = read_integer(mode, s, at) else {
         return o;

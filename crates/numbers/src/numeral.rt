@@ -1,11 +1,11 @@
 // Digits from the cursor on, to the end, or, where `letters` says so, to the first letter. See specs/Numeral.antt.
+use octets::is_alpha;
+use source::Step;
+use source::unit;
 ghost use mathlib.Core.Path.{_≡_};
 ghost use Prim.Native.Nat.{_≤_};
 ghost use Rattle.source.specs.Source.{rest};
 ghost use Rattle.numbers.specs.Numeral.{front, Fronts, worthTo};
-use octets::is_alpha;
-use source::Step;
-use source::unit;
 
 // The byte at the cursor `at`, or 256 at the end, which a letter is too where `letters` says so.
 pub fn front_unit(letters: bool, mode: usize, s: &[u8], at: usize) -> Step

@@ -1,13 +1,13 @@
 // Digits and zeros passed over, from the cursor up to the byte `stop`; to the end where `stop` is 256.
+use octets::is_digit;
+use source::Step;
+use source::unit;
 ghost use mathlib.Core.Path.{_≡_};
 ghost use Rattle.octets.specs.Words.{isEmpty};
 ghost use Rattle.numbers.specs.Sign.{hasMinus, unsigned, isDigits};
 ghost use Rattle.numbers.specs.Float.{noLeading, noTrailing};
 ghost use Rattle.numbers.specs.Until.{until, Turns};
 ghost use Rattle.numbers.specs.FloatParts.{afterDigits};
-use octets::is_digit;
-use source::Step;
-use source::unit;
 
 // The byte at the cursor; 256 at the byte `stop` and at the end.
 pub fn unit_to(stop: usize, mode: usize, s: &[u8], at: usize) -> Step

@@ -1,13 +1,4 @@
 // One item of a rule part, by the part's place in the schema's order: 0 is FREQ, 13 is WKST. See specs/Fits.antt.
-ghost use mathlib.Core.Path.{_≡_};
-ghost use mathlib.Core.List.{[]};
-ghost use Prim.Native.Nat.{_≤_, _<_};
-ghost use lib.ListN.{getD};
-ghost use Rattle.octets.specs.Reading.{isRead};
-ghost use Rattle.model.specs.Calendar.{formatOf};
-ghost use Rattle.source.specs.Source.{rest};
-ghost use Rattle.recur.specs.Parts.{partNames};
-ghost use Rattle.recur.specs.Item.{readItem};
 use crate::number::is_numeral;
 use crate::number::is_signed;
 use crate::number::is_unsigned;
@@ -15,6 +6,15 @@ use crate::word::is_enddate;
 use crate::word::is_frequency;
 use crate::word::is_weekday;
 use crate::word::is_weekdaynum;
+ghost use mathlib.Core.Path.{_≡_};
+ghost use mathlib.Core.List.{[]};
+ghost use Prim.Native.Nat.{_≤_, _<_};
+ghost use lib.ListN.{getD};
+ghost use Rattle.octets.specs.Reading.{isRead};
+ghost use Rattle.calendar.specs.Calendar.{formatOf};
+ghost use Rattle.source.specs.Source.{rest};
+ghost use Rattle.recur.specs.Parts.{partNames};
+ghost use Rattle.recur.specs.Item.{readItem};
 
 // FREQ, UNTIL, COUNT, INTERVAL.
 fn is_limit(p: usize, xcal: bool, mode: usize, s: &[u8], at: usize) -> bool

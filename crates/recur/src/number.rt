@@ -1,4 +1,6 @@
 // Numbers of rule parts, to the end of what stands from the cursor on, or, where `letters` says so, to the first letter. See specs/Numeral.antt.
+use numbers::numeral::front_unit;
+use numbers::numeral::worth;
 ghost use mathlib.Core.Path.{_≡_};
 ghost use Prim.Native.Nat.{_≤_, _<_};
 ghost use Rattle.octets.specs.Pick.{_and_};
@@ -8,8 +10,6 @@ ghost use Rattle.numbers.specs.Numeral.{front};
 ghost use Rattle.recur.specs.Item.{isShort, isNumeral};
 ghost use Rattle.recur.specs.Numeral.{numeralIn};
 ghost use Rattle.recur.specs.Fits.{isNumeralOf};
-use numbers::numeral::front_unit;
-use numbers::numeral::worth;
 
 // No more than `d` bytes.
 fn is_short(letters: bool, d: usize, mode: usize, s: &[u8], at: usize) -> bool
@@ -78,7 +78,8 @@ pub fn is_unsigned(
 
 // The cursor after a sign.
 pub fn after_sign(letters: bool, mode: usize, s: &[u8], at: usize) -> usize
-    ensures { λ r. ⌜ unsigned (front letters (rest mode (now (s .entry)) at)) ≡ front letters (rest mode (now (s .entry)) r) ⌝ }
+    ensures { λ r. ⌜
+        unsigned (front letters (rest mode (now (s .entry)) at)) ≡ front letters (rest mode (now (s .entry)) r) ⌝ }
 {
     let t = front_unit(letters, mode, s, at);
     let u = t.u;

@@ -1,4 +1,8 @@
 // A whole rule in text, over an encoding whose cursors are indices. See specs/Pieces.antt and specs/Noted.antt.
+use crate::item::is_item;
+use names::name_key;
+use names::named;
+use source::unit;
 ghost use mathlib.Core.Path.{_≡_};
 ghost use mathlib.Core.Bool.{true};
 ghost use mathlib.Core.List.{[]};
@@ -13,10 +17,6 @@ ghost use Rattle.recur.specs.Parts.{partNames, partOf, isListed};
 ghost use Rattle.recur.specs.Rule.{isEquals, readPart, readRule};
 ghost use Rattle.recur.specs.Pieces.{Ends, placeAt, areItems, good};
 ghost use Rattle.recur.specs.Noted.{Parted, wholeIn};
-use crate::item::is_item;
-use names::name_key;
-use names::named;
-use source::unit;
 
 // Whether there is a rule.
 pub enum RuleRead {
@@ -87,7 +87,9 @@ fn part_place(mode: usize, s: &[u8], at: usize) -> usize
 // The cursor after a piece's name and =.
 pub fn value_at(mode: usize, s: &[u8], at: usize) -> usize
     requires { ⌜ Within mode (now s) at ⌝ }
-    ensures { λ r. ⌜ (past isEquals (rest mode (now (s .entry)) at) ≡ rest mode (now (s .entry)) r) × Within mode (now (s .entry)) r ⌝ }
+    ensures { λ r. ⌜
+        (past isEquals (rest mode (now (s .entry)) at) ≡ rest mode (now (s .entry)) r)
+        × Within mode (now (s .entry)) r ⌝ }
 {
     let e = byte_end(61, mode, s, at);
     let n = unit(mode, s, e);

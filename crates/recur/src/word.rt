@@ -1,15 +1,4 @@
 // Words, weekdays and ends of rule parts. See specs/Fits.antt.
-ghost use mathlib.Core.Path.{_≡_};
-ghost use Rattle.octets.specs.Class.{isAlpha};
-ghost use Rattle.octets.specs.Words.{isOneOf};
-ghost use Rattle.octets.specs.Reading.{isRead};
-ghost use Rattle.octets.specs.Front.{upTo, fromOn};
-ghost use Rattle.model.specs.Calendar.{formatOf};
-ghost use Rattle.source.specs.Source.{rest};
-ghost use Rattle.times.specs.DateTime.{readDateTime};
-ghost use Rattle.recur.specs.Parts.{frequencies, weekdays, weekdaynum};
-ghost use Rattle.recur.specs.Item.{inCapitals, readEnddate};
-ghost use Rattle.recur.specs.Fits.{fitsOrdinal, fitsForm};
 use crate::number::is_signed;
 use names::find_word;
 use numbers::numeral::front_unit;
@@ -19,6 +8,17 @@ use times::date::DateRead;
 use times::date::read_date;
 use times::date_time::DateTimeRead;
 use times::date_time::read_date_time;
+ghost use mathlib.Core.Path.{_≡_};
+ghost use Rattle.octets.specs.Class.{isAlpha};
+ghost use Rattle.octets.specs.Words.{isOneOf};
+ghost use Rattle.octets.specs.Reading.{isRead};
+ghost use Rattle.octets.specs.Front.{upTo, fromOn};
+ghost use Rattle.calendar.specs.Calendar.{formatOf};
+ghost use Rattle.source.specs.Source.{rest};
+ghost use Rattle.times.specs.DateTime.{readDateTime};
+ghost use Rattle.recur.specs.Parts.{frequencies, weekdays, weekdaynum};
+ghost use Rattle.recur.specs.Item.{inCapitals, readEnddate};
+ghost use Rattle.recur.specs.Fits.{fitsOrdinal, fitsForm};
 
 // A frequency.
 pub fn is_frequency(xcal: bool, mode: usize, s: &[u8], at: usize) -> bool

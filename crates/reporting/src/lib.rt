@@ -1,7 +1,7 @@
 // What a conversion answered, on standard output, for the programs.
-use conversion::Answer;
-use conversion::number_of;
-use conversion::value_of;
+use calls::Answer;
+use calls::number_of;
+use calls::value_of;
 use libc::STDOUT_FILENO;
 
 fn say_number(n: u64) {

@@ -1,4 +1,5 @@
 // What the tables say of a component, a property, a type, a parameter, by their numbers. The tables of bytes are those of specs/ by computation.
+use octets::wide;
 ghost use mathlib.Core.Path.{_≡_};
 ghost use Prim.Native.Nat.{_<_};
 ghost use lib.Dec.{eqb};
@@ -7,7 +8,6 @@ ghost use Rattle.schema.specs.Types.{typePlace};
 ghost use Rattle.schema.specs.Components.{mayStand};
 ghost use Rattle.schema.specs.Numbers.{propertyAt, parameterAt, componentName, propertyName, parameterName};
 ghost use Rattle.schema.specs.Columns.{permitsType, permitsAt, mayBegin};
-use octets::wide;
 
 // The type of each property's values where no VALUE is given.
 const DEFAULTS: [u8; 46] = [

@@ -1,5 +1,7 @@
 // The number of a name that stands from a cursor on (crate source), in any case: by its key (specs/Keys.antt of crate names) it is compared with one name.
 // A key that is wrong is refused by the check.
+use names::name_key;
+use names::named;
 ghost use mathlib.Core.Path.{_≡_};
 ghost use Rattle.octets.specs.Class.{upper};
 ghost use Rattle.source.specs.Source.{rest};
@@ -8,8 +10,6 @@ ghost use Rattle.schema.specs.Numbers.{typeNames};
 ghost use Rattle.schema.specs.Components.{componentNames};
 ghost use Rattle.schema.specs.Properties.{propertyNames};
 ghost use Rattle.schema.specs.Parameters.{parameterNames};
-use names::name_key;
-use names::named;
 
 // The number of a value type, 14 where there is none of that name.
 pub fn type_number(mode: usize, s: &[u8], at: usize) -> usize

@@ -1,4 +1,6 @@
 // Closed sets of words: of a property in a component, and of a parameter. A word is compared in any case in text, as it stands in XML.
+use names::find_word;
+use octets::wide;
 ghost use mathlib.Core.Path.{_≡_};
 ghost use lib.Dec.{ltb};
 ghost use Rattle.octets.specs.Reading.{isRead};
@@ -7,12 +9,11 @@ ghost use Rattle.names.specs.Case.{cased, caseOf};
 ghost use Rattle.names.specs.Table.{placeOf, namesIn, nth};
 ghost use Rattle.schema.specs.Completing.{actionNames};
 ghost use Rattle.schema.specs.Sets.{wordSets, statusSet, propertySet, setAt, wordsAt, parameterSets, parameterSet, parameterWordsAt, isWordOf};
-use names::find_word;
-use octets::wide;
 
 // The word is one of a table of `n` words.
 fn is_word_in(n: usize, xcal: bool, mode: usize, s: &[u8], at: usize, table: &[u8]) -> bool
-    ensures { λ r. ⌜ r ≡ ltb (placeOf (cased (caseOf xcal) (rest mode (now (s .entry)) at)) (namesIn (now (table .entry)))) n ⌝ }
+    ensures { λ r. ⌜
+        r ≡ ltb (placeOf (cased (caseOf xcal) (rest mode (now (s .entry)) at)) (namesIn (now (table .entry)))) n ⌝ }
 {
     let i = find_word(xcal, mode, s, at, table);
     i < n

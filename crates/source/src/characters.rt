@@ -1,4 +1,5 @@
 // The characters of an XML element, byte by byte. See specs/Characters.antt, Stepping.antt.
+use crate::Step;
 use octets::wide;
 use utf8::spelled_byte;
 use utf8::spelled_length;
@@ -9,7 +10,6 @@ ghost use lib.ListN.{getD};
 ghost use Rattle.source.specs.Source.{Reads};
 ghost use Rattle.source.specs.Characters.{ampersand};
 ghost use Rattle.source.specs.Stepping.{Referring, Left};
-use crate::Step;
 
 // Byte number `j` of the character `v`, which the reference from `p` to `n` names.
 fn referred_unit(s: &[u8], p: usize, v: usize, n: usize, j: usize) -> Step

@@ -11,7 +11,7 @@ ghost use Prim.Native.Nat.{_≤_};
 ghost use lib.Dec.{eqb};
 ghost use Rattle.octets.specs.Pick.{_or_, _and_};
 ghost use Rattle.octets.specs.Class.{isSpace};
-ghost use Rattle.model.specs.Calendar.{formatOf};
+ghost use Rattle.calendar.specs.Calendar.{formatOf};
 ghost use Rattle.source.specs.Source.{rest};
 ghost use Rattle.texts.specs.Kept.{isKept};
 ghost use Rattle.texts.specs.Binary.{isBase64, base64Value, padFits, inGroup, nextPlace, binaryChars, isBinary};

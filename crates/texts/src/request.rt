@@ -97,7 +97,9 @@ pub fn put_request_status_xml(
     from: usize,
 ) -> usize
     requires { ⌜ cuts mode ≡ true ⌝ }
-    ensures { λ r. ⌜ Put (now (out .entry)) (now (out .exit)) at r (orNothing statusXml (readRequestStatus (rest mode (now (s .entry)) from))) ⌝ }
+    ensures { λ r. ⌜
+        Put (now (out .entry)) (now (out .exit)) at r
+        (orNothing statusXml (readRequestStatus (rest mode (now (s .entry)) from))) ⌝ }
 {
     let Status::Parts(a, d, b) = read_request_status(mode, s, from) else {
         return at;

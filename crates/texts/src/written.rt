@@ -1,11 +1,11 @@
-// TEXT written: unescaped, as XML's character data; and escaped, as iCalendar text. See specs/Written.antt.
+// TEXT written: unescaped, as XML's character data; and escaped, as iCalendar text. See specs/laws/Written.antt.
 use crate::is_kept;
 use crate::text::is_escaped;
 use crate::text::is_opening;
 use crate::text::read_one_text;
-use markup::put_escaped_byte;
 use sink::put;
 use source::unit;
+use tags::put_escaped_byte;
 ghost use mathlib.Core.Path.{_≡_};
 ghost use mathlib.Core.Bool.{false};
 ghost use Rattle.octets.specs.Reading.{orNothing};
@@ -32,7 +32,8 @@ fn meant_by(after: bool, b: u8) -> u8
 }
 
 fn put_unescaped(out: &mut [u8], at: usize, mode: usize, s: &[u8], from: usize) -> usize
-    ensures { λ r. ⌜ Put (now (out .entry)) (now (out .exit)) at r (escaped (unescaped false (rest mode (now (s .entry)) from))) ⌝ }
+    ensures { λ r. ⌜
+        Put (now (out .entry)) (now (out .exit)) at r (escaped (unescaped false (rest mode (now (s .entry)) from))) ⌝ }
 {
     let mut o = at;
     let mut after = false;
@@ -57,7 +58,9 @@ fn put_unescaped(out: &mut [u8], at: usize, mode: usize, s: &[u8], from: usize) 
 
 // A TEXT of iCalendar text as XML's character data; nothing where it is none.
 pub fn put_text_xml(out: &mut [u8], at: usize, mode: usize, s: &[u8], from: usize) -> usize
-    ensures { λ r. ⌜ Put (now (out .entry)) (now (out .exit)) at r (orNothing escaped (readText (rest mode (now (s .entry)) from))) ⌝ }
+    ensures { λ r. ⌜
+        Put (now (out .entry)) (now (out .exit)) at r
+        (orNothing escaped (readText (rest mode (now (s .entry)) from))) ⌝ }
 {
     let k = read_one_text(mode, s, from);
     if is_kept(k) {

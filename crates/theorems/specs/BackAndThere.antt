@@ -8,15 +8,15 @@ use mathlib.Core.Bool.{true}
 use mathlib.Core.List.{List}
 use Prim.Native.Nat.{ℕ, _≤_}
 use lib.ListN.{length}
-use Rattle.model.specs.Calendar.{Calendar}
-use Rattle.model.specs.Refusal.{accepted, limit}
-use Rattle.ical.specs.ReadText.{readCalendar}
-use Rattle.ical.specs.WriteText.{writeCalendar}
-use Rattle.ical.specs.TextBack.{text-back}
+use Rattle.calendar.specs.Calendar.{Calendar}
+use Rattle.calendar.specs.Refusal.{accepted, limit}
+use Rattle.text.specs.ReadText.{readCalendar}
+use Rattle.text.specs.WriteText.{writeCalendar}
+use Rattle.text.specs.laws.TextBack.{text-back}
 use Rattle.xcal.specs.WriteXml.{writeDocument}
 use Rattle.xcal.specs.ReadDocument.{readDocument}
-use Rattle.xcal.specs.DocumentAccepted.{document-accepted}
-use Rattle.conversion.specs.ToText.{toText}
+use Rattle.xcal.specs.laws.DocumentAccepted.{document-accepted}
+use Rattle.calls.specs.ToText.{toText}
 use Rattle.theorems.specs.BridgeBack.{valid-stated}
 use Rattle.theorems.specs.Calls.{Call, isAccepted, xmlOf, States, TextCall, isTextAccepted, textOf, written-read, states-accepted, accepted-same}
 use Rattle.theorems.specs.ThereAndBack.{within-too, there-and-back}

@@ -6,27 +6,34 @@ use mathlib.Core.Bool.{Bool, true, false, not, false≢true}
 use mathlib.Core.List.{List, [], _∷_}
 use mathlib.Core.Option.{Option, none, some}
 use Prim.Native.Nat.{ℕ}
-use Rattle.octets.specs.Pick.{_and_, and-yes, and-both, or-cases}
+use Rattle.octets.specs.Pick.{_and_}
+use Rattle.octets.specs.laws.Pick.{and-yes, and-both, or-cases}
 use Rattle.octets.specs.Class.{isVisible, upper}
-use Rattle.octets.specs.Words.{same, holds, noneHolds, none-split, all-without, isOneOf}
-use Rattle.octets.specs.Lists.{every, every-both}
-use Rattle.octets.specs.Tables.{row-any-passes}
+use Rattle.octets.specs.Words.{same, holds, noneHolds, isOneOf}
+use Rattle.octets.specs.laws.Words.{none-split, all-without}
+use Rattle.octets.specs.Lists.{every}
+use Rattle.octets.specs.laws.Lists.{every-both}
+use Rattle.octets.specs.laws.Tables.{row-any-passes}
 use Rattle.octets.specs.Computing.{octets-compute}
-use Rattle.model.specs.Calendar.{ValueType, BOOLEAN, CAL-ADDRESS, TEXT, URI, UNKNOWN, Value, binary, boolean, calAddress, date, dateTime, duration, float, integer, periodExplicit, periodStart, recur, text, time, uri, utcOffset, unknown, geo, requestStatus, typeOf, textIn, Parameter, Property, Components, noMore, component}
-use Rattle.schema.specs.Types.{sameType, isTypeOf, same-type-true}
+use Rattle.calendar.specs.Calendar.{ValueType, BOOLEAN, CAL-ADDRESS, TEXT, URI, UNKNOWN, Value, binary, boolean, calAddress, date, dateTime, duration, float, integer, periodExplicit, periodStart, recur, text, time, uri, utcOffset, unknown, geo, requestStatus, typeOf, textIn, Parameter, Property, Components, noMore, component}
+use Rattle.schema.specs.Types.{sameType, isTypeOf}
+use Rattle.schema.specs.laws.Types.{same-type-true}
 use Rattle.schema.specs.Parameters.{parameterTable, parameterRow, unrecognisedParameter, parameterType, parameterWords}
 use Rattle.schema.specs.Components.{subcomponentsOf}
 use Rattle.schema.specs.Counts.{complete}
 use Rattle.utf8.specs.Utf8.{wellFormed}
-use Rattle.texts.specs.Uri.{isUri, uri-visible, uri-unquoted}
+use Rattle.texts.specs.Uri.{isUri}
+use Rattle.texts.specs.laws.Uri.{uri-visible, uri-unquoted}
 use Rattle.texts.specs.RequestStatus.{statusParts}
 use Rattle.values.specs.WriteValue.{characters as dataOf}
 use Rattle.values.specs.ReadBack.{isValue, isTyped}
-use Rattle.values.specs.Valid.{isWordIn, isChosen, isParameter, areParameters, isProperty, text-in}
+use Rattle.values.specs.Valid.{isWordIn, isChosen, isParameter, areParameters, isProperty}
+use Rattle.values.specs.laws.Valid.{text-in}
 use Rattle.values.specs.Characters.{isValueText, isParameterText}
-use Rattle.lines.specs.ContentLine.{isName}
-use Rattle.ical.specs.LineLaws.{isLineParameter, isLineProperty}
-use Rattle.ical.specs.ValidCalendar.{isGoodValue, isGoodParameter, isStated, hasComponents, ValidIn, atTop, Valid, stated}
+use Rattle.read_text_line.specs.ContentLine.{isName}
+use Rattle.text.specs.LineLaws.{isLineParameter, isLineProperty}
+use Rattle.text.specs.ValidCalendar.{isGoodValue, isGoodParameter, isStated, hasComponents, ValidIn, atTop, Valid}
+use Rattle.text.specs.laws.ValidCalendar.{stated}
 use Rattle.xcal.specs.WriteXml.{isNoMore}
 use Rattle.xcal.specs.SoundContent.{isClean}
 use Rattle.xcal.specs.CleanValues.{isCleanData, isCleanValue}

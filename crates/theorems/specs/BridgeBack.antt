@@ -8,11 +8,12 @@ use Prim.{tt}
 use Prim.Native.Nat.{ℕ}
 use borrow.Author.Tests.{not-true}
 use Rattle.octets.specs.Ascii.{ascii}
-use Rattle.octets.specs.Pick.{pick-no, _and_, _or_, and-yes, and-both, or-left}
+use Rattle.octets.specs.Pick.{_and_, _or_}
+use Rattle.octets.specs.laws.Pick.{pick-no, and-yes, and-both, or-left}
 use Rattle.octets.specs.Class.{upper}
 use Rattle.octets.specs.Words.{same, holds, noneHolds, isOneOf}
 use Rattle.octets.specs.Lists.{every}
-use Rattle.model.specs.Calendar.{ValueType, Value, binary, boolean, calAddress, date, dateTime, duration, float, integer, periodExplicit, periodStart, recur, text, time, uri, utcOffset, unknown, geo, requestStatus, typeOf, textIn, Parameter, Property, Components, noMore, component}
+use Rattle.calendar.specs.Calendar.{ValueType, Value, binary, boolean, calAddress, date, dateTime, duration, float, integer, periodExplicit, periodStart, recur, text, time, uri, utcOffset, unknown, geo, requestStatus, typeOf, textIn, Parameter, Property, Components, noMore, component}
 use Rattle.schema.specs.Types.{sameType}
 use Rattle.schema.specs.Parameters.{parameterType, parameterWords}
 use Rattle.schema.specs.Components.{subcomponentsOf, mayStand}
@@ -22,12 +23,13 @@ use Rattle.utf8.specs.Utf8.{wellFormed}
 use Rattle.texts.specs.RequestStatus.{statusParts}
 use Rattle.values.specs.WriteValue.{characters as dataOf}
 use Rattle.values.specs.ReadBack.{isValue, isTyped}
-use Rattle.values.specs.Valid.{isWordIn, isChosen, isParameter, isProperty, text-in}
+use Rattle.values.specs.Valid.{isWordIn, isChosen, isParameter, isProperty}
+use Rattle.values.specs.laws.Valid.{text-in}
 use Rattle.values.specs.Characters.{isValueText, isParameterText}
-use Rattle.lines.specs.ContentLine.{isName}
-use Rattle.lines.specs.Names.{isCarriedName}
-use Rattle.ical.specs.LineLaws.{isLineParameter, isLineProperty}
-use Rattle.ical.specs.ValidCalendar.{isGoodValue, isGoodParameter, isStated, hasComponents, ValidIn, Valid}
+use Rattle.read_text_line.specs.ContentLine.{isName}
+use Rattle.read_text_line.specs.Names.{isCarriedName}
+use Rattle.text.specs.LineLaws.{isLineParameter, isLineProperty}
+use Rattle.text.specs.ValidCalendar.{isGoodValue, isGoodParameter, isStated, hasComponents, ValidIn, Valid}
 use Rattle.xcal.specs.WriteXml.{isNoMore}
 use Rattle.xcal.specs.ElementNames.{isKeptName}
 use Rattle.xcal.specs.SoundContent.{isClean}

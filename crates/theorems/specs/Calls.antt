@@ -15,15 +15,15 @@ use lib.ListN.{length, take, drop}
 use borrow.Author.Tests.{le-leb}
 use Rattle.octets.specs.Pick.{pick}
 use Rattle.octets.specs.Append.{_⊕_}
-use Rattle.model.specs.Calendar.{Calendar}
-use Rattle.model.specs.Refusal.{ROOM, Answer, accepted, refused}
-use Rattle.ical.specs.ReadText.{readCalendar}
-use Rattle.ical.specs.AcceptedText.{accepted-valid}
+use Rattle.calendar.specs.Calendar.{Calendar}
+use Rattle.calendar.specs.Refusal.{ROOM, Answer, accepted, refused}
+use Rattle.text.specs.ReadText.{readCalendar}
+use Rattle.text.specs.laws.AcceptedText.{accepted-valid}
 use Rattle.xcal.specs.WriteXml.{writeDocument}
 use Rattle.xcal.specs.Carried.{isValid}
-use Rattle.conversion.specs.Conversion.{Converted, result, converted, Outcome, written, refusal, outcome, contents}
-use Rattle.conversion.specs.ToXml.{toXml, toXmlOutcome, toXmlOutput}
-use Rattle.conversion.specs.ToText.{toTextOutcome, toTextOutput}
+use Rattle.calls.specs.Conversion.{Converted, result, converted, Outcome, written, refusal, outcome, contents}
+use Rattle.calls.specs.ToXml.{toXml, toXmlOutcome, toXmlOutput}
+use Rattle.calls.specs.ToText.{toTextOutcome, toTextOutput}
 use Rattle.theorems.specs.Bridge.{stated-valid}
 
 -- ---- answers

@@ -10,8 +10,8 @@ use mathlib.Core.List.{List, [], _∷_, map}
 use Prim.Native.Nat.{ℕ}
 use Rattle.octets.specs.Pick.{pick}
 use Rattle.octets.specs.Append.{_⊕_, joined}
-use Rattle.model.specs.Calendar.{Calendar}
-use Rattle.model.specs.Refusal.{accepted}
+use Rattle.calendar.specs.Calendar.{Calendar}
+use Rattle.calendar.specs.Refusal.{accepted}
 use Rattle.xcal.specs.WriteXml.{writeDocument}
 use Rattle.theorems.specs.Injective.{document-unique, document-same, document-whole, document-some}
 use Rattle.theorems.specs.Calls.{Call, isAccepted, xmlOf, States, Given, given, states-one}

@@ -8,24 +8,27 @@ use mathlib.Core.List.{List, [], _∷_, map}
 use Prim.Native.Nat.{ℕ}
 use native.Mathlib.Omega.{arith}
 use Rattle.octets.specs.Ascii.{ascii}
-use Rattle.octets.specs.Pick.{and-both}
-use Rattle.octets.specs.Append.{_⊕_, joined, append-none, append-regroup}
-use Rattle.octets.specs.Lists.{every, every-both}
-use Rattle.model.specs.Calendar.{Calendar}
+use Rattle.octets.specs.laws.Pick.{and-both}
+use Rattle.octets.specs.Append.{_⊕_, joined}
+use Rattle.octets.specs.laws.Append.{append-none, append-regroup}
+use Rattle.octets.specs.Lists.{every}
+use Rattle.octets.specs.laws.Lists.{every-both}
+use Rattle.calendar.specs.Calendar.{Calendar}
 use Rattle.xml.specs.Escape.{declaration, rootStart, endTag}
 use Rattle.xml.specs.Reads.{isName}
 use Rattle.xml.specs.Marks.{Mark, opens, marks, documentMarks}
 use Rattle.xml.specs.Nodes.{rootBy, rootNode, documentNodes}
 use Rattle.xml.specs.Content.{written}
-use Rattle.xml.specs.ReadBack.{content-nodes}
+use Rattle.xml.specs.laws.ReadBack.{content-nodes}
 use Rattle.xml.specs.Computing.{xml-compute}
 use Rattle.xcal.specs.WriteXml.{isNoMore, writeDocument}
 use Rattle.xcal.specs.ComponentNodes.{readComponents, readRoot}
 use Rattle.xcal.specs.Contents.{calendarContent}
-use Rattle.xcal.specs.WrittenContents.{document-written}
-use Rattle.xcal.specs.ComponentsBack.{calendars-back}
-use Rattle.xcal.specs.SoundContent.{sound-writable}
-use Rattle.xcal.specs.Carried.{isValid, calendar-sound, valid-calendars}
+use Rattle.xcal.specs.laws.WrittenContents.{document-written}
+use Rattle.xcal.specs.laws.ComponentsBack.{calendars-back}
+use Rattle.xcal.specs.laws.SoundContent.{sound-writable}
+use Rattle.xcal.specs.Carried.{isValid}
+use Rattle.xcal.specs.laws.Carried.{calendar-sound, valid-calendars}
 
 -- ---- a document and what follows it
 

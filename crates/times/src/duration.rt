@@ -1,20 +1,20 @@
 // DURATION. See specs/Duration.antt and specs/DurationAt.antt.
+use crate::follow::is_digit;
+use crate::letters::ended;
+use crate::letters::letter;
+use crate::written::put_mark;
+use sink::put;
 ghost use mathlib.Core.Path.{_≡_};
 ghost use Rattle.octets.specs.Reading.{orNothing};
 ghost use Rattle.octets.specs.Pick.{_or_};
 ghost use Rattle.octets.specs.Append.{_⊕_};
-ghost use Rattle.model.specs.Calendar.{formatOf};
+ghost use Rattle.calendar.specs.Calendar.{formatOf};
 ghost use Rattle.source.specs.Source.{rest};
 ghost use Rattle.sink.specs.Sink.{Put};
 ghost use Rattle.times.specs.Letters.{cased};
 ghost use Rattle.times.specs.Written.{markBytes};
 ghost use Rattle.times.specs.Duration.{optional, dur-second, dur-minute, dur-hour, dur-time, dur-date, dur-week, unsigned, readDuration, writeDuration};
 ghost use Rattle.times.specs.DurationAt.{Runs, spanIf, spanOf};
-use crate::follow::is_digit;
-use crate::letters::ended;
-use crate::letters::letter;
-use crate::written::put_mark;
-use sink::put;
 
 // Digits at a cursor: whether there are any, the character after them, and the cursor after that.
 pub struct Run {
@@ -117,7 +117,11 @@ fn hour(exact: bool, mode: usize, s: &[u8], at: usize) -> bool
 }
 
 fn hours(exact: bool, mode: usize, s: &[u8], at: usize) -> bool
-    ensures { λ r. ⌜ r ≡ (dur-hour (cased exact (rest mode (now (s .entry)) at)) or dur-minute (cased exact (rest mode (now (s .entry)) at)) or dur-second (cased exact (rest mode (now (s .entry)) at))) ⌝ }
+    ensures { λ r. ⌜
+        r
+        ≡ (dur-hour (cased exact (rest mode (now (s .entry)) at))
+        or dur-minute (cased exact (rest mode (now (s .entry)) at))
+        or dur-second (cased exact (rest mode (now (s .entry)) at))) ⌝ }
 {
     let h = hour(exact, mode, s, at);
     if h {
@@ -182,7 +186,11 @@ fn weeks(exact: bool, mode: usize, s: &[u8], at: usize) -> bool
 }
 
 fn after_p(exact: bool, mode: usize, s: &[u8], at: usize) -> bool
-    ensures { λ r. ⌜ r ≡ (dur-date (cased exact (rest mode (now (s .entry)) at)) or dur-time (cased exact (rest mode (now (s .entry)) at)) or dur-week (cased exact (rest mode (now (s .entry)) at))) ⌝ }
+    ensures { λ r. ⌜
+        r
+        ≡ (dur-date (cased exact (rest mode (now (s .entry)) at))
+        or dur-time (cased exact (rest mode (now (s .entry)) at))
+        or dur-week (cased exact (rest mode (now (s .entry)) at))) ⌝ }
 {
     let d = days(exact, mode, s, at);
     if d {
@@ -216,7 +224,8 @@ fn span_if(ok: bool, neg: bool, at: usize) -> DurationRead
 }
 
 pub fn read_duration(xcal: bool, mode: usize, s: &[u8], at: usize) -> DurationRead
-    ensures { λ r. ⌜ readDuration (formatOf xcal) (rest mode (now (s .entry)) at) ≡ spanOf xcal mode (now (s .entry)) r ⌝ }
+    ensures { λ r. ⌜
+        readDuration (formatOf xcal) (rest mode (now (s .entry)) at) ≡ spanOf xcal mode (now (s .entry)) r ⌝ }
 {
     let a = letter(xcal, mode, s, at);
     let u = a.u;
@@ -258,7 +267,9 @@ fn put_span(
     s: &[u8],
     at: usize,
 ) -> usize
-    ensures { λ r. ⌜ Put (now (out .entry)) (now (out .exit)) o r (markBytes neg 45 ⊕ cased exact (rest mode (now (s .entry)) at)) ⌝ }
+    ensures { λ r. ⌜
+        Put (now (out .entry)) (now (out .exit)) o r
+        (markBytes neg 45 ⊕ cased exact (rest mode (now (s .entry)) at)) ⌝ }
 {
     let p = put_mark(out, o, neg, 45);
     put_letters(out, p, exact, mode, s, at)
@@ -273,7 +284,9 @@ pub fn put_duration(
     s: &[u8],
     at: usize,
 ) -> usize
-    ensures { λ r. ⌜ Put (now (out .entry)) (now (out .exit)) o r (orNothing (writeDuration (formatOf to)) (readDuration (formatOf from) (rest mode (now (s .entry)) at))) ⌝ }
+    ensures { λ r. ⌜
+        Put (now (out .entry)) (now (out .exit)) o r
+        (orNothing (writeDuration (formatOf to)) (readDuration (formatOf from) (rest mode (now (s .entry)) at))) ⌝ }
 {
     let r = read_duration(from, mode, s, at);
     match r {

@@ -1,4 +1,5 @@
 // A spelling followed along a pattern. See specs/Pattern.antt and specs/Followed.antt.
+use crate::letters::letter;
 ghost use mathlib.Core.Path.{_≡_};
 ghost use Prim.Native.Nat.{_≤_, _<_, _^_};
 ghost use lib.ListN.{length};
@@ -8,7 +9,6 @@ ghost use Rattle.octets.specs.Class.{isDigit};
 ghost use Rattle.octets.specs.Decimal.{digitOf};
 ghost use Rattle.times.specs.Pattern.{passes, tally};
 ghost use Rattle.times.specs.Followed.{Walks};
-use crate::letters::letter;
 
 // Whether all of a pattern was passed, the number of its digits, and the cursor after it.
 pub struct Walk {

@@ -1,11 +1,11 @@
 // Characters from a cursor on, letters in capitals where text is read. See specs/Letters.antt.
+use source::Step;
+use source::unit;
 ghost use mathlib.Core.Path.{_≡_};
 ghost use Rattle.octets.specs.Class.{upperByte};
 ghost use Rattle.octets.specs.Words.{isEmpty};
 ghost use Rattle.source.specs.Source.{rest};
 ghost use Rattle.times.specs.Letters.{Spells};
-use source::Step;
-use source::unit;
 
 // A letter as a capital.
 fn capital(u: usize) -> usize

@@ -1,17 +1,4 @@
 // UTC-OFFSET. See specs/UtcOffset.antt and specs/OffsetAlong.antt.
-ghost use mathlib.Core.Path.{_≡_};
-ghost use mathlib.Core.Bool.{true};
-ghost use Prim.Native.Nat.{_≤_};
-ghost use lib.Dec.{ltb};
-ghost use lib.ListN.{length};
-ghost use Rattle.octets.specs.Pick.{pick};
-ghost use Rattle.octets.specs.Reading.{orNothing};
-ghost use Rattle.model.specs.Calendar.{formatOf};
-ghost use Rattle.source.specs.Source.{rest};
-ghost use Rattle.sink.specs.Sink.{Put};
-ghost use Rattle.times.specs.UtcOffset.{readUtcOffset, writeUtcOffset};
-ghost use Rattle.times.specs.OffsetAlong.{minutePattern, secondPattern, isMinus, offsetBy, shiftOf, Whole};
-ghost use Rattle.times.specs.OffsetWritten.{signOf, lastBytes, offsetBytes};
 use crate::follow::Walk;
 use crate::follow::follow;
 use crate::letters::ended;
@@ -20,6 +7,19 @@ use crate::written::put_marked;
 use crate::written::put_two;
 use sink::put;
 use source::unit;
+ghost use mathlib.Core.Path.{_≡_};
+ghost use mathlib.Core.Bool.{true};
+ghost use Prim.Native.Nat.{_≤_};
+ghost use lib.Dec.{ltb};
+ghost use lib.ListN.{length};
+ghost use Rattle.octets.specs.Pick.{pick};
+ghost use Rattle.octets.specs.Reading.{orNothing};
+ghost use Rattle.calendar.specs.Calendar.{formatOf};
+ghost use Rattle.source.specs.Source.{rest};
+ghost use Rattle.sink.specs.Sink.{Put};
+ghost use Rattle.times.specs.UtcOffset.{readUtcOffset, writeUtcOffset};
+ghost use Rattle.times.specs.OffsetAlong.{minutePattern, secondPattern, isMinus, offsetBy, shiftOf, Whole};
+ghost use Rattle.times.specs.OffsetWritten.{signOf, lastBytes, offsetBytes};
 
 // Whether it is negative, hour, minute and second, and whether the second was given.
 pub enum OffsetRead {
@@ -166,7 +166,9 @@ pub fn put_utc_offset(
     s: &[u8],
     at: usize,
 ) -> usize
-    ensures { λ r. ⌜ Put (now (out .entry)) (now (out .exit)) o r (orNothing (writeUtcOffset (formatOf to)) (readUtcOffset (formatOf from) (rest mode (now (s .entry)) at))) ⌝ }
+    ensures { λ r. ⌜
+        Put (now (out .entry)) (now (out .exit)) o r
+        (orNothing (writeUtcOffset (formatOf to)) (readUtcOffset (formatOf from) (rest mode (now (s .entry)) at))) ⌝ }
 {
     let r = read_utc_offset(from, mode, s, at);
     match r {

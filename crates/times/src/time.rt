@@ -1,18 +1,18 @@
 // TIME. See specs/Time.antt and specs/TimeAlong.antt.
+use crate::follow::Walk;
+use crate::follow::follow;
+use crate::letters::ended;
+use crate::letters::letter;
+use crate::written::put_clock;
 ghost use mathlib.Core.Path.{_≡_};
 ghost use Rattle.octets.specs.Reading.{orNothing};
-ghost use Rattle.model.specs.Calendar.{formatOf};
+ghost use Rattle.calendar.specs.Calendar.{formatOf};
 ghost use Rattle.source.specs.Source.{rest};
 ghost use Rattle.sink.specs.Sink.{Put};
 ghost use Rattle.times.specs.Letters.{cased};
 ghost use Rattle.times.specs.Time.{readTime, writeTime};
 ghost use Rattle.times.specs.TimeAlong.{timePattern, isHms, zone, clockBy, clockOf};
 ghost use Rattle.times.specs.Followed.{Walks};
-use crate::follow::Walk;
-use crate::follow::follow;
-use crate::letters::ended;
-use crate::letters::letter;
-use crate::written::put_clock;
 
 // Hour, minute and second, and whether it is UTC.
 pub enum TimeRead {
@@ -98,7 +98,9 @@ pub fn put_time(
     s: &[u8],
     at: usize,
 ) -> usize
-    ensures { λ r. ⌜ Put (now (out .entry)) (now (out .exit)) o r (orNothing (writeTime (formatOf to)) (readTime (formatOf from) (rest mode (now (s .entry)) at))) ⌝ }
+    ensures { λ r. ⌜
+        Put (now (out .entry)) (now (out .exit)) o r
+        (orNothing (writeTime (formatOf to)) (readTime (formatOf from) (rest mode (now (s .entry)) at))) ⌝ }
 {
     let r = read_time(from, mode, s, at);
     match r {

@@ -1,10 +1,10 @@
 // Digits two by two and the marks between them, written. See specs/Written.antt.
+use sink::put;
 ghost use mathlib.Core.Path.{_≡_};
 ghost use Prim.Native.Nat.{_<_};
 ghost use Rattle.sink.specs.Sink.{Put};
 ghost use Rattle.times.specs.MonthRule.{twoDigits};
 ghost use Rattle.times.specs.Written.{markBytes, marked, yearDigits, dayBytes, clockBytes};
-use sink::put;
 
 pub fn put_two(out: &mut [u8], o: usize, n: u16) -> usize
     requires { ⌜ n < 1000 ⌝ }

@@ -1,12 +1,4 @@
 // A value of a type by the type's number. See specs/ValueAt.antt.
-ghost use mathlib.Core.Path.{_≡_};
-ghost use mathlib.Core.Bool.{true, false};
-ghost use Rattle.octets.specs.Reading.{isRead};
-ghost use Rattle.model.specs.Calendar.{formatOf};
-ghost use Rattle.source.specs.Source.{rest, cuts};
-ghost use Rattle.schema.specs.Numbers.{typeAt};
-ghost use Rattle.values.specs.ReadValue.{readValue};
-ghost use Rattle.values.specs.ValueAt.{fromTime, fromInteger, fromDate, fromBinary, valueRead};
 use crate::ValueRead;
 use crate::number::is_boolean;
 use crate::number::is_float;
@@ -23,6 +15,14 @@ use crate::time::is_duration;
 use crate::time::is_period;
 use crate::time::is_time;
 use crate::time::is_utc_offset;
+ghost use mathlib.Core.Path.{_≡_};
+ghost use mathlib.Core.Bool.{true, false};
+ghost use Rattle.octets.specs.Reading.{isRead};
+ghost use Rattle.calendar.specs.Calendar.{formatOf};
+ghost use Rattle.source.specs.Source.{rest, cuts};
+ghost use Rattle.schema.specs.Numbers.{typeAt};
+ghost use Rattle.values.specs.ReadValue.{readValue};
+ghost use Rattle.values.specs.ValueAt.{fromTime, fromInteger, fromDate, fromBinary, valueRead};
 
 // A value of TIME, or of a type after it.
 fn is_from_time(xcal: bool, t: usize, mode: usize, s: &[u8], at: usize) -> bool
@@ -42,7 +42,9 @@ fn is_from_time(xcal: bool, t: usize, mode: usize, s: &[u8], at: usize) -> bool
 
 // A value of INTEGER, or of a type after it.
 fn is_from_integer(xcal: bool, t: usize, mode: usize, s: &[u8], at: usize) -> bool
-    ensures { λ r. ⌜ ((xcal ≡ false → cuts mode ≡ true) → r ≡ isRead (readValue (formatOf xcal) (fromInteger t) (rest mode (now (s .entry)) at))) ⌝ }
+    ensures { λ r. ⌜
+        ((xcal ≡ false → cuts mode ≡ true) →
+        r ≡ isRead (readValue (formatOf xcal) (fromInteger t) (rest mode (now (s .entry)) at))) ⌝ }
 {
     if t == 7 {
         return is_integer(xcal, mode, s, at);
@@ -61,7 +63,9 @@ fn is_from_integer(xcal: bool, t: usize, mode: usize, s: &[u8], at: usize) -> bo
 
 // A value of DATE, or of a type after it.
 fn is_from_date(xcal: bool, t: usize, mode: usize, s: &[u8], at: usize) -> bool
-    ensures { λ r. ⌜ ((xcal ≡ false → cuts mode ≡ true) → r ≡ isRead (readValue (formatOf xcal) (fromDate t) (rest mode (now (s .entry)) at))) ⌝ }
+    ensures { λ r. ⌜
+        ((xcal ≡ false → cuts mode ≡ true) →
+        r ≡ isRead (readValue (formatOf xcal) (fromDate t) (rest mode (now (s .entry)) at))) ⌝ }
 {
     if t == 3 {
         return is_date(xcal, mode, s, at);
@@ -80,7 +84,9 @@ fn is_from_date(xcal: bool, t: usize, mode: usize, s: &[u8], at: usize) -> bool
 
 // A value of BINARY, or of a type after it.
 fn is_from_binary(xcal: bool, t: usize, mode: usize, s: &[u8], at: usize) -> bool
-    ensures { λ r. ⌜ ((xcal ≡ false → cuts mode ≡ true) → r ≡ isRead (readValue (formatOf xcal) (fromBinary t) (rest mode (now (s .entry)) at))) ⌝ }
+    ensures { λ r. ⌜
+        ((xcal ≡ false → cuts mode ≡ true) →
+        r ≡ isRead (readValue (formatOf xcal) (fromBinary t) (rest mode (now (s .entry)) at))) ⌝ }
 {
     if t == 0 {
         return is_binary(xcal, mode, s, at);
@@ -96,7 +102,9 @@ fn is_from_binary(xcal: bool, t: usize, mode: usize, s: &[u8], at: usize) -> boo
 
 // The value of the type at the place `t`, from the cursor to the end; of the text format in an encoding that can be cut.
 pub fn read_value(xcal: bool, t: usize, mode: usize, s: &[u8], at: usize) -> ValueRead
-    ensures { λ r. ⌜ ((xcal ≡ false → cuts mode ≡ true) → r ≡ valueRead t (isRead (readValue (formatOf xcal) (typeAt t) (rest mode (now (s .entry)) at)))) ⌝ }
+    ensures { λ r. ⌜
+        ((xcal ≡ false → cuts mode ≡ true) →
+        r ≡ valueRead t (isRead (readValue (formatOf xcal) (typeAt t) (rest mode (now (s .entry)) at)))) ⌝ }
 {
     let ok = is_from_binary(xcal, t, mode, s, at);
     if ok {

@@ -1,14 +1,4 @@
 // A value of iCalendar text, written as the character data of its XML element. See specs/PutValue.antt.
-ghost use Rattle.octets.specs.Reading.{orNothing};
-ghost use Rattle.model.specs.Calendar.{ical, BOOLEAN};
-ghost use Rattle.sink.specs.Sink.{Put};
-ghost use Rattle.source.specs.Source.{rest};
-ghost use Rattle.schema.specs.Numbers.{typeAt};
-ghost use Rattle.xml.specs.Escape.{escaped};
-ghost use Rattle.values.specs.ReadValue.{readValue};
-ghost use Rattle.values.specs.WriteValue.{characters};
-ghost use Rattle.values.specs.ValueAt.{fromTime, fromInteger, fromDate, fromBinary};
-ghost use Rattle.values.specs.PutValue.{xmlOf};
 use numbers::boolean::BooleanRead;
 use numbers::boolean::put_boolean;
 use numbers::boolean::read_boolean;
@@ -23,9 +13,21 @@ use times::date_time::put_date_time;
 use times::duration::put_duration;
 use times::offset::put_utc_offset;
 use times::time::put_time;
+ghost use Rattle.octets.specs.Reading.{orNothing};
+ghost use Rattle.calendar.specs.Calendar.{ical, BOOLEAN};
+ghost use Rattle.sink.specs.Sink.{Put};
+ghost use Rattle.source.specs.Source.{rest};
+ghost use Rattle.schema.specs.Numbers.{typeAt};
+ghost use Rattle.xml.specs.Escape.{escaped};
+ghost use Rattle.values.specs.ReadValue.{readValue};
+ghost use Rattle.values.specs.WriteValue.{characters};
+ghost use Rattle.values.specs.ValueAt.{fromTime, fromInteger, fromDate, fromBinary};
+ghost use Rattle.values.specs.PutValue.{xmlOf};
 
 fn put_boolean_xml(out: &mut [u8], o: usize, mode: usize, s: &[u8], at: usize) -> usize
-    ensures { λ r. ⌜ Put (now (out .entry)) (now (out .exit)) o r (xmlOf (readValue ical BOOLEAN (rest mode (now (s .entry)) at))) ⌝ }
+    ensures { λ r. ⌜
+        Put (now (out .entry)) (now (out .exit)) o r
+        (xmlOf (readValue ical BOOLEAN (rest mode (now (s .entry)) at))) ⌝ }
 {
     let r = read_boolean(false, mode, s, at);
     match r {
@@ -36,7 +38,9 @@ fn put_boolean_xml(out: &mut [u8], o: usize, mode: usize, s: &[u8], at: usize) -
 
 // A value of TIME, or of a type after it.
 fn put_from_time(out: &mut [u8], o: usize, t: usize, mode: usize, s: &[u8], at: usize) -> usize
-    ensures { λ r. ⌜ Put (now (out .entry)) (now (out .exit)) o r (xmlOf (readValue ical (fromTime t) (rest mode (now (s .entry)) at))) ⌝ }
+    ensures { λ r. ⌜
+        Put (now (out .entry)) (now (out .exit)) o r
+        (xmlOf (readValue ical (fromTime t) (rest mode (now (s .entry)) at))) ⌝ }
 {
     if t == 11 {
         return put_time(out, o, false, true, mode, s, at);
@@ -52,7 +56,9 @@ fn put_from_time(out: &mut [u8], o: usize, t: usize, mode: usize, s: &[u8], at: 
 
 // A value of INTEGER, or of a type after it. PERIOD and RECUR are made of elements, and have no character data.
 fn put_from_integer(out: &mut [u8], o: usize, t: usize, mode: usize, s: &[u8], at: usize) -> usize
-    ensures { λ r. ⌜ Put (now (out .entry)) (now (out .exit)) o r (xmlOf (readValue ical (fromInteger t) (rest mode (now (s .entry)) at))) ⌝ }
+    ensures { λ r. ⌜
+        Put (now (out .entry)) (now (out .exit)) o r
+        (xmlOf (readValue ical (fromInteger t) (rest mode (now (s .entry)) at))) ⌝ }
 {
     if t == 7 {
         return put_integer(out, o, mode, s, at);
@@ -71,7 +77,9 @@ fn put_from_integer(out: &mut [u8], o: usize, t: usize, mode: usize, s: &[u8], a
 
 // A value of DATE, or of a type after it.
 fn put_from_date(out: &mut [u8], o: usize, t: usize, mode: usize, s: &[u8], at: usize) -> usize
-    ensures { λ r. ⌜ Put (now (out .entry)) (now (out .exit)) o r (xmlOf (readValue ical (fromDate t) (rest mode (now (s .entry)) at))) ⌝ }
+    ensures { λ r. ⌜
+        Put (now (out .entry)) (now (out .exit)) o r
+        (xmlOf (readValue ical (fromDate t) (rest mode (now (s .entry)) at))) ⌝ }
 {
     if t == 3 {
         return put_date(out, o, false, true, mode, s, at);
@@ -90,7 +98,9 @@ fn put_from_date(out: &mut [u8], o: usize, t: usize, mode: usize, s: &[u8], at: 
 
 // A value of BINARY, or of a type after it.
 fn put_from_binary(out: &mut [u8], o: usize, t: usize, mode: usize, s: &[u8], at: usize) -> usize
-    ensures { λ r. ⌜ Put (now (out .entry)) (now (out .exit)) o r (xmlOf (readValue ical (fromBinary t) (rest mode (now (s .entry)) at))) ⌝ }
+    ensures { λ r. ⌜
+        Put (now (out .entry)) (now (out .exit)) o r
+        (xmlOf (readValue ical (fromBinary t) (rest mode (now (s .entry)) at))) ⌝ }
 {
     if t == 0 {
         return put_binary(out, o, false, mode, s, at);
@@ -106,7 +116,9 @@ fn put_from_binary(out: &mut [u8], o: usize, t: usize, mode: usize, s: &[u8], at
 
 // The value of the type at the place `t`, from the cursor to the end; nothing where it is none.
 pub fn put_value_xml(out: &mut [u8], o: usize, t: usize, mode: usize, s: &[u8], at: usize) -> usize
-    ensures { λ r. ⌜ Put (now (out .entry)) (now (out .exit)) o r (orNothing (λ v. escaped (characters v)) (readValue ical (typeAt t) (rest mode (now (s .entry)) at))) ⌝ }
+    ensures { λ r. ⌜
+        Put (now (out .entry)) (now (out .exit)) o r
+        (orNothing (λ v. escaped (characters v)) (readValue ical (typeAt t) (rest mode (now (s .entry)) at))) ⌝ }
 {
     put_from_binary(out, o, t, mode, s, at)
 }

@@ -1,12 +1,12 @@
 // The character at a place: XML 1.0, sections 2.4, 2.11, 4.1. See specs/CharAt.antt.
+use crate::CharRead;
+use crate::references::reference_at;
+use crate::starting::starts_at;
 use octets::wide;
 ghost use Prim.Native.Nat.{_+_, _≤_, _<_};
 ghost use lib.ListN.{length, drop};
 ghost use Rattle.xml.specs.Token.{literalByte};
 ghost use Rattle.xml.specs.CharAt.{charIn, Character};
-use crate::CharRead;
-use crate::references::reference_at;
-use crate::starting::starts_at;
 
 // A literal byte, whose next place is `at`.
 fn literal_at(s: &[u8], at: usize, u: usize) -> CharRead

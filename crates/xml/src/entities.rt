@@ -1,10 +1,10 @@
 // The five entities of XML 1.0, section 4.6. See specs/Token.antt.
+use crate::CharRead;
+use crate::starting::starts_at;
 ghost use Prim.Native.Nat.{_≤_};
 ghost use lib.ListN.{length, drop};
 ghost use Rattle.xml.specs.Token.{entityRef};
 ghost use Rattle.xml.specs.CharAt.{Character};
-use crate::CharRead;
-use crate::starting::starts_at;
 
 // The character that an entity names, after its `&`.
 pub fn entity_at(s: &[u8], at: usize) -> CharRead

@@ -1,4 +1,7 @@
 // Character references: XML 1.0, section 4.1. See specs/Token.antt, Digits.antt.
+use crate::CharRead;
+use crate::entities::entity_at;
+use crate::starting::starts_at;
 use octets::is_digit;
 use octets::is_within;
 use octets::wide;
@@ -10,9 +13,6 @@ ghost use Rattle.octets.specs.Scan.{spanLen};
 ghost use Rattle.xml.specs.Token.{isHexDigit, hexDigitOf, charRef, reference};
 ghost use Rattle.xml.specs.CharAt.{Character};
 ghost use Rattle.xml.specs.Digits.{isDigitIn, base, worthOn, capped, Counted};
-use crate::CharRead;
-use crate::entities::entity_at;
-use crate::starting::starts_at;
 
 // Where digits end, and what they are worth.
 pub struct Digits {
@@ -102,7 +102,9 @@ fn digits_at(s: &[u8], at: usize, hex: bool) -> Digits
 // The character whose number stands in digits, k bytes after `at`.
 fn number_at(s: &[u8], at: usize, k: usize, hex: bool) -> CharRead
     requires { ⌜ (1 ≤ k) × (at + k ≤ length (now s)) ⌝ }
-    ensures { λ r. ⌜ Character (charRef k (spanLen (isDigitIn hex) (drop (at + k) (now (s .entry)))) (worthOn hex 0 (drop (at + k) (now (s .entry)))) (drop (at + k) (now (s .entry)))) (now (s .entry)) at r ⌝ }
+    ensures { λ r. ⌜
+        Character (charRef k (spanLen (isDigitIn hex) (drop (at + k) (now (s .entry))))
+        (worthOn hex 0 (drop (at + k) (now (s .entry)))) (drop (at + k) (now (s .entry)))) (now (s .entry)) at r ⌝ }
 {
     let d = digits_at(s, at + k, hex);
     let e = d.end;
