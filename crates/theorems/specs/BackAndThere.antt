@@ -1,5 +1,4 @@
 -- From XML to text, to XML, and to text again.
---     StatesXml t c     the document of a call to text states the calendar c
 --     back-and-there    of an accepted call to text whose text is within the input limit: a call to XML with this text, a work room no shorter and room
 --                       enough is accepted, states the same calendar and gives its canonical XML; where that is within the limit, a call to text with it
 --                       and room enough is accepted and gives the same text, byte for byte
@@ -17,12 +16,10 @@ use Rattle.xcal.specs.WriteXml.{writeDocument}
 use Rattle.xcal.specs.ReadDocument.{readDocument}
 use Rattle.xcal.specs.laws.DocumentAccepted.{document-accepted}
 use Rattle.calls.specs.ToText.{toText}
-use Rattle.theorems.specs.BridgeBack.{valid-stated}
-use Rattle.theorems.specs.Calls.{Call, isAccepted, xmlOf, States, TextCall, isTextAccepted, textOf, written-read, states-accepted, accepted-same}
+use Rattle.theorems.specs.laws.BridgeBack.{valid-stated}
+use Rattle.theorems.specs.Calls.{Call, isAccepted, xmlOf, States, TextCall, isTextAccepted, textOf, StatesXml}
+use Rattle.theorems.specs.laws.Calls.{written-read, states-accepted, accepted-same}
 use Rattle.theorems.specs.ThereAndBack.{within-too, there-and-back}
-
-abbrev pub StatesXml : TextCall → Calendar → Type 0
-StatesXml t c = readDocument (t .input) ≡ accepted c
 
 text-is : (t : TextCall) (c : Calendar) → isTextAccepted t ≡ true → StatesXml t c → textOf t ≡ writeCalendar c
 unfolding toText

@@ -19,8 +19,9 @@ use Rattle.xcal.specs.laws.DocumentBack.{document-back}
 use Rattle.calls.specs.Conversion.{result, converted}
 use Rattle.calls.specs.ToXml.{toXml}
 use Rattle.calls.specs.ToText.{toText}
-use Rattle.theorems.specs.Bridge.{stated-valid}
-use Rattle.theorems.specs.Calls.{Call, isAccepted, xmlOf, States, TextCall, isTextAccepted, textOf, result-given, given, states-one}
+use Rattle.theorems.specs.laws.Bridge.{stated-valid}
+use Rattle.theorems.specs.Calls.{Call, isAccepted, xmlOf, States, TextCall, isTextAccepted, textOf}
+use Rattle.theorems.specs.laws.Calls.{result-given, given, states-one}
 
 -- lists that are the same are as long
 pub within-too : (a b : List ℕ) (n : ℕ) → a ≡ b → length a ≤ n → length b ≤ n

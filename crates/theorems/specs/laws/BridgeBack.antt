@@ -38,7 +38,7 @@ use Rattle.xcal.specs.ParametersBack.{isCarriedValue, isCarriedParameter}
 use Rattle.xcal.specs.PropertiesBack.{isCarriedProperty}
 use Rattle.xcal.specs.ComponentsBack.{isCarriedComponent, areCarried, isCalendar, areAllCalendars, areCalendars}
 use Rattle.xcal.specs.Carried.{isCleanParameter, isCleanProperty, areClean, isValid}
-use Rattle.theorems.specs.Bridge.{every-two, both-every, has-some}
+use Rattle.theorems.specs.laws.Bridge.{every-two, both-every, has-some}
 
 -- ---- values
 
