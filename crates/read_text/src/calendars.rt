@@ -9,6 +9,11 @@ use read_text_line::LineRead;
 use read_text_line::line_at;
 use read_text_line::line_end;
 use read_text_line::names_carried;
+use refusals::FRAME;
+use refusals::LINE;
+use refusals::NAME;
+use refusals::NO_FAULT;
+use refusals::PARAMETER;
 use schema::component_number;
 use source::settled;
 ghost use mathlib.Core.Path.{_≡_};
@@ -24,7 +29,7 @@ ghost use Rattle.read_text.specs.Kinds.{named};
 ghost use Rattle.read_text.specs.Outer.{outward, beginsOuter, Outer};
 ghost use Rattle.read_text.specs.Answers.{Checks};
 
-// The fault of a BEGIN where nothing is open, 0 where it has none: it begins a VCALENDAR.
+// The fault of a BEGIN where nothing is open, NO_FAULT where it has none: it begins a VCALENDAR.
 fn begin_fault(mode: usize, s: &[u8], e: usize, v: usize) -> u8
     ensures { λ r. ⌜ beginsOuter mode (now (s .entry)) e v ≡ outward r ⌝ }
 {
@@ -32,11 +37,11 @@ fn begin_fault(mode: usize, s: &[u8], e: usize, v: usize) -> u8
     if n == 0 {
         let bare = no_params(mode, s, e);
         if bare {
-            return 0;
+            return NO_FAULT;
         }
-        return 7;
+        return PARAMETER;
     }
-    6
+    FRAME
 }
 
 // The fault of a content line where nothing is open.
@@ -50,18 +55,18 @@ fn content_fault(mode: usize, s: &[u8], at: usize, e: usize, v: usize) -> u8
         if begin {
             return begin_fault(mode, s, e, v);
         }
-        return 6;
+        return FRAME;
     }
-    5
+    NAME
 }
 
-// The fault of a line where nothing is open, 0 where it begins a VCALENDAR.
+// The fault of a line where nothing is open, NO_FAULT where it begins a VCALENDAR.
 fn outer_fault(mode: usize, s: &[u8], at: usize) -> u8
     requires { ⌜ (at ≤ length (now s)) × (cuts mode ≡ true) ⌝ }
     ensures { λ r. ⌜ move (rest mode (now (s .entry)) at) [] ≡ outward r ⌝ }
 {
     let LineRead::Line(e, v) = line_at(mode, s, at) else {
-        return 4;
+        return LINE;
     };
     content_fault(mode, s, at, e, v)
 }
@@ -72,10 +77,10 @@ fn calendar(mode: usize, s: &[u8], at: usize) -> Step
     ensures { λ r. ⌜ Outer mode (now (s .entry)) at r ⌝ }
 {
     let Ending::Whole(e, next) = line_end(mode, s, at) else {
-        return Step::Failed(4, at);
+        return Step::Failed(LINE, at);
     };
     let fault = outer_fault(mode, &s[..e], at);
-    if fault == 0 {
+    if fault == NO_FAULT {
         return body(mode, s, next, 0);
     }
     Step::Failed(fault, at)
@@ -88,7 +93,7 @@ pub fn check(mode: usize, s: &[u8]) -> Checked
 {
     let start = settled(mode, s, 0);
     if s.len() <= start {
-        return Checked::Refused(6, 0);
+        return Checked::Refused(FRAME, 0);
     }
     let mut at = start;
     while at < s.len() {

@@ -5,6 +5,9 @@ use crate::Turn;
 use crate::line::line_kind;
 use read_text_line::Ending;
 use read_text_line::line_end;
+use refusals::COUNT;
+use refusals::FRAME;
+use refusals::LINE;
 use schema::bump;
 use schema::complete_counts;
 ghost use mathlib.Core.Path.{_≡_};
@@ -22,7 +25,7 @@ fn next_line(k: usize, inner: bool, mode: usize, s: &[u8], at: usize) -> Turn
 {
     let Ending::Whole(e, next) = line_end(mode, s, at) else {
         return Turn {
-            kind: Kind::Faulty(4),
+            kind: Kind::Faulty(LINE),
             next: s.len(),
         };
     };
@@ -65,7 +68,7 @@ pub fn body(mode: usize, s: &[u8], from: usize, k: usize) -> Step
                 if complete {
                     return Step::Closed(l.next);
                 }
-                return Step::Failed(9, at);
+                return Step::Failed(COUNT, at);
             }
             Kind::Holds(p, a) => {
                 let more = bump(counts, p);
@@ -76,5 +79,5 @@ pub fn body(mode: usize, s: &[u8], from: usize, k: usize) -> Step
             Kind::Faulty(r) => return Step::Failed(r, at),
         }
     }
-    Step::Failed(6, s.len())
+    Step::Failed(FRAME, s.len())
 }

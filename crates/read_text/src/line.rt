@@ -6,6 +6,11 @@ use read_text_line::line_at;
 use read_text_line::names_carried;
 use read_text_line::next_param;
 use read_text_property::property_fault;
+use refusals::FRAME;
+use refusals::LINE;
+use refusals::NAME;
+use refusals::NO_FAULT;
+use refusals::PARAMETER;
 use schema::action_number;
 use schema::component_number;
 use schema::may_begin;
@@ -57,9 +62,9 @@ fn begin_line(k: usize, mode: usize, s: &[u8], e: usize, v: usize) -> Kind
         if bare {
             return Kind::Starts(n);
         }
-        return Kind::Faulty(7);
+        return Kind::Faulty(PARAMETER);
     }
-    Kind::Faulty(6)
+    Kind::Faulty(FRAME)
 }
 
 // The kind of an END.
@@ -73,9 +78,9 @@ fn end_line(k: usize, mode: usize, s: &[u8], e: usize, v: usize) -> Kind
         if bare {
             return Kind::Stops;
         }
-        return Kind::Faulty(7);
+        return Kind::Faulty(PARAMETER);
     }
-    Kind::Faulty(6)
+    Kind::Faulty(FRAME)
 }
 
 // Properties stand before subcomponents, except in VTIMEZONE.
@@ -124,13 +129,13 @@ fn numbered_line(k: usize, inner: bool, p: usize, mode: usize, s: &[u8], e: usiz
     let may = may_hold(k, inner, p);
     if may {
         let f = property_fault(k, p, mode, s, e, v);
-        if f == 0 {
+        if f == NO_FAULT {
             let a = action_of(p, mode, s, v);
             return Kind::Holds(p, a);
         }
         return Kind::Faulty(f);
     }
-    Kind::Faulty(6)
+    Kind::Faulty(FRAME)
 }
 
 // The kind of a line that is a property.
@@ -167,7 +172,7 @@ fn content_line(k: usize, inner: bool, mode: usize, s: &[u8], at: usize, e: usiz
         }
         return property_line(k, inner, mode, s, at, e, v);
     }
-    Kind::Faulty(5)
+    Kind::Faulty(NAME)
 }
 
 // The kind of a line in the component of the number `k`, in which a subcomponent has come or not.
@@ -176,7 +181,7 @@ pub fn line_kind(k: usize, inner: bool, mode: usize, s: &[u8], at: usize) -> Kin
     ensures { λ r. ⌜ KindIs (lineKind (componentName k) inner (rest mode (now (s .entry)) at)) r ⌝ }
 {
     let LineRead::Line(e, v) = line_at(mode, s, at) else {
-        return Kind::Faulty(4);
+        return Kind::Faulty(LINE);
     };
     content_line(k, inner, mode, s, at, e, v)
 }

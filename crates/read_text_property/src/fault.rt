@@ -4,6 +4,9 @@ use crate::own::read_values;
 use read_text_parameters::TypeRead;
 use read_text_parameters::are_good;
 use read_text_parameters::stated_type;
+use refusals::NO_FAULT;
+use refusals::PARAMETER;
+use refusals::VALUE;
 ghost use mathlib.Core.Path.{_≡_};
 ghost use mathlib.Core.Bool.{true};
 ghost use mathlib.Core.List.{List};
@@ -18,7 +21,7 @@ ghost use Rattle.read_text_line.specs.Cursor.{paramsAt};
 ghost use Rattle.text.specs.Statement.{propertyFault};
 ghost use Rattle.read_text_property.specs.Faults.{faultNumber};
 
-// The lowest fault of a line of the property `p` in the component `k`, 7 PARAMETER or 8 VALUE, or 0: its parameters stand from `e` on, its value from `v` on.
+// The lowest fault of a line of the property `p` in the component `k`, PARAMETER or VALUE, or NO_FAULT: its parameters stand from `e` on, its value from `v` on.
 pub fn property_fault(k: usize, p: usize, mode: usize, s: &[u8], e: usize, v: usize) -> u8
     requires { ⌜ cuts mode ≡ true ⌝ }
     ensures { λ r. ⌜
@@ -30,14 +33,14 @@ pub fn property_fault(k: usize, p: usize, mode: usize, s: &[u8], e: usize, v: us
         r ≡ faultNumber (propertyFault c l)) ⌝ }
 {
     let TypeRead::Type(t) = stated_type(p, mode, s, e) else {
-        return 7;
+        return PARAMETER;
     };
     let good = are_good(p, t, mode, s, e);
     if good {
         let ValuesRead::Good(n) = read_values(k, p, t, mode, s, v) else {
-            return 8;
+            return VALUE;
         };
-        return 0;
+        return NO_FAULT;
     }
-    7
+    PARAMETER
 }

@@ -10,6 +10,7 @@ use read_xml_nodes::next_node;
 use read_xml_nodes::unexpected;
 use read_xml_parameters::parameters_verdict;
 use read_xml_value::value_verdict;
+use refusals::FRAME;
 use schema::is_listed;
 ghost use mathlib.Core.Path.{_≡_};
 ghost use mathlib.Core.List.{List, []};
@@ -210,11 +211,11 @@ fn at_end(p: usize, first: bool, second: bool, e: usize) -> Judged
             if second {
                 return Judged::Fine;
             }
-            return Judged::Refused(6, e);
+            return Judged::Refused(FRAME, e);
         }
         return Judged::Fine;
     }
-    Judged::Refused(6, e)
+    Judged::Refused(FRAME, e)
 }
 
 // A byte between the children: white space, or not.
@@ -225,7 +226,7 @@ fn between(unit: usize, at: usize, next: usize, slot: usize, first: bool, second
     if space {
         return Next::Goes(next, slot, first, second);
     }
-    let j = Judged::Refused(6, at);
+    let j = Judged::Refused(FRAME, at);
     Next::Ends(j)
 }
 
@@ -277,7 +278,7 @@ fn turn(
         }
         NodeKind::Literal => between(n.unit, at, n.next, next, first, second),
         NodeKind::Referred => {
-            let j = Judged::Refused(6, at);
+            let j = Judged::Refused(FRAME, at);
             Next::Ends(j)
         }
     }

@@ -7,6 +7,8 @@ use read_xml_nodes::Judged;
 use read_xml_nodes::NodeKind;
 use read_xml_nodes::next_node;
 use read_xml_nodes::unexpected;
+use refusals::COUNT;
+use refusals::FRAME;
 ghost use mathlib.Core.Path.{_≡_};
 ghost use Prim.Native.Nat.{_≤_};
 ghost use lib.ListN.{length};
@@ -22,16 +24,16 @@ fn end_of(k: usize, counts: bool, had: bool, came: bool, e: usize) -> Judged
                 if counts {
                     return Judged::Fine;
                 }
-                return Judged::Refused(9, e);
+                return Judged::Refused(COUNT, e);
             }
-            return Judged::Refused(6, e);
+            return Judged::Refused(FRAME, e);
         }
         if counts {
             return Judged::Fine;
         }
-        return Judged::Refused(9, e);
+        return Judged::Refused(COUNT, e);
     }
-    Judged::Refused(6, e)
+    Judged::Refused(FRAME, e)
 }
 
 // At the end tag of its `components`, in which a component has come or not. 5 is VTIMEZONE.
@@ -47,7 +49,7 @@ pub fn end_components(k: usize, any: bool, e: usize) -> Judged
     if k == 5 {
         return Judged::Fine;
     }
-    Judged::Refused(6, e)
+    Judged::Refused(FRAME, e)
 }
 
 // The component may have subcomponents.
@@ -118,12 +120,12 @@ pub fn head(k: usize, counts: bool, s: &[u8], inside: usize, e: usize) -> Part
                 if space {
                     at = n.next;
                 } else {
-                    let v = Judged::Refused(6, at);
+                    let v = Judged::Refused(FRAME, at);
                     return Part::Ends(v);
                 }
             }
             NodeKind::Referred => {
-                let v = Judged::Refused(6, at);
+                let v = Judged::Refused(FRAME, at);
                 return Part::Ends(v);
             }
         }
@@ -150,11 +152,11 @@ pub fn behind(k: usize, counts: bool, had: bool, s: &[u8], from: usize, e: usize
                 if space {
                     at = n.next;
                 } else {
-                    return Judged::Refused(6, at);
+                    return Judged::Refused(FRAME, at);
                 }
             }
             NodeKind::Referred => {
-                return Judged::Refused(6, at);
+                return Judged::Refused(FRAME, at);
             }
         }
     }

@@ -10,6 +10,9 @@ use read_xml_nodes::has_capital;
 use read_xml_nodes::next_node;
 use read_xml_parameters::has_encoding;
 use read_xml_value::type_of_nodes;
+use refusals::FRAME;
+use refusals::NAME;
+use refusals::PARAMETER;
 use schema::may_stand;
 use schema::property_number;
 ghost use mathlib.Core.Path.{_≡_};
@@ -123,17 +126,17 @@ pub fn property_verdict(
 {
     let bad = bad_name(s, name, name_end);
     if bad {
-        return Judged::Refused(5, place);
+        return Judged::Refused(NAME, place);
     }
     let p = property_number(0, &s[..name_end], name);
     let off = is_misplaced(k, p);
     if off {
-        return Judged::Refused(6, place);
+        return Judged::Refused(FRAME, place);
     }
     let t = type_of_nodes(p, s, inside);
     let lacks = lacks_encoding(p, t, s, inside);
     if lacks {
-        return Judged::Refused(7, place);
+        return Judged::Refused(PARAMETER, place);
     }
     children_verdict(k, p, t, s, inside, end)
 }
@@ -167,11 +170,11 @@ pub fn properties_verdict(k: usize, s: &[u8], inside: usize) -> Judged
                 if space {
                     at = n.next;
                 } else {
-                    return Judged::Refused(6, at);
+                    return Judged::Refused(FRAME, at);
                 }
             }
             NodeKind::Referred => {
-                return Judged::Refused(6, at);
+                return Judged::Refused(FRAME, at);
             }
         }
     }

@@ -10,6 +10,7 @@ use read_xml_nodes::Judged;
 use read_xml_nodes::NodeKind;
 use read_xml_nodes::next_node;
 use read_xml_nodes::unexpected;
+use refusals::FRAME;
 ghost use mathlib.Core.Path.{_≡_};
 ghost use Prim.Native.Nat.{_≤_};
 ghost use lib.ListN.{length, take};
@@ -60,7 +61,7 @@ fn stream_verdict(s: &[u8], inside: usize, e: usize) -> Judged
                 if any {
                     return Judged::Fine;
                 }
-                return Judged::Refused(6, e);
+                return Judged::Refused(FRAME, e);
             }
             NodeKind::Element => {
                 let calendar = is_calendar(s, n.name, n.name_end);
@@ -84,11 +85,11 @@ fn stream_verdict(s: &[u8], inside: usize, e: usize) -> Judged
                 if space {
                     at = n.next;
                 } else {
-                    return Judged::Refused(6, at);
+                    return Judged::Refused(FRAME, at);
                 }
             }
             NodeKind::Referred => {
-                return Judged::Refused(6, at);
+                return Judged::Refused(FRAME, at);
             }
         }
     }

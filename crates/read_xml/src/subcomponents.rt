@@ -12,6 +12,7 @@ use read_xml_nodes::NodeKind;
 use read_xml_nodes::has_capital;
 use read_xml_nodes::next_node;
 use read_xml_nodes::unexpected;
+use refusals::FRAME;
 use schema::component_number;
 use schema::may_begin;
 ghost use Prim.Native.Nat.{_≤_};
@@ -79,11 +80,11 @@ fn sub_at(k: usize, s: &[u8], at: usize, any: bool, e: usize) -> Sub
             if space {
                 return Sub::Past(n.next, any);
             }
-            let j = Judged::Refused(6, at);
+            let j = Judged::Refused(FRAME, at);
             Sub::Done(j)
         }
         NodeKind::Referred => {
-            let j = Judged::Refused(6, at);
+            let j = Judged::Refused(FRAME, at);
             Sub::Done(j)
         }
     }

@@ -5,6 +5,8 @@ use crate::heads::token_head;
 use crate::plain::is_plain;
 use octets::is_capital;
 use octets::wide;
+use refusals::FRAME;
+use refusals::NAME;
 use source::unit;
 ghost use mathlib.Core.Path.{_≡_};
 ghost use lib.ListN.{take};
@@ -49,9 +51,9 @@ pub fn unexpected(s: &[u8], place: usize, name: usize, end: usize) -> Judged
 {
     let capital = has_capital(s, name, end);
     if capital {
-        return Judged::Refused(5, place);
+        return Judged::Refused(NAME, place);
     }
-    Judged::Refused(6, place)
+    Judged::Refused(FRAME, place)
 }
 
 // The refusal of the first element from `at` on, where none has a place.

@@ -11,6 +11,9 @@ use read_xml_nodes::NodeKind;
 use read_xml_nodes::has_capital;
 use read_xml_nodes::has_element;
 use read_xml_nodes::next_node;
+use refusals::FRAME;
+use refusals::NAME;
+use refusals::PARAMETER;
 use schema::parameter_number;
 use schema::permits_parameter;
 ghost use mathlib.Core.Path.{_≡_};
@@ -156,20 +159,20 @@ fn judge(
 {
     let bad = is_bad_name(w);
     if bad {
-        return Judged::Refused(5, at);
+        return Judged::Refused(NAME, at);
     }
     if at == end {
-        return Judged::Refused(6, at);
+        return Judged::Refused(FRAME, at);
     }
     let against = is_against(p, t, s, from, at, w, inside, fresh);
     if against {
-        return Judged::Refused(7, at);
+        return Judged::Refused(PARAMETER, at);
     }
     let some = has_element(s, inside);
     if some {
         return Judged::Fine;
     }
-    Judged::Refused(6, end)
+    Judged::Refused(FRAME, end)
 }
 
 // The verdict on the parameters whose content begins at `inside`, of the property of the number `p` with a value of the type of the number `t`.
@@ -212,11 +215,11 @@ pub fn parameters_verdict(p: usize, t: usize, s: &[u8], inside: usize) -> Judged
                 if space {
                     c = n.next;
                 } else {
-                    return Judged::Refused(6, c);
+                    return Judged::Refused(FRAME, c);
                 }
             }
             NodeKind::Referred => {
-                return Judged::Refused(6, c);
+                return Judged::Refused(FRAME, c);
             }
         }
     }

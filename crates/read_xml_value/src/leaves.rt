@@ -2,6 +2,7 @@
 use read_xml_nodes::Judged;
 use read_xml_nodes::inner_element;
 use recur::item::is_item;
+use refusals::VALUE;
 use schema::is_word_of;
 use values::ValueRead;
 use values::read_value;
@@ -31,7 +32,7 @@ fn tested(ok: bool, place: usize) -> Judged
     if ok {
         return Judged::Fine;
     }
-    Judged::Refused(8, place)
+    Judged::Refused(VALUE, place)
 }
 
 // The element whose start tag is at `place` and whose content begins at `inside`: no element stands there, and its characters passed their test.

@@ -4,6 +4,7 @@ use crate::leaves::leaf_value;
 use names::find_word;
 use octets::is_within;
 use read_xml_nodes::Judged;
+use refusals::FRAME;
 ghost use mathlib.Core.Path.{_≡_};
 ghost use Prim.Native.Nat.{_≤_};
 ghost use lib.Dec.{eqb};
@@ -137,7 +138,7 @@ pub fn at_end(rule: bool, first: bool, second: bool, e: usize) -> Judged
         if second {
             return Judged::Fine;
         }
-        return Judged::Refused(6, e);
+        return Judged::Refused(FRAME, e);
     }
-    Judged::Refused(6, e)
+    Judged::Refused(FRAME, e)
 }

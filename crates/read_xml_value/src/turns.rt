@@ -11,6 +11,7 @@ use read_xml_nodes::Judged;
 use read_xml_nodes::NodeKind;
 use read_xml_nodes::next_node;
 use read_xml_nodes::unexpected;
+use refusals::FRAME;
 ghost use mathlib.Core.Path.{_≡_};
 ghost use mathlib.Core.List.{[]};
 ghost use Prim.Native.Nat.{_≤_};
@@ -81,7 +82,7 @@ fn between(unit: usize, at: usize, next: usize, slot: usize, first: bool, second
     if space {
         return Next::Goes(next, slot, first, second);
     }
-    let j = Judged::Refused(6, at);
+    let j = Judged::Refused(FRAME, at);
     Next::Ends(j)
 }
 
@@ -111,7 +112,7 @@ fn turn(rule: bool, s: &[u8], c: usize, slot: usize, first: bool, second: bool, 
         }
         NodeKind::Literal => between(n.unit, c, n.next, slot, first, second),
         NodeKind::Referred => {
-            let j = Judged::Refused(6, c);
+            let j = Judged::Refused(FRAME, c);
             Next::Ends(j)
         }
     }

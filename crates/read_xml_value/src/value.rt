@@ -6,6 +6,7 @@ use crate::leaves::leaf_word;
 use crate::turns::parts_verdict;
 use crate::types::element_type;
 use read_xml_nodes::Judged;
+use refusals::VALUE;
 use schema::has_words;
 use schema::permits_type;
 ghost use mathlib.Core.Path.{_≡_};
@@ -84,9 +85,9 @@ fn typed_as(
         if u == t {
             return typed_verdict(k, p, u, s, place, inside, end);
         }
-        return Judged::Refused(8, place);
+        return Judged::Refused(VALUE, place);
     }
-    Judged::Refused(8, place)
+    Judged::Refused(VALUE, place)
 }
 
 // An element of the value of the property of the number `p` in the component of the number `k`, where `t` is the type of the property's first value.
@@ -121,6 +122,6 @@ pub fn value_verdict(
     let m = element_type(s, name, name_end);
     match m {
         Named::Type(u) => typed_as(k, p, t, u, s, place, inside, end),
-        Named::Bad => Judged::Refused(8, place),
+        Named::Bad => Judged::Refused(VALUE, place),
     }
 }
