@@ -42,8 +42,8 @@ fn is_fold(s: &[u8], i: usize) -> bool {
     if s.len() - 3 < i {
         return false;
     }
-    if s[i] == 13 {
-        if s[i + 1] == 10 {
+    if s[i] == b'\r' {
+        if s[i + 1] == b'\n' {
             return is_blank(s[i + 2]);
         }
     }
@@ -51,7 +51,7 @@ fn is_fold(s: &[u8], i: usize) -> bool {
 }
 
 fn is_blank(b: u8) -> bool {
-    (b == 32) | (b == 9)
+    (b == b' ') | (b == b'\t')
 }
 
 // Byte n of b is there and is v.

@@ -1,6 +1,7 @@
 // The key of a word: where the keys of a list's names are all different, code goes by the key and compares the word with one name only. See specs/Keys.antt.
 use crate::Case;
 use crate::cased_unit;
+use octets::unit::END;
 use octets::wide;
 use source::unit;
 ghost use mathlib.Core.Path.{_≡_};
@@ -34,7 +35,7 @@ pub fn key(k: Case, mode: usize, s: &[u8], at: usize) -> usize
     loop {
         let n = unit(mode, s, c);
         let u = n.u;
-        if u == 256 {
+        if u == END {
             return h / 4;
         }
         let v = cased_unit(k, u);

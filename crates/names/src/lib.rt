@@ -6,6 +6,7 @@ mod plain;
 use keys::key;
 use octets::is_name_char;
 use octets::lower_unit;
+use octets::unit::END;
 use octets::upper_unit;
 use octets::wide;
 use plain::is_cased_plain;
@@ -65,7 +66,7 @@ fn is_end(mode: usize, s: &[u8], at: usize, ok: bool) -> bool
 {
     if ok {
         let n = unit(mode, s, at);
-        return n.u == 256;
+        return n.u == END;
     }
     false
 }
@@ -96,7 +97,7 @@ fn name_over(table: &[u8], from: usize) -> usize
 {
     let mut i = from;
     while i < table.len() {
-        if table[i] == 10 {
+        if table[i] == b'\n' {
             return i;
         }
         i += 1;
@@ -114,7 +115,7 @@ fn find_cased(k: Case, mode: usize, s: &[u8], at: usize, table: &[u8]) -> usize
     let mut i = 0;
     while i < table.len() {
         let t = table[i];
-        if t == 10 {
+        if t == b'\n' {
             let end = is_end(mode, s, c, ok);
             if end {
                 return name;
@@ -221,7 +222,7 @@ fn put_cased(out: &mut [u8], o: usize, k: Case, mode: usize, s: &[u8], at: usize
     loop {
         let n = unit(mode, s, c);
         let u = n.u;
-        if u == 256 {
+        if u == END {
             return p;
         }
         let v = cased_unit(k, u);

@@ -1,4 +1,4 @@
-// FLOAT: read from the cursor up to the byte `stop`, to the end where it is 256; and written.
+// FLOAT: read from the cursor up to the byte `stop`, to the end where it is END; and written.
 use crate::scan::digits_end;
 use crate::scan::has_minus;
 use crate::scan::only_digits;
@@ -7,6 +7,10 @@ use crate::scan::sign_end;
 use crate::scan::unit_to;
 use crate::scan::zeros_end;
 use octets::is_digit;
+use octets::unit::END;
+use octets::unit::NINE;
+use octets::unit::POINT;
+use octets::unit::ZERO;
 use sink::put;
 ghost use mathlib.Core.Path.{_≡_};
 ghost use mathlib.Core.Bool.{not};
@@ -43,10 +47,10 @@ fn read_shape(stop: usize, mode: usize, s: &[u8], at: usize) -> Shape
         let p = digits_end(stop, mode, s, at);
         let w = unit_to(stop, mode, s, p);
         let u = w.u;
-        if u == 256 {
+        if u == END {
             return Shape { ok: true, after: p };
         }
-        if u == 46 {
+        if u == POINT {
             let a = w.next;
             let d = only_digits(stop, mode, s, a);
             return Shape { ok: d, after: a };
@@ -100,7 +104,7 @@ pub fn float_to(stop: usize, mode: usize, s: &[u8], at: usize) -> FloatRead
 pub fn read_float(mode: usize, s: &[u8], at: usize) -> FloatRead
     ensures { λ r. ⌜ readFloat (rest mode (now (s .entry)) at) ≡ floatOf 256 mode (now (s .entry)) r ⌝ }
 {
-    float_to(256, mode, s, at)
+    float_to(END, mode, s, at)
 }
 
 // ---- writing
@@ -114,13 +118,13 @@ fn put_front(out: &mut [u8], o: usize, stop: usize, mode: usize, s: &[u8], at: u
     loop {
         let t = unit_to(stop, mode, s, c);
         let u = t.u;
-        if u == 256 {
+        if u == END {
             return q;
         }
-        if u < 48 {
+        if u < ZERO {
             return q;
         }
-        if 57 < u {
+        if NINE < u {
             return q;
         }
         q = put(out, q, u as u8);
@@ -163,10 +167,10 @@ fn put_trimmed(out: &mut [u8], o: usize, stop: usize, mode: usize, s: &[u8], at:
     loop {
         let t = unit_to(stop, mode, s, c);
         let u = t.u;
-        if u == 256 {
+        if u == END {
             return q;
         }
-        if u == 48 {
+        if u == ZERO {
             k += 1;
             c = t.next;
         } else {
@@ -260,5 +264,5 @@ pub fn put_float(out: &mut [u8], o: usize, mode: usize, s: &[u8], at: usize) -> 
         Put (now (out .entry)) (now (out .exit)) o r
         (orNothing writeFloat (readFloat (rest mode (now (s .entry)) at))) ⌝ }
 {
-    put_float_to(out, o, 256, mode, s, at)
+    put_float_to(out, o, END, mode, s, at)
 }

@@ -1,6 +1,10 @@
 // Names that can be carried. See specs/Names.antt.
 use crate::param::next_param;
 use octets::is_digit;
+use octets::unit::HYPHEN;
+use octets::unit::UPPER_L;
+use octets::unit::UPPER_M;
+use octets::unit::UPPER_X;
 use octets::upper_unit;
 use source::unit;
 ghost use mathlib.Core.Path.{_≡_};
@@ -23,7 +27,7 @@ fn starts_off_name(mode: usize, s: &[u8], at: usize) -> bool
     if is_digit(n.u) {
         return true;
     }
-    n.u == 45
+    n.u == HYPHEN
 }
 
 // `XML` is there, in any case.
@@ -32,13 +36,13 @@ fn starts_xml(mode: usize, s: &[u8], at: usize) -> bool
 {
     let x = unit(mode, s, at);
     let xu = upper_unit(x.u);
-    if xu == 88 {
+    if xu == UPPER_X {
         let m = unit(mode, s, x.next);
         let mu = upper_unit(m.u);
-        if mu == 77 {
+        if mu == UPPER_M {
             let l = unit(mode, s, m.next);
             let lu = upper_unit(l.u);
-            return lu == 76;
+            return lu == UPPER_L;
         }
         return false;
     }

@@ -1,6 +1,9 @@
 // Where a line ends. See specs/LineEnd.antt.
 use crate::Ending;
 use octets::find::find_return;
+use octets::unit::CR;
+use octets::unit::END;
+use octets::unit::LF;
 use octets::wide;
 use source::settled;
 use source::unit;
@@ -15,7 +18,7 @@ fn line_end_plain(s: &[u8], from: usize) -> Ending
         c = find_return(s, c);
         if 2 <= s.len() - c {
             let u = wide(s[c + 1]);
-            if u == 10 {
+            if u == LF {
                 return Ending::Whole(c, c + 2);
             } else {
                 c += 1;
@@ -37,12 +40,12 @@ pub fn line_end(mode: usize, s: &[u8], from: usize) -> Ending
     let mut c = from;
     loop {
         let n = unit(mode, s, c);
-        if n.u == 256 {
+        if n.u == END {
             return Ending::Loose;
         } else {
-            if n.u == 13 {
+            if n.u == CR {
                 let k = unit(mode, s, n.next);
-                if k.u == 10 {
+                if k.u == LF {
                     let next = settled(mode, s, k.next);
                     return Ending::Whole(c, next);
                 } else {

@@ -6,6 +6,8 @@ use crate::param::next_params;
 use crate::param::no_name;
 use crate::runs::run_end;
 use names::name_end;
+use octets::unit::COLON;
+use octets::unit::END;
 use source::unit;
 ghost use Rattle.read_text_line.specs.Line.{LineAt, TailAt};
 
@@ -14,11 +16,11 @@ fn value_at(mode: usize, s: &[u8], at: usize) -> AllRead
     ensures { λ r. ⌜ TailAt mode (now (s .entry)) at r ⌝ }
 {
     let n = unit(mode, s, at);
-    if n.u == 58 {
+    if n.u == COLON {
         let v = n.next;
         let to = run_end(Chars::Valued, mode, s, v);
         let z = unit(mode, s, to);
-        if z.u == 256 {
+        if z.u == END {
             return AllRead { ok: true, next: v };
         }
         return AllRead { ok: false, next: v };

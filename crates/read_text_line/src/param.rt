@@ -4,6 +4,8 @@ use crate::ParamRead;
 use crate::value::values;
 use names::name_end;
 use octets::is_name_char;
+use octets::unit::EQUALS;
+use octets::unit::SEMICOLON;
 use source::unit;
 ghost use mathlib.Core.Path.{_≡_};
 ghost use Rattle.octets.specs.Class.{isNameChar};
@@ -46,7 +48,7 @@ fn named_param(mode: usize, s: &[u8], at: usize) -> ParamRead
 {
     let e = name_end(mode, s, at);
     let n = unit(mode, s, e);
-    if n.u == 61 {
+    if n.u == EQUALS {
         let v = values(mode, s, n.next);
         return ParamRead {
             there: true,
@@ -76,7 +78,7 @@ pub fn next_param(mode: usize, s: &[u8], at: usize) -> ParamRead
     ensures { λ r. ⌜ ParamOf nextParam mode (now (s .entry)) at r ⌝ }
 {
     let n = unit(mode, s, at);
-    if n.u == 59 {
+    if n.u == SEMICOLON {
         return param_at(mode, s, n.next);
     }
     ParamRead {

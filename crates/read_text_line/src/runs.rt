@@ -1,5 +1,12 @@
 // The characters of a line. See specs/ContentLine.antt.
 use crate::Chars;
+use octets::unit::COLON;
+use octets::unit::COMMA;
+use octets::unit::CR;
+use octets::unit::END;
+use octets::unit::LF;
+use octets::unit::QUOTE;
+use octets::unit::SEMICOLON;
 use source::plain_unit;
 use source::unit;
 ghost use mathlib.Core.Path.{_≡_};
@@ -11,33 +18,33 @@ ghost use Rattle.read_text_line.specs.Cursor.{inLine, charOf, RunEnds};
 fn is_break(u: usize) -> bool
     ensures { λ r. ⌜ r ≡ isLineBreak u ⌝ }
 {
-    if u == 13 {
+    if u == CR {
         return true;
     }
-    u == 10
+    u == LF
 }
 
 // `"`, `;`, `:`, `,`
 fn is_mark(u: usize) -> bool
     ensures { λ r. ⌜ r ≡ (eqb u 34 or eqb u 59 or eqb u 58 or eqb u 44) ⌝ }
 {
-    let quote = u == 34;
+    let quote = u == QUOTE;
     if quote {
         return true;
     }
-    if u == 59 {
+    if u == SEMICOLON {
         return true;
     }
-    if u == 58 {
+    if u == COLON {
         return true;
     }
-    u == 44
+    u == COMMA
 }
 
 fn is_safe(u: usize) -> bool
     ensures { λ r. ⌜ r ≡ inLine isSafeChar u ⌝ }
 {
-    if u == 256 {
+    if u == END {
         return false;
     }
     let b = is_break(u);
@@ -54,14 +61,14 @@ fn is_safe(u: usize) -> bool
 fn is_qsafe(u: usize) -> bool
     ensures { λ r. ⌜ r ≡ inLine isQSafeChar u ⌝ }
 {
-    if u == 256 {
+    if u == END {
         return false;
     }
     let b = is_break(u);
     if b {
         return false;
     }
-    if u == 34 {
+    if u == QUOTE {
         return false;
     }
     true
@@ -70,7 +77,7 @@ fn is_qsafe(u: usize) -> bool
 fn is_valued(u: usize) -> bool
     ensures { λ r. ⌜ r ≡ inLine isValueChar u ⌝ }
 {
-    if u == 256 {
+    if u == END {
         return false;
     }
     let b = is_break(u);

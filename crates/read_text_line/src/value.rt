@@ -3,6 +3,8 @@ use crate::AllRead;
 use crate::Chars;
 use crate::ParamAt;
 use crate::runs::run_end;
+use octets::unit::COMMA;
+use octets::unit::QUOTE;
 use source::unit;
 ghost use Rattle.read_text_line.specs.ContentLine.{quotedString, paramValue, nextValue};
 ghost use Rattle.read_text_line.specs.Repeating.{AllAt};
@@ -14,7 +16,7 @@ fn quoted_string(mode: usize, s: &[u8], at: usize) -> ParamAt
 {
     let to = run_end(Chars::Quoted, mode, s, at);
     let n = unit(mode, s, to);
-    if n.u == 34 {
+    if n.u == QUOTE {
         return ParamAt {
             there: true,
             ok: true,
@@ -39,7 +41,7 @@ pub fn param_value(mode: usize, s: &[u8], at: usize) -> ParamAt
     ensures { λ r. ⌜ ValueAt paramValue mode (now (s .entry)) at r ⌝ }
 {
     let n = unit(mode, s, at);
-    if n.u == 34 {
+    if n.u == QUOTE {
         return quoted_string(mode, s, n.next);
     }
     let to = run_end(Chars::Safe, mode, s, at);
@@ -58,7 +60,7 @@ pub fn next_value(mode: usize, s: &[u8], at: usize) -> ParamAt
     ensures { λ r. ⌜ ValueAt nextValue mode (now (s .entry)) at r ⌝ }
 {
     let n = unit(mode, s, at);
-    if n.u == 44 {
+    if n.u == COMMA {
         return param_value(mode, s, n.next);
     }
     ParamAt {

@@ -12,9 +12,9 @@ ghost use Rattle.read_text_line.specs.Written.{opening};
 pub fn put_param_name(out: &mut [u8], o: usize, mode: usize, s: &[u8], at: usize) -> usize
     ensures { λ r. ⌜ Put (now (out .entry)) (now (out .exit)) o r (opening (upper (rest mode (now (s .entry)) at))) ⌝ }
 {
-    let a = put(out, o, 59);
+    let a = put(out, o, b';');
     let b = put_upper(out, a, mode, s, at);
-    put(out, b, 61)
+    put(out, b, b'=')
 }
 
 // The value whose characters stand from the cursor on, between quotes or not.
@@ -31,9 +31,9 @@ pub fn put_param_value(
         (writeParamValue (record { quoted = quoted; chars = rest mode (now (s .entry)) at })) ⌝ }
 {
     if quoted {
-        let a = put(out, o, 34);
+        let a = put(out, o, b'"');
         let b = put_rest(out, a, mode, s, at);
-        return put(out, b, 34);
+        return put(out, b, b'"');
     }
     put_rest(out, o, mode, s, at)
 }

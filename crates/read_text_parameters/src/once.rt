@@ -2,6 +2,7 @@
 use distinct::Kept;
 use distinct::keep;
 use octets::smaller;
+use octets::unit::END;
 use octets::upper_unit;
 use read_text_line::next_param;
 use source::unit;
@@ -28,7 +29,7 @@ fn are_same(mode: usize, s: &[u8], a: usize, t: &[u8], b: usize) -> bool
         let xu = upper_unit(x.u);
         let yu = upper_unit(y.u);
         if xu == yu {
-            if x.u == 256 {
+            if x.u == END {
                 return true;
             }
             c = x.next;

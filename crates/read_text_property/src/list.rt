@@ -1,4 +1,6 @@
 // Lists of values, from a cursor to the end. See specs/Listed.antt.
+use octets::unit::COMMA;
+use octets::unit::END;
 use read_text_parameters::is_of_type;
 use recur::rule::byte_end;
 use source::unit;
@@ -20,12 +22,12 @@ fn are_pieces(t: usize, mode: usize, s: &[u8], at: usize) -> bool
 {
     let mut c = at;
     loop {
-        let e = byte_end(44, mode, s, c);
+        let e = byte_end(COMMA, mode, s, c);
         let fits = is_of_type(t, mode, &s[..e], c);
         if fits {
             let n = unit(mode, s, e);
             let u = n.u;
-            if u == 256 {
+            if u == END {
                 return true;
             }
             c = n.next;
@@ -52,7 +54,7 @@ pub fn are_listed(t: usize, mode: usize, s: &[u8], at: usize) -> bool
     ensures { λ r. ⌜ r ≡ isRead (readListed (typeAt t) (rest mode (now (s .entry)) at)) ⌝ }
 {
     if t == 10 {
-        let k = read_text(44, mode, s, at);
+        let k = read_text(COMMA, mode, s, at);
         return is_kept(k);
     }
     are_values(t, mode, s, at)

@@ -1,4 +1,8 @@
 // Bytes that are characters of their own.
+use octets::unit::AMPERSAND;
+use octets::unit::CR;
+use octets::unit::LESS;
+use octets::unit::RIGHT_BRACKET;
 ghost use mathlib.Core.Path.{_≡_};
 ghost use Rattle.read_xml_nodes.specs.Plain.{isPlain};
 
@@ -6,16 +10,16 @@ ghost use Rattle.read_xml_nodes.specs.Plain.{isPlain};
 pub fn is_plain(b: usize) -> bool
     ensures { λ r. ⌜ r ≡ isPlain b ⌝ }
 {
-    if b == 60 {
+    if b == LESS {
         return false;
     }
-    if b == 38 {
+    if b == AMPERSAND {
         return false;
     }
-    if b == 93 {
+    if b == RIGHT_BRACKET {
         return false;
     }
-    if b == 13 {
+    if b == CR {
         return false;
     }
     true

@@ -4,6 +4,7 @@ use crate::NodeKind;
 use crate::heads::token_head;
 use crate::plain::is_plain;
 use octets::is_capital;
+use octets::unit::END;
 use octets::wide;
 use refusals::FRAME;
 use refusals::NAME;
@@ -24,7 +25,7 @@ fn capital_from(s: &[u8], at: usize) -> bool
     loop {
         let n = unit(0, s, c);
         let u = n.u;
-        if u == 256 {
+        if u == END {
             return false;
         }
         let capital = is_capital(u);

@@ -1,5 +1,8 @@
 // One value of a parameter: an element of characters. See specs/Leaves.antt.
 use names::find_word;
+use octets::unit::END;
+use octets::unit::LF;
+use octets::unit::QUOTE;
 use read_xml_nodes::has_element;
 use schema::is_word_of_parameter;
 use schema::parameter_has_words;
@@ -38,7 +41,7 @@ pub fn has_byte(b: usize, s: &[u8], at: usize) -> bool
     loop {
         let n = xml_unit(s, c);
         let u = n.u;
-        if u == 256 {
+        if u == END {
             return false;
         }
         if u == b {
@@ -81,11 +84,11 @@ fn is_leaf(q: usize, s: &[u8], inside: usize) -> bool
         return false;
     }
     let c = cursor_of(s, inside);
-    let quote = has_byte(34, s, c);
+    let quote = has_byte(QUOTE, s, c);
     if quote {
         return false;
     }
-    let feed = has_byte(10, s, c);
+    let feed = has_byte(LF, s, c);
     if feed {
         return false;
     }

@@ -6,6 +6,9 @@ use crate::several::are_values;
 use numbers::boolean::BooleanRead;
 use numbers::boolean::put_boolean;
 use numbers::boolean::read_boolean;
+use octets::unit::COLON;
+use octets::unit::COMMA;
+use octets::unit::SEMICOLON;
 use read_text_line::put_param_name;
 use read_text_line::put_param_value;
 use schema::is_quoted_parameter;
@@ -37,15 +40,15 @@ fn is_quoted(q: usize, s: &[u8], at: usize) -> bool
     if always {
         return true;
     }
-    let colon = has_byte(58, s, at);
+    let colon = has_byte(COLON, s, at);
     if colon {
         return true;
     }
-    let semicolon = has_byte(59, s, at);
+    let semicolon = has_byte(SEMICOLON, s, at);
     if semicolon {
         return true;
     }
-    has_byte(44, s, at)
+    has_byte(COMMA, s, at)
 }
 
 // TRUE or FALSE.
@@ -91,7 +94,7 @@ fn put_item(out: &mut [u8], o: usize, later: bool, q: usize, s: &[u8], inside: u
         (itemShown (rowAt q) later (charactersOf (nodesAt (now (s .entry)) inside))) ⌝ }
 {
     if later {
-        let a = put(out, o, 44);
+        let a = put(out, o, b',');
         return put_value(out, a, q, s, inside);
     }
     put_value(out, o, q, s, inside)

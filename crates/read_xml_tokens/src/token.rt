@@ -3,6 +3,8 @@ use crate::TokenAt;
 use crate::TokenKind;
 use crate::tag::fault_at;
 use crate::tag::tag_at;
+use octets::unit::END;
+use octets::unit::LESS;
 use octets::wide;
 use xml::char_at;
 ghost use mathlib.Core.Path.{_≡_};
@@ -17,10 +19,10 @@ fn char_token_at(s: &[u8], at: usize, b: usize) -> TokenAt
 {
     let c = char_at(s, at);
     let u = c.u;
-    if u == 256 {
+    if u == END {
         return fault_at(s, at);
     }
-    if u < 256 {
+    if u < END {
         return TokenAt {
             kind: TokenKind::Char,
             name: at,
@@ -44,7 +46,7 @@ pub fn token_at(s: &[u8], at: usize) -> TokenAt
 {
     if at < s.len() {
         let b = wide(s[at]);
-        if b == 60 {
+        if b == LESS {
             return tag_at(s, at);
         }
         return char_token_at(s, at, b);

@@ -2,6 +2,10 @@
 use crate::item::is_item;
 use names::name_key;
 use names::named;
+use octets::unit::COMMA;
+use octets::unit::END;
+use octets::unit::EQUALS;
+use octets::unit::SEMICOLON;
 use source::unit;
 ghost use mathlib.Core.Path.{_≡_};
 ghost use mathlib.Core.Bool.{true};
@@ -41,7 +45,7 @@ pub fn byte_end(k: usize, mode: usize, s: &[u8], at: usize) -> usize
     loop {
         let t = unit(mode, s, c);
         let u = t.u;
-        if u == 256 {
+        if u == END {
             return c;
         }
         if u == k {
@@ -80,7 +84,7 @@ fn part_place(mode: usize, s: &[u8], at: usize) -> usize
     requires { ⌜ Within mode (now s) at ⌝ }
     ensures { λ r. ⌜ r ≡ placeAt (rest mode (now (s .entry)) at) ⌝ }
 {
-    let e = byte_end(61, mode, s, at);
+    let e = byte_end(EQUALS, mode, s, at);
     part_number(mode, &s[..e], at)
 }
 
@@ -91,9 +95,9 @@ pub fn value_at(mode: usize, s: &[u8], at: usize) -> usize
         (past isEquals (rest mode (now (s .entry)) at) ≡ rest mode (now (s .entry)) r)
         × Within mode (now (s .entry)) r ⌝ }
 {
-    let e = byte_end(61, mode, s, at);
+    let e = byte_end(EQUALS, mode, s, at);
     let n = unit(mode, s, e);
-    if n.u == 256 {
+    if n.u == END {
         return e;
     }
     n.next
@@ -116,12 +120,12 @@ fn are_items(p: usize, mode: usize, s: &[u8], at: usize) -> bool
 {
     let mut c = at;
     loop {
-        let e = byte_end(44, mode, s, c);
+        let e = byte_end(COMMA, mode, s, c);
         let fits = is_item(p, false, mode, &s[..e], c);
         if fits {
             let n = unit(mode, s, e);
             let u = n.u;
-            if u == 256 {
+            if u == END {
                 return true;
             }
             c = n.next;
@@ -165,7 +169,7 @@ fn find_parts(mode: usize, s: &[u8], at: usize) -> RuleParts
     let mut begins = [0usize; 14];
     let mut c = at;
     loop {
-        let e = byte_end(59, mode, s, c);
+        let e = byte_end(SEMICOLON, mode, s, c);
         let p = part_place(mode, &s[..e], c);
         let fits = is_part(p, mode, &s[..e], c);
         if fits {
@@ -173,7 +177,7 @@ fn find_parts(mode: usize, s: &[u8], at: usize) -> RuleParts
                 begins[p] = c + 1;
                 let n = unit(mode, s, e);
                 let u = n.u;
-                if u == 256 {
+                if u == END {
                     let good = is_whole(begins);
                     return RuleParts { good, begins };
                 }

@@ -3,6 +3,7 @@ use crate::number::is_signed;
 use names::find_word;
 use numbers::numeral::front_unit;
 use octets::is_alpha;
+use octets::unit::END;
 use source::unit;
 use times::date::DateRead;
 use times::date::read_date;
@@ -50,7 +51,7 @@ pub fn first_letter(mode: usize, s: &[u8], at: usize) -> usize
     loop {
         let t = unit(mode, s, c);
         let u = t.u;
-        if u == 256 {
+        if u == END {
             return c;
         }
         let a = is_alpha(u);
@@ -66,7 +67,7 @@ fn is_ordinal(mode: usize, s: &[u8], at: usize) -> bool
     ensures { λ r. ⌜ r ≡ fitsOrdinal (upTo isAlpha (rest mode (now (s .entry)) at)) ⌝ }
 {
     let t = front_unit(true, mode, s, at);
-    if t.u == 256 {
+    if t.u == END {
         return true;
     }
     is_signed(true, 2, 53, mode, s, at)

@@ -7,6 +7,8 @@ use names::put_rest;
 use names::put_upper;
 use numbers::integer::put_whole;
 use numbers::numeral::front_unit;
+use octets::unit::END;
+use octets::unit::HYPHEN;
 use times::date::DateRead;
 use times::date::put_date;
 use times::date::read_date;
@@ -30,7 +32,7 @@ fn is_minus(letters: bool, mode: usize, s: &[u8], at: usize) -> bool
     ensures { λ r. ⌜ r ≡ hasMinus (front letters (rest mode (now (s .entry)) at)) ⌝ }
 {
     let t = front_unit(letters, mode, s, at);
-    t.u == 45
+    t.u == HYPHEN
 }
 
 fn put_number(out: &mut [u8], o: usize, letters: bool, mode: usize, s: &[u8], at: usize) -> usize
@@ -49,7 +51,7 @@ fn put_ordinal(out: &mut [u8], o: usize, mode: usize, s: &[u8], at: usize) -> us
         Put (now (out .entry)) (now (out .exit)) o r (shownOrdinal (upTo isAlpha (rest mode (now (s .entry)) at))) ⌝ }
 {
     let t = front_unit(true, mode, s, at);
-    if t.u == 256 {
+    if t.u == END {
         return o;
     }
     put_number(out, o, true, mode, s, at)

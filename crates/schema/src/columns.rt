@@ -122,7 +122,7 @@ pub fn permits_type(p: usize, t: usize) -> bool
 {
     if p < 46 {
         if t < 14 {
-            return PERMITTED[p * 14 + t] == 49;
+            return PERMITTED[p * 14 + t] == b'1';
         }
         return false;
     }
@@ -136,7 +136,7 @@ pub fn is_listed(p: usize) -> bool
     ensures { λ r. ⌜ r ≡ propertyAt p .listed ⌝ }
 {
     if p < 46 {
-        return LISTED[p] == 49;
+        return LISTED[p] == b'1';
     }
     false
 }
@@ -195,7 +195,7 @@ fn carries(p: usize, q: usize) -> bool
     requires { ⌜ (p < 46) × (q < 19) ⌝ }
     ensures { λ r. ⌜ r ≡ isOneOf (parameterName q) (propertyAt p .parameters) ⌝ }
 {
-    PERMITS[p * 19 + q] == 49
+    PERMITS[p * 19 + q] == b'1'
 }
 
 // Whether a property whose values have the type `t` permits a parameter; RELATED only with DURATION.
@@ -257,7 +257,7 @@ pub fn is_listed_parameter(q: usize) -> bool
     ensures { λ r. ⌜ r ≡ parameterAt q .listed ⌝ }
 {
     if q < 19 {
-        return LISTED_PARAMETERS[q] == 49;
+        return LISTED_PARAMETERS[q] == b'1';
     }
     true
 }
@@ -269,7 +269,7 @@ pub fn is_quoted_parameter(q: usize) -> bool
     ensures { λ r. ⌜ r ≡ parameterAt q .quoted ⌝ }
 {
     if q < 19 {
-        return QUOTED[q] == 49;
+        return QUOTED[q] == b'1';
     }
     false
 }
@@ -291,7 +291,7 @@ pub fn may_stand(k: usize, p: usize) -> bool
 {
     if k < 9 {
         if p < 46 {
-            return STANDING[k * 46 + p] == 49;
+            return STANDING[k * 46 + p] == b'1';
         }
         return false;
     }
@@ -316,7 +316,7 @@ pub fn may_begin(parent: usize, k: usize) -> bool
 {
     if parent < 9 {
         if k < 9 {
-            return INNER[parent * 9 + k] == 49;
+            return INNER[parent * 9 + k] == b'1';
         }
         return false;
     }

@@ -47,23 +47,23 @@ fn sign_at(l: usize, p: usize) -> u8
     if l < 12 {
         return SIGNS[l * 46 + p];
     }
-    46
+    b'.'
 }
 
 // A tally is as often as a sign says.
 fn is_signed(sign: u8, n: u8) -> bool
     ensures { λ r. ⌜ r ≡ isSigned sign n ⌝ }
 {
-    if sign == 49 {
+    if sign == b'1' {
         return n == 1;
     }
-    if sign == 63 {
+    if sign == b'?' {
         return n <= 1;
     }
-    if sign == 42 {
+    if sign == b'*' {
         return true;
     }
-    if sign == 43 {
+    if sign == b'+' {
         return 1 <= n;
     }
     n == 0

@@ -1,4 +1,5 @@
 // Writing XML: character data with its entities, and tags. The definitions are in crate xml, specs/Escape.antt.
+use octets::unit::END;
 use sink::put;
 use sink::put_all;
 use source::unit;
@@ -32,7 +33,7 @@ pub fn put_escaped(out: &mut [u8], at: usize, mode: usize, s: &[u8], from: usize
     loop {
         let t = unit(mode, s, c);
         let u = t.u;
-        if u == 256 {
+        if u == END {
             return o;
         }
         o = put_escaped_byte(out, o, u as u8);

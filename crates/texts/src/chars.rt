@@ -4,6 +4,7 @@ use crate::binary::read_binary;
 use crate::is_kept;
 use crate::unknown::read_unknown;
 use crate::uri::read_uri;
+use octets::unit::END;
 use sink::put;
 use source::unit;
 use tags::put_escaped;
@@ -32,7 +33,7 @@ fn put_chars(out: &mut [u8], at: usize, mode: usize, s: &[u8], from: usize) -> u
     loop {
         let t = unit(mode, s, c);
         let u = t.u;
-        if u == 256 {
+        if u == END {
             return o;
         }
         o = put_byte(out, o, u as u8);
@@ -101,7 +102,7 @@ fn put_base64(out: &mut [u8], at: usize, xcal: bool, mode: usize, s: &[u8], from
     loop {
         let t = unit(mode, s, c);
         let u = t.u;
-        if u == 256 {
+        if u == END {
             return o;
         }
         if is_passed(xcal, u) {

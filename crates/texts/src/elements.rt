@@ -4,6 +4,8 @@ use crate::items::item_end;
 use crate::text::read_text;
 use crate::written::put_text_xml;
 use octets::smaller;
+use octets::unit::COMMA;
+use octets::unit::END;
 use source::unit;
 use tags::put_end_tag;
 use tags::put_start_tag;
@@ -56,11 +58,11 @@ fn put_items_xml(out: &mut [u8], at: usize, mode: usize, s: &[u8], from: usize) 
     let mut o = at;
     let mut c = from;
     loop {
-        let e = item_end(44, mode, s, c);
+        let e = item_end(COMMA, mode, s, c);
         o = put_item_xml(out, o, mode, s, c, e);
         let n = unit(mode, s, e);
         let u = n.u;
-        if u == 256 {
+        if u == END {
             return o;
         }
         c = n.next;
@@ -74,7 +76,7 @@ pub fn put_texts_xml(out: &mut [u8], at: usize, mode: usize, s: &[u8], from: usi
         Put (now (out .entry)) (now (out .exit)) at r
         (orNothing textsXml (readTexts (rest mode (now (s .entry)) from))) ⌝ }
 {
-    let k = read_text(44, mode, s, from);
+    let k = read_text(COMMA, mode, s, from);
     if is_kept(k) {
         return put_items_xml(out, at, mode, s, from);
     }

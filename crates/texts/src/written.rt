@@ -3,6 +3,7 @@ use crate::is_kept;
 use crate::text::is_escaped;
 use crate::text::is_opening;
 use crate::text::read_one_text;
+use octets::unit::END;
 use sink::put;
 use source::unit;
 use tags::put_escaped_byte;
@@ -20,11 +21,11 @@ fn meant_by(after: bool, b: u8) -> u8
     ensures { λ r. ⌜ r ≡ meant after b ⌝ }
 {
     if after {
-        if b == 110 {
-            return 10;
+        if b == b'n' {
+            return b'\n';
         }
-        if b == 78 {
-            return 10;
+        if b == b'N' {
+            return b'\n';
         }
         return b;
     }
@@ -41,7 +42,7 @@ fn put_unescaped(out: &mut [u8], at: usize, mode: usize, s: &[u8], from: usize) 
     loop {
         let t = unit(mode, s, c);
         let u = t.u;
-        if u == 256 {
+        if u == END {
             return o;
         }
         if is_opening(after, u) {
@@ -72,12 +73,12 @@ pub fn put_text_xml(out: &mut [u8], at: usize, mode: usize, s: &[u8], from: usiz
 fn put_text_byte(out: &mut [u8], at: usize, b: u8) -> usize
     ensures { λ r. ⌜ Put (now (out .entry)) (now (out .exit)) at r (escapeText b) ⌝ }
 {
-    if b == 10 {
-        let o = put(out, at, 92);
-        return put(out, o, 110);
+    if b == b'\n' {
+        let o = put(out, at, b'\\');
+        return put(out, o, b'n');
     }
     if is_escaped(b as usize) {
-        let o = put(out, at, 92);
+        let o = put(out, at, b'\\');
         return put(out, o, b);
     }
     put(out, at, b)
@@ -92,7 +93,7 @@ pub fn put_text_escaped(out: &mut [u8], at: usize, mode: usize, s: &[u8], from: 
     loop {
         let t = unit(mode, s, c);
         let u = t.u;
-        if u == 256 {
+        if u == END {
             return o;
         }
         o = put_text_byte(out, o, u as u8);

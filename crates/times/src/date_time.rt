@@ -85,7 +85,7 @@ pub fn put_moment(
     ensures { λ r. ⌜ Put (now (out .entry)) (now (out .exit)) o r (momentBytes to y m d h i c z) ⌝ }
 {
     let p = put_day(out, o, to, y, m, d);
-    let q = put(out, p, 84);
+    let q = put(out, p, b'T');
     put_clock(out, q, to, h, i, c, z)
 }
 

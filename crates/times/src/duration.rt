@@ -3,6 +3,16 @@ use crate::follow::is_digit;
 use crate::letters::ended;
 use crate::letters::letter;
 use crate::written::put_mark;
+use octets::unit::END;
+use octets::unit::HYPHEN;
+use octets::unit::PLUS;
+use octets::unit::UPPER_D;
+use octets::unit::UPPER_H;
+use octets::unit::UPPER_M;
+use octets::unit::UPPER_P;
+use octets::unit::UPPER_S;
+use octets::unit::UPPER_T;
+use octets::unit::UPPER_W;
 use sink::put;
 ghost use mathlib.Core.Path.{_≡_};
 ghost use Rattle.octets.specs.Reading.{orNothing};
@@ -58,7 +68,7 @@ fn second(exact: bool, mode: usize, s: &[u8], at: usize) -> bool
     let any = a.any;
     if any {
         let u = a.u;
-        if u == 83 {
+        if u == UPPER_S {
             return ended(mode, s, a.next);
         }
         return false;
@@ -83,7 +93,7 @@ fn minute(exact: bool, mode: usize, s: &[u8], at: usize) -> bool
     let any = a.any;
     if any {
         let u = a.u;
-        if u == 77 {
+        if u == UPPER_M {
             return no_or_second(exact, mode, s, a.next);
         }
         return false;
@@ -108,7 +118,7 @@ fn hour(exact: bool, mode: usize, s: &[u8], at: usize) -> bool
     let any = a.any;
     if any {
         let u = a.u;
-        if u == 72 {
+        if u == UPPER_H {
             return no_or_minute(exact, mode, s, a.next);
         }
         return false;
@@ -139,7 +149,7 @@ fn after_t(exact: bool, mode: usize, s: &[u8], at: usize) -> bool
 {
     let a = letter(exact, mode, s, at);
     let u = a.u;
-    if u == 84 {
+    if u == UPPER_T {
         return hours(exact, mode, s, a.next);
     }
     false
@@ -162,7 +172,7 @@ fn days(exact: bool, mode: usize, s: &[u8], at: usize) -> bool
     let any = a.any;
     if any {
         let u = a.u;
-        if u == 68 {
+        if u == UPPER_D {
             return no_or_time(exact, mode, s, a.next);
         }
         return false;
@@ -177,7 +187,7 @@ fn weeks(exact: bool, mode: usize, s: &[u8], at: usize) -> bool
     let any = a.any;
     if any {
         let u = a.u;
-        if u == 87 {
+        if u == UPPER_W {
             return ended(mode, s, a.next);
         }
         return false;
@@ -208,7 +218,7 @@ fn is_unsigned(exact: bool, mode: usize, s: &[u8], at: usize) -> bool
 {
     let a = letter(exact, mode, s, at);
     let u = a.u;
-    if u == 80 {
+    if u == UPPER_P {
         return after_p(exact, mode, s, a.next);
     }
     false
@@ -229,11 +239,11 @@ pub fn read_duration(xcal: bool, mode: usize, s: &[u8], at: usize) -> DurationRe
 {
     let a = letter(xcal, mode, s, at);
     let u = a.u;
-    if u == 43 {
+    if u == PLUS {
         let ok = is_unsigned(xcal, mode, s, a.next);
         return span_if(ok, false, a.next);
     }
-    if u == 45 {
+    if u == HYPHEN {
         let ok = is_unsigned(xcal, mode, s, a.next);
         return span_if(ok, true, a.next);
     }
@@ -250,7 +260,7 @@ fn put_letters(out: &mut [u8], o: usize, exact: bool, mode: usize, s: &[u8], at:
     loop {
         let a = letter(exact, mode, s, c);
         let u = a.u;
-        if u == 256 {
+        if u == END {
             return p;
         }
         p = put(out, p, u as u8);
@@ -271,7 +281,7 @@ fn put_span(
         Put (now (out .entry)) (now (out .exit)) o r
         (markBytes neg 45 ⊕ cased exact (rest mode (now (s .entry)) at)) ⌝ }
 {
-    let p = put_mark(out, o, neg, 45);
+    let p = put_mark(out, o, neg, b'-');
     put_letters(out, p, exact, mode, s, at)
 }
 

@@ -5,6 +5,7 @@ use crate::letters::ended;
 use crate::time::is_hms;
 use crate::written::put_marked;
 use crate::written::put_two;
+use octets::unit::HYPHEN;
 use sink::put;
 use source::unit;
 ghost use mathlib.Core.Path.{_≡_};
@@ -74,7 +75,7 @@ fn minus_at(mode: usize, s: &[u8], at: usize) -> bool
     ensures { λ r. ⌜ r ≡ isMinus (rest mode (now (s .entry)) at) ⌝ }
 {
     let a = unit(mode, s, at);
-    a.u == 45
+    a.u == HYPHEN
 }
 
 // There is no negative zero.
@@ -124,16 +125,16 @@ fn sign(neg: bool) -> u8
     ensures { λ r. ⌜ r ≡ signOf neg ⌝ }
 {
     if neg {
-        return 45;
+        return b'-';
     }
-    43
+    b'+'
 }
 
 fn put_last(out: &mut [u8], o: usize, to: bool, s: u8, given: bool) -> usize
     ensures { λ r. ⌜ Put (now (out .entry)) (now (out .exit)) o r (lastBytes to s given) ⌝ }
 {
     if given {
-        return put_marked(out, o, to, 58, s);
+        return put_marked(out, o, to, b':', s);
     }
     o
 }
@@ -153,7 +154,7 @@ fn put_shift(
     let g = sign(neg);
     let p = put(out, o, g);
     let q = put_two(out, p, h as u16);
-    let e = put_marked(out, q, to, 58, m);
+    let e = put_marked(out, q, to, b':', m);
     put_last(out, e, to, s, given)
 }
 

@@ -9,6 +9,8 @@ use crate::duration::DurationRead;
 use crate::duration::put_duration;
 use crate::duration::read_duration;
 use crate::letters::letter;
+use octets::unit::SLASH;
+use octets::unit::UPPER_Z;
 ghost use mathlib.Core.Path.{_≡_};
 ghost use mathlib.Core.Bool.{true, false};
 ghost use mathlib.Core.Option.{none};
@@ -42,17 +44,17 @@ fn slash_at(mode: usize, s: &[u8], at: usize) -> Cut
 {
     let a = letter(false, mode, s, at);
     let u = a.u;
-    if u == 47 {
+    if u == SLASH {
         return Cut {
             ok: true,
             k: 0,
             next: a.next,
         };
     }
-    if u == 90 {
+    if u == UPPER_Z {
         let b = letter(false, mode, s, a.next);
         let v = b.u;
-        if v == 47 {
+        if v == SLASH {
             return Cut {
                 ok: true,
                 k: 1,

@@ -4,6 +4,8 @@ use crate::follow::follow;
 use crate::letters::ended;
 use crate::letters::letter;
 use crate::written::put_clock;
+use octets::unit::END;
+use octets::unit::UPPER_Z;
 ghost use mathlib.Core.Path.{_≡_};
 ghost use Rattle.octets.specs.Reading.{orNothing};
 ghost use Rattle.calendar.specs.Calendar.{formatOf};
@@ -38,10 +40,10 @@ pub fn zone_at(exact: bool, mode: usize, s: &[u8], at: usize) -> usize
 {
     let a = letter(exact, mode, s, at);
     let u = a.u;
-    if u == 256 {
+    if u == END {
         return 0;
     }
-    if u == 90 {
+    if u == UPPER_Z {
         let end = ended(mode, s, a.next);
         if end {
             return 1;

@@ -84,7 +84,7 @@ fn put_one_item(out: &mut [u8], o: usize, started: bool, p: usize, s: &[u8], i: 
     ensures { λ r. ⌜
         Put (now (out .entry)) (now (out .exit)) o r (pick started (44 ∷ []) [] ⊕ itemText p (now (s .entry)) i) ⌝ }
 {
-    let a = put_between(out, o, started, 44);
+    let a = put_between(out, o, started, b',');
     put_item(out, a, p, true, false, 1, s, 2 * i)
 }
 
@@ -130,7 +130,7 @@ fn put_part(
         (rest 0 (take «name_end» (now (s .entry))) name) ⊕ ascii "=" ⊕ joinedBy 44
         (map (writeItem ical) (itemsOf (getD partNames p []) (nodesAt (now (s .entry)) inside)))) ⌝ }
 {
-    let a = put_between(out, o, started, 59);
+    let a = put_between(out, o, started, b';');
     let b = put_upper(out, a, 0, &s[..name_end], name);
     let c = put_all(out, b, b"=");
     put_items(out, c, p, s, inside)

@@ -86,7 +86,7 @@ fn put_one_value(out: &mut [u8], o: usize, started: bool, t: usize, s: &[u8], i:
         Put (now (out .entry)) (now (out .exit)) o r
         (pick started (44 ∷ []) [] ⊕ writeValue (valueOf (typeAt t) (nodesAt (now (s .entry)) i))) ⌝ }
 {
-    let a = put_between(out, o, started, 44);
+    let a = put_between(out, o, started, b',');
     put_value(out, a, t, s, i)
 }
 

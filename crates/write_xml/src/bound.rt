@@ -2,6 +2,10 @@
 use crate::entry::Found;
 use crate::entry::Kind;
 use crate::entry::entry_at;
+use octets::unit::LOWER_B;
+use octets::unit::LOWER_E;
+use octets::unit::UPPER_B;
+use octets::unit::UPPER_E;
 use read_text_line::Ending;
 use read_text_line::line_end;
 use source::unit;
@@ -17,16 +21,16 @@ ghost use Rattle.write_xml.specs.Bounds.{opensBound, opens, BoundAt};
 fn opens_bound(b: usize) -> bool
     ensures { λ r. ⌜ r ≡ opensBound b ⌝ }
 {
-    if b == 66 {
+    if b == UPPER_B {
         return true;
     }
-    if b == 98 {
+    if b == LOWER_B {
         return true;
     }
-    if b == 69 {
+    if b == UPPER_E {
         return true;
     }
-    b == 101
+    b == LOWER_E
 }
 
 // The line at `at`, which is neither BEGIN nor END: only its end is sought.

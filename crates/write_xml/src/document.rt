@@ -17,7 +17,7 @@ fn put_front(out: &mut [u8], o: usize) -> usize
     ensures { λ r. ⌜ Put (now (out .entry)) (now (out .exit)) o r (declaration ⊕ (10 ∷ []) ⊕ rootStart) ⌝ }
 {
     let a = put_all(out, o, b"<?xml version=\"1.0\" encoding=\"utf-8\"?>");
-    let b = put(out, a, 10);
+    let b = put(out, a, b'\n');
     put_all(
         out,
         b,
@@ -29,7 +29,7 @@ fn put_back(out: &mut [u8], o: usize) -> usize
     ensures { λ r. ⌜ Put (now (out .entry)) (now (out .exit)) o r (rootEnd ⊕ (10 ∷ [])) ⌝ }
 {
     let a = put_all(out, o, b"</icalendar>");
-    put(out, a, 10)
+    put(out, a, b'\n')
 }
 
 // The canonical XML of the text, whatever it is.

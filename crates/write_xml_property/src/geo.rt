@@ -3,6 +3,7 @@ use numbers::float::put_float;
 use numbers::float::put_float_to;
 use numbers::geo::GeoRead;
 use numbers::geo::read_geo;
+use octets::unit::SEMICOLON;
 use tags::put_end_tag;
 use tags::put_start_tag;
 ghost use Rattle.octets.specs.Ascii.{ascii};
@@ -23,7 +24,7 @@ fn put_latitude(out: &mut [u8], o: usize, mode: usize, s: &[u8], at: usize) -> u
         (elementOf (ascii "latitude") (orNothing writeFloat (readFloat (until 59 mode (now (s .entry)) at)))) ⌝ }
 {
     let a = put_start_tag(out, o, b"latitude");
-    let b = put_float_to(out, a, 59, mode, s, at);
+    let b = put_float_to(out, a, SEMICOLON, mode, s, at);
     put_end_tag(out, b, b"latitude")
 }
 

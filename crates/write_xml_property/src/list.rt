@@ -1,4 +1,6 @@
 // A list of values in text, written as an element for each. See specs/Pieces.antt.
+use octets::unit::COMMA;
+use octets::unit::END;
 use recur::rule::byte_end;
 use source::unit;
 use texts::put_texts_xml;
@@ -45,11 +47,11 @@ fn put_pieces(out: &mut [u8], at: usize, t: usize, mode: usize, s: &[u8], from: 
     let mut o = at;
     let mut c = from;
     loop {
-        let e = byte_end(44, mode, s, c);
+        let e = byte_end(COMMA, mode, s, c);
         o = put_piece(out, o, t, mode, s, c, e);
         let n = unit(mode, s, e);
         let u = n.u;
-        if u == 256 {
+        if u == END {
             return o;
         }
         c = n.next;

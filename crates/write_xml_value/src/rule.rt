@@ -1,6 +1,9 @@
 // A recurrence rule as elements: each part in the schema's order, an element for each of its items. See specs/Rules.antt and specs/laws/PutRule.antt.
 use crate::tag::put_part_end;
 use crate::tag::put_part_start;
+use octets::unit::COMMA;
+use octets::unit::END;
+use octets::unit::SEMICOLON;
 use recur::rule::byte_end;
 use recur::rule::is_list_part;
 use recur::rule::value_at;
@@ -39,11 +42,11 @@ fn put_items_xml(out: &mut [u8], o: usize, p: usize, mode: usize, s: &[u8], at: 
     let mut q = o;
     let mut c = at;
     loop {
-        let e = byte_end(44, mode, s, c);
+        let e = byte_end(COMMA, mode, s, c);
         q = put_item_xml(out, q, p, mode, &s[..e], c);
         let n = unit(mode, s, e);
         let u = n.u;
-        if u == 256 {
+        if u == END {
             return q;
         }
         c = n.next;
@@ -76,7 +79,7 @@ fn put_part_xml(out: &mut [u8], o: usize, p: usize, mode: usize, s: &[u8], noted
         return o;
     }
     let c = noted - 1;
-    let e = byte_end(59, mode, s, c);
+    let e = byte_end(SEMICOLON, mode, s, c);
     put_piece_xml(out, o, p, mode, &s[..e], c)
 }
 

@@ -1,4 +1,5 @@
 // A text as it stands, and a word in capitals, each as an element `text`. See specs/laws/Words.antt.
+use octets::unit::END;
 use octets::upper_unit;
 use source::unit;
 use tags::put_end_tag;
@@ -29,7 +30,7 @@ fn put_capitals(out: &mut [u8], o: usize, mode: usize, s: &[u8], at: usize) -> u
     loop {
         let t = unit(mode, s, c);
         let u = t.u;
-        if u == 256 {
+        if u == END {
             return p;
         }
         let v = upper_unit(u);
