@@ -9,6 +9,7 @@ use read_text_line::LineRead;
 use read_text_line::line_at;
 use read_text_line::line_end;
 use read_text_line::names_carried;
+use schema::component;
 use schema::component_number;
 use source::settled;
 ghost use mathlib.Core.Path.{_≡_};
@@ -29,7 +30,7 @@ fn begin_fault(mode: usize, s: &[u8], e: usize, v: usize) -> u8
     ensures { λ r. ⌜ beginsOuter mode (now (s .entry)) e v ≡ outward r ⌝ }
 {
     let n = component_number(mode, s, v);
-    if n == 0 {
+    if n == component::VCALENDAR {
         let bare = no_params(mode, s, e);
         if bare {
             return 0;
@@ -76,7 +77,7 @@ fn calendar(mode: usize, s: &[u8], at: usize) -> Step
     };
     let fault = outer_fault(mode, &s[..e], at);
     if fault == 0 {
-        return body(mode, s, next, 0);
+        return body(mode, s, next, component::VCALENDAR);
     }
     Step::Failed(fault, at)
 }

@@ -11,8 +11,10 @@ use read_xml_nodes::NodeKind;
 use read_xml_nodes::has_capital;
 use read_xml_nodes::has_element;
 use read_xml_nodes::next_node;
+use schema::parameter;
 use schema::parameter_number;
 use schema::permits_parameter;
+use schema::value_type;
 ghost use mathlib.Core.Path.{_≡_};
 ghost use mathlib.Core.Bool.{true, false};
 ghost use mathlib.Core.List.{List, []};
@@ -84,8 +86,8 @@ fn is_encoded(q: usize, t: usize, s: &[u8], inside: usize) -> bool
     requires { ⌜ length (now s) ≤ 65535 ⌝ }
     ensures { λ r. ⌜ r ≡ encodedBy q t (nodesAt (now (s .entry)) inside) ⌝ }
 {
-    if q == 6 {
-        if t == 0 {
+    if q == parameter::ENCODING {
+        if t == value_type::BINARY {
             return is_base64(s, inside);
         }
         return true;

@@ -1,4 +1,8 @@
 // What the tables say of a component, a property, a type, a parameter, by their numbers. The tables of bytes are those of specs/ by computation.
+use crate::component;
+use crate::parameter;
+use crate::property;
+use crate::value_type;
 use octets::wide;
 ghost use mathlib.Core.Path.{_≡_};
 ghost use Prim.Native.Nat.{_<_};
@@ -62,10 +66,10 @@ const DEFAULTS: [u8; 46] = [
 pub fn default_type(p: usize) -> usize
     ensures { λ r. ⌜ r ≡ typePlace (propertyAt p .default) ⌝ }
 {
-    if p < 46 {
+    if p < property::KNOWN {
         return wide(DEFAULTS[p]);
     }
-    14
+    value_type::UNKNOWN
 }
 
 // A line for each property, a column for each of the fourteen types: 1 where its values may have the type.
@@ -120,9 +124,9 @@ const PERMITTED: [u8; 644] = *b"\
 pub fn permits_type(p: usize, t: usize) -> bool
     ensures { λ r. ⌜ r ≡ permitsType p t ⌝ }
 {
-    if p < 46 {
-        if t < 14 {
-            return PERMITTED[p * 14 + t] == 49;
+    if p < property::KNOWN {
+        if t < value_type::KNOWN {
+            return PERMITTED[p * value_type::KNOWN + t] == 49;
         }
         return false;
     }
@@ -135,7 +139,7 @@ const LISTED: [u8; 46] = *b"0000010000000100000001000000000000011000000000";
 pub fn is_listed(p: usize) -> bool
     ensures { λ r. ⌜ r ≡ propertyAt p .listed ⌝ }
 {
-    if p < 46 {
+    if p < property::KNOWN {
         return LISTED[p] == 49;
     }
     false
@@ -195,19 +199,19 @@ fn carries(p: usize, q: usize) -> bool
     requires { ⌜ (p < 46) × (q < 19) ⌝ }
     ensures { λ r. ⌜ r ≡ isOneOf (parameterName q) (propertyAt p .parameters) ⌝ }
 {
-    PERMITS[p * 19 + q] == 49
+    PERMITS[p * parameter::KNOWN + q] == 49
 }
 
 // Whether a property whose values have the type `t` permits a parameter; RELATED only with DURATION.
 pub fn permits_parameter(p: usize, t: usize, q: usize) -> bool
     ensures { λ r. ⌜ r ≡ permitsAt p t q ⌝ }
 {
-    if q < 19 {
-        if p < 46 {
+    if q < parameter::KNOWN {
+        if p < property::KNOWN {
             let ok = carries(p, q);
             if ok {
-                if q == 13 {
-                    return t == 5;
+                if q == parameter::RELATED {
+                    return t == value_type::DURATION;
                 }
                 return true;
             }
@@ -244,10 +248,10 @@ const PARAMETER_TYPES: [u8; 19] = [
 pub fn parameter_type(q: usize) -> usize
     ensures { λ r. ⌜ r ≡ typePlace (parameterAt q .type) ⌝ }
 {
-    if q < 19 {
+    if q < parameter::KNOWN {
         return wide(PARAMETER_TYPES[q]);
     }
-    14
+    value_type::UNKNOWN
 }
 
 // 1 where the parameter takes a list of values.
@@ -256,7 +260,7 @@ const LISTED_PARAMETERS: [u8; 19] = *b"0001100000100000000";
 pub fn is_listed_parameter(q: usize) -> bool
     ensures { λ r. ⌜ r ≡ parameterAt q .listed ⌝ }
 {
-    if q < 19 {
+    if q < parameter::KNOWN {
         return LISTED_PARAMETERS[q] == 49;
     }
     true
@@ -268,7 +272,7 @@ const QUOTED: [u8; 19] = *b"1001110000100000010";
 pub fn is_quoted_parameter(q: usize) -> bool
     ensures { λ r. ⌜ r ≡ parameterAt q .quoted ⌝ }
 {
-    if q < 19 {
+    if q < parameter::KNOWN {
         return QUOTED[q] == 49;
     }
     false
@@ -289,9 +293,9 @@ const STANDING: [u8; 414] = *b"\
 pub fn may_stand(k: usize, p: usize) -> bool
     ensures { λ r. ⌜ r ≡ mayStand (componentName k) (propertyName p) ⌝ }
 {
-    if k < 9 {
-        if p < 46 {
-            return STANDING[k * 46 + p] == 49;
+    if k < component::KNOWN {
+        if p < property::KNOWN {
+            return STANDING[k * property::KNOWN + p] == 49;
         }
         return false;
     }
@@ -314,9 +318,9 @@ const INNER: [u8; 81] = *b"\
 pub fn may_begin(parent: usize, k: usize) -> bool
     ensures { λ r. ⌜ r ≡ mayBegin parent k ⌝ }
 {
-    if parent < 9 {
-        if k < 9 {
-            return INNER[parent * 9 + k] == 49;
+    if parent < component::KNOWN {
+        if k < component::KNOWN {
+            return INNER[parent * component::KNOWN + k] == 49;
         }
         return false;
     }
@@ -327,5 +331,5 @@ pub fn may_begin(parent: usize, k: usize) -> bool
 pub fn is_alarm(k: usize) -> bool
     ensures { λ r. ⌜ r ≡ eqb k 8 ⌝ }
 {
-    k == 8
+    k == component::VALARM
 }

@@ -1,6 +1,7 @@
 // A recurrence rule as elements: each part in the schema's order, an element for each of its items. See specs/Rules.antt and specs/laws/PutRule.antt.
 use crate::tag::put_part_end;
 use crate::tag::put_part_start;
+use recur::part;
 use recur::rule::byte_end;
 use recur::rule::is_list_part;
 use recur::rule::value_at;
@@ -95,7 +96,7 @@ pub fn put_parts_xml(
 {
     let mut q = o;
     let mut p = 0;
-    while p < 14 {
+    while p < part::KNOWN {
         q = put_part_xml(out, q, p, mode, s, begins[p]);
         p += 1;
     }
