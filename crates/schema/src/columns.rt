@@ -15,52 +15,52 @@ ghost use Rattle.schema.specs.Columns.{permitsType, permitsAt, mayBegin}
 
 // The type of each property's values where no VALUE is given.
 const DEFAULTS: [u8; 46] = [
-    10, // CALSCALE
-    10, // METHOD
-    10, // PRODID
-    10, // VERSION
-    12, // ATTACH
-    10, // CATEGORIES
-    10, // CLASS
-    10, // COMMENT
-    10, // DESCRIPTION
-    6, // GEO
-    10, // LOCATION
-    7, // PERCENT-COMPLETE
-    7, // PRIORITY
-    10, // RESOURCES
-    10, // STATUS
-    10, // SUMMARY
-    4, // COMPLETED
-    4, // DTEND
-    4, // DUE
-    4, // DTSTART
-    5, // DURATION
-    8, // FREEBUSY
-    10, // TRANSP
-    10, // TZID
-    10, // TZNAME
-    13, // TZOFFSETFROM
-    13, // TZOFFSETTO
-    12, // TZURL
-    2, // ATTENDEE
-    10, // CONTACT
-    2, // ORGANIZER
-    4, // RECURRENCE-ID
-    10, // RELATED-TO
-    12, // URL
-    10, // UID
-    4, // EXDATE
-    4, // RDATE
-    9, // RRULE
-    10, // ACTION
-    7, // REPEAT
-    5, // TRIGGER
-    4, // CREATED
-    4, // DTSTAMP
-    4, // LAST-MODIFIED
-    7, // SEQUENCE
-    10, // REQUEST-STATUS
+    value_type::TEXT as u8, // CALSCALE
+    value_type::TEXT as u8, // METHOD
+    value_type::TEXT as u8, // PRODID
+    value_type::TEXT as u8, // VERSION
+    value_type::URI as u8, // ATTACH
+    value_type::TEXT as u8, // CATEGORIES
+    value_type::TEXT as u8, // CLASS
+    value_type::TEXT as u8, // COMMENT
+    value_type::TEXT as u8, // DESCRIPTION
+    value_type::FLOAT as u8, // GEO
+    value_type::TEXT as u8, // LOCATION
+    value_type::INTEGER as u8, // PERCENT-COMPLETE
+    value_type::INTEGER as u8, // PRIORITY
+    value_type::TEXT as u8, // RESOURCES
+    value_type::TEXT as u8, // STATUS
+    value_type::TEXT as u8, // SUMMARY
+    value_type::DATE_TIME as u8, // COMPLETED
+    value_type::DATE_TIME as u8, // DTEND
+    value_type::DATE_TIME as u8, // DUE
+    value_type::DATE_TIME as u8, // DTSTART
+    value_type::DURATION as u8, // DURATION
+    value_type::PERIOD as u8, // FREEBUSY
+    value_type::TEXT as u8, // TRANSP
+    value_type::TEXT as u8, // TZID
+    value_type::TEXT as u8, // TZNAME
+    value_type::UTC_OFFSET as u8, // TZOFFSETFROM
+    value_type::UTC_OFFSET as u8, // TZOFFSETTO
+    value_type::URI as u8, // TZURL
+    value_type::CAL_ADDRESS as u8, // ATTENDEE
+    value_type::TEXT as u8, // CONTACT
+    value_type::CAL_ADDRESS as u8, // ORGANIZER
+    value_type::DATE_TIME as u8, // RECURRENCE-ID
+    value_type::TEXT as u8, // RELATED-TO
+    value_type::URI as u8, // URL
+    value_type::TEXT as u8, // UID
+    value_type::DATE_TIME as u8, // EXDATE
+    value_type::DATE_TIME as u8, // RDATE
+    value_type::RECUR as u8, // RRULE
+    value_type::TEXT as u8, // ACTION
+    value_type::INTEGER as u8, // REPEAT
+    value_type::DURATION as u8, // TRIGGER
+    value_type::DATE_TIME as u8, // CREATED
+    value_type::DATE_TIME as u8, // DTSTAMP
+    value_type::DATE_TIME as u8, // LAST-MODIFIED
+    value_type::INTEGER as u8, // SEQUENCE
+    value_type::TEXT as u8, // REQUEST-STATUS
 ];
 
 pub fn default_type(p: usize) -> usize
@@ -224,25 +224,25 @@ pub fn permits_parameter(p: usize, t: usize, q: usize) -> bool
 
 // The type of each parameter's values.
 const PARAMETER_TYPES: [u8; 19] = [
-    12, // ALTREP
-    10, // CN
-    10, // CUTYPE
-    2, // DELEGATED-FROM
-    2, // DELEGATED-TO
-    12, // DIR
-    10, // ENCODING
-    10, // FMTTYPE
-    10, // FBTYPE
-    10, // LANGUAGE
-    2, // MEMBER
-    10, // PARTSTAT
-    10, // RANGE
-    10, // RELATED
-    10, // RELTYPE
-    10, // ROLE
-    1, // RSVP
-    2, // SENT-BY
-    10, // TZID
+    value_type::URI as u8, // ALTREP
+    value_type::TEXT as u8, // CN
+    value_type::TEXT as u8, // CUTYPE
+    value_type::CAL_ADDRESS as u8, // DELEGATED-FROM
+    value_type::CAL_ADDRESS as u8, // DELEGATED-TO
+    value_type::URI as u8, // DIR
+    value_type::TEXT as u8, // ENCODING
+    value_type::TEXT as u8, // FMTTYPE
+    value_type::TEXT as u8, // FBTYPE
+    value_type::TEXT as u8, // LANGUAGE
+    value_type::CAL_ADDRESS as u8, // MEMBER
+    value_type::TEXT as u8, // PARTSTAT
+    value_type::TEXT as u8, // RANGE
+    value_type::TEXT as u8, // RELATED
+    value_type::TEXT as u8, // RELTYPE
+    value_type::TEXT as u8, // ROLE
+    value_type::BOOLEAN as u8, // RSVP
+    value_type::CAL_ADDRESS as u8, // SENT-BY
+    value_type::TEXT as u8, // TZID
 ];
 
 pub fn parameter_type(q: usize) -> usize
