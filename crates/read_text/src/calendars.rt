@@ -14,6 +14,7 @@ use refusals::LINE;
 use refusals::NAME;
 use refusals::NO_FAULT;
 use refusals::PARAMETER;
+use schema::component;
 use schema::component_number;
 use source::settled;
 ghost use mathlib.Core.Path.{_≡_};
@@ -34,7 +35,7 @@ fn begin_fault(mode: usize, s: &[u8], e: usize, v: usize) -> u8
     ensures { λ r. ⌜ beginsOuter mode (now (s .entry)) e v ≡ outward r ⌝ }
 {
     let n = component_number(mode, s, v);
-    if n == 0 {
+    if n == component::VCALENDAR {
         let bare = no_params(mode, s, e);
         if bare {
             return NO_FAULT;
@@ -81,7 +82,7 @@ fn calendar(mode: usize, s: &[u8], at: usize) -> Step
     };
     let fault = outer_fault(mode, &s[..e], at);
     if fault == NO_FAULT {
-        return body(mode, s, next, 0);
+        return body(mode, s, next, component::VCALENDAR);
     }
     Step::Failed(fault, at)
 }

@@ -8,8 +8,10 @@ use read_text_line::line_end;
 use refusals::COUNT;
 use refusals::FRAME;
 use refusals::LINE;
+use schema::action;
 use schema::bump;
 use schema::complete_counts;
+use schema::property;
 ghost use mathlib.Core.Path.{_≡_};
 ghost use Prim.Native.Nat.{_<_};
 ghost use lib.Dec.{eqb};
@@ -37,7 +39,7 @@ fn next_line(k: usize, inner: bool, mode: usize, s: &[u8], at: usize) -> Turn
 fn action_after(p: usize, a: usize, last: usize) -> usize
     ensures { λ r. ⌜ r ≡ pick (eqb p 38) a last ⌝ }
 {
-    if p == 38 {
+    if p == property::ACTION {
         return a;
     }
     last
@@ -49,8 +51,9 @@ pub fn body(mode: usize, s: &[u8], from: usize, k: usize) -> Step
     ensures { λ r. ⌜ Body k mode (now (s .entry)) from r ⌝ }
 {
     let mut at = from;
+    // One for each known property.
     let mut counts = [0u8; 46];
-    let mut action = 3;
+    let mut action = action::NONE;
     let mut inner = false;
     while at < s.len() {
         let l = next_line(k, inner, mode, s, at);

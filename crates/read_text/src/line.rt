@@ -11,10 +11,13 @@ use refusals::LINE;
 use refusals::NAME;
 use refusals::NO_FAULT;
 use refusals::PARAMETER;
+use schema::action;
 use schema::action_number;
+use schema::component;
 use schema::component_number;
 use schema::may_begin;
 use schema::may_stand;
+use schema::property;
 use schema::property_number;
 ghost use mathlib.Core.Path.{_≡_};
 ghost use mathlib.Core.Bool.{true, not};
@@ -88,7 +91,7 @@ fn may_follow(k: usize, inner: bool) -> bool
     ensures { λ r. ⌜ r ≡ (not inner or eqb k 5) ⌝ }
 {
     if inner {
-        return k == 5;
+        return k == component::VTIMEZONE;
     }
     true
 }
@@ -98,7 +101,7 @@ fn may_hold(k: usize, inner: bool, p: usize) -> bool
     requires { ⌜ k < 9 ⌝ }
     ensures { λ r. ⌜ ((w : List ℕ) → p ≡ placeOf w propertyNames → r ≡ mayHold w (openAs (componentName k) inner)) ⌝ }
 {
-    if p < 46 {
+    if p < property::KNOWN {
         let may = may_stand(k, p);
         if may {
             return may_follow(k, inner);
@@ -108,14 +111,14 @@ fn may_hold(k: usize, inner: bool, p: usize) -> bool
     may_follow(k, inner)
 }
 
-// The number of the word of ACTION, 3 where the property is another.
+// The number of the word of ACTION, NONE where the property is another.
 fn action_of(p: usize, mode: usize, s: &[u8], v: usize) -> usize
     ensures { λ r. ⌜ r ≡ pick (eqb p 38) (placeOf (upper (rest mode (now (s .entry)) v)) actionNames) 3 ⌝ }
 {
-    if p == 38 {
+    if p == property::ACTION {
         return action_number(false, mode, s, v);
     }
-    3
+    action::NONE
 }
 
 // The kind of a line that is a property of the number `p`.

@@ -6,6 +6,7 @@ use crate::once::are_distinct;
 use crate::read::are_read;
 use read_text_line::next_param;
 use schema::permits_parameter;
+use schema::value_type;
 ghost use mathlib.Core.Path.{_≡_};
 ghost use mathlib.Core.Bool.{true, not};
 ghost use mathlib.Core.List.{List};
@@ -60,12 +61,12 @@ fn are_permitted(p: usize, t: usize, mode: usize, s: &[u8], e: usize) -> bool
     }
 }
 
-// BINARY, the type of number 0, has ENCODING=BASE64.
+// BINARY has ENCODING=BASE64.
 fn is_encoded(t: usize, mode: usize, s: &[u8], e: usize) -> bool
     requires { ⌜ cuts mode ≡ true ⌝ }
     ensures { λ r. ⌜ r ≡ (not (eqb t 0) or anyOne isBase64 (paramsAt mode (now (s .entry)) e)) ⌝ }
 {
-    if t == 0 {
+    if t == value_type::BINARY {
         return has_base64(mode, s, e);
     }
     true

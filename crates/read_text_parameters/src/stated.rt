@@ -7,6 +7,7 @@ use read_text_line::next_param;
 use read_text_line::param_value;
 use schema::default_type;
 use schema::type_number;
+use schema::value_type;
 ghost use mathlib.Core.Path.{_≡_};
 ghost use mathlib.Core.Bool.{true};
 ghost use mathlib.Core.Option.{some};
@@ -25,7 +26,7 @@ fn named_type(mode: usize, s: &[u8], from: usize, to: usize) -> TypeRead
 {
     let e = smaller(to, s.len());
     let t = type_number(mode, &s[..e], from);
-    if t < 14 {
+    if t < value_type::KNOWN {
         return TypeRead::Type(t);
     }
     TypeRead::Bad

@@ -3,6 +3,7 @@ use schema::is_quoted_parameter;
 use schema::is_word_of_parameter;
 use schema::parameter_has_words;
 use schema::parameter_type;
+use schema::value_type;
 use values::ValueRead;
 use values::read_value;
 ghost use mathlib.Core.Path.{_≡_};
@@ -37,7 +38,7 @@ fn is_typed(q: usize, mode: usize, s: &[u8], at: usize) -> bool
     ensures { λ r. ⌜ r ≡ isRead (readTyped (parameterAt q .type) (rest mode (now (s .entry)) at)) ⌝ }
 {
     let t = parameter_type(q);
-    if t == 10 {
+    if t == value_type::TEXT {
         return true;
     }
     is_of_type(t, mode, s, at)

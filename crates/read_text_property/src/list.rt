@@ -3,6 +3,7 @@ use octets::unit::COMMA;
 use octets::unit::END;
 use read_text_parameters::is_of_type;
 use recur::rule::byte_end;
+use schema::value_type;
 use source::unit;
 use texts::is_kept;
 use texts::read_text;
@@ -48,12 +49,12 @@ fn are_values(t: usize, mode: usize, s: &[u8], at: usize) -> bool
     is_of_type(t, mode, s, at)
 }
 
-// A list of TEXT, 10, or of another type.
+// A list of TEXT, or of another type.
 pub fn are_listed(t: usize, mode: usize, s: &[u8], at: usize) -> bool
     requires { ⌜ cuts mode ≡ true ⌝ }
     ensures { λ r. ⌜ r ≡ isRead (readListed (typeAt t) (rest mode (now (s .entry)) at)) ⌝ }
 {
-    if t == 10 {
+    if t == value_type::TEXT {
         let k = read_text(COMMA, mode, s, at);
         return is_kept(k);
     }

@@ -8,6 +8,7 @@ use schema::has_words;
 use schema::is_listed;
 use schema::is_word_of;
 use schema::permits_type;
+use schema::property;
 use texts::Status;
 use texts::read_request_status;
 ghost use mathlib.Core.Path.{_≡_};
@@ -58,15 +59,15 @@ fn is_chosen(k: usize, p: usize, t: usize, mode: usize, s: &[u8], at: usize) -> 
     is_of_type(t, mode, s, at)
 }
 
-// The values of a property, of which 9 is GEO and 45 REQUEST-STATUS.
+// The values of a property.
 fn are_own(k: usize, p: usize, t: usize, mode: usize, s: &[u8], at: usize) -> bool
     requires { ⌜ cuts mode ≡ true ⌝ }
     ensures { λ r. ⌜ r ≡ ownAt k p t (rest mode (now (s .entry)) at) ⌝ }
 {
-    if p == 9 {
+    if p == property::GEO {
         return is_geo(mode, s, at);
     }
-    if p == 45 {
+    if p == property::REQUEST_STATUS {
         return is_request_status(mode, s, at);
     }
     let many = is_listed(p);

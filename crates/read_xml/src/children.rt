@@ -12,6 +12,7 @@ use read_xml_parameters::parameters_verdict;
 use read_xml_value::value_verdict;
 use refusals::FRAME;
 use schema::is_listed;
+use schema::property;
 ghost use mathlib.Core.Path.{_≡_};
 ghost use mathlib.Core.List.{List, []};
 ghost use Prim.Native.Nat.{ℕ, _≤_};
@@ -33,14 +34,14 @@ ghost use Rattle.read_xml.specs.Children.{childWords, slotAt, afterAt, f
 ghost use Rattle.read_xml.specs.Turning.{afterOf, Holder, ChildAt, Turns};
 ghost use Rattle.read_xml.specs.declared.Next.the-variants.{Goes, Ends};
 
-// The number of a child's name, from the cursor on. 9 is GEO, 45 is REQUEST-STATUS.
+// The number of a child's name, from the cursor on.
 fn child_word(p: usize, s: &[u8], at: usize) -> usize
     ensures { λ r. ⌜ r ≡ placeOf (rest 0 (now (s .entry)) at) (childWords p) ⌝ }
 {
-    if p == 9 {
+    if p == property::GEO {
         return find_word(true, 0, s, at, b"parameters\nlatitude\nlongitude\n");
     }
-    if p == 45 {
+    if p == property::REQUEST_STATUS {
         return find_word(true, 0, s, at, b"parameters\ncode\ndescription\ndata\n");
     }
     find_word(
@@ -66,10 +67,10 @@ fn below(i: usize, n: usize) -> usize
 fn slot_number(p: usize, i: usize) -> usize
     ensures { λ r. ⌜ r ≡ slotAt p i ⌝ }
 {
-    if p == 9 {
+    if p == property::GEO {
         return below(i, 3);
     }
-    if p == 45 {
+    if p == property::REQUEST_STATUS {
         return below(i, 4);
     }
     if i == 0 {
@@ -195,10 +196,10 @@ fn fills(slot: usize, which: usize, filled: bool) -> bool
 fn has_two(p: usize) -> bool
     ensures { λ r. ⌜ r ≡ hasTwo p ⌝ }
 {
-    if p == 9 {
+    if p == property::GEO {
         return true;
     }
-    p == 45
+    p == property::REQUEST_STATUS
 }
 
 // At the end tag at `e`, by the slots that are filled.

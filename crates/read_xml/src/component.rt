@@ -9,17 +9,18 @@ use read_xml_nodes::next_node;
 use read_xml_nodes::unexpected;
 use refusals::COUNT;
 use refusals::FRAME;
+use schema::component;
 ghost use mathlib.Core.Path.{_≡_};
 ghost use Prim.Native.Nat.{_≤_};
 ghost use lib.ListN.{length};
 ghost use Rattle.read_xml.specs.Components.{EndAt, EndsAt, hasSubs, HeadAt, BehindAt};
 
-// At the end tag of the component of the number `k`: whether its counts are good, and `properties` and `components` have come. 0 is VCALENDAR.
+// At the end tag of the component of the number `k`: whether its counts are good, and `properties` and `components` have come.
 fn end_of(k: usize, counts: bool, had: bool, came: bool, e: usize) -> Judged
     ensures { λ r. ⌜ EndAt k counts had came e r ⌝ }
 {
     if had {
-        if k == 0 {
+        if k == component::VCALENDAR {
             if came {
                 if counts {
                     return Judged::Fine;
@@ -36,17 +37,17 @@ fn end_of(k: usize, counts: bool, had: bool, came: bool, e: usize) -> Judged
     Judged::Refused(FRAME, e)
 }
 
-// At the end tag of its `components`, in which a component has come or not. 5 is VTIMEZONE.
+// At the end tag of its `components`, in which a component has come or not.
 pub fn end_components(k: usize, any: bool, e: usize) -> Judged
     ensures { λ r. ⌜ EndsAt k any e r ⌝ }
 {
     if any {
         return Judged::Fine;
     }
-    if k == 0 {
+    if k == component::VCALENDAR {
         return Judged::Fine;
     }
-    if k == 5 {
+    if k == component::VTIMEZONE {
         return Judged::Fine;
     }
     Judged::Refused(FRAME, e)
@@ -56,16 +57,16 @@ pub fn end_components(k: usize, any: bool, e: usize) -> Judged
 fn has_subs(k: usize) -> bool
     ensures { λ r. ⌜ r ≡ hasSubs k ⌝ }
 {
-    if k == 0 {
+    if k == component::VCALENDAR {
         return true;
     }
-    if k == 1 {
+    if k == component::VEVENT {
         return true;
     }
-    if k == 2 {
+    if k == component::VTODO {
         return true;
     }
-    k == 5
+    k == component::VTIMEZONE
 }
 
 // The component of the number `k`, with good counts or not, up to its `components`, or to its end tag at `e`.

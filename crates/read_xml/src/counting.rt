@@ -6,8 +6,10 @@ use read_xml_nodes::has_element;
 use read_xml_nodes::next_node;
 use read_xml_nodes::node_end;
 use read_xml_nodes::node_head;
+use schema::action;
 use schema::bump;
 use schema::complete_counts;
+use schema::property;
 use schema::property_number;
 ghost use mathlib.Core.Path.{_≡_};
 ghost use Prim.Native.Nat.{_≤_};
@@ -77,6 +79,7 @@ fn tallies_of(s: &[u8], inside: usize) -> [u8; 46]
     ensures { λ r. ⌜ r ≡ tallies (readProperties (nodesAt (now (s .entry)) inside)) ⌝ }
 {
     let mut at = inside;
+    // One for each known property.
     let mut counts = [0u8; 46];
     loop {
         let n = next_node(s, at);
@@ -101,7 +104,7 @@ fn tallies_of(s: &[u8], inside: usize) -> [u8; 46]
     }
 }
 
-// The number of the word of the first ACTION among them, 3 where there is none.
+// The number of the word of the first ACTION among them, NONE where there is none.
 fn action_of(s: &[u8], inside: usize) -> usize
     requires { ⌜ length (now s) ≤ 65535 ⌝ }
     ensures { λ r. ⌜ r ≡ actionIn (nodesAt (now (s .entry)) inside) ⌝ }
@@ -112,11 +115,11 @@ fn action_of(s: &[u8], inside: usize) -> usize
         let kind = n.kind;
         match kind {
             NodeKind::None => {
-                return 3;
+                return action::NONE;
             }
             NodeKind::Element => {
                 let p = property_at(s, n.name, n.name_end);
-                if p == 38 {
+                if p == property::ACTION {
                     return action_word(s, n.inside);
                 }
                 let e = node_end(s, at, n.opens, n.next);

@@ -14,7 +14,9 @@ use refusals::FRAME;
 use refusals::NAME;
 use refusals::PARAMETER;
 use schema::may_stand;
+use schema::property;
 use schema::property_number;
+use schema::value_type;
 ghost use mathlib.Core.Path.{_≡_};
 ghost use mathlib.Core.List.{List};
 ghost use Prim.Native.Nat.{ℕ, _≤_};
@@ -61,11 +63,11 @@ fn parameters_at(p: usize, s: &[u8], inside: usize) -> usize
     }
 }
 
-// Its value has the type BINARY (0), and it has no ENCODING.
+// Its value has the type BINARY, and it has no ENCODING.
 fn lacks_encoding(p: usize, t: usize, s: &[u8], inside: usize) -> bool
     ensures { λ r. ⌜ LacksAt p t (nodesAt (now (s .entry)) inside) r ⌝ }
 {
-    if t == 0 {
+    if t == value_type::BINARY {
         let q = parameters_at(p, s, inside);
         let has = has_encoding(s, q);
         if has {
@@ -100,7 +102,7 @@ fn bad_name(s: &[u8], name: usize, name_end: usize) -> bool
 fn is_misplaced(k: usize, p: usize) -> bool
     ensures { λ r. ⌜ OffAt k p r ⌝ }
 {
-    if p < 46 {
+    if p < property::KNOWN {
         let may = may_stand(k, p);
         if may {
             return false;

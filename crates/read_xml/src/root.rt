@@ -11,6 +11,7 @@ use read_xml_nodes::NodeKind;
 use read_xml_nodes::next_node;
 use read_xml_nodes::unexpected;
 use refusals::FRAME;
+use schema::component;
 ghost use mathlib.Core.Path.{_≡_};
 ghost use Prim.Native.Nat.{_≤_};
 ghost use lib.ListN.{length, take};
@@ -66,7 +67,7 @@ fn stream_verdict(s: &[u8], inside: usize, e: usize) -> Judged
             NodeKind::Element => {
                 let calendar = is_calendar(s, n.name, n.name_end);
                 if calendar {
-                    let j = component_verdict(0, s, n.inside, n.end);
+                    let j = component_verdict(component::VCALENDAR, s, n.inside, n.end);
                     match j {
                         Judged::Fine => {
                             any = true;

@@ -14,8 +14,10 @@ use read_xml_nodes::next_node;
 use refusals::FRAME;
 use refusals::NAME;
 use refusals::PARAMETER;
+use schema::parameter;
 use schema::parameter_number;
 use schema::permits_parameter;
+use schema::value_type;
 ghost use mathlib.Core.Path.{_≡_};
 ghost use mathlib.Core.Bool.{true, false};
 ghost use mathlib.Core.List.{List, []};
@@ -87,8 +89,8 @@ fn is_encoded(q: usize, t: usize, s: &[u8], inside: usize) -> bool
     requires { ⌜ length (now s) ≤ 65535 ⌝ }
     ensures { λ r. ⌜ r ≡ encodedBy q t (nodesAt (now (s .entry)) inside) ⌝ }
 {
-    if q == 6 {
-        if t == 0 {
+    if q == parameter::ENCODING {
+        if t == value_type::BINARY {
             return is_base64(s, inside);
         }
         return true;

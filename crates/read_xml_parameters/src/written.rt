@@ -14,6 +14,7 @@ use read_text_line::put_param_value;
 use schema::is_quoted_parameter;
 use schema::parameter_number;
 use schema::parameter_type;
+use schema::value_type;
 use sink::put;
 ghost use mathlib.Core.Path.{_≡_};
 ghost use mathlib.Core.Bool.{false};
@@ -80,7 +81,7 @@ fn put_value(out: &mut [u8], o: usize, q: usize, s: &[u8], inside: usize) -> usi
 {
     let c = cursor_of(s, inside);
     let t = parameter_type(q);
-    if t == 1 {
+    if t == value_type::BOOLEAN {
         return put_truth(out, o, s, c);
     }
     put_plain(out, o, q, s, c)

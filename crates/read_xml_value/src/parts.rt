@@ -4,7 +4,9 @@ use crate::leaves::leaf_value;
 use names::find_word;
 use octets::is_within;
 use read_xml_nodes::Judged;
+use recur::part;
 use refusals::FRAME;
+use schema::value_type;
 ghost use mathlib.Core.Path.{_≡_};
 ghost use Prim.Native.Nat.{_≤_};
 ghost use lib.Dec.{eqb};
@@ -66,12 +68,12 @@ fn part_count(rule: bool) -> usize
     ensures { λ r. ⌜ r ≡ countOf rule ⌝ }
 {
     if rule {
-        return 14;
+        return part::KNOWN;
     }
     3
 }
 
-// The slot after the child of the number `i`, where slots before `next` have passed. The BY parts of a rule, 4 to 12, may stand several times.
+// The slot after the child of the number `i`, where slots before `next` have passed. The BY parts of a rule may stand several times.
 pub fn part_after(rule: bool, i: usize, next: usize) -> After
     ensures { λ r. ⌜ r ≡ afterAt rule i next ⌝ }
 {
@@ -81,7 +83,7 @@ pub fn part_after(rule: bool, i: usize, next: usize) -> After
         if k < next {
             return After::Nowhere;
         }
-        let several = is_within(4, 12, i);
+        let several = is_within(part::BYSECOND, part::BYSETPOS, i);
         if several {
             return After::Slot(k);
         }
@@ -90,7 +92,7 @@ pub fn part_after(rule: bool, i: usize, next: usize) -> After
     After::Nowhere
 }
 
-// What stands in the child of the number `i`: an item of a rule part, or a DURATION (5) or DATE-TIME (4).
+// What stands in the child of the number `i`: an item of a rule part, or a DURATION or DATE-TIME.
 pub fn part_inside(rule: bool, i: usize, s: &[u8], place: usize, inside: usize) -> Judged
     requires { ⌜ (length (now s) ≤ 65535) × (inside ≤ length (now s)) ⌝ }
     ensures { λ r. ⌜ judgedAs r ≡ insideAt rule i place (nodesAt (now (s .entry)) inside) ⌝ }
@@ -99,9 +101,9 @@ pub fn part_inside(rule: bool, i: usize, s: &[u8], place: usize, inside: usize) 
         return leaf_item(i, s, place, inside);
     }
     if i == 2 {
-        return leaf_value(5, s, place, inside);
+        return leaf_value(value_type::DURATION, s, place, inside);
     }
-    leaf_value(4, s, place, inside)
+    leaf_value(value_type::DATE_TIME, s, place, inside)
 }
 
 // The first slot is filled, with the child of the number `i`.

@@ -5,6 +5,7 @@ use read_xml_nodes::NodeKind;
 use read_xml_nodes::node_end;
 use read_xml_nodes::node_head;
 use schema::default_type;
+use schema::property;
 ghost use mathlib.Core.Path.{_≡_};
 ghost use mathlib.Core.List.{List};
 ghost use Prim.Native.Nat.{ℕ, _≤_};
@@ -86,17 +87,17 @@ fn first_type(t: usize, s: &[u8], inside: usize) -> usize
     }
 }
 
-// The type of the values of the property of the number `p` whose content begins at `inside`. 9 is GEO, 45 is REQUEST-STATUS.
+// The type of the values of the property of the number `p` whose content begins at `inside`.
 pub fn type_of_nodes(p: usize, s: &[u8], inside: usize) -> usize
     ensures { λ r. ⌜
         ((w : List ℕ) → p ≡ placeOf w propertyNames → typeAt r ≡ typeOfNodes w (nodesAt (now (s .entry)) inside))
         × (r ≤ 14) ⌝ }
 {
     let t = default_type(p);
-    if p == 9 {
+    if p == property::GEO {
         return t;
     }
-    if p == 45 {
+    if p == property::REQUEST_STATUS {
         return t;
     }
     first_type(t, s, inside)

@@ -9,6 +9,8 @@ use read_xml_nodes::Judged;
 use refusals::VALUE;
 use schema::has_words;
 use schema::permits_type;
+use schema::property;
+use schema::value_type;
 ghost use mathlib.Core.Path.{_≡_};
 ghost use mathlib.Core.List.{List};
 ghost use Prim.Native.Nat.{ℕ, _≤_};
@@ -41,7 +43,7 @@ fn leaf_typed(k: usize, p: usize, t: usize, s: &[u8], place: usize, inside: usiz
     leaf_value(t, s, place, inside)
 }
 
-// A value of the type `t`: 8 is PERIOD, 9 is RECUR.
+// A value of the type `t`.
 fn typed_verdict(
     k: usize,
     p: usize,
@@ -54,10 +56,10 @@ fn typed_verdict(
     requires { ⌜ (length (now s) ≤ 65535) × (inside ≤ length (now s)) ⌝ }
     ensures { λ r. ⌜ judgedAs r ≡ typedAt k p t place end (nodesAt (now (s .entry)) inside) ⌝ }
 {
-    if t == 8 {
+    if t == value_type::PERIOD {
         return parts_verdict(false, s, inside, end);
     }
-    if t == 9 {
+    if t == value_type::RECUR {
         return parts_verdict(true, s, inside, end);
     }
     leaf_typed(k, p, t, s, place, inside)
@@ -91,7 +93,7 @@ fn typed_as(
 }
 
 // An element of the value of the property of the number `p` in the component of the number `k`, where `t` is the type of the property's first value.
-// Its start tag is at `place`, its name from `name` to `name_end`, its content begins at `inside`, its end tag is at `end`. 9 is GEO, 45 is REQUEST-STATUS.
+// Its start tag is at `place`, its name from `name` to `name_end`, its content begins at `inside`, its end tag is at `end`.
 pub fn value_verdict(
     k: usize,
     p: usize,
@@ -113,10 +115,10 @@ pub fn value_verdict(
         ≡ valueVerdict c w (typeAt t) place (rest 0 (take «name_end» (now (s .entry))) name) end
         (nodesAt (now (s .entry)) inside)) ⌝ }
 {
-    if p == 9 {
-        return leaf_value(6, s, place, inside);
+    if p == property::GEO {
+        return leaf_value(value_type::FLOAT, s, place, inside);
     }
-    if p == 45 {
+    if p == property::REQUEST_STATUS {
         return leaf(true, s, place, inside);
     }
     let m = element_type(s, name, name_end);

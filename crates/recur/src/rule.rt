@@ -1,5 +1,6 @@
 // A whole rule in text, over an encoding whose cursors are indices. See specs/Pieces.antt and specs/Noted.antt.
 use crate::item::is_item;
+use crate::part;
 use names::name_key;
 use names::named;
 use octets::unit::COMMA;
@@ -28,7 +29,7 @@ pub enum RuleRead {
     Bad,
 }
 
-// Whether there is a rule, and where each part stands: the cursor at its piece and one more; 0 where there is none.
+// Whether there is a rule, and where each of the 14 parts stands: the cursor at its piece and one more; 0 where there is none.
 pub struct RuleParts {
     pub good: bool,
     pub begins: [usize; 14],
@@ -55,27 +56,27 @@ pub fn byte_end(k: usize, mode: usize, s: &[u8], at: usize) -> usize
     }
 }
 
-// The place of a part's name, in any case, by its key (specs/Keys.antt of crate names); 14 where no part has that name.
+// The place of a part's name, in any case, by its key (specs/Keys.antt of crate names); part::KNOWN where no part has that name.
 fn part_number(mode: usize, s: &[u8], at: usize) -> usize
     ensures { λ r. ⌜ r ≡ placeOf (upper (rest mode (now (s .entry)) at)) partNames ⌝ }
 {
     let h = name_key(mode, s, at);
     match h {
-        76 => named(mode, s, at, b"FREQ", 0, 14),
-        229 => named(mode, s, at, b"UNTIL", 1, 14),
-        221 => named(mode, s, at, b"COUNT", 2, 14),
-        125 => named(mode, s, at, b"INTERVAL", 3, 14),
-        170 => named(mode, s, at, b"BYSECOND", 4, 14),
-        52 => named(mode, s, at, b"BYMINUTE", 5, 14),
-        32 => named(mode, s, at, b"BYHOUR", 6, 14),
-        217 => named(mode, s, at, b"BYDAY", 7, 14),
-        176 => named(mode, s, at, b"BYMONTHDAY", 8, 14),
-        12 => named(mode, s, at, b"BYYEARDAY", 9, 14),
-        15 => named(mode, s, at, b"BYWEEKNO", 10, 14),
-        62 => named(mode, s, at, b"BYMONTH", 11, 14),
-        174 => named(mode, s, at, b"BYSETPOS", 12, 14),
-        161 => named(mode, s, at, b"WKST", 13, 14),
-        _ => 14,
+        76 => named(mode, s, at, b"FREQ", part::FREQ, part::KNOWN),
+        229 => named(mode, s, at, b"UNTIL", part::UNTIL, part::KNOWN),
+        221 => named(mode, s, at, b"COUNT", part::COUNT, part::KNOWN),
+        125 => named(mode, s, at, b"INTERVAL", part::INTERVAL, part::KNOWN),
+        170 => named(mode, s, at, b"BYSECOND", part::BYSECOND, part::KNOWN),
+        52 => named(mode, s, at, b"BYMINUTE", part::BYMINUTE, part::KNOWN),
+        32 => named(mode, s, at, b"BYHOUR", part::BYHOUR, part::KNOWN),
+        217 => named(mode, s, at, b"BYDAY", part::BYDAY, part::KNOWN),
+        176 => named(mode, s, at, b"BYMONTHDAY", part::BYMONTHDAY, part::KNOWN),
+        12 => named(mode, s, at, b"BYYEARDAY", part::BYYEARDAY, part::KNOWN),
+        15 => named(mode, s, at, b"BYWEEKNO", part::BYWEEKNO, part::KNOWN),
+        62 => named(mode, s, at, b"BYMONTH", part::BYMONTH, part::KNOWN),
+        174 => named(mode, s, at, b"BYSETPOS", part::BYSETPOS, part::KNOWN),
+        161 => named(mode, s, at, b"WKST", part::WKST, part::KNOWN),
+        _ => part::KNOWN,
     }
 }
 
@@ -107,7 +108,7 @@ pub fn value_at(mode: usize, s: &[u8], at: usize) -> usize
 pub fn is_list_part(p: usize) -> bool
     ensures { λ r. ⌜ r ≡ isListed (partOf (getD partNames p [])) ⌝ }
 {
-    if p < 14 {
+    if p < part::KNOWN {
         return LISTED[p] == 1;
     }
     false
@@ -152,13 +153,13 @@ fn is_part(p: usize, mode: usize, s: &[u8], at: usize) -> bool
 fn is_whole(begins: [usize; 14]) -> bool
     ensures { λ r. ⌜ r ≡ wholeIn begins ⌝ }
 {
-    if begins[0] == 0 {
+    if begins[part::FREQ] == 0 {
         return false;
     }
-    if begins[1] == 0 {
+    if begins[part::UNTIL] == 0 {
         return true;
     }
-    begins[2] == 0
+    begins[part::COUNT] == 0
 }
 
 // The parts from the cursor `at` to the end: each piece is one, and no two have the same name.

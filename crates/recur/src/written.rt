@@ -2,6 +2,7 @@
 use crate::item::is_item;
 use crate::number::after_sign;
 use crate::number::numeral_of;
+use crate::part;
 use crate::word::first_letter;
 use names::put_rest;
 use names::put_upper;
@@ -122,19 +123,19 @@ pub fn put_shown(
         Put (now (out .entry)) (now (out .exit)) o r
         (shownAt (formatOf to) (formatOf from) (partOf (getD partNames p [])) (rest mode (now (s .entry)) at)) ⌝ }
 {
-    if p == 0 {
+    if p == part::FREQ {
         return put_word(out, o, from, mode, s, at);
     }
-    if p == 1 {
+    if p == part::UNTIL {
         return put_enddate(out, o, from, to, mode, s, at);
     }
-    if p == 7 {
+    if p == part::BYDAY {
         return put_weekdaynum(out, o, from, to, mode, s, at);
     }
-    if p == 13 {
+    if p == part::WKST {
         return put_word(out, o, from, mode, s, at);
     }
-    if p < 14 {
+    if p < part::KNOWN {
         return put_number(out, o, false, mode, s, at);
     }
     o

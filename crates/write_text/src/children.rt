@@ -4,6 +4,7 @@ use names::is_word;
 use read_xml_nodes::NodeKind;
 use read_xml_nodes::node_end;
 use read_xml_nodes::node_head;
+use schema::property;
 ghost use mathlib.Core.Path.{_≡_};
 ghost use Prim.Native.Nat.{_≤_};
 ghost use lib.ListN.{length};
@@ -59,15 +60,15 @@ pub fn inside_of(s: &[u8], from: usize, w: &[u8]) -> usize
     }
 }
 
-// The word is the name of a child that belongs to the value of the property of the number `p`: 9 is GEO, 45 is REQUEST-STATUS.
+// The word is the name of a child that belongs to the value of the property of the number `p`.
 fn is_value_name(p: usize, s: &[u8], at: usize) -> bool
     ensures { λ r. ⌜ r ≡ isOneOf (rest 0 (now (s .entry)) at) (valueNames p) ⌝ }
 {
-    if p == 9 {
+    if p == property::GEO {
         let i = find_word(true, 0, s, at, b"latitude\nlongitude\n");
         return i < 2;
     }
-    if p == 45 {
+    if p == property::REQUEST_STATUS {
         let i = find_word(true, 0, s, at, b"code\ndescription\ndata\n");
         return i < 3;
     }

@@ -1,5 +1,6 @@
 // VALUE, where the type of a property's values is not its default. See specs/Typing.antt.
 use schema::default_type;
+use schema::value_type;
 use sink::put_all;
 ghost use Rattle.sink.specs.Sink.{Put};
 ghost use Rattle.schema.specs.Types.{typeName};
@@ -11,20 +12,20 @@ fn put_type_name(out: &mut [u8], o: usize, t: usize) -> usize
     ensures { λ r. ⌜ Put (now (out .entry)) (now (out .exit)) o r (typeName (typeAt t)) ⌝ }
 {
     match t {
-        0 => put_all(out, o, b"BINARY"),
-        1 => put_all(out, o, b"BOOLEAN"),
-        2 => put_all(out, o, b"CAL-ADDRESS"),
-        3 => put_all(out, o, b"DATE"),
-        4 => put_all(out, o, b"DATE-TIME"),
-        5 => put_all(out, o, b"DURATION"),
-        6 => put_all(out, o, b"FLOAT"),
-        7 => put_all(out, o, b"INTEGER"),
-        8 => put_all(out, o, b"PERIOD"),
-        9 => put_all(out, o, b"RECUR"),
-        10 => put_all(out, o, b"TEXT"),
-        11 => put_all(out, o, b"TIME"),
-        12 => put_all(out, o, b"URI"),
-        13 => put_all(out, o, b"UTC-OFFSET"),
+        value_type::BINARY => put_all(out, o, b"BINARY"),
+        value_type::BOOLEAN => put_all(out, o, b"BOOLEAN"),
+        value_type::CAL_ADDRESS => put_all(out, o, b"CAL-ADDRESS"),
+        value_type::DATE => put_all(out, o, b"DATE"),
+        value_type::DATE_TIME => put_all(out, o, b"DATE-TIME"),
+        value_type::DURATION => put_all(out, o, b"DURATION"),
+        value_type::FLOAT => put_all(out, o, b"FLOAT"),
+        value_type::INTEGER => put_all(out, o, b"INTEGER"),
+        value_type::PERIOD => put_all(out, o, b"PERIOD"),
+        value_type::RECUR => put_all(out, o, b"RECUR"),
+        value_type::TEXT => put_all(out, o, b"TEXT"),
+        value_type::TIME => put_all(out, o, b"TIME"),
+        value_type::URI => put_all(out, o, b"URI"),
+        value_type::UTC_OFFSET => put_all(out, o, b"UTC-OFFSET"),
         _ => put_all(out, o, b"UNKNOWN"),
     }
 }

@@ -1,8 +1,10 @@
-// The values of a property, by its number: 9 is GEO, 45 is REQUEST-STATUS. See specs/laws/ValuesAt.antt.
+// The values of a property, by its number. See specs/laws/ValuesAt.antt.
 use crate::own::put_geo;
 use crate::own::put_status;
 use crate::typed::put_typed;
 use crate::typed::type_of_typed;
+use schema::property;
+use schema::value_type;
 ghost use mathlib.Core.Path.{_≡_};
 ghost use Prim.Native.Nat.{_≤_};
 ghost use lib.ListN.{length};
@@ -19,10 +21,10 @@ pub fn put_values(out: &mut [u8], o: usize, p: usize, s: &[u8], inside: usize) -
         Put (now (out .entry)) (now (out .exit)) o r
         (writeValues (readValueNodes (propertyName p) (nodesAt (now (s .entry)) inside))) ⌝ }
 {
-    if p == 9 {
+    if p == property::GEO {
         return put_geo(out, o, s, inside);
     }
-    if p == 45 {
+    if p == property::REQUEST_STATUS {
         return put_status(out, o, s, inside);
     }
     put_typed(out, o, s, inside)
@@ -34,11 +36,11 @@ pub fn type_of_values(p: usize, s: &[u8], inside: usize) -> usize
     ensures { λ r. ⌜
         (typeAt r ≡ typeOfAll (readValueNodes (propertyName p) (nodesAt (now (s .entry)) inside))) × (r ≤ 14) ⌝ }
 {
-    if p == 9 {
-        return 6;
+    if p == property::GEO {
+        return value_type::FLOAT;
     }
-    if p == 45 {
-        return 10;
+    if p == property::REQUEST_STATUS {
+        return value_type::TEXT;
     }
     type_of_typed(s, inside)
 }

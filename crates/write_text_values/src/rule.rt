@@ -4,6 +4,7 @@ use names::find_word;
 use names::put_upper;
 use read_xml_nodes::NodeKind;
 use read_xml_nodes::next_node;
+use recur::part;
 use recur::written::put_item;
 use sink::put_all;
 ghost use mathlib.Core.Path.{_≡_};
@@ -34,7 +35,7 @@ pub enum ItemFound {
     Last,
 }
 
-// The number of the part that an element's name names, 14 where it names none.
+// The number of the part that an element's name names, part::KNOWN where it names none.
 fn part_number(s: &[u8], name: usize, name_end: usize) -> usize
     requires { ⌜ «name_end» ≤ length (now s) ⌝ }
     ensures { λ r. ⌜ r ≡ placeOf (rest 0 (take «name_end» (now (s .entry))) name) recurNames ⌝ }
@@ -146,7 +147,7 @@ pub fn put_rule(out: &mut [u8], o: usize, s: &[u8], inside: usize) -> usize
     let mut q = o;
     let mut started = false;
     let mut p = 0;
-    while p < 14 {
+    while p < part::KNOWN {
         let f = find_item(p, s, inside);
         match f {
             ItemFound::Item(i, next, name, name_end) => {

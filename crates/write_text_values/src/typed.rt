@@ -8,6 +8,7 @@ use read_xml_nodes::node_end;
 use read_xml_nodes::node_head;
 use read_xml_value::Named;
 use read_xml_value::element_type;
+use schema::value_type;
 use values::ValueRead;
 use values::read_value;
 ghost use mathlib.Core.Path.{_≡_};
@@ -64,16 +65,16 @@ fn find_typed(s: &[u8], at: usize) -> TypedFound
     }
 }
 
-// The value of the type of the number `t` whose content begins at `i`. 8 is PERIOD, 9 is RECUR.
+// The value of the type of the number `t` whose content begins at `i`.
 fn put_value(out: &mut [u8], o: usize, t: usize, s: &[u8], i: usize) -> usize
     requires { ⌜ (length (now s) ≤ 65535) × (i ≤ length (now s)) × (t ≤ 14) ⌝ }
     ensures { λ r. ⌜
         Put (now (out .entry)) (now (out .exit)) o r (writeValue (valueOf (typeAt t) (nodesAt (now (s .entry)) i))) ⌝ }
 {
-    if t == 8 {
+    if t == value_type::PERIOD {
         return put_period(out, o, s, i);
     }
-    if t == 9 {
+    if t == value_type::RECUR {
         return put_rule(out, o, s, i);
     }
     put_leaf(out, o, t, 1, s, 2 * i)
@@ -115,25 +116,25 @@ pub fn put_typed(out: &mut [u8], o: usize, s: &[u8], inside: usize) -> usize
     }
 }
 
-// The number of the type of what is stated as the type of the number `t`: what can't be read counts as a TEXT, 10.
+// The number of the type of what is stated as the type of the number `t`: what can't be read counts as a TEXT.
 fn type_of_value(t: usize, s: &[u8], i: usize) -> usize
     requires { ⌜ (length (now s) ≤ 65535) × (i ≤ length (now s)) × (t ≤ 14) ⌝ }
     ensures { λ r. ⌜ (typeAt r ≡ typeOf (valueOf (typeAt t) (nodesAt (now (s .entry)) i))) × (r ≤ 14) ⌝ }
 {
-    if t == 8 {
-        return 8;
+    if t == value_type::PERIOD {
+        return value_type::PERIOD;
     }
-    if t == 9 {
-        return 9;
+    if t == value_type::RECUR {
+        return value_type::RECUR;
     }
     let v = read_value(true, t, 1, s, 2 * i);
     match v {
         ValueRead::Good(u) => t,
-        ValueRead::Bad => 10,
+        ValueRead::Bad => value_type::TEXT,
     }
 }
 
-// The number of the type of the first one, 14 where there is none.
+// The number of the type of the first one, UNKNOWN where there is none.
 pub fn type_of_typed(s: &[u8], inside: usize) -> usize
     requires { ⌜ length (now s) ≤ 65535 ⌝ }
     ensures { λ r. ⌜ (typeAt r ≡ typeOfAll (typedValues (nodesAt (now (s .entry)) inside))) × (r ≤ 14) ⌝ }
@@ -141,6 +142,6 @@ pub fn type_of_typed(s: &[u8], inside: usize) -> usize
     let f = find_typed(s, inside);
     match f {
         TypedFound::Value(t, i, opens, next) => type_of_value(t, s, i),
-        TypedFound::Last => 14,
+        TypedFound::Last => value_type::UNKNOWN,
     }
 }

@@ -4,6 +4,7 @@ use read_text_line::next_value;
 use read_text_line::param_value;
 use schema::parameter_has_words;
 use schema::parameter_type;
+use schema::value_type;
 use write_xml_value::put_raw_element;
 use write_xml_value::put_value_element;
 use write_xml_value::put_word_element;
@@ -31,7 +32,7 @@ fn put_value(out: &mut [u8], o: usize, q: usize, mode: usize, s: &[u8], at: usiz
         return put_word_element(out, o, mode, s, at);
     }
     let t = parameter_type(q);
-    if t == 10 {
+    if t == value_type::TEXT {
         return put_raw_element(out, o, mode, s, at);
     }
     put_value_element(out, o, t, mode, s, at)

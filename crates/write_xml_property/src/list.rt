@@ -2,6 +2,7 @@
 use octets::unit::COMMA;
 use octets::unit::END;
 use recur::rule::byte_end;
+use schema::value_type;
 use source::unit;
 use texts::put_texts_xml;
 use write_xml_value::put_value_element;
@@ -63,7 +64,7 @@ pub fn put_list(out: &mut [u8], o: usize, t: usize, mode: usize, s: &[u8], at: u
     requires { ⌜ cuts mode ≡ true ⌝ }
     ensures { λ r. ⌜ Put (now (out .entry)) (now (out .exit)) o r (listedXml t (rest mode (now (s .entry)) at)) ⌝ }
 {
-    if t == 10 {
+    if t == value_type::TEXT {
         return put_texts_xml(out, o, mode, s, at);
     }
     if s.len() < at {

@@ -4,6 +4,7 @@ use names::put_lower;
 use read_text_parameters::TypeRead;
 use read_text_parameters::stated_type;
 use schema::property_number;
+use schema::value_type;
 use sink::put_all;
 use write_xml_parameters::put_parameters;
 ghost use mathlib.Core.Path.{_≡_};
@@ -49,7 +50,7 @@ fn put_stated(
 {
     let p = property_number(mode, &s[..e], at);
     let TypeRead::Type(t) = stated_type(p, mode, s, e) else {
-        return put_values(out, o, k, p, 10, mode, s, v);
+        return put_values(out, o, k, p, value_type::TEXT, mode, s, v);
     };
     put_values(out, o, k, p, t, mode, s, v)
 }

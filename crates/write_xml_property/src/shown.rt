@@ -3,8 +3,11 @@ use crate::geo::put_geo;
 use crate::list::put_list;
 use read_text_property::ValuesRead;
 use read_text_property::read_values;
+use schema::component;
 use schema::has_words;
 use schema::is_listed;
+use schema::property;
+use schema::value_type;
 use texts::put_request_status_xml;
 use write_xml_value::put_value_element;
 use write_xml_value::put_word_element;
@@ -44,7 +47,7 @@ fn put_single(
     put_value_element(out, o, t, mode, s, at)
 }
 
-// The values of the property `p`, 9 for GEO and 45 for REQUEST-STATUS, in the component `k`, where they can be read.
+// The values of the property `p` in the component `k`, where they can be read.
 fn put_shown(
     out: &mut [u8],
     o: usize,
@@ -58,10 +61,10 @@ fn put_shown(
     requires { ⌜ cuts mode ≡ true ⌝ }
     ensures { λ r. ⌜ Put (now (out .entry)) (now (out .exit)) o r (shownXml k p t (rest mode (now (s .entry)) at)) ⌝ }
 {
-    if p == 9 {
+    if p == property::GEO {
         return put_geo(out, o, mode, s, at);
     }
-    if p == 45 {
+    if p == property::REQUEST_STATUS {
         return put_request_status_xml(out, o, mode, s, at);
     }
     let listed = is_listed(p);
@@ -71,34 +74,34 @@ fn put_shown(
     put_single(out, o, k, p, t, mode, s, at)
 }
 
-// A component's number, 9 for all that are not recognised.
+// A component's number, KNOWN for all that are not recognised.
 fn component_place(k: usize) -> usize
     ensures { λ r. ⌜ r ≡ placeOf (componentName k) componentNames ⌝ }
 {
-    if k < 9 {
+    if k < component::KNOWN {
         return k;
     }
-    9
+    component::KNOWN
 }
 
-// A property's number, 46 for all that are not recognised.
+// A property's number, KNOWN for all that are not recognised.
 fn property_place(p: usize) -> usize
     ensures { λ r. ⌜ r ≡ placeOf (propertyName p) propertyNames ⌝ }
 {
-    if p < 46 {
+    if p < property::KNOWN {
         return p;
     }
-    46
+    property::KNOWN
 }
 
-// A type's number, 14 for UNKNOWN.
+// A type's number, UNKNOWN for all that are none of the fourteen.
 fn type_place(t: usize) -> usize
     ensures { λ r. ⌜ (typeAt r ≡ typeAt t) × (r ≤ 14) ⌝ }
 {
-    if t < 14 {
+    if t < value_type::KNOWN {
         return t;
     }
-    14
+    value_type::UNKNOWN
 }
 
 // The values that stand from the cursor on; nothing where they are none of the property.

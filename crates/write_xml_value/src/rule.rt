@@ -4,6 +4,7 @@ use crate::tag::put_part_start;
 use octets::unit::COMMA;
 use octets::unit::END;
 use octets::unit::SEMICOLON;
+use recur::part;
 use recur::rule::byte_end;
 use recur::rule::is_list_part;
 use recur::rule::value_at;
@@ -98,7 +99,7 @@ pub fn put_parts_xml(
 {
     let mut q = o;
     let mut p = 0;
-    while p < 14 {
+    while p < part::KNOWN {
         q = put_part_xml(out, q, p, mode, s, begins[p]);
         p += 1;
     }

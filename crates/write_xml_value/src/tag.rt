@@ -1,4 +1,6 @@
 // Tags of a rule's parts and of types, by number. See specs/Tags.antt.
+use recur::part;
+use schema::value_type;
 use sink::put_all;
 ghost use mathlib.Core.List.{[]};
 ghost use lib.ListN.{getD};
@@ -12,20 +14,20 @@ fn put_part_name(out: &mut [u8], o: usize, p: usize) -> usize
     ensures { λ r. ⌜ Put (now (out .entry)) (now (out .exit)) o r (lower (getD partNames p [])) ⌝ }
 {
     match p {
-        0 => put_all(out, o, b"freq"),
-        1 => put_all(out, o, b"until"),
-        2 => put_all(out, o, b"count"),
-        3 => put_all(out, o, b"interval"),
-        4 => put_all(out, o, b"bysecond"),
-        5 => put_all(out, o, b"byminute"),
-        6 => put_all(out, o, b"byhour"),
-        7 => put_all(out, o, b"byday"),
-        8 => put_all(out, o, b"bymonthday"),
-        9 => put_all(out, o, b"byyearday"),
-        10 => put_all(out, o, b"byweekno"),
-        11 => put_all(out, o, b"bymonth"),
-        12 => put_all(out, o, b"bysetpos"),
-        13 => put_all(out, o, b"wkst"),
+        part::FREQ => put_all(out, o, b"freq"),
+        part::UNTIL => put_all(out, o, b"until"),
+        part::COUNT => put_all(out, o, b"count"),
+        part::INTERVAL => put_all(out, o, b"interval"),
+        part::BYSECOND => put_all(out, o, b"bysecond"),
+        part::BYMINUTE => put_all(out, o, b"byminute"),
+        part::BYHOUR => put_all(out, o, b"byhour"),
+        part::BYDAY => put_all(out, o, b"byday"),
+        part::BYMONTHDAY => put_all(out, o, b"bymonthday"),
+        part::BYYEARDAY => put_all(out, o, b"byyearday"),
+        part::BYWEEKNO => put_all(out, o, b"byweekno"),
+        part::BYMONTH => put_all(out, o, b"bymonth"),
+        part::BYSETPOS => put_all(out, o, b"bysetpos"),
+        part::WKST => put_all(out, o, b"wkst"),
         _ => put_all(out, o, b""),
     }
 }
@@ -34,20 +36,20 @@ fn put_type_name(out: &mut [u8], o: usize, t: usize) -> usize
     ensures { λ r. ⌜ Put (now (out .entry)) (now (out .exit)) o r (typeLabel t) ⌝ }
 {
     match t {
-        0 => put_all(out, o, b"binary"),
-        1 => put_all(out, o, b"boolean"),
-        2 => put_all(out, o, b"cal-address"),
-        3 => put_all(out, o, b"date"),
-        4 => put_all(out, o, b"date-time"),
-        5 => put_all(out, o, b"duration"),
-        6 => put_all(out, o, b"float"),
-        7 => put_all(out, o, b"integer"),
-        8 => put_all(out, o, b"period"),
-        9 => put_all(out, o, b"recur"),
-        10 => put_all(out, o, b"text"),
-        11 => put_all(out, o, b"time"),
-        12 => put_all(out, o, b"uri"),
-        13 => put_all(out, o, b"utc-offset"),
+        value_type::BINARY => put_all(out, o, b"binary"),
+        value_type::BOOLEAN => put_all(out, o, b"boolean"),
+        value_type::CAL_ADDRESS => put_all(out, o, b"cal-address"),
+        value_type::DATE => put_all(out, o, b"date"),
+        value_type::DATE_TIME => put_all(out, o, b"date-time"),
+        value_type::DURATION => put_all(out, o, b"duration"),
+        value_type::FLOAT => put_all(out, o, b"float"),
+        value_type::INTEGER => put_all(out, o, b"integer"),
+        value_type::PERIOD => put_all(out, o, b"period"),
+        value_type::RECUR => put_all(out, o, b"recur"),
+        value_type::TEXT => put_all(out, o, b"text"),
+        value_type::TIME => put_all(out, o, b"time"),
+        value_type::URI => put_all(out, o, b"uri"),
+        value_type::UTC_OFFSET => put_all(out, o, b"utc-offset"),
         _ => put_all(out, o, b"unknown"),
     }
 }

@@ -4,6 +4,7 @@ use crate::rule::put_parts_xml;
 use crate::tag::put_type_end;
 use crate::tag::put_type_start;
 use recur::rule::read_parts;
+use schema::value_type;
 use tags::put_end_tag;
 use tags::put_start_tag;
 use values::ValueRead;
@@ -98,10 +99,10 @@ pub fn put_value_element(
         Put (now (out .entry)) (now (out .exit)) o r
         (orNothing valueXml (readValue ical (typeAt t) (rest mode (now (s .entry)) at))) ⌝ }
 {
-    if t == 8 {
+    if t == value_type::PERIOD {
         return put_period_element(out, o, mode, s, at);
     }
-    if t == 9 {
+    if t == value_type::RECUR {
         return put_recur_element(out, o, mode, s, at);
     }
     put_plain_element(out, o, t, mode, s, at)
