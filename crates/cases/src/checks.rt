@@ -5,9 +5,9 @@ use crate::bytes::begins;
 use crate::bytes::fill;
 use crate::packed::Case;
 use crate::packed::TO_XML;
-use conversion::Answer;
-use conversion::number_of;
-use conversion::value_of;
+use calls::Answer;
+use calls::number_of;
+use calls::value_of;
 use mallettriton::mallettriton_to_text;
 use mallettriton::mallettriton_to_xml;
 use std::num::wrapping_add_usize;
@@ -18,6 +18,13 @@ use xml_to_text::to_text;
 const WORK: u8 = 165;
 
 const OUT: u8 = 90;
+
+// The refusals that depend on the rooms or on the limit, as wide as an answer's number.
+const REFUSED_LENGTH: u64 = refusals::LENGTH as u64;
+
+const REFUSED_WORK: u64 = refusals::WORK as u64;
+
+const REFUSED_ROOM: u64 = refusals::ROOM as u64;
 
 // The output holds the result and its other bytes as before.
 fn is_written(result: &[u8], out: &[u8]) -> bool {
@@ -35,8 +42,8 @@ fn is_fold(s: &[u8], i: usize) -> bool {
     if s.len() - 3 < i {
         return false;
     }
-    if s[i] == 13 {
-        if s[i + 1] == 10 {
+    if s[i] == b'\r' {
+        if s[i + 1] == b'\n' {
             return is_blank(s[i + 2]);
         }
     }
@@ -44,7 +51,7 @@ fn is_fold(s: &[u8], i: usize) -> bool {
 }
 
 fn is_blank(b: u8) -> bool {
-    (b == 32) | (b == 9)
+    (b == b' ') | (b == b'\t')
 }
 
 // Byte n of b is there and is v.
@@ -110,7 +117,7 @@ fn refused(t: Trial, number: u64, value: u64) -> Trial {
 
 // The unfolded input stands in the work room afterwards.
 fn unfolds(t: Trial) -> bool {
-    (t.way == TO_XML) & (t.number != 1) & (t.number != 2)
+    (t.way == TO_XML) & (t.number != REFUSED_LENGTH) & (t.number != REFUSED_WORK)
 }
 
 // What the work room must hold after an answer.
@@ -193,7 +200,7 @@ fn both_do(t: Trial, input: &[u8], result: &[u8], work: &mut [u8], out: &mut [u8
     call & call_for_c
 }
 
-// An output of o bytes, fewer than the result: 10, and the result's length.
+// An output of o bytes, fewer than the result: ROOM, and the result's length.
 fn with_short_output(
     c: Case,
     o: usize,
@@ -203,7 +210,11 @@ fn with_short_output(
     out: &mut [u8],
 ) -> bool {
     if c.number == 0 {
-        let t = refused(with_rooms(c, input.len(), o), 10, result.len() as u64);
+        let t = refused(
+            with_rooms(c, input.len(), o),
+            REFUSED_ROOM,
+            result.len() as u64,
+        );
         return both_do(t, input, &result[..0], work, out);
     }
     true
@@ -226,16 +237,16 @@ fn with_outputs(c: Case, input: &[u8], result: &[u8], work: &mut [u8], out: &mut
     long & exact & short & none
 }
 
-// A work room one byte shorter than the input: 2 at 0, but for an input over the limit.
+// A work room one byte shorter than the input: WORK at 0, but for an input over the limit.
 fn with_short_work(c: Case, input: &[u8], result: &[u8], work: &mut [u8], out: &mut [u8]) -> bool {
-    if c.number == 1 {
+    if c.number == REFUSED_LENGTH {
         return true;
     }
     if input.len() == 0 {
         return true;
     }
     let w = wrapping_sub_usize(input.len(), 1);
-    let t = refused(with_rooms(c, w, out.len()), 2, 0);
+    let t = refused(with_rooms(c, w, out.len()), REFUSED_WORK, 0);
     both_do(t, input, &result[..0], work, out)
 }
 

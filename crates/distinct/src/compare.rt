@@ -1,6 +1,7 @@
 // Two words compared, in any case. See specs/Order.antt.
 use crate::numbers::number_at;
 use octets::smaller;
+use octets::unit::END;
 use octets::upper_unit;
 use source::unit;
 ghost use mathlib.Core.Path.{_≡_};
@@ -26,7 +27,7 @@ fn compare_from(mode: usize, s: &[u8], a: usize, t: &[u8], b: usize) -> usize
         if yu < xu {
             return 2;
         }
-        if x.u == 256 {
+        if x.u == END {
             return 0;
         }
         c = x.next;
@@ -36,7 +37,10 @@ fn compare_from(mode: usize, s: &[u8], a: usize, t: &[u8], b: usize) -> usize
 
 // The same of the words of the numbers `i` and `j`.
 pub fn compare(mode: usize, s: &[u8], from: &[u16], to: &[u16], i: usize, j: usize) -> usize
-    ensures { λ r. ⌜ r ≡ order (wordAt mode (now (s .entry)) (now (from .entry)) (now (to .entry)) i) (wordAt mode (now (s .entry)) (now (from .entry)) (now (to .entry)) j) ⌝ }
+    ensures { λ r. ⌜
+        r
+        ≡ order (wordAt mode (now (s .entry)) (now (from .entry)) (now (to .entry)) i)
+        (wordAt mode (now (s .entry)) (now (from .entry)) (now (to .entry)) j) ⌝ }
 {
     let a = number_at(from, i);
     let b = number_at(from, j);

@@ -5,7 +5,8 @@ ghost use Rattle.distinct.specs.Keeping.{Keeps};
 
 // Puts the cut from `a` up to `e` at the place `k`, where that is there and the cut fits.
 pub fn keep(from: &mut [u16], to: &mut [u16], k: usize, a: usize, e: usize) -> bool
-    ensures { λ r. ⌜ (r ≡ true → Keeps (now (from .entry)) (now (to .entry)) k a e (now (from .exit)) (now (to .exit))) ⌝ }
+    ensures { λ r. ⌜
+        (r ≡ true → Keeps (now (from .entry)) (now (to .entry)) k a e (now (from .exit)) (now (to .exit))) ⌝ }
 {
     if a < 65536 {
         if e < 65536 {

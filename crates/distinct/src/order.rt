@@ -41,7 +41,8 @@ pub fn is_order(order: &[u16], ranks: &[u16], n: usize) -> bool
 
 // How far the words rise in the order, each before the next.
 pub fn rise(mode: usize, s: &[u8], from: &[u16], to: &[u16], order: &[u16], n: usize) -> usize
-    ensures { λ r. ⌜ Rising (wordAt mode (now (s .entry)) (now (from .entry)) (now (to .entry))) (now (order .entry)) r ⌝ }
+    ensures { λ r. ⌜
+        Rising (wordAt mode (now (s .entry)) (now (from .entry)) (now (to .entry))) (now (order .entry)) r ⌝ }
 {
     let mut i = 0;
     while i + 1 < n {
@@ -72,7 +73,9 @@ pub fn are_alike(
     i: usize,
     n: usize,
 ) -> bool
-    ensures { λ r. ⌜ (r ≡ true → distinct (listed n (wordAt mode (now (s .entry)) (now (from .entry)) (now (to .entry))) []) ≡ false) ⌝ }
+    ensures { λ r. ⌜
+        (r ≡ true →
+        distinct (listed n (wordAt mode (now (s .entry)) (now (from .entry)) (now (to .entry))) []) ≡ false) ⌝ }
 {
     if i == 0 {
         return false;

@@ -9,10 +9,10 @@ use mathlib.Core.List.{List, [], _∷_, _++_}
 use Prim.Native.Nat.{ℕ}
 use Prim.Native.String.{String}
 use Rattle.octets.specs.Ascii.{ascii}
-use Rattle.model.specs.Refusal.{FRAME, VALUE}
-use Rattle.conversion.specs.Conversion.{result, fault}
-use Rattle.conversion.specs.ToText.{toText}
-use Rattle.conversion.specs.Computing.{conversions-compute}
+use Rattle.calendar.specs.Refusal.{FRAME, VALUE}
+use Rattle.calls.specs.Conversion.{result, fault}
+use Rattle.calls.specs.ToText.{toText}
+use Rattle.calls.specs.Computing.{conversions-compute}
 use Rattle.examples.specs.Notation.{given, textLines, xmlLines, canonical}
 use Rattle.examples.specs.MeetingsPage.{meetingsPage}
 

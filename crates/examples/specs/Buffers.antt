@@ -5,10 +5,10 @@ use mathlib.Core.List.{List, [], _++_}
 use Prim.Native.Nat.{ℕ}
 use lib.ListN.{replicate}
 use Rattle.octets.specs.Ascii.{ascii}
-use Rattle.conversion.specs.Conversion.{numbers}
-use Rattle.conversion.specs.ToXml.{toXmlOutcome, toXmlOutput, toXmlWork}
-use Rattle.conversion.specs.ToText.{toTextOutcome, toTextOutput}
-use Rattle.conversion.specs.Computing.{conversions-compute}
+use Rattle.calls.specs.Conversion.{numbers}
+use Rattle.calls.specs.ToXml.{toXmlOutcome, toXmlOutput, toXmlWork}
+use Rattle.calls.specs.ToText.{toTextOutcome, toTextOutput}
+use Rattle.calls.specs.Computing.{conversions-compute}
 use Rattle.examples.specs.Notation.{inEvent, eventXml}
 use Rattle.examples.specs.Rota.{rota, rotaXml}
 

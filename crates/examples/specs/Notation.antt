@@ -10,8 +10,8 @@ use Prim.Native.Nat.{ℕ}
 use Prim.Native.String.{String}
 use lib.ListN.{length}
 use Rattle.octets.specs.Ascii.{ascii}
-use Rattle.conversion.specs.Conversion.{Converted}
-use Rattle.conversion.specs.ToXml.{toXml}
+use Rattle.calls.specs.Conversion.{Converted}
+use Rattle.calls.specs.ToXml.{toXml}
 
 abbrev pub textLines : List String → List ℕ
 textLines [] = []

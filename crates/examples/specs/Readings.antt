@@ -9,14 +9,14 @@ use Prim.Native.Nat.{ℕ}
 use Prim.Native.String.{String}
 use lib.ListN.{length, replicate}
 use Rattle.octets.specs.Ascii.{ascii}
-use Rattle.model.specs.Calendar.{Value, dateTime, text, unknown, Parameter, Property, noMore, component}
-use Rattle.model.specs.Refusal.{numberOf, Answer, accepted}
+use Rattle.calendar.specs.Calendar.{Value, dateTime, text, unknown, Parameter, Property, noMore, component}
+use Rattle.calendar.specs.Refusal.{numberOf, Answer, accepted}
 use Rattle.folding.specs.Unfold.{crlf, unfolded}
 use Rattle.folding.specs.Fold.{foldedLine}
-use Rattle.ical.specs.ReadText.{readCalendar}
-use Rattle.conversion.specs.Conversion.{Converted, result, fault}
-use Rattle.conversion.specs.ToText.{toText}
-use Rattle.conversion.specs.Computing.{conversions-compute}
+use Rattle.text.specs.ReadText.{readCalendar}
+use Rattle.calls.specs.Conversion.{Converted, result, fault}
+use Rattle.calls.specs.ToText.{toText}
+use Rattle.calls.specs.Computing.{conversions-compute}
 use Rattle.examples.specs.Notation.{given, inEvent, eventXml}
 
 -- ---- questions and answers

@@ -6,10 +6,10 @@ use mathlib.Core.List.{List, [], _∷_, _++_, map}
 use Prim.Native.Nat.{ℕ}
 use lib.ListN.{replicate}
 use Rattle.octets.specs.Ascii.{ascii}
-use Rattle.model.specs.Refusal.{numberOf}
-use Rattle.conversion.specs.Conversion.{Converted, result, fault}
-use Rattle.conversion.specs.ToText.{toText}
-use Rattle.conversion.specs.Computing.{conversions-compute}
+use Rattle.calendar.specs.Refusal.{numberOf}
+use Rattle.calls.specs.Conversion.{Converted, result, fault}
+use Rattle.calls.specs.ToText.{toText}
+use Rattle.calls.specs.Computing.{conversions-compute}
 use Rattle.examples.specs.Notation.{textLines, eventXml}
 use Rattle.examples.specs.Readings.{wholeText, line, Told, refused_at_, octets, Row, _gives_, asked, answered, answerOf}
 

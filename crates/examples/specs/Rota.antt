@@ -2,9 +2,9 @@
 use mathlib.Core.Path.{_≡_, refl}
 use mathlib.Core.List.{List, [], _∷_}
 use Prim.Native.Nat.{ℕ}
-use Rattle.conversion.specs.Conversion.{result}
-use Rattle.conversion.specs.ToText.{toText}
-use Rattle.conversion.specs.Computing.{conversions-compute}
+use Rattle.calls.specs.Conversion.{result}
+use Rattle.calls.specs.ToText.{toText}
+use Rattle.calls.specs.Computing.{conversions-compute}
 use Rattle.examples.specs.Notation.{given, textLines, xmlLines}
 
 abbrev pub rota : List ℕ

@@ -8,9 +8,9 @@ use Prim.Native.Nat.{ℕ}
 use Prim.Native.String.{String}
 use Rattle.octets.specs.Ascii.{ascii}
 use Rattle.folding.specs.Unfold.{crlf}
-use Rattle.conversion.specs.Conversion.{result}
-use Rattle.conversion.specs.ToText.{toText}
-use Rattle.conversion.specs.Computing.{conversions-compute}
+use Rattle.calls.specs.Conversion.{result}
+use Rattle.calls.specs.ToText.{toText}
+use Rattle.calls.specs.Computing.{conversions-compute}
 use Rattle.examples.specs.Notation.{textLines, canonical, inEvent, eventXml}
 use Rattle.examples.specs.Readings.{Row, line, bothWays, _gives_, is, asProperty, summaryXml, asked, answered, answerOf, ofText}
 

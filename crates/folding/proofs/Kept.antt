@@ -11,12 +11,15 @@ use lib.Dec.{eqb}
 use lib.ListN.{length, getD, set, drop, length-drop, length-set, drop-of-length-le}
 use borrow.Author.Tests.{eq-eqb, ne-eqb, eqb-true, eqb-false}
 use borrow.Author.Needs.{needs}
-use Rattle.octets.specs.Pick.{_and_, _or_, flag-yes, flag-no}
-use Rattle.octets.specs.Scan.{drop-next}
+use Rattle.octets.specs.Pick.{_and_, _or_}
+use Rattle.octets.specs.laws.Pick.{flag-yes, flag-no}
+use Rattle.octets.specs.laws.Scan.{drop-next}
 use Rattle.octets.specs.Words.{starts}
-use Rattle.octets.specs.Append.{append-is}
-use Rattle.sink.specs.Sink.{Put, put-set, far, overwrite-fits, Todo, todo-all, todo-step, todo-done}
-use Rattle.folding.specs.Unfold.{foldAt, keep, keptFrom, unfolded, placesFrom, origin, Unfolds, fold-long, length-unfolded}
+use Rattle.octets.specs.laws.Append.{append-is}
+use Rattle.sink.specs.Sink.{Put, far, Todo}
+use Rattle.sink.specs.laws.Sink.{put-set, overwrite-fits, todo-all, todo-step, todo-done}
+use Rattle.folding.specs.Unfold.{foldAt, keep, keptFrom, unfolded, placesFrom, origin, Unfolds}
+use Rattle.folding.specs.laws.Unfold.{fold-long, length-unfolded}
 
 -- ---- a fold at an index
 

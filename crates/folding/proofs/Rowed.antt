@@ -10,11 +10,15 @@ use lib.ListN.{length, getD, take, drop, drop-of-length-le}
 use borrow.Author.Tests.{lt-ltb, le-ltb}
 use borrow.Author.Needs.{needs}
 use Rattle.octets.specs.Pick.{pick}
-use Rattle.octets.specs.Scan.{drop-next}
-use Rattle.octets.specs.Append.{_⊕_, append-is}
-use Rattle.sink.specs.Sink.{Put, _▷_, put-length, Todo, todo-all, todo-step, todo-done}
-use Rattle.folding.specs.Fold.{longest, width, width-some, taken, foldedLine}
-use Rattle.folding.specs.Rows.{row, Takes, spaced, folded-rows, spaced-rows}
+use Rattle.octets.specs.laws.Scan.{drop-next}
+use Rattle.octets.specs.Append.{_⊕_}
+use Rattle.octets.specs.laws.Append.{append-is}
+use Rattle.sink.specs.Sink.{Put, Todo}
+use Rattle.sink.specs.laws.Sink.{_▷_, put-length, todo-all, todo-step, todo-done}
+use Rattle.folding.specs.Fold.{longest, width, taken, foldedLine}
+use Rattle.folding.specs.laws.Fold.{width-some}
+use Rattle.folding.specs.Rows.{row, Takes, spaced}
+use Rattle.folding.specs.laws.Rows.{folded-rows, spaced-rows}
 
 -- ---- a line has c octets and takes those of s from i on, up to j by now; so it has k octets
 

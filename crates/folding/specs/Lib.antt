@@ -7,6 +7,7 @@
 --     Text     content lines, one after another
 --     Computing  opens all of these, for examples that compute
 --     Examples   computed
+--     laws     laws of these, and what proofs need
 pub mod Unfold
 pub mod Lines
 pub mod Fold
@@ -15,3 +16,4 @@ pub mod Cut
 pub mod Text
 pub mod Computing
 pub mod Examples
+pub mod laws

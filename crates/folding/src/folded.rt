@@ -13,7 +13,7 @@ ghost use Rattle.folding.specs.Fold.{width, longest, foldedLine};
 ghost use Rattle.folding.specs.Rows.{Takes, row};
 
 // CRLF.
-const BREAK: [u8; 2] = [13, 10];
+const BREAK: [u8; 2] = [b'\r', b'\n'];
 
 // How many octets the character has that begins with `b`.
 fn width_of(b: u8) -> usize
@@ -55,7 +55,7 @@ fn put_lead(out: &mut [u8], more: bool) -> usize
     ensures { λ r. ⌜ Put (now (out .entry)) (now (out .exit)) 0 r (pick more (32 ∷ []) []) ⌝ }
 {
     if more {
-        return put(out, 0, 32);
+        return put(out, 0, b' ');
     }
     0
 }

@@ -9,7 +9,7 @@ ghost use Rattle.folding.specs.Unfold.{foldAt, origin, Unfolds};
 fn is_blank(b: u8) -> bool
     ensures { λ r. ⌜ r ≡ (eqb b 32 or eqb b 9) ⌝ }
 {
-    (b == 32) | (b == 9)
+    (b == b' ') | (b == b'\t')
 }
 
 // Whether a fold stands at an index: CR, LF, and a space or a TAB.
@@ -17,9 +17,9 @@ pub fn fold_at(s: &[u8], at: usize) -> bool
     requires { ⌜ at < length (now s) ⌝ }
     ensures { λ r. ⌜ r ≡ foldAt (drop at (now (s .entry))) ⌝ }
 {
-    if s[at] == 13 {
+    if s[at] == b'\r' {
         if 3 <= s.len() - at {
-            if s[at + 1] == 10 {
+            if s[at + 1] == b'\n' {
                 return is_blank(s[at + 2]);
             }
         }

@@ -1,10 +1,10 @@
 // A text both ways: unfolded, and with its folds in place.
-use document::put_document;
 use folding::skip::skip_folds;
 use folding::unfolding::place_of;
 use folding::unfolding::unfold;
-use frame::Checked;
-use frame::check;
+use read_text::Checked;
+use read_text::check;
+use write_xml::put_document;
 
 // What came of it: the length of its XML; a refusal and its place in the text as lent; or not the same.
 pub enum Came {

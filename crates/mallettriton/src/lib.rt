@@ -1,14 +1,14 @@
 // The conversions for C: slices are a pointer and a length, and the answer is one number. See include/mallettriton.h.
-// The library for Rattle is in crates text_to_xml (`to_xml`), xml_to_text (`to_text`) and conversion (`Answer`, `number_of`, `value_of`).
-use conversion::number_of;
-use conversion::value_of;
+// The library for Rattle is in crates text_to_xml (`to_xml`), xml_to_text (`to_text`) and calls (`Answer`, `number_of`, `value_of`).
+use calls::number_of;
+use calls::value_of;
 use text_to_xml::to_xml;
 use xml_to_text::to_text;
 ghost use mathlib.Core.Path.{_≡_};
 ghost use Prim.Native.Nat.{_+_, _*_, _<_};
-ghost use Rattle.conversion.specs.ToXml.{toXmlOutcome, toXmlOutput, toXmlWork};
-ghost use Rattle.conversion.specs.ToText.{toTextOutcome, toTextOutput};
-ghost use Rattle.conversion.specs.Answered.{codeOf};
+ghost use Rattle.calls.specs.ToXml.{toXmlOutcome, toXmlOutput, toXmlWork};
+ghost use Rattle.calls.specs.ToText.{toTextOutcome, toTextOutput};
+ghost use Rattle.calls.specs.Answered.{codeOf};
 
 // A number and a value as one number.
 fn joined(n: u64, v: usize) -> u64
@@ -21,7 +21,10 @@ fn joined(n: u64, v: usize) -> u64
 // `to_xml` for C: the answer's number times 2 ^ 32, and its value.
 #[no_mangle]
 pub extern "C" fn mallettriton_to_xml(input: &[u8], work: &mut [u8], out: &mut [u8]) -> u64
-    ensures { λ r. ⌜ (r ≡ codeOf (toXmlOutcome (now (input .entry)) (now (work .entry)) (now (out .entry)))) × (now (out .exit) ≡ toXmlOutput (now (input .entry)) (now (work .entry)) (now (out .entry))) × (now (work .exit) ≡ toXmlWork (now (input .entry)) (now (work .entry))) ⌝ }
+    ensures { λ r. ⌜
+        (r ≡ codeOf (toXmlOutcome (now (input .entry)) (now (work .entry)) (now (out .entry))))
+        × (now (out .exit) ≡ toXmlOutput (now (input .entry)) (now (work .entry)) (now (out .entry)))
+        × (now (work .exit) ≡ toXmlWork (now (input .entry)) (now (work .entry))) ⌝ }
 {
     let a = to_xml(input, work, out);
     let n = number_of(a);
@@ -32,7 +35,9 @@ pub extern "C" fn mallettriton_to_xml(input: &[u8], work: &mut [u8], out: &mut [
 // `to_text` for C: the same.
 #[no_mangle]
 pub extern "C" fn mallettriton_to_text(input: &[u8], out: &mut [u8]) -> u64
-    ensures { λ r. ⌜ (r ≡ codeOf (toTextOutcome (now (input .entry)) (now (out .entry)))) × (now (out .exit) ≡ toTextOutput (now (input .entry)) (now (out .entry))) ⌝ }
+    ensures { λ r. ⌜
+        (r ≡ codeOf (toTextOutcome (now (input .entry)) (now (out .entry))))
+        × (now (out .exit) ≡ toTextOutput (now (input .entry)) (now (out .entry))) ⌝ }
 {
     let a = to_text(input, out);
     let n = number_of(a);

@@ -11,7 +11,7 @@ use Rattle.source.specs.Source.{rest}
 use Rattle.names.specs.Case.{cased, caseOf}
 use Rattle.names.specs.Table.{placeOf, namesIn}
 use Rattle.names.specs.Keys.{keyOf}
-use Rattle.names.specs.Known.{by-place, unknown-list}
+use Rattle.names.specs.laws.Known.{by-place, unknown-list}
 use Rattle.names.specs.Computing.{names-compute}
 
 -- each name ends in a line feed

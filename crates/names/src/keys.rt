@@ -1,12 +1,13 @@
 // The key of a word: where the keys of a list's names are all different, code goes by the key and compares the word with one name only. See specs/Keys.antt.
+use crate::Case;
+use crate::cased_unit;
+use octets::unit::END;
+use octets::wide;
+use source::unit;
 ghost use mathlib.Core.Path.{_≡_};
 ghost use Rattle.source.specs.Source.{rest};
 ghost use Rattle.names.specs.Case.{cased};
 ghost use Rattle.names.specs.Keys.{keyOf};
-use crate::Case;
-use crate::cased_unit;
-use octets::wide;
-use source::unit;
 
 // The key of the word in the case `k`, over bytes as they stand.
 fn key_plain(k: Case, s: &[u8], at: usize) -> usize
@@ -34,7 +35,7 @@ pub fn key(k: Case, mode: usize, s: &[u8], at: usize) -> usize
     loop {
         let n = unit(mode, s, c);
         let u = n.u;
-        if u == 256 {
+        if u == END {
             return h / 4;
         }
         let v = cased_unit(k, u);

@@ -3,6 +3,17 @@
 mod keys;
 mod plain;
 
+use keys::key;
+use octets::is_name_char;
+use octets::lower_unit;
+use octets::unit::END;
+use octets::upper_unit;
+use octets::wide;
+use plain::is_cased_plain;
+use plain::name_end_plain;
+use plain::put_plain;
+use sink::put;
+use source::unit;
 ghost use mathlib.Core.Path.{_≡_};
 ghost use Prim.Native.Nat.{_≤_};
 ghost use lib.ListN.{length};
@@ -16,16 +27,6 @@ ghost use Rattle.names.specs.Table.{placeOf, namesIn};
 ghost use Rattle.names.specs.Keys.{keyOf};
 ghost use Rattle.names.specs.Matching.{Turned, Passes};
 ghost use Rattle.names.specs.Runs.{RunEnds};
-use keys::key;
-use octets::is_name_char;
-use octets::lower_unit;
-use octets::upper_unit;
-use octets::wide;
-use plain::is_cased_plain;
-use plain::name_end_plain;
-use plain::put_plain;
-use sink::put;
-use source::unit;
 
 // The case in which a word is compared or written.
 pub enum Case {
@@ -65,7 +66,7 @@ fn is_end(mode: usize, s: &[u8], at: usize, ok: bool) -> bool
 {
     if ok {
         let n = unit(mode, s, at);
-        return n.u == 256;
+        return n.u == END;
     }
     false
 }
@@ -96,7 +97,7 @@ fn name_over(table: &[u8], from: usize) -> usize
 {
     let mut i = from;
     while i < table.len() {
-        if table[i] == 10 {
+        if table[i] == b'\n' {
             return i;
         }
         i += 1;
@@ -114,7 +115,7 @@ fn find_cased(k: Case, mode: usize, s: &[u8], at: usize, table: &[u8]) -> usize
     let mut i = 0;
     while i < table.len() {
         let t = table[i];
-        if t == 10 {
+        if t == b'\n' {
             let end = is_end(mode, s, c, ok);
             if end {
                 return name;
@@ -165,7 +166,8 @@ pub fn named(mode: usize, s: &[u8], at: usize, w: &[u8], n: usize, none: usize) 
 
 // The number of a word, in any case in text, as it stands in XML.
 pub fn find_word(xcal: bool, mode: usize, s: &[u8], at: usize, table: &[u8]) -> usize
-    ensures { λ r. ⌜ r ≡ placeOf (cased (caseOf xcal) (rest mode (now (s .entry)) at)) (namesIn (now (table .entry))) ⌝ }
+    ensures { λ r. ⌜
+        r ≡ placeOf (cased (caseOf xcal) (rest mode (now (s .entry)) at)) (namesIn (now (table .entry))) ⌝ }
 {
     let k = case_of(xcal);
     find_cased(k, mode, s, at, table)
@@ -220,7 +222,7 @@ fn put_cased(out: &mut [u8], o: usize, k: Case, mode: usize, s: &[u8], at: usize
     loop {
         let n = unit(mode, s, c);
         let u = n.u;
-        if u == 256 {
+        if u == END {
             return p;
         }
         let v = cased_unit(k, u);

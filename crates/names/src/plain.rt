@@ -1,4 +1,9 @@
-// The loops of lib.rt over bytes as they stand: from byte to byte, with no question of the encoding. See specs/Plain.antt.
+// The loops of lib.rt over bytes as they stand: from byte to byte, with no question of the encoding. See specs/laws/Plain.antt.
+use crate::Case;
+use crate::cased_unit;
+use octets::is_name_char;
+use octets::wide;
+use sink::put;
 ghost use mathlib.Core.Path.{_≡_};
 ghost use Rattle.octets.specs.Class.{isNameChar};
 ghost use Rattle.octets.specs.Words.{same};
@@ -6,11 +11,6 @@ ghost use Rattle.source.specs.Source.{rest};
 ghost use Rattle.sink.specs.Sink.{Put};
 ghost use Rattle.names.specs.Case.{cased};
 ghost use Rattle.names.specs.Runs.{RunEnds};
-use crate::Case;
-use crate::cased_unit;
-use octets::is_name_char;
-use octets::wide;
-use sink::put;
 
 // The index after the characters of a name.
 pub fn name_end_plain(s: &[u8], at: usize) -> usize

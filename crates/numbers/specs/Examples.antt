@@ -6,7 +6,7 @@ use mathlib.Core.Option.{Option, none, some}
 use Prim.Native.Nat.{ℕ}
 use Rattle.octets.specs.Ascii.{ascii}
 use Rattle.octets.specs.Reading.{andThen}
-use Rattle.model.specs.Calendar.{ical, xcal, Whole, geo}
+use Rattle.calendar.specs.Calendar.{ical, xcal, Whole, geo}
 use Rattle.numbers.specs.Integer.{readInteger, writeInteger, isInteger}
 use Rattle.numbers.specs.Float.{decimal, readFloat, writeFloat, isNormal}
 use Rattle.numbers.specs.Boolean.{readBoolean, writeBoolean}

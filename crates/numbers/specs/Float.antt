@@ -14,7 +14,7 @@ use Rattle.octets.specs.Append.{_⊕_}
 use Rattle.octets.specs.Class.{isDigit}
 use Rattle.octets.specs.Words.{isEmpty, cutAt}
 use Rattle.octets.specs.Reading.{provided, andThen}
-use Rattle.model.specs.Calendar.{Decimal}
+use Rattle.calendar.specs.Calendar.{Decimal}
 use Rattle.numbers.specs.Sign.{hasMinus, unsigned, signed, isDigits}
 
 abbrev pub decimal : Bool → List ℕ → List ℕ → Decimal

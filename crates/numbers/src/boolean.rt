@@ -1,13 +1,13 @@
 // BOOLEAN: read from the cursor to the end, and written.
+use names::is_word;
+use names::is_word_any_case;
+use sink::put_all;
 ghost use mathlib.Core.Path.{_≡_};
-ghost use Rattle.model.specs.Calendar.{formatOf, ical, xcal as xmlFormat};
+ghost use Rattle.calendar.specs.Calendar.{formatOf, ical, xcal as xmlFormat};
 ghost use Rattle.source.specs.Source.{rest};
 ghost use Rattle.sink.specs.Sink.{Put};
 ghost use Rattle.numbers.specs.Boolean.{readBoolean, writeBoolean};
 ghost use Rattle.numbers.specs.ReadBoolean.{truthOf};
-use names::is_word;
-use names::is_word_any_case;
-use sink::put_all;
 
 pub enum BooleanRead {
     Truth(bool),

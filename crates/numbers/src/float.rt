@@ -1,4 +1,17 @@
-// FLOAT: read from the cursor up to the byte `stop`, to the end where it is 256; and written.
+// FLOAT: read from the cursor up to the byte `stop`, to the end where it is END; and written.
+use crate::scan::digits_end;
+use crate::scan::has_minus;
+use crate::scan::only_digits;
+use crate::scan::only_zeros;
+use crate::scan::sign_end;
+use crate::scan::unit_to;
+use crate::scan::zeros_end;
+use octets::is_digit;
+use octets::unit::END;
+use octets::unit::NINE;
+use octets::unit::POINT;
+use octets::unit::ZERO;
+use sink::put;
 ghost use mathlib.Core.Path.{_≡_};
 ghost use mathlib.Core.Bool.{not};
 ghost use mathlib.Core.List.{[], _∷_};
@@ -13,15 +26,6 @@ ghost use Rattle.numbers.specs.Float.{decimal, noTrailing, orZero, after
 ghost use Rattle.numbers.specs.Until.{until};
 ghost use Rattle.numbers.specs.FloatParts.{front};
 ghost use Rattle.numbers.specs.ReadFloat.{Shaped, floatOf};
-use crate::scan::digits_end;
-use crate::scan::has_minus;
-use crate::scan::only_digits;
-use crate::scan::only_zeros;
-use crate::scan::sign_end;
-use crate::scan::unit_to;
-use crate::scan::zeros_end;
-use octets::is_digit;
-use sink::put;
 
 // A number: whether it is negative, the cursor of the first digit that counts, and the cursor of the digits after the point.
 pub enum FloatRead {
@@ -43,10 +47,10 @@ fn read_shape(stop: usize, mode: usize, s: &[u8], at: usize) -> Shape
         let p = digits_end(stop, mode, s, at);
         let w = unit_to(stop, mode, s, p);
         let u = w.u;
-        if u == 256 {
+        if u == END {
             return Shape { ok: true, after: p };
         }
-        if u == 46 {
+        if u == POINT {
             let a = w.next;
             let d = only_digits(stop, mode, s, a);
             return Shape { ok: d, after: a };
@@ -64,7 +68,11 @@ fn read_shape(stop: usize, mode: usize, s: &[u8], at: usize) -> Shape
 
 // Whether the minus counts: it does not where the number is zero.
 fn is_minus(neg: bool, stop: usize, mode: usize, s: &[u8], first: usize, after: usize) -> bool
-    ensures { λ r. ⌜ r ≡ (not (isEmpty (front (until stop mode (now (s .entry)) first)) and isEmpty (noTrailing (until stop mode (now (s .entry)) after))) and neg) ⌝ }
+    ensures { λ r. ⌜
+        r
+        ≡ (not (isEmpty (front (until stop mode (now (s .entry)) first))
+        and isEmpty (noTrailing (until stop mode (now (s .entry)) after)))
+        and neg) ⌝ }
 {
     let t = unit_to(stop, mode, s, first);
     let d = is_digit(t.u);
@@ -96,7 +104,7 @@ pub fn float_to(stop: usize, mode: usize, s: &[u8], at: usize) -> FloatRead
 pub fn read_float(mode: usize, s: &[u8], at: usize) -> FloatRead
     ensures { λ r. ⌜ readFloat (rest mode (now (s .entry)) at) ≡ floatOf 256 mode (now (s .entry)) r ⌝ }
 {
-    float_to(256, mode, s, at)
+    float_to(END, mode, s, at)
 }
 
 // ---- writing
@@ -110,13 +118,13 @@ fn put_front(out: &mut [u8], o: usize, stop: usize, mode: usize, s: &[u8], at: u
     loop {
         let t = unit_to(stop, mode, s, c);
         let u = t.u;
-        if u == 256 {
+        if u == END {
             return q;
         }
-        if u < 48 {
+        if u < ZERO {
             return q;
         }
-        if 57 < u {
+        if NINE < u {
             return q;
         }
         q = put(out, q, u as u8);
@@ -126,7 +134,8 @@ fn put_front(out: &mut [u8], o: usize, stop: usize, mode: usize, s: &[u8], at: u
 
 // The digits before the point, or 0 where there are none.
 fn put_before(out: &mut [u8], o: usize, stop: usize, mode: usize, s: &[u8], at: usize) -> usize
-    ensures { λ r. ⌜ Put (now (out .entry)) (now (out .exit)) o r (orZero (front (until stop mode (now (s .entry)) at))) ⌝ }
+    ensures { λ r. ⌜
+        Put (now (out .entry)) (now (out .exit)) o r (orZero (front (until stop mode (now (s .entry)) at))) ⌝ }
 {
     let t = unit_to(stop, mode, s, at);
     let d = is_digit(t.u);
@@ -158,10 +167,10 @@ fn put_trimmed(out: &mut [u8], o: usize, stop: usize, mode: usize, s: &[u8], at:
     loop {
         let t = unit_to(stop, mode, s, c);
         let u = t.u;
-        if u == 256 {
+        if u == END {
             return q;
         }
-        if u == 48 {
+        if u == ZERO {
             k += 1;
             c = t.next;
         } else {
@@ -182,7 +191,8 @@ fn put_waiting(out: &mut [u8], o: usize, k: usize, b: u8) -> usize
 
 // A point and the digits after it, if any count.
 fn put_after(out: &mut [u8], o: usize, stop: usize, mode: usize, s: &[u8], at: usize) -> usize
-    ensures { λ r. ⌜ Put (now (out .entry)) (now (out .exit)) o r (afterPoint (noTrailing (until stop mode (now (s .entry)) at))) ⌝ }
+    ensures { λ r. ⌜
+        Put (now (out .entry)) (now (out .exit)) o r (afterPoint (noTrailing (until stop mode (now (s .entry)) at))) ⌝ }
 {
     let z = only_zeros(stop, mode, s, at);
     if z {
@@ -201,7 +211,9 @@ fn put_magnitude(
     first: usize,
     after: usize,
 ) -> usize
-    ensures { λ r. ⌜ Put (now (out .entry)) (now (out .exit)) o r (orZero (front (until stop mode (now (s .entry)) first)) ⊕ afterPoint (noTrailing (until stop mode (now (s .entry)) after))) ⌝ }
+    ensures { λ r. ⌜
+        Put (now (out .entry)) (now (out .exit)) o r (orZero (front (until stop mode (now (s .entry)) first)) ⊕
+        afterPoint (noTrailing (until stop mode (now (s .entry)) after))) ⌝ }
 {
     let q = put_before(out, o, stop, mode, s, first);
     put_after(out, q, stop, mode, s, after)
@@ -217,7 +229,10 @@ fn put_decimal(
     first: usize,
     after: usize,
 ) -> usize
-    ensures { λ r. ⌜ Put (now (out .entry)) (now (out .exit)) o r (writeFloat (decimal minus (front (until stop mode (now (s .entry)) first)) (noTrailing (until stop mode (now (s .entry)) after)))) ⌝ }
+    ensures { λ r. ⌜
+        Put (now (out .entry)) (now (out .exit)) o r (writeFloat (decimal minus
+        (front (until stop mode (now (s .entry)) first))
+        (noTrailing (until stop mode (now (s .entry)) after)))) ⌝ }
 {
     if minus {
         let q = put(out, o, b'-');
@@ -234,7 +249,9 @@ pub fn put_float_to(
     s: &[u8],
     at: usize,
 ) -> usize
-    ensures { λ r. ⌜ Put (now (out .entry)) (now (out .exit)) o r (orNothing writeFloat (readFloat (until stop mode (now (s .entry)) at))) ⌝ }
+    ensures { λ r. ⌜
+        Put (now (out .entry)) (now (out .exit)) o r
+        (orNothing writeFloat (readFloat (until stop mode (now (s .entry)) at))) ⌝ }
 {
     let FloatRead::Good(minus, first, after) = float_to(stop, mode, s, at) else {
         return o;
@@ -243,7 +260,9 @@ pub fn put_float_to(
 }
 
 pub fn put_float(out: &mut [u8], o: usize, mode: usize, s: &[u8], at: usize) -> usize
-    ensures { λ r. ⌜ Put (now (out .entry)) (now (out .exit)) o r (orNothing writeFloat (readFloat (rest mode (now (s .entry)) at))) ⌝ }
+    ensures { λ r. ⌜
+        Put (now (out .entry)) (now (out .exit)) o r
+        (orNothing writeFloat (readFloat (rest mode (now (s .entry)) at))) ⌝ }
 {
-    put_float_to(out, o, 256, mode, s, at)
+    put_float_to(out, o, END, mode, s, at)
 }

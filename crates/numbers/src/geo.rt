@@ -1,13 +1,15 @@
-// GEO in text: two FLOAT values with a semicolon between them. `float::put_float_to` writes the latitude, up to byte 59 from where GEO begins, and
+// GEO in text: two FLOAT values with a semicolon between them. `float::put_float_to` writes the latitude, up to the semicolon from where GEO begins, and
 // `float::put_float` the longitude, from the cursor that `read_geo` answers.
+use crate::float::FloatRead;
+use crate::float::float_to;
+use octets::unit::END;
+use octets::unit::SEMICOLON;
+use source::unit;
 ghost use mathlib.Core.Path.{_≡_};
 ghost use Rattle.octets.specs.Reading.{isRead};
 ghost use Rattle.numbers.specs.Float.{readFloat};
 ghost use Rattle.numbers.specs.Until.{until};
 ghost use Rattle.numbers.specs.ReadGeo.{Parted, ReadsGeo};
-use crate::float::FloatRead;
-use crate::float::float_to;
-use source::unit;
 
 // The cursor of the longitude.
 pub enum GeoRead {
@@ -30,7 +32,7 @@ fn part_end(c: usize, mode: usize, s: &[u8], at: usize) -> Mark
         let t = unit(mode, s, i);
         let u = t.u;
         let n = t.next;
-        if u == 256 {
+        if u == END {
             return Mark { ok: false, next: i };
         }
         if u == c {
@@ -52,15 +54,15 @@ fn is_float(stop: usize, mode: usize, s: &[u8], at: usize) -> bool
 pub fn read_geo(mode: usize, s: &[u8], at: usize) -> GeoRead
     ensures { λ r. ⌜ ReadsGeo mode (now (s .entry)) at r ⌝ }
 {
-    let f = part_end(59, mode, s, at);
+    let f = part_end(SEMICOLON, mode, s, at);
     if f.ok {
         let e = f.next;
-        let g = part_end(59, mode, s, e);
+        let g = part_end(SEMICOLON, mode, s, e);
         if g.ok {
             return GeoRead::Bad;
         }
-        let a = is_float(59, mode, s, at);
-        let b = is_float(256, mode, s, e);
+        let a = is_float(SEMICOLON, mode, s, at);
+        let b = is_float(END, mode, s, e);
         if a {
             if b {
                 return GeoRead::At(e);

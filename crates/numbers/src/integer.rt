@@ -1,4 +1,10 @@
 // INTEGER: read from the cursor to the end, and written.
+use crate::numeral::worth;
+use octets::unit::END;
+use octets::unit::HYPHEN;
+use octets::unit::PLUS;
+use sink::put;
+use source::unit;
 ghost use mathlib.Core.Path.{_≡_};
 ghost use mathlib.Core.List.{List};
 ghost use Prim.Native.Nat.{_+_, _<_, _≤_};
@@ -8,9 +14,6 @@ ghost use Rattle.source.specs.Source.{rest};
 ghost use Rattle.sink.specs.Sink.{Put};
 ghost use Rattle.numbers.specs.Integer.{whole, writeWhole, readInteger, writeInteger};
 ghost use Rattle.numbers.specs.ReadInteger.{numberIn, wholeFrom, wholeOf, wholeIs};
-use crate::numeral::worth;
-use sink::put;
-use source::unit;
 
 // A number: whether it is negative, and its magnitude.
 pub enum IntegerRead {
@@ -24,7 +27,7 @@ fn number(mode: usize, s: &[u8], at: usize, most: usize) -> u32
     ensures { λ r. ⌜ numberIn most (rest mode (now (s .entry)) at) ≡ r ⌝ }
 {
     let t = unit(mode, s, at);
-    if t.u == 256 {
+    if t.u == END {
         return 4294967295;
     }
     worth(false, most, mode, s, at)
@@ -48,11 +51,11 @@ pub fn read_integer(mode: usize, s: &[u8], at: usize) -> IntegerRead
 {
     let t = unit(mode, s, at);
     let u = t.u;
-    if u == 45 {
+    if u == HYPHEN {
         let n = number(mode, s, t.next, 2147483648);
         return signed(true, n);
     }
-    if u == 43 {
+    if u == PLUS {
         let n = number(mode, s, t.next, 2147483647);
         return signed(false, n);
     }
@@ -64,7 +67,7 @@ fn digit(n: u32) -> u8
     requires { ⌜ n < 10 ⌝ }
     ensures { λ r. ⌜ r ≡ 48 + n ⌝ }
 {
-    48 + n as u8
+    b'0' + n as u8
 }
 
 // The last `left` + 1 digits of `n`, without leading zeros.
@@ -92,7 +95,9 @@ pub fn put_whole(out: &mut [u8], o: usize, neg: bool, m: u32) -> usize
 }
 
 pub fn put_integer(out: &mut [u8], o: usize, mode: usize, s: &[u8], at: usize) -> usize
-    ensures { λ r. ⌜ Put (now (out .entry)) (now (out .exit)) o r (orNothing writeInteger (readInteger (rest mode (now (s .entry)) at))) ⌝ }
+    ensures { λ r. ⌜
+        Put (now (out .entry)) (now (out .exit)) o r
+        (orNothing writeInteger (readInteger (rest mode (now (s .entry)) at))) ⌝ }
 {
     let IntegerRead::Value(neg, m) = read_integer(mode, s, at) else {
         return o;

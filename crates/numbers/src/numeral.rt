@@ -1,13 +1,16 @@
 // Digits from the cursor on, to the end, or, where `letters` says so, to the first letter. See specs/Numeral.antt.
+use octets::is_alpha;
+use octets::unit::END;
+use octets::unit::NINE;
+use octets::unit::ZERO;
+use source::Step;
+use source::unit;
 ghost use mathlib.Core.Path.{_≡_};
 ghost use Prim.Native.Nat.{_≤_};
 ghost use Rattle.source.specs.Source.{rest};
 ghost use Rattle.numbers.specs.Numeral.{front, Fronts, worthTo};
-use octets::is_alpha;
-use source::Step;
-use source::unit;
 
-// The byte at the cursor `at`, or 256 at the end, which a letter is too where `letters` says so.
+// The byte at the cursor `at`, or END at the end, which a letter is too where `letters` says so.
 pub fn front_unit(letters: bool, mode: usize, s: &[u8], at: usize) -> Step
     ensures { λ r. ⌜ Fronts letters mode (now (s .entry)) at r ⌝ }
 {
@@ -15,7 +18,7 @@ pub fn front_unit(letters: bool, mode: usize, s: &[u8], at: usize) -> Step
     if letters {
         let a = is_alpha(t.u);
         if a {
-            return Step { u: 256, next: at };
+            return Step { u: END, next: at };
         }
         return t;
     }
@@ -32,16 +35,16 @@ pub fn worth(letters: bool, most: usize, mode: usize, s: &[u8], at: usize) -> u3
     loop {
         let t = front_unit(letters, mode, s, c);
         let u = t.u;
-        if u == 256 {
+        if u == END {
             return v as u32;
         }
-        if u < 48 {
+        if u < ZERO {
             return 4294967295;
         }
-        if 57 < u {
+        if NINE < u {
             return 4294967295;
         }
-        let w = v * 10 + (u - 48);
+        let w = v * 10 + (u - ZERO);
         if most < w {
             return 4294967295;
         }

@@ -1,15 +1,19 @@
-// Digits and zeros passed over, from the cursor up to the byte `stop`; to the end where `stop` is 256.
+// Digits and zeros passed over, from the cursor up to the byte `stop`; to the end where `stop` is END.
+use octets::is_digit;
+use octets::unit::END;
+use octets::unit::HYPHEN;
+use octets::unit::PLUS;
+use octets::unit::ZERO;
+use source::Step;
+use source::unit;
 ghost use mathlib.Core.Path.{_≡_};
 ghost use Rattle.octets.specs.Words.{isEmpty};
 ghost use Rattle.numbers.specs.Sign.{hasMinus, unsigned, isDigits};
 ghost use Rattle.numbers.specs.Float.{noLeading, noTrailing};
 ghost use Rattle.numbers.specs.Until.{until, Turns};
 ghost use Rattle.numbers.specs.FloatParts.{afterDigits};
-use octets::is_digit;
-use source::Step;
-use source::unit;
 
-// The byte at the cursor; 256 at the byte `stop` and at the end.
+// The byte at the cursor; END at the byte `stop` and at the end.
 pub fn unit_to(stop: usize, mode: usize, s: &[u8], at: usize) -> Step
     ensures { λ r. ⌜ Turns stop mode (now (s .entry)) at r ⌝ }
 {
@@ -17,7 +21,7 @@ pub fn unit_to(stop: usize, mode: usize, s: &[u8], at: usize) -> Step
     let u = t.u;
     let n = t.next;
     if u == stop {
-        return Step { u: 256, next: n };
+        return Step { u: END, next: n };
     }
     Step { u: u, next: n }
 }
@@ -30,7 +34,7 @@ pub fn digits_end(stop: usize, mode: usize, s: &[u8], at: usize) -> usize
     loop {
         let t = unit_to(stop, mode, s, c);
         let u = t.u;
-        if u == 256 {
+        if u == END {
             return c;
         }
         if is_digit(u) {
@@ -49,10 +53,10 @@ pub fn zeros_end(stop: usize, mode: usize, s: &[u8], at: usize) -> usize
     loop {
         let t = unit_to(stop, mode, s, c);
         let u = t.u;
-        if u == 256 {
+        if u == END {
             return c;
         }
-        if u == 48 {
+        if u == ZERO {
             c = t.next;
         } else {
             return c;
@@ -68,10 +72,10 @@ pub fn only_zeros(stop: usize, mode: usize, s: &[u8], at: usize) -> bool
     loop {
         let t = unit_to(stop, mode, s, c);
         let u = t.u;
-        if u == 256 {
+        if u == END {
             return true;
         }
-        if u == 48 {
+        if u == ZERO {
             c = t.next;
         } else {
             return false;
@@ -84,19 +88,19 @@ pub fn only_digits(stop: usize, mode: usize, s: &[u8], at: usize) -> bool
     ensures { λ r. ⌜ r ≡ isDigits (until stop mode (now (s .entry)) at) ⌝ }
 {
     let t = unit_to(stop, mode, s, at);
-    if t.u == 256 {
+    if t.u == END {
         return false;
     }
     let p = digits_end(stop, mode, s, at);
     let w = unit_to(stop, mode, s, p);
-    w.u == 256
+    w.u == END
 }
 
 pub fn has_minus(stop: usize, mode: usize, s: &[u8], at: usize) -> bool
     ensures { λ r. ⌜ r ≡ hasMinus (until stop mode (now (s .entry)) at) ⌝ }
 {
     let t = unit_to(stop, mode, s, at);
-    t.u == 45
+    t.u == HYPHEN
 }
 
 // After the sign, if there is one.
@@ -105,10 +109,10 @@ pub fn sign_end(stop: usize, mode: usize, s: &[u8], at: usize) -> usize
 {
     let t = unit_to(stop, mode, s, at);
     let u = t.u;
-    if u == 45 {
+    if u == HYPHEN {
         return t.next;
     }
-    if u == 43 {
+    if u == PLUS {
         return t.next;
     }
     at

@@ -8,7 +8,7 @@ ghost use Rattle.octets.specs.Block.{anyOf, without, isReturn};
 fn is_return(b: u8) -> bool
     ensures { λ r. ⌜ r ≡ isReturn b ⌝ }
 {
-    b == 13
+    b == b'\r'
 }
 
 // Whether a block of 16 bytes has one.

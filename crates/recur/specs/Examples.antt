@@ -6,7 +6,7 @@ use mathlib.Core.Option.{none, some}
 use Prim.Native.Nat.{ℕ}
 use Rattle.octets.specs.Ascii.{ascii}
 use Rattle.octets.specs.Reading.{isRead}
-use Rattle.model.specs.Calendar.{Format, ical, xcal, RulePart, moment, number, word, weekday}
+use Rattle.calendar.specs.Calendar.{Format, ical, xcal, RulePart, moment, number, word, weekday}
 use Rattle.recur.specs.Parts.{partNames, isListPart, partOrder}
 use Rattle.recur.specs.Item.{whole, readItem, writeItem, isItem}
 use Rattle.recur.specs.Rule.{rulePart, readRule, writeRule, isRule}

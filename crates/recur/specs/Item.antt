@@ -16,7 +16,7 @@ use Rattle.octets.specs.Words.{isOneOf}
 use Rattle.octets.specs.Decimal.{value, isNumber}
 use Rattle.octets.specs.Reading.{provided, andThen}
 use Rattle.octets.specs.Front.{upTo, fromOn}
-use Rattle.model.specs.Calendar.{Format, ical, xcal, Whole, RuleItem, moment, number, word, weekday}
+use Rattle.calendar.specs.Calendar.{Format, ical, xcal, Whole, RuleItem, moment, number, word, weekday}
 use Rattle.times.specs.Date.{isDate, readDate, writeDate}
 use Rattle.times.specs.DateTime.{isDateTime, readDateTime, writeDateTime}
 use Rattle.numbers.specs.Sign.{hasMinus, unsigned as afterSign}

@@ -2,7 +2,6 @@
 -- and what an item of each part is.
 --     partTable     the fourteen parts
 --     partNames     their names, in capitals
---     isPartName    a name of a part
 --     isListPart    a part that has a list of items: in XML its element may stand several times
 --     partOrder     the place of a name in the schema's order, from 0; of another name, the number of the parts
 use mathlib.Core.Bool.{Bool, true, false}
@@ -10,7 +9,7 @@ use mathlib.Core.List.{List, [], _∷_, map}
 use mathlib.Core.Option.{Option, none, some}
 use Prim.Native.Nat.{ℕ}
 use Rattle.octets.specs.Ascii.{ascii}
-use Rattle.octets.specs.Words.{isOneOf, rowOf}
+use Rattle.octets.specs.Words.{rowOf}
 use Rattle.names.specs.Table.{placeOf}
 
 -- freq = "SECONDLY" / "MINUTELY" / "HOURLY" / "DAILY" / "WEEKLY" / "MONTHLY" / "YEARLY"
@@ -62,9 +61,6 @@ partTable =
 
 abbrev pub partNames : List (List ℕ)
 partNames = map (λ (r : Part). r .name) partTable
-
-abbrev pub isPartName : List ℕ → Bool
-isPartName n = isOneOf n partNames
 
 abbrev pub partOf : List ℕ → Option Part
 partOf n = rowOf (λ (r : Part). r .name) n partTable

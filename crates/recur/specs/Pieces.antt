@@ -2,27 +2,24 @@
 --     Ends k m s c r       what stands from c on has its first byte k, or its end, at r
 --     placeAt w          the place of the name of the piece w in the schema's order; 14 of no part's name
 --     areItems p ws      each of these is an item of the part at the place p
---     hasPlace p ws      some piece has the name at the place p
---     eachPart ws        each piece is a part, and no later piece has its name
---     isWhole ws         FREQ is there; UNTIL and COUNT are not both there
 --     good               what the answer of `read_rule` says
 use mathlib.Core.Path.{_≡_}
-use mathlib.Core.Bool.{Bool, true, false, not}
+use mathlib.Core.Bool.{Bool, true, false}
 use mathlib.Core.List.{List, [], _∷_}
 use Prim.Native.Nat.{ℕ, _≤_}
 use lib.Dec.{eqb}
 use lib.ListN.{getD}
-use Rattle.octets.specs.Pick.{pick, _and_, _or_}
+use Rattle.octets.specs.Pick.{_and_}
 use Rattle.octets.specs.Append.{_⊕_}
 use Rattle.octets.specs.Class.{upper}
 use Rattle.octets.specs.Reading.{isRead}
 use Rattle.octets.specs.Front.{upTo, fromOn}
-use Rattle.model.specs.Calendar.{ical}
+use Rattle.calendar.specs.Calendar.{ical}
 use Rattle.source.specs.Source.{rest, Within, Reach}
 use Rattle.names.specs.Table.{placeOf}
 use Rattle.recur.specs.Parts.{partNames}
 use Rattle.recur.specs.Item.{readItem}
-use Rattle.recur.specs.Rule.{isEquals, readPart}
+use Rattle.recur.specs.Rule.{isEquals}
 use Rattle.recur.specs.declared.rule.RuleRead.{RuleRead}
 use Rattle.recur.specs.declared.rule.RuleRead.the-variants.{Rule, Bad}
 
@@ -42,17 +39,6 @@ placeAt w = placeOf (pieceName w) partNames
 unfoldable pub areItems : ℕ → List (List ℕ) → Bool
 areItems p [] = true
 areItems p (w ∷ ws) = isRead (readItem ical (getD partNames p []) w) and areItems p ws
-
-unfoldable pub hasPlace : ℕ → List (List ℕ) → Bool
-hasPlace p [] = false
-hasPlace p (w ∷ ws) = eqb (placeAt w) p or hasPlace p ws
-
-unfoldable pub eachPart : List (List ℕ) → Bool
-eachPart [] = true
-eachPart (w ∷ ws) = isRead (readPart w) and pick (hasPlace (placeAt w) ws) false (eachPart ws)
-
-abbrev pub isWhole : List (List ℕ) → Bool
-isWhole ws = hasPlace 0 ws and not (hasPlace 1 ws and hasPlace 2 ws)
 
 abbrev pub good : RuleRead → Bool
 good Rule = true

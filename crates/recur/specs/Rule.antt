@@ -16,7 +16,7 @@ use Rattle.octets.specs.Words.{same, isEmpty, cutAt, joinedBy, rowOf}
 use Rattle.octets.specs.Lists.{every, distinct}
 use Rattle.octets.specs.Reading.{provided, andThen, isRead, readEach}
 use Rattle.octets.specs.Front.{upTo, past}
-use Rattle.model.specs.Calendar.{ical, RuleItem, RulePart}
+use Rattle.calendar.specs.Calendar.{ical, RuleItem, RulePart}
 use Rattle.recur.specs.Parts.{partNames, isListPart}
 use Rattle.recur.specs.Item.{readItem, writeItem, isItem}
 

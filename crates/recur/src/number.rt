@@ -1,4 +1,9 @@
 // Numbers of rule parts, to the end of what stands from the cursor on, or, where `letters` says so, to the first letter. See specs/Numeral.antt.
+use numbers::numeral::front_unit;
+use numbers::numeral::worth;
+use octets::unit::END;
+use octets::unit::HYPHEN;
+use octets::unit::PLUS;
 ghost use mathlib.Core.Path.{_≡_};
 ghost use Prim.Native.Nat.{_≤_, _<_};
 ghost use Rattle.octets.specs.Pick.{_and_};
@@ -8,8 +13,6 @@ ghost use Rattle.numbers.specs.Numeral.{front};
 ghost use Rattle.recur.specs.Item.{isShort, isNumeral};
 ghost use Rattle.recur.specs.Numeral.{numeralIn};
 ghost use Rattle.recur.specs.Fits.{isNumeralOf};
-use numbers::numeral::front_unit;
-use numbers::numeral::worth;
 
 // No more than `d` bytes.
 fn is_short(letters: bool, d: usize, mode: usize, s: &[u8], at: usize) -> bool
@@ -20,7 +23,7 @@ fn is_short(letters: bool, d: usize, mode: usize, s: &[u8], at: usize) -> bool
     loop {
         let t = front_unit(letters, mode, s, c);
         let u = t.u;
-        if u == 256 {
+        if u == END {
             return true;
         }
         if i == d {
@@ -37,7 +40,7 @@ pub fn numeral_of(letters: bool, lo: u32, hi: usize, mode: usize, s: &[u8], at: 
     ensures { λ r. ⌜ numeralIn lo hi (front letters (rest mode (now (s .entry)) at)) ≡ r ⌝ }
 {
     let t = front_unit(letters, mode, s, at);
-    if t.u == 256 {
+    if t.u == END {
         return 4294967295;
     }
     let n = worth(letters, hi, mode, s, at);
@@ -78,14 +81,15 @@ pub fn is_unsigned(
 
 // The cursor after a sign.
 pub fn after_sign(letters: bool, mode: usize, s: &[u8], at: usize) -> usize
-    ensures { λ r. ⌜ unsigned (front letters (rest mode (now (s .entry)) at)) ≡ front letters (rest mode (now (s .entry)) r) ⌝ }
+    ensures { λ r. ⌜
+        unsigned (front letters (rest mode (now (s .entry)) at)) ≡ front letters (rest mode (now (s .entry)) r) ⌝ }
 {
     let t = front_unit(letters, mode, s, at);
     let u = t.u;
-    if u == 43 {
+    if u == PLUS {
         return t.next;
     }
-    if u == 45 {
+    if u == HYPHEN {
         return t.next;
     }
     at

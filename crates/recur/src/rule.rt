@@ -1,4 +1,13 @@
 // A whole rule in text, over an encoding whose cursors are indices. See specs/Pieces.antt and specs/Noted.antt.
+use crate::item::is_item;
+use crate::part;
+use names::name_key;
+use names::named;
+use octets::unit::COMMA;
+use octets::unit::END;
+use octets::unit::EQUALS;
+use octets::unit::SEMICOLON;
+use source::unit;
 ghost use mathlib.Core.Path.{_≡_};
 ghost use mathlib.Core.Bool.{true};
 ghost use mathlib.Core.List.{[]};
@@ -13,10 +22,6 @@ ghost use Rattle.recur.specs.Parts.{partNames, partOf, isListed};
 ghost use Rattle.recur.specs.Rule.{isEquals, readPart, readRule};
 ghost use Rattle.recur.specs.Pieces.{Ends, placeAt, areItems, good};
 ghost use Rattle.recur.specs.Noted.{Parted, wholeIn};
-use crate::item::is_item;
-use names::name_key;
-use names::named;
-use source::unit;
 
 // Whether there is a rule.
 pub enum RuleRead {
@@ -24,7 +29,7 @@ pub enum RuleRead {
     Bad,
 }
 
-// Whether there is a rule, and where each part stands: the cursor at its piece and one more; 0 where there is none.
+// Whether there is a rule, and where each of the 14 parts stands: the cursor at its piece and one more; 0 where there is none.
 pub struct RuleParts {
     pub good: bool,
     pub begins: [usize; 14],
@@ -41,7 +46,7 @@ pub fn byte_end(k: usize, mode: usize, s: &[u8], at: usize) -> usize
     loop {
         let t = unit(mode, s, c);
         let u = t.u;
-        if u == 256 {
+        if u == END {
             return c;
         }
         if u == k {
@@ -51,27 +56,27 @@ pub fn byte_end(k: usize, mode: usize, s: &[u8], at: usize) -> usize
     }
 }
 
-// The place of a part's name, in any case, by its key (specs/Keys.antt of crate names); 14 where no part has that name.
+// The place of a part's name, in any case, by its key (specs/Keys.antt of crate names); part::KNOWN where no part has that name.
 fn part_number(mode: usize, s: &[u8], at: usize) -> usize
     ensures { λ r. ⌜ r ≡ placeOf (upper (rest mode (now (s .entry)) at)) partNames ⌝ }
 {
     let h = name_key(mode, s, at);
     match h {
-        76 => named(mode, s, at, b"FREQ", 0, 14),
-        229 => named(mode, s, at, b"UNTIL", 1, 14),
-        221 => named(mode, s, at, b"COUNT", 2, 14),
-        125 => named(mode, s, at, b"INTERVAL", 3, 14),
-        170 => named(mode, s, at, b"BYSECOND", 4, 14),
-        52 => named(mode, s, at, b"BYMINUTE", 5, 14),
-        32 => named(mode, s, at, b"BYHOUR", 6, 14),
-        217 => named(mode, s, at, b"BYDAY", 7, 14),
-        176 => named(mode, s, at, b"BYMONTHDAY", 8, 14),
-        12 => named(mode, s, at, b"BYYEARDAY", 9, 14),
-        15 => named(mode, s, at, b"BYWEEKNO", 10, 14),
-        62 => named(mode, s, at, b"BYMONTH", 11, 14),
-        174 => named(mode, s, at, b"BYSETPOS", 12, 14),
-        161 => named(mode, s, at, b"WKST", 13, 14),
-        _ => 14,
+        76 => named(mode, s, at, b"FREQ", part::FREQ, part::KNOWN),
+        229 => named(mode, s, at, b"UNTIL", part::UNTIL, part::KNOWN),
+        221 => named(mode, s, at, b"COUNT", part::COUNT, part::KNOWN),
+        125 => named(mode, s, at, b"INTERVAL", part::INTERVAL, part::KNOWN),
+        170 => named(mode, s, at, b"BYSECOND", part::BYSECOND, part::KNOWN),
+        52 => named(mode, s, at, b"BYMINUTE", part::BYMINUTE, part::KNOWN),
+        32 => named(mode, s, at, b"BYHOUR", part::BYHOUR, part::KNOWN),
+        217 => named(mode, s, at, b"BYDAY", part::BYDAY, part::KNOWN),
+        176 => named(mode, s, at, b"BYMONTHDAY", part::BYMONTHDAY, part::KNOWN),
+        12 => named(mode, s, at, b"BYYEARDAY", part::BYYEARDAY, part::KNOWN),
+        15 => named(mode, s, at, b"BYWEEKNO", part::BYWEEKNO, part::KNOWN),
+        62 => named(mode, s, at, b"BYMONTH", part::BYMONTH, part::KNOWN),
+        174 => named(mode, s, at, b"BYSETPOS", part::BYSETPOS, part::KNOWN),
+        161 => named(mode, s, at, b"WKST", part::WKST, part::KNOWN),
+        _ => part::KNOWN,
     }
 }
 
@@ -80,18 +85,20 @@ fn part_place(mode: usize, s: &[u8], at: usize) -> usize
     requires { ⌜ Within mode (now s) at ⌝ }
     ensures { λ r. ⌜ r ≡ placeAt (rest mode (now (s .entry)) at) ⌝ }
 {
-    let e = byte_end(61, mode, s, at);
+    let e = byte_end(EQUALS, mode, s, at);
     part_number(mode, &s[..e], at)
 }
 
 // The cursor after a piece's name and =.
 pub fn value_at(mode: usize, s: &[u8], at: usize) -> usize
     requires { ⌜ Within mode (now s) at ⌝ }
-    ensures { λ r. ⌜ (past isEquals (rest mode (now (s .entry)) at) ≡ rest mode (now (s .entry)) r) × Within mode (now (s .entry)) r ⌝ }
+    ensures { λ r. ⌜
+        (past isEquals (rest mode (now (s .entry)) at) ≡ rest mode (now (s .entry)) r)
+        × Within mode (now (s .entry)) r ⌝ }
 {
-    let e = byte_end(61, mode, s, at);
+    let e = byte_end(EQUALS, mode, s, at);
     let n = unit(mode, s, e);
-    if n.u == 256 {
+    if n.u == END {
         return e;
     }
     n.next
@@ -101,7 +108,7 @@ pub fn value_at(mode: usize, s: &[u8], at: usize) -> usize
 pub fn is_list_part(p: usize) -> bool
     ensures { λ r. ⌜ r ≡ isListed (partOf (getD partNames p [])) ⌝ }
 {
-    if p < 14 {
+    if p < part::KNOWN {
         return LISTED[p] == 1;
     }
     false
@@ -114,12 +121,12 @@ fn are_items(p: usize, mode: usize, s: &[u8], at: usize) -> bool
 {
     let mut c = at;
     loop {
-        let e = byte_end(44, mode, s, c);
+        let e = byte_end(COMMA, mode, s, c);
         let fits = is_item(p, false, mode, &s[..e], c);
         if fits {
             let n = unit(mode, s, e);
             let u = n.u;
-            if u == 256 {
+            if u == END {
                 return true;
             }
             c = n.next;
@@ -146,13 +153,13 @@ fn is_part(p: usize, mode: usize, s: &[u8], at: usize) -> bool
 fn is_whole(begins: [usize; 14]) -> bool
     ensures { λ r. ⌜ r ≡ wholeIn begins ⌝ }
 {
-    if begins[0] == 0 {
+    if begins[part::FREQ] == 0 {
         return false;
     }
-    if begins[1] == 0 {
+    if begins[part::UNTIL] == 0 {
         return true;
     }
-    begins[2] == 0
+    begins[part::COUNT] == 0
 }
 
 // The parts from the cursor `at` to the end: each piece is one, and no two have the same name.
@@ -163,7 +170,7 @@ fn find_parts(mode: usize, s: &[u8], at: usize) -> RuleParts
     let mut begins = [0usize; 14];
     let mut c = at;
     loop {
-        let e = byte_end(59, mode, s, c);
+        let e = byte_end(SEMICOLON, mode, s, c);
         let p = part_place(mode, &s[..e], c);
         let fits = is_part(p, mode, &s[..e], c);
         if fits {
@@ -171,7 +178,7 @@ fn find_parts(mode: usize, s: &[u8], at: usize) -> RuleParts
                 begins[p] = c + 1;
                 let n = unit(mode, s, e);
                 let u = n.u;
-                if u == 256 {
+                if u == END {
                     let good = is_whole(begins);
                     return RuleParts { good, begins };
                 }

@@ -1,24 +1,25 @@
 // Words, weekdays and ends of rule parts. See specs/Fits.antt.
-ghost use mathlib.Core.Path.{_≡_};
-ghost use Rattle.octets.specs.Class.{isAlpha};
-ghost use Rattle.octets.specs.Words.{isOneOf};
-ghost use Rattle.octets.specs.Reading.{isRead};
-ghost use Rattle.octets.specs.Front.{upTo, fromOn};
-ghost use Rattle.model.specs.Calendar.{formatOf};
-ghost use Rattle.source.specs.Source.{rest};
-ghost use Rattle.times.specs.DateTime.{readDateTime};
-ghost use Rattle.recur.specs.Parts.{frequencies, weekdays, weekdaynum};
-ghost use Rattle.recur.specs.Item.{inCapitals, readEnddate};
-ghost use Rattle.recur.specs.Fits.{fitsOrdinal, fitsForm};
 use crate::number::is_signed;
 use names::find_word;
 use numbers::numeral::front_unit;
 use octets::is_alpha;
+use octets::unit::END;
 use source::unit;
 use times::date::DateRead;
 use times::date::read_date;
 use times::date_time::DateTimeRead;
 use times::date_time::read_date_time;
+ghost use mathlib.Core.Path.{_≡_};
+ghost use Rattle.octets.specs.Class.{isAlpha};
+ghost use Rattle.octets.specs.Words.{isOneOf};
+ghost use Rattle.octets.specs.Reading.{isRead};
+ghost use Rattle.octets.specs.Front.{upTo, fromOn};
+ghost use Rattle.calendar.specs.Calendar.{formatOf};
+ghost use Rattle.source.specs.Source.{rest};
+ghost use Rattle.times.specs.DateTime.{readDateTime};
+ghost use Rattle.recur.specs.Parts.{frequencies, weekdays, weekdaynum};
+ghost use Rattle.recur.specs.Item.{inCapitals, readEnddate};
+ghost use Rattle.recur.specs.Fits.{fitsOrdinal, fitsForm};
 
 // A frequency.
 pub fn is_frequency(xcal: bool, mode: usize, s: &[u8], at: usize) -> bool
@@ -50,7 +51,7 @@ pub fn first_letter(mode: usize, s: &[u8], at: usize) -> usize
     loop {
         let t = unit(mode, s, c);
         let u = t.u;
-        if u == 256 {
+        if u == END {
             return c;
         }
         let a = is_alpha(u);
@@ -66,7 +67,7 @@ fn is_ordinal(mode: usize, s: &[u8], at: usize) -> bool
     ensures { λ r. ⌜ r ≡ fitsOrdinal (upTo isAlpha (rest mode (now (s .entry)) at)) ⌝ }
 {
     let t = front_unit(true, mode, s, at);
-    if t.u == 256 {
+    if t.u == END {
         return true;
     }
     is_signed(true, 2, 53, mode, s, at)

@@ -1,8 +1,11 @@
 // What a conversion answered, on standard output, for the programs.
-use conversion::Answer;
-use conversion::number_of;
-use conversion::value_of;
+use calls::Answer;
+use calls::number_of;
+use calls::value_of;
 use libc::STDOUT_FILENO;
+
+// The refusal of a result that has no room, as wide as an answer's number.
+const ROOM: u64 = refusals::ROOM as u64;
 
 fn say_number(n: u64) {
     io::print_decimal(STDOUT_FILENO, n);
@@ -12,7 +15,7 @@ fn say_number(n: u64) {
 fn say_refused(number: u64, value: u64) {
     io::write_all(STDOUT_FILENO, b"refused ");
     say_number(number);
-    if number == 10 {
+    if number == ROOM {
         io::write_all(STDOUT_FILENO, b" needs ");
     } else {
         io::write_all(STDOUT_FILENO, b" at ");

@@ -1,65 +1,8 @@
 -- Tables of numbers that a definition fills: the constants of the code are these lists by computation.
---     digit         a test as the character 1 or 0
---     tabled        f of each of a run of numbers;   tabled-at: its entries
---     column-at     the entry of a row in the list of a field of each row;   column-past: of a number that is no row
---     cell-at       the entry of two numbers in a table of w to a line
---     at-passes, row-passes    what every row passes
-use mathlib.Core.Path.{_≡_, refl, sym, ap, _∙_}
-use mathlib.Core.Bool.{Bool, true, false}
-use mathlib.Core.List.{List, [], _∷_, map}
-use Prim.Native.Nat.{ℕ, zero, suc, _+_, _*_, _/_, _%_, _≤_, _<_}
-use native.Mathlib.Nat.{not-suc-le-zero, le-of-suc-le-suc}
-use native.Mathlib.Omega.{arith}
-use lib.Dec.{eqb}
-use lib.ListN.{length, getD, List·getD-eq-default}
-use Rattle.octets.specs.Pick.{and-both}
-use Rattle.octets.specs.Lists.{every}
-
-abbrev pub digit : Bool → ℕ
-digit true = 49
-digit false = 48
-
-pub digit-is : (b : Bool) → eqb (digit b) 49 ≡ b
-digit-is true = refl
-digit-is false = refl
+--     tabled        f of each of a run of numbers
+use mathlib.Core.List.{List, [], _∷_}
+use Prim.Native.Nat.{ℕ, zero, suc}
 
 unfoldable pub tabled : (ℕ → ℕ) → ℕ → ℕ → List ℕ
 tabled f i zero = []
 tabled f i (suc k) = f i ∷ tabled f (suc i) k
-
-pub tabled-at : (f : ℕ → ℕ) (k i n : ℕ) → n < k → getD (tabled f i k) n 0 ≡ f (i + n)
-unfolding tabled
-tabled-at f zero i n h = absurd (not-suc-le-zero h)
-tabled-at f (suc k) i zero h = ap f (omega arith)
-tabled-at f (suc k) i (suc n) h = tabled-at f k (suc i) n (le-of-suc-le-suc h) ∙ ap f (omega arith)
-
--- g of the line and the column, in a table of w columns and of b entries
-abbrev pub grid : (ℕ → ℕ → ℕ) → ℕ → ℕ → List ℕ
-grid g w b = tabled (λ i. g (i / w) (i % w)) 0 b
-
-pub cell-at : (g : ℕ → ℕ → ℕ) (w b k j : ℕ) → k * w + j < b → (k * w + j) / w ≡ k → (k * w + j) % w ≡ j → getD (grid g w b) (k * w + j) 0 ≡ g k j
-cell-at g w b k j h p q = tabled-at (λ i. g (i / w) (i % w)) b 0 (k * w + j) h ∙ line
-  where
-    line : g ((0 + (k * w + j)) / w) ((0 + (k * w + j)) % w) ≡ g k j
-    line = let e : 0 + (k * w + j) ≡ k * w + j = omega arith in rw (e, p, q)
-
-module _ {A : Type 0} where
-  pub column-at : (f : A → ℕ) (d : A) (rows : List A) (n : ℕ) → n < length rows → getD (map f rows) n 0 ≡ f (getD rows n d)
-  column-at f d [] n h = absurd (not-suc-le-zero h)
-  column-at f d (a ∷ rows) zero h = refl
-  column-at f d (a ∷ rows) (suc n) h = column-at f d rows n (le-of-suc-le-suc h)
-
-  pub column-past : {B : Type 0} (f : A → B) (d : A) (rows : List A) (n : ℕ) → length rows ≤ n → f d ≡ f (getD rows n d)
-  column-past f d rows n h = ap f (sym (List·getD-eq-default rows d h))
-
-  pub at-passes : (p : A → Bool) (d : A) (rows : List A) (n : ℕ) → every p rows ≡ true → p d ≡ true → p (getD rows n d) ≡ true
-  unfolding every
-  at-passes p d [] n a h = h
-  at-passes p d (x ∷ rows) zero a h = and-both _ _ a .0
-  at-passes p d (x ∷ rows) (suc n) a h = at-passes p d rows n (and-both _ _ a .1) h
-
-  pub row-at-passes : (p : A → Bool) (d : A) (rows : List A) (n : ℕ) → every p rows ≡ true → n < length rows → p (getD rows n d) ≡ true
-  unfolding every
-  row-at-passes p d [] n a h = absurd (not-suc-le-zero h)
-  row-at-passes p d (x ∷ rows) zero a h = and-both _ _ a .0
-  row-at-passes p d (x ∷ rows) (suc n) a h = row-at-passes p d rows n (and-both _ _ a .1) (le-of-suc-le-suc h)

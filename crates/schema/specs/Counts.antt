@@ -13,7 +13,7 @@ use Rattle.octets.specs.Ascii.{ascii}
 use Rattle.octets.specs.Pick.{pick, _and_, _or_}
 use Rattle.octets.specs.Words.{same, rowOf}
 use Rattle.octets.specs.Reading.{andThen, readOr}
-use Rattle.model.specs.Calendar.{Value, textIn, Property}
+use Rattle.calendar.specs.Calendar.{Value, textIn, Property}
 use Rattle.schema.specs.Components.{Occurrence, occurrencesOf, alarmOccurrences, isAlarm}
 use Rattle.schema.specs.Properties.{propertyNames}
 

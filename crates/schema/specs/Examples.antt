@@ -10,7 +10,7 @@ use Rattle.octets.specs.Pick.{pick}
 use Rattle.octets.specs.Append.{joined}
 use Rattle.octets.specs.Words.{isOneOf}
 use Rattle.octets.specs.Lists.{distinct, every}
-use Rattle.model.specs.Calendar.{BOOLEAN, CAL-ADDRESS, DATE, DATE-TIME, DURATION, FLOAT, PERIOD, TEXT, URI, UTC-OFFSET, UNKNOWN, text, Property}
+use Rattle.calendar.specs.Calendar.{BOOLEAN, CAL-ADDRESS, DATE, DATE-TIME, DURATION, FLOAT, PERIOD, TEXT, URI, UTC-OFFSET, UNKNOWN, text, Property}
 use Rattle.schema.specs.Types.{typeName, valueTypes, typeNamed}
 use Rattle.schema.specs.Parameters.{parameterNames, parameterType, isListedParameter, isQuotedParameter, parameterWords}
 use Rattle.schema.specs.Components.{alarmTable, componentNames, subcomponentsOf, standingIn, mayStand}

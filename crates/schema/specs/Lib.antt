@@ -5,33 +5,27 @@
 --     Parameters  parameters: type, whether listed, whether quoted, closed sets
 --     Components  components: subcomponents, and how often each property stands
 --     Properties  properties: types, parameters, whether listed, closed sets
---     Rows        laws of these tables
---     Closed      laws of closed sets
 --     Counts      the tallies of a component compared with its list (refusal 9)
---     Tallies     laws of counting
 --     Numbers     names by their numbers, and the rows of numbers
 --     Cells       tables that a definition fills
 --     Columns     what the tables say, by numbers
---     Places      the number of the name of a number
 --     Sets        closed sets, by numbers
 --     Arrays      the tallies of a component in an array
 --     Completing  counts over that array
 --     Computing   opens all of these, for examples that compute
 --     Examples    the tables computed
+--     laws        laws of these, and what proofs need
 pub mod Types
 pub mod Parameters
 pub mod Components
 pub mod Properties
-pub mod Rows
-pub mod Closed
 pub mod Counts
-pub mod Tallies
 pub mod Numbers
 pub mod Cells
-pub mod Places
 pub mod Columns
 pub mod Sets
 pub mod Arrays
 pub mod Completing
 pub mod Computing
 pub mod Examples
+pub mod laws

@@ -11,7 +11,7 @@ use Prim.Native.Nat.{ℕ}
 use Rattle.octets.specs.Ascii.{ascii}
 use Rattle.octets.specs.Words.{isOneOf, rowOf}
 use Rattle.octets.specs.Reading.{readOr}
-use Rattle.model.specs.Calendar.{ValueType, CAL-ADDRESS, BOOLEAN, TEXT, URI, UNKNOWN}
+use Rattle.calendar.specs.Calendar.{ValueType, CAL-ADDRESS, BOOLEAN, TEXT, URI, UNKNOWN}
 
 pub record ParameterRow : Type 0 where
   pub name : List ℕ

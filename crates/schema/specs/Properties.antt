@@ -14,7 +14,7 @@ use Rattle.octets.specs.Ascii.{ascii}
 use Rattle.octets.specs.Pick.{pick, _and_}
 use Rattle.octets.specs.Words.{same, isOneOf, rowOf}
 use Rattle.octets.specs.Reading.{andThen, readOr}
-use Rattle.model.specs.Calendar.{ValueType, BINARY, CAL-ADDRESS, DATE, DATE-TIME, DURATION, FLOAT, INTEGER, PERIOD, RECUR, TEXT, URI, UTC-OFFSET, UNKNOWN}
+use Rattle.calendar.specs.Calendar.{ValueType, BINARY, CAL-ADDRESS, DATE, DATE-TIME, DURATION, FLOAT, INTEGER, PERIOD, RECUR, TEXT, URI, UTC-OFFSET, UNKNOWN}
 use Rattle.schema.specs.Types.{valueTypes, sameType}
 use Rattle.schema.specs.Parameters.{isKnownParameter}
 

@@ -1,4 +1,9 @@
 // What the tables say of a component, a property, a type, a parameter, by their numbers. The tables of bytes are those of specs/ by computation.
+use crate::component;
+use crate::parameter;
+use crate::property;
+use crate::value_type;
+use octets::wide;
 ghost use mathlib.Core.Path.{_≡_};
 ghost use Prim.Native.Nat.{_<_};
 ghost use lib.Dec.{eqb};
@@ -7,65 +12,64 @@ ghost use Rattle.schema.specs.Types.{typePlace};
 ghost use Rattle.schema.specs.Components.{mayStand};
 ghost use Rattle.schema.specs.Numbers.{propertyAt, parameterAt, componentName, propertyName, parameterName};
 ghost use Rattle.schema.specs.Columns.{permitsType, permitsAt, mayBegin};
-use octets::wide;
 
 // The type of each property's values where no VALUE is given.
 const DEFAULTS: [u8; 46] = [
-    10, // CALSCALE
-    10, // METHOD
-    10, // PRODID
-    10, // VERSION
-    12, // ATTACH
-    10, // CATEGORIES
-    10, // CLASS
-    10, // COMMENT
-    10, // DESCRIPTION
-    6, // GEO
-    10, // LOCATION
-    7, // PERCENT-COMPLETE
-    7, // PRIORITY
-    10, // RESOURCES
-    10, // STATUS
-    10, // SUMMARY
-    4, // COMPLETED
-    4, // DTEND
-    4, // DUE
-    4, // DTSTART
-    5, // DURATION
-    8, // FREEBUSY
-    10, // TRANSP
-    10, // TZID
-    10, // TZNAME
-    13, // TZOFFSETFROM
-    13, // TZOFFSETTO
-    12, // TZURL
-    2, // ATTENDEE
-    10, // CONTACT
-    2, // ORGANIZER
-    4, // RECURRENCE-ID
-    10, // RELATED-TO
-    12, // URL
-    10, // UID
-    4, // EXDATE
-    4, // RDATE
-    9, // RRULE
-    10, // ACTION
-    7, // REPEAT
-    5, // TRIGGER
-    4, // CREATED
-    4, // DTSTAMP
-    4, // LAST-MODIFIED
-    7, // SEQUENCE
-    10, // REQUEST-STATUS
+    value_type::TEXT as u8, // CALSCALE
+    value_type::TEXT as u8, // METHOD
+    value_type::TEXT as u8, // PRODID
+    value_type::TEXT as u8, // VERSION
+    value_type::URI as u8, // ATTACH
+    value_type::TEXT as u8, // CATEGORIES
+    value_type::TEXT as u8, // CLASS
+    value_type::TEXT as u8, // COMMENT
+    value_type::TEXT as u8, // DESCRIPTION
+    value_type::FLOAT as u8, // GEO
+    value_type::TEXT as u8, // LOCATION
+    value_type::INTEGER as u8, // PERCENT-COMPLETE
+    value_type::INTEGER as u8, // PRIORITY
+    value_type::TEXT as u8, // RESOURCES
+    value_type::TEXT as u8, // STATUS
+    value_type::TEXT as u8, // SUMMARY
+    value_type::DATE_TIME as u8, // COMPLETED
+    value_type::DATE_TIME as u8, // DTEND
+    value_type::DATE_TIME as u8, // DUE
+    value_type::DATE_TIME as u8, // DTSTART
+    value_type::DURATION as u8, // DURATION
+    value_type::PERIOD as u8, // FREEBUSY
+    value_type::TEXT as u8, // TRANSP
+    value_type::TEXT as u8, // TZID
+    value_type::TEXT as u8, // TZNAME
+    value_type::UTC_OFFSET as u8, // TZOFFSETFROM
+    value_type::UTC_OFFSET as u8, // TZOFFSETTO
+    value_type::URI as u8, // TZURL
+    value_type::CAL_ADDRESS as u8, // ATTENDEE
+    value_type::TEXT as u8, // CONTACT
+    value_type::CAL_ADDRESS as u8, // ORGANIZER
+    value_type::DATE_TIME as u8, // RECURRENCE-ID
+    value_type::TEXT as u8, // RELATED-TO
+    value_type::URI as u8, // URL
+    value_type::TEXT as u8, // UID
+    value_type::DATE_TIME as u8, // EXDATE
+    value_type::DATE_TIME as u8, // RDATE
+    value_type::RECUR as u8, // RRULE
+    value_type::TEXT as u8, // ACTION
+    value_type::INTEGER as u8, // REPEAT
+    value_type::DURATION as u8, // TRIGGER
+    value_type::DATE_TIME as u8, // CREATED
+    value_type::DATE_TIME as u8, // DTSTAMP
+    value_type::DATE_TIME as u8, // LAST-MODIFIED
+    value_type::INTEGER as u8, // SEQUENCE
+    value_type::TEXT as u8, // REQUEST-STATUS
 ];
 
 pub fn default_type(p: usize) -> usize
     ensures { λ r. ⌜ r ≡ typePlace (propertyAt p .default) ⌝ }
 {
-    if p < 46 {
+    if p < property::KNOWN {
         return wide(DEFAULTS[p]);
     }
-    14
+    value_type::UNKNOWN
 }
 
 // A line for each property, a column for each of the fourteen types: 1 where its values may have the type.
@@ -120,9 +124,9 @@ const PERMITTED: [u8; 644] = *b"\
 pub fn permits_type(p: usize, t: usize) -> bool
     ensures { λ r. ⌜ r ≡ permitsType p t ⌝ }
 {
-    if p < 46 {
-        if t < 14 {
-            return PERMITTED[p * 14 + t] == 49;
+    if p < property::KNOWN {
+        if t < value_type::KNOWN {
+            return PERMITTED[p * value_type::KNOWN + t] == b'1';
         }
         return false;
     }
@@ -135,8 +139,8 @@ const LISTED: [u8; 46] = *b"0000010000000100000001000000000000011000000000";
 pub fn is_listed(p: usize) -> bool
     ensures { λ r. ⌜ r ≡ propertyAt p .listed ⌝ }
 {
-    if p < 46 {
-        return LISTED[p] == 49;
+    if p < property::KNOWN {
+        return LISTED[p] == b'1';
     }
     false
 }
@@ -195,19 +199,19 @@ fn carries(p: usize, q: usize) -> bool
     requires { ⌜ (p < 46) × (q < 19) ⌝ }
     ensures { λ r. ⌜ r ≡ isOneOf (parameterName q) (propertyAt p .parameters) ⌝ }
 {
-    PERMITS[p * 19 + q] == 49
+    PERMITS[p * parameter::KNOWN + q] == b'1'
 }
 
 // Whether a property whose values have the type `t` permits a parameter; RELATED only with DURATION.
 pub fn permits_parameter(p: usize, t: usize, q: usize) -> bool
     ensures { λ r. ⌜ r ≡ permitsAt p t q ⌝ }
 {
-    if q < 19 {
-        if p < 46 {
+    if q < parameter::KNOWN {
+        if p < property::KNOWN {
             let ok = carries(p, q);
             if ok {
-                if q == 13 {
-                    return t == 5;
+                if q == parameter::RELATED {
+                    return t == value_type::DURATION;
                 }
                 return true;
             }
@@ -220,34 +224,34 @@ pub fn permits_parameter(p: usize, t: usize, q: usize) -> bool
 
 // The type of each parameter's values.
 const PARAMETER_TYPES: [u8; 19] = [
-    12, // ALTREP
-    10, // CN
-    10, // CUTYPE
-    2, // DELEGATED-FROM
-    2, // DELEGATED-TO
-    12, // DIR
-    10, // ENCODING
-    10, // FMTTYPE
-    10, // FBTYPE
-    10, // LANGUAGE
-    2, // MEMBER
-    10, // PARTSTAT
-    10, // RANGE
-    10, // RELATED
-    10, // RELTYPE
-    10, // ROLE
-    1, // RSVP
-    2, // SENT-BY
-    10, // TZID
+    value_type::URI as u8, // ALTREP
+    value_type::TEXT as u8, // CN
+    value_type::TEXT as u8, // CUTYPE
+    value_type::CAL_ADDRESS as u8, // DELEGATED-FROM
+    value_type::CAL_ADDRESS as u8, // DELEGATED-TO
+    value_type::URI as u8, // DIR
+    value_type::TEXT as u8, // ENCODING
+    value_type::TEXT as u8, // FMTTYPE
+    value_type::TEXT as u8, // FBTYPE
+    value_type::TEXT as u8, // LANGUAGE
+    value_type::CAL_ADDRESS as u8, // MEMBER
+    value_type::TEXT as u8, // PARTSTAT
+    value_type::TEXT as u8, // RANGE
+    value_type::TEXT as u8, // RELATED
+    value_type::TEXT as u8, // RELTYPE
+    value_type::TEXT as u8, // ROLE
+    value_type::BOOLEAN as u8, // RSVP
+    value_type::CAL_ADDRESS as u8, // SENT-BY
+    value_type::TEXT as u8, // TZID
 ];
 
 pub fn parameter_type(q: usize) -> usize
     ensures { λ r. ⌜ r ≡ typePlace (parameterAt q .type) ⌝ }
 {
-    if q < 19 {
+    if q < parameter::KNOWN {
         return wide(PARAMETER_TYPES[q]);
     }
-    14
+    value_type::UNKNOWN
 }
 
 // 1 where the parameter takes a list of values.
@@ -256,8 +260,8 @@ const LISTED_PARAMETERS: [u8; 19] = *b"0001100000100000000";
 pub fn is_listed_parameter(q: usize) -> bool
     ensures { λ r. ⌜ r ≡ parameterAt q .listed ⌝ }
 {
-    if q < 19 {
-        return LISTED_PARAMETERS[q] == 49;
+    if q < parameter::KNOWN {
+        return LISTED_PARAMETERS[q] == b'1';
     }
     true
 }
@@ -268,8 +272,8 @@ const QUOTED: [u8; 19] = *b"1001110000100000010";
 pub fn is_quoted_parameter(q: usize) -> bool
     ensures { λ r. ⌜ r ≡ parameterAt q .quoted ⌝ }
 {
-    if q < 19 {
-        return QUOTED[q] == 49;
+    if q < parameter::KNOWN {
+        return QUOTED[q] == b'1';
     }
     false
 }
@@ -289,9 +293,9 @@ const STANDING: [u8; 414] = *b"\
 pub fn may_stand(k: usize, p: usize) -> bool
     ensures { λ r. ⌜ r ≡ mayStand (componentName k) (propertyName p) ⌝ }
 {
-    if k < 9 {
-        if p < 46 {
-            return STANDING[k * 46 + p] == 49;
+    if k < component::KNOWN {
+        if p < property::KNOWN {
+            return STANDING[k * property::KNOWN + p] == b'1';
         }
         return false;
     }
@@ -314,9 +318,9 @@ const INNER: [u8; 81] = *b"\
 pub fn may_begin(parent: usize, k: usize) -> bool
     ensures { λ r. ⌜ r ≡ mayBegin parent k ⌝ }
 {
-    if parent < 9 {
-        if k < 9 {
-            return INNER[parent * 9 + k] == 49;
+    if parent < component::KNOWN {
+        if k < component::KNOWN {
+            return INNER[parent * component::KNOWN + k] == b'1';
         }
         return false;
     }
@@ -327,5 +331,5 @@ pub fn may_begin(parent: usize, k: usize) -> bool
 pub fn is_alarm(k: usize) -> bool
     ensures { λ r. ⌜ r ≡ eqb k 8 ⌝ }
 {
-    k == 8
+    k == component::VALARM
 }

@@ -1,4 +1,7 @@
-// How often the properties of a component stand: their tallies in an array, one for each known property, counted to 255.
+// How often the properties of a component stand: their tallies in an array, one for each of the 46 known properties, counted to 255.
+use crate::action;
+use crate::component;
+use crate::property;
 ghost use mathlib.Core.Path.{_≡_};
 ghost use Prim.Native.Nat.{_<_};
 ghost use lib.Dec.{eqb};
@@ -12,7 +15,7 @@ pub fn bump(t: [u8; 46], p: usize) -> [u8; 46]
     ensures { λ r. ⌜ r ≡ bumped p t ⌝ }
 {
     let mut u = t;
-    if p < 46 {
+    if p < property::KNOWN {
         let c = u[p];
         if c < 255 {
             u[p] = c + 1;
@@ -45,25 +48,25 @@ fn sign_at(l: usize, p: usize) -> u8
     ensures { λ r. ⌜ r ≡ signAt l p ⌝ }
 {
     if l < 12 {
-        return SIGNS[l * 46 + p];
+        return SIGNS[l * property::KNOWN + p];
     }
-    46
+    b'.'
 }
 
 // A tally is as often as a sign says.
 fn is_signed(sign: u8, n: u8) -> bool
     ensures { λ r. ⌜ r ≡ isSigned sign n ⌝ }
 {
-    if sign == 49 {
+    if sign == b'1' {
         return n == 1;
     }
-    if sign == 63 {
+    if sign == b'?' {
         return n <= 1;
     }
-    if sign == 42 {
+    if sign == b'*' {
         return true;
     }
-    if sign == 43 {
+    if sign == b'+' {
         return 1 <= n;
     }
     n == 0
@@ -74,7 +77,7 @@ fn all_often(l: usize, t: [u8; 46]) -> bool
     ensures { λ r. ⌜ r ≡ allOften l t ⌝ }
 {
     let mut n = 0;
-    while n < 46 {
+    while n < property::KNOWN {
         let sign = sign_at(l, n);
         let ok = is_signed(sign, t[n]);
         if ok {
@@ -90,13 +93,13 @@ fn all_often(l: usize, t: [u8; 46]) -> bool
 fn often_at(k: usize, t: [u8; 46], action: usize) -> bool
     ensures { λ r. ⌜ r ≡ oftenAt k t action ⌝ }
 {
-    if k == 8 {
-        if action < 3 {
-            return all_often(action + 9, t);
+    if k == component::VALARM {
+        if action < action::NONE {
+            return all_often(action + component::KNOWN, t);
         }
         return false;
     }
-    if k < 9 {
+    if k < component::KNOWN {
         return all_often(k, t);
     }
     all_often(12, t)
@@ -106,21 +109,21 @@ fn often_at(k: usize, t: [u8; 46], action: usize) -> bool
 fn event_pair(t: [u8; 46]) -> bool
     ensures { λ r. ⌜ r ≡ (eqb (getD t 17 0) 0 or eqb (getD t 20 0) 0) ⌝ }
 {
-    if t[17] == 0 {
+    if t[property::DTEND] == 0 {
         return true;
     }
-    t[20] == 0
+    t[property::DURATION] == 0
 }
 
 // VTODO: DURATION only with DTSTART and without DTEND.
 fn todo_pair(t: [u8; 46]) -> bool
     ensures { λ r. ⌜ r ≡ (eqb (getD t 20 0) 0 or (eqb (getD t 19 0) 1 and eqb (getD t 17 0) 0)) ⌝ }
 {
-    if t[20] == 0 {
+    if t[property::DURATION] == 0 {
         return true;
     }
-    if t[19] == 1 {
-        return t[17] == 0;
+    if t[property::DTSTART] == 1 {
+        return t[property::DTEND] == 0;
     }
     false
 }
@@ -129,30 +132,30 @@ fn todo_pair(t: [u8; 46]) -> bool
 fn alarm_pair(t: [u8; 46]) -> bool
     ensures { λ r. ⌜ r ≡ eqb (getD t 20 0) (getD t 39 0) ⌝ }
 {
-    t[20] == t[39]
+    t[property::DURATION] == t[property::REPEAT]
 }
 
 // The pairs of a component; of a VTIMEZONE, that it has a subcomponent.
 fn pairs_at(k: usize, t: [u8; 46], inner: bool) -> bool
     ensures { λ r. ⌜ r ≡ pairsAt k t inner ⌝ }
 {
-    if k == 1 {
+    if k == component::VEVENT {
         return event_pair(t);
     }
-    if k == 2 {
+    if k == component::VTODO {
         return todo_pair(t);
     }
-    if k == 5 {
+    if k == component::VTIMEZONE {
         return inner;
     }
-    if k == 8 {
+    if k == component::VALARM {
         return alarm_pair(t);
     }
     true
 }
 
 // Whether the tallies of the component `k` are the schema's: `action` is the number of its ACTION's word among AUDIO, DISPLAY, EMAIL,
-// 3 where it is none of them; `inner`, whether it has a subcomponent.
+// NONE where it is none of them; `inner`, whether it has a subcomponent.
 pub fn complete_counts(k: usize, t: [u8; 46], action: usize, inner: bool) -> bool
     ensures { λ r. ⌜ r ≡ completeAt k t action inner ⌝ }
 {

@@ -1,9 +1,15 @@
 // The schema of xCal as tables: value types, components, properties, parameters, and how often a property stands.
 // A name is its number, its place in the list of names of specs/; a number equal to the list's length is an unrecognised one.
+// In code the numbers have names: component, parameter, property, value_type, action.
 // Definitions are in specs/, the tables of the code are theirs by computation.
+pub mod action;
 mod columns;
+pub mod component;
 mod counts;
 mod numbers;
+pub mod parameter;
+pub mod property;
+pub mod value_type;
 mod words;
 
 pub use columns::default_type;

@@ -1,4 +1,9 @@
 // Closed sets of words: of a property in a component, and of a parameter. A word is compared in any case in text, as it stands in XML.
+use crate::component;
+use crate::parameter;
+use crate::property;
+use names::find_word;
+use octets::wide;
 ghost use mathlib.Core.Path.{_≡_};
 ghost use lib.Dec.{ltb};
 ghost use Rattle.octets.specs.Reading.{isRead};
@@ -7,12 +12,11 @@ ghost use Rattle.names.specs.Case.{cased, caseOf};
 ghost use Rattle.names.specs.Table.{placeOf, namesIn, nth};
 ghost use Rattle.schema.specs.Completing.{actionNames};
 ghost use Rattle.schema.specs.Sets.{wordSets, statusSet, propertySet, setAt, wordsAt, parameterSets, parameterSet, parameterWordsAt, isWordOf};
-use names::find_word;
-use octets::wide;
 
 // The word is one of a table of `n` words.
 fn is_word_in(n: usize, xcal: bool, mode: usize, s: &[u8], at: usize, table: &[u8]) -> bool
-    ensures { λ r. ⌜ r ≡ ltb (placeOf (cased (caseOf xcal) (rest mode (now (s .entry)) at)) (namesIn (now (table .entry)))) n ⌝ }
+    ensures { λ r. ⌜
+        r ≡ ltb (placeOf (cased (caseOf xcal) (rest mode (now (s .entry)) at)) (namesIn (now (table .entry)))) n ⌝ }
 {
     let i = find_word(xcal, mode, s, at, table);
     i < n
@@ -22,13 +26,13 @@ fn is_word_in(n: usize, xcal: bool, mode: usize, s: &[u8], at: usize, table: &[u
 fn status_set(k: usize) -> usize
     ensures { λ r. ⌜ r ≡ statusSet k ⌝ }
 {
-    if k == 1 {
+    if k == component::VEVENT {
         return 5;
     }
-    if k == 2 {
+    if k == component::VTODO {
         return 6;
     }
-    if k == 3 {
+    if k == component::VJOURNAL {
         return 7;
     }
     8
@@ -38,19 +42,19 @@ fn status_set(k: usize) -> usize
 fn property_set(p: usize) -> usize
     ensures { λ r. ⌜ r ≡ propertySet p ⌝ }
 {
-    if p == 0 {
+    if p == property::CALSCALE {
         return 0;
     }
-    if p == 3 {
+    if p == property::VERSION {
         return 1;
     }
-    if p == 6 {
+    if p == property::CLASS {
         return 2;
     }
-    if p == 22 {
+    if p == property::TRANSP {
         return 3;
     }
-    if p == 38 {
+    if p == property::ACTION {
         return 4;
     }
     8
@@ -60,7 +64,7 @@ fn property_set(p: usize) -> usize
 fn set_at(k: usize, p: usize) -> usize
     ensures { λ r. ⌜ r ≡ setAt k p ⌝ }
 {
-    if p == 14 {
+    if p == property::STATUS {
         return status_set(k);
     }
     property_set(p)
@@ -134,7 +138,7 @@ const PARAMETER_SETS: [u8; 19] = [8, 8, 0, 8, 8, 8, 1, 8, 2, 8, 8, 3, 4, 5, 6, 7
 fn parameter_set(q: usize) -> usize
     ensures { λ r. ⌜ r ≡ parameterSet q ⌝ }
 {
-    if q < 19 {
+    if q < parameter::KNOWN {
         return wide(PARAMETER_SETS[q]);
     }
     8
@@ -223,7 +227,7 @@ pub fn is_word_of_parameter(q: usize, xcal: bool, mode: usize, s: &[u8], at: usi
     is_in_parameter_set(n, xcal, mode, s, at)
 }
 
-// The number of ACTION's word among AUDIO, DISPLAY, EMAIL, 3 where it is none of them.
+// The number of ACTION's word among AUDIO, DISPLAY, EMAIL, action::NONE where it is none of them.
 pub fn action_number(xcal: bool, mode: usize, s: &[u8], at: usize) -> usize
     ensures { λ r. ⌜ r ≡ placeOf (cased (caseOf xcal) (rest mode (now (s .entry)) at)) actionNames ⌝ }
 {

@@ -3,11 +3,8 @@
 --     ampersand s q    the place of the `&` that stands at q or at most two bytes before
 --     remaining t j    what is left of the character of the reference t at the place p after j bytes of it, and what follows it
 --     charsFrom s c    the bytes of the characters from the cursor c on, up to a tag
---     chars-even, chars-odd    by the kind of cursor
-use mathlib.Core.Path.{_≡_}
 use mathlib.Core.List.{List, []}
-use Prim.Native.Nat.{ℕ, _+_, _-_, _*_, _/_, _%_}
-use native.Mathlib.Omega.{arith}
+use Prim.Native.Nat.{ℕ, _+_, _-_, _/_, _%_}
 use lib.Dec.{eqb, ltb}
 use lib.ListN.{length, getD, drop}
 use Rattle.octets.specs.Pick.{pick}
@@ -34,11 +31,3 @@ charsWithin s q = let p = ampersand s q in remaining (charIn (drop p s)) (q - p 
 
 unfoldable pub charsFrom : List ℕ → ℕ → List ℕ
 charsFrom s c = pick (eqb (c % 2) 0) (charsAt s (c / 2)) (charsWithin s (c / 2))
-
-pub chars-even : (s : List ℕ) (p : ℕ) → charsFrom s (2 * p) ≡ charsAt s p
-unfolding charsFrom pick
-chars-even s p = let a : 2 * p % 2 ≡ 0 = omega arith in let b : 2 * p / 2 ≡ p = omega arith in rw (a, b)
-
-pub chars-odd : (s : List ℕ) (q : ℕ) → charsFrom s (2 * q + 1) ≡ charsWithin s q
-unfolding charsFrom pick
-chars-odd s q = let a : (2 * q + 1) % 2 ≡ 1 = omega arith in let b : (2 * q + 1) / 2 ≡ q = omega arith in rw (a, b)

@@ -1,4 +1,7 @@
 // The characters of an XML element, byte by byte. See specs/Characters.antt, Stepping.antt.
+use crate::Step;
+use octets::unit::AMPERSAND;
+use octets::unit::END;
 use octets::wide;
 use utf8::spelled_byte;
 use utf8::spelled_length;
@@ -9,7 +12,6 @@ ghost use lib.ListN.{getD};
 ghost use Rattle.source.specs.Source.{Reads};
 ghost use Rattle.source.specs.Characters.{ampersand};
 ghost use Rattle.source.specs.Stepping.{Referring, Left};
-use crate::Step;
 
 // Byte number `j` of the character `v`, which the reference from `p` to `n` names.
 fn referred_unit(s: &[u8], p: usize, v: usize, n: usize, j: usize) -> Step
@@ -27,7 +29,7 @@ fn referred_unit(s: &[u8], p: usize, v: usize, n: usize, j: usize) -> Step
         }
         return Step { u: b, next: 2 * n };
     }
-    Step { u: 256, next: 0 }
+    Step { u: END, next: 0 }
 }
 
 // At a place.
@@ -38,10 +40,10 @@ fn begin_unit(s: &[u8], p: usize, at: usize) -> Step
     let c = char_at(s, p);
     let u = c.u;
     let n = c.next;
-    if u == 256 {
-        return Step { u: 256, next: at };
+    if u == END {
+        return Step { u: END, next: at };
     }
-    if u < 256 {
+    if u < END {
         return Step { u: u, next: 2 * n };
     }
     referred_unit(s, p, u - 257, n, 0)
@@ -69,11 +71,11 @@ fn back(q: usize, k: usize) -> usize
 fn ampersand_at(s: &[u8], q: usize) -> usize
     ensures { λ r. ⌜ (r ≡ ampersand (now (s .entry)) q) × (r ≤ q) × (q ≤ r + 2) ⌝ }
 {
-    if byte_at(s, q) == 38 {
+    if byte_at(s, q) == AMPERSAND {
         return q;
     }
     let p = back(q, 1);
-    if byte_at(s, p) == 38 {
+    if byte_at(s, p) == AMPERSAND {
         return p;
     }
     back(q, 2)
@@ -88,8 +90,8 @@ fn within_unit(s: &[u8], q: usize, at: usize) -> Step
     let c = char_at(s, p);
     let u = c.u;
     let n = c.next;
-    if u <= 256 {
-        return Step { u: 256, next: at };
+    if u <= END {
+        return Step { u: END, next: at };
     }
     referred_unit(s, p, u - 257, n, q - p + 1)
 }

@@ -3,11 +3,12 @@ mod characters;
 
 pub use characters::xml_unit;
 use folding::skip::skip_folds;
+use octets::unit::END;
 use octets::wide;
 ghost use mathlib.Core.Path.{_≡_};
 ghost use Rattle.source.specs.Source.{Reads, Settled};
 
-// A character's next byte, or 256 at the value's end; and the cursor after it.
+// A character's next byte, or END at the value's end; and the cursor after it.
 pub struct Step {
     pub u: usize,
     pub next: usize,
@@ -23,7 +24,7 @@ pub fn plain_unit(s: &[u8], at: usize) -> Step
             next: at + 1,
         };
     }
-    Step { u: 256, next: at }
+    Step { u: END, next: at }
 }
 
 // The bytes of a text with its folds in place: folds are passed over.
@@ -38,9 +39,9 @@ pub fn folded_unit(s: &[u8], at: usize) -> Step
                 next: n + 1,
             };
         }
-        return Step { u: 256, next: at };
+        return Step { u: END, next: at };
     }
-    Step { u: 256, next: at }
+    Step { u: END, next: at }
 }
 
 // The cursor behind what has no byte of its own: if it is within what is lent, a byte stands there.
@@ -61,7 +62,7 @@ fn no_unit(s: &[u8], at: usize, mode: usize) -> Step
     requires { ⌜ (mode ≡ 0 → ⊥) × (mode ≡ 1 → ⊥) × (mode ≡ 2 → ⊥) ⌝ }
     ensures { λ r. ⌜ Reads mode (now (s .entry)) at r ⌝ }
 {
-    Step { u: 256, next: at }
+    Step { u: END, next: at }
 }
 
 // The byte at the cursor `at`, in the encoding that `mode` names: 0 for bytes as they stand, 1 for the characters of an XML element,

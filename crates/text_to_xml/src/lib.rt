@@ -1,30 +1,32 @@
 // iCalendar text to canonical XML. See specs/ToXml.antt.
+use calls::Answer;
+use calls::refused;
+use folding::unfolding::place_of;
+use folding::unfolding::unfold;
+use read_text::Checked;
+use read_text::check;
+use utf8::Found;
+use utf8::first_bad;
+use write_xml::put_document;
 ghost use mathlib.Core.Path.{_≡_};
 ghost use Prim.Native.Nat.{_+_, _*_, _≤_};
 ghost use lib.ListN.{length};
-ghost use Rattle.model.specs.Refusal.{fine, answer};
+ghost use Rattle.calendar.specs.Refusal.{fine, answer};
 ghost use Rattle.folding.specs.Lines.{lines};
-ghost use Rattle.ical.specs.Tree.{calendarOf};
-ghost use Rattle.ical.specs.ReadText.{linesVerdict, keptVerdict};
+ghost use Rattle.text.specs.Tree.{calendarOf};
+ghost use Rattle.text.specs.ReadText.{linesVerdict, keptVerdict};
 ghost use Rattle.xcal.specs.WriteXml.{writeDocument};
-ghost use Rattle.conversion.specs.Conversion.{converted};
-ghost use Rattle.conversion.specs.ToXml.{toXmlOutcome, toXmlOutput, toXmlWork};
-ghost use Rattle.conversion.specs.Answered.{outcomeOf, Done};
+ghost use Rattle.calls.specs.Conversion.{converted};
+ghost use Rattle.calls.specs.ToXml.{toXmlOutcome, toXmlOutput, toXmlWork};
+ghost use Rattle.calls.specs.Answered.{outcomeOf, Done};
 ghost use Rattle.text_to_xml.specs.Steps.{keptGives};
-use conversion::Answer;
-use conversion::refused;
-use document::put_document;
-use folding::unfolding::place_of;
-use folding::unfolding::unfold;
-use frame::Checked;
-use frame::check;
-use utf8::Found;
-use utf8::first_bad;
 
 // The XML of an unfolded text, where there is certainly room for it.
 fn written_at_once(kept: &[u8], out: &mut [u8]) -> Answer
     requires { ⌜ (length (now kept) ≤ 65535) × (19 * length (now kept) + 109 ≤ length (now out)) ⌝ }
-    ensures { λ r. ⌜ Done (converted writeDocument (answer fine (calendarOf (lines (now (kept .entry)))))) (now (out .entry)) (now (out .exit)) r ⌝ }
+    ensures { λ r. ⌜
+        Done (converted writeDocument (answer fine (calendarOf (lines (now (kept .entry)))))) (now (out .entry))
+        (now (out .exit)) r ⌝ }
 {
     let n = put_document(out, 0, 0, kept);
     Answer::Written(n)
@@ -33,7 +35,9 @@ fn written_at_once(kept: &[u8], out: &mut [u8]) -> Answer
 // The XML of an unfolded text: first how long it is, then, if there is room, all of it.
 fn measured(kept: &[u8], out: &mut [u8]) -> Answer
     requires { ⌜ length (now kept) ≤ 65535 ⌝ }
-    ensures { λ r. ⌜ Done (converted writeDocument (answer fine (calendarOf (lines (now (kept .entry)))))) (now (out .entry)) (now (out .exit)) r ⌝ }
+    ensures { λ r. ⌜
+        Done (converted writeDocument (answer fine (calendarOf (lines (now (kept .entry)))))) (now (out .entry))
+        (now (out .exit)) r ⌝ }
 {
     let need = put_document(&mut out[..0], 0, 0, kept);
     if need <= out.len() {
@@ -46,7 +50,9 @@ fn measured(kept: &[u8], out: &mut [u8]) -> Answer
 // The XML of an unfolded text: it has no more than 19 bytes for each byte of the text, and 109.
 fn written(kept: &[u8], out: &mut [u8]) -> Answer
     requires { ⌜ length (now kept) ≤ 65535 ⌝ }
-    ensures { λ r. ⌜ Done (converted writeDocument (answer fine (calendarOf (lines (now (kept .entry)))))) (now (out .entry)) (now (out .exit)) r ⌝ }
+    ensures { λ r. ⌜
+        Done (converted writeDocument (answer fine (calendarOf (lines (now (kept .entry)))))) (now (out .entry))
+        (now (out .exit)) r ⌝ }
 {
     let most = 19 * kept.len() + 109;
     if most <= out.len() {
@@ -58,7 +64,10 @@ fn written(kept: &[u8], out: &mut [u8]) -> Answer
 // The first faulty line of an unfolded text, at its place in the text as lent; or its XML.
 fn checked(input: &[u8], kept: &[u8], out: &mut [u8]) -> Answer
     requires { ⌜ length (now kept) ≤ 65535 ⌝ }
-    ensures { λ r. ⌜ Done (keptGives (now (input .entry)) (now (kept .entry)) (linesVerdict (length (now (kept .entry))) (lines (now (kept .entry))))) (now (out .entry)) (now (out .exit)) r ⌝ }
+    ensures { λ r. ⌜
+        Done (keptGives (now (input .entry)) (now (kept .entry))
+        (linesVerdict (length (now (kept .entry))) (lines (now (kept .entry))))) (now (out .entry))
+        (now (out .exit)) r ⌝ }
 {
     match check(0, kept) {
         Checked::Refused(n, p) => {
@@ -72,7 +81,9 @@ fn checked(input: &[u8], kept: &[u8], out: &mut [u8]) -> Answer
 // The first byte of an unfolded text that begins no character; or its first faulty line; or its XML.
 fn converted(input: &[u8], kept: &[u8], out: &mut [u8]) -> Answer
     requires { ⌜ length (now kept) ≤ 65535 ⌝ }
-    ensures { λ r. ⌜ Done (keptGives (now (input .entry)) (now (kept .entry)) (keptVerdict (now (kept .entry)))) (now (out .entry)) (now (out .exit)) r ⌝ }
+    ensures { λ r. ⌜
+        Done (keptGives (now (input .entry)) (now (kept .entry)) (keptVerdict (now (kept .entry)))) (now (out .entry))
+        (now (out .exit)) r ⌝ }
 {
     match first_bad(kept) {
         Found::At(p) => {
@@ -85,7 +96,10 @@ fn converted(input: &[u8], kept: &[u8], out: &mut [u8]) -> Answer
 
 // Converts the iCalendar text `input` to canonical XML in `out`. `work` is as long as `input` or longer: the text is unfolded there.
 pub fn to_xml(input: &[u8], work: &mut [u8], out: &mut [u8]) -> Answer
-    ensures { λ r. ⌜ (outcomeOf r ≡ toXmlOutcome (now (input .entry)) (now (work .entry)) (now (out .entry))) × (now (out .exit) ≡ toXmlOutput (now (input .entry)) (now (work .entry)) (now (out .entry))) × (now (work .exit) ≡ toXmlWork (now (input .entry)) (now (work .entry))) ⌝ }
+    ensures { λ r. ⌜
+        (outcomeOf r ≡ toXmlOutcome (now (input .entry)) (now (work .entry)) (now (out .entry)))
+        × (now (out .exit) ≡ toXmlOutput (now (input .entry)) (now (work .entry)) (now (out .entry)))
+        × (now (work .exit) ≡ toXmlWork (now (input .entry)) (now (work .entry))) ⌝ }
 {
     if input.len() <= 65535 {
         if input.len() <= work.len() {

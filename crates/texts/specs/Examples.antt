@@ -5,14 +5,14 @@ use mathlib.Core.List.{[], _∷_, map}
 use mathlib.Core.Option.{none, some}
 use Rattle.octets.specs.Ascii.{ascii}
 use Rattle.octets.specs.Reading.{orNothing}
-use Rattle.model.specs.Calendar.{requestStatus, ical, xcal}
+use Rattle.calendar.specs.Calendar.{requestStatus, ical, xcal}
 use Rattle.texts.specs.Text.{readText, writeText}
 use Rattle.texts.specs.TextList.{readTexts, writeTexts}
 use Rattle.texts.specs.RequestStatus.{readRequestStatus, writeRequestStatus}
 use Rattle.texts.specs.Uri.{isUri, readUri}
 use Rattle.texts.specs.Binary.{base64Value, isBinary, readBinary}
 use Rattle.texts.specs.Unknown.{readUnknown}
-use Rattle.texts.specs.Quoting.{writeParamValue}
+use Rattle.texts.specs.Quoting.{needsQuotes}
 use Rattle.texts.specs.Items.{itemFrom}
 use Rattle.texts.specs.Elements.{textsXml}
 use Rattle.texts.specs.StatusXml.{statusXml}
@@ -96,8 +96,6 @@ unknowns-read : map readUnknown (ascii "a\\,;:\"" ∷ [] ∷ ascii "a\nb" ∷ []
 unfolding texts-compute
 unknowns-read = refl
 
-parameters-written :
-    (map (writeParamValue false) (ascii "a b" ∷ ascii "a:b" ∷ ascii "a;b" ∷ ascii "a,b" ∷ [] ∷ []) ≡ (ascii "a b" ∷ ascii "\"a:b\"" ∷ ascii "\"a;b\"" ∷ ascii "\"a,b\"" ∷ [] ∷ []))
-    × (map (writeParamValue true) (ascii "cid:x" ∷ [] ∷ []) ≡ (ascii "\"cid:x\"" ∷ ascii "\"\"" ∷ []))
+quotes-needed : map needsQuotes (ascii "a b" ∷ ascii "a:b" ∷ ascii "a;b" ∷ ascii "a,b" ∷ [] ∷ []) ≡ (false ∷ true ∷ true ∷ true ∷ false ∷ [])
 unfolding texts-compute
-parameters-written = (refl, refl)
+quotes-needed = refl

@@ -1,6 +1,5 @@
 -- Values that are characters.
 --     Text            TEXT, escaped and unescaped, and the splitter of escaped text
---     Escaped         the bytes of escaped text: one line
 --     TextList        lists of TEXT: CATEGORIES, RESOURCES
 --     RequestStatus   REQUEST-STATUS, two or three TEXT
 --     Uri             URI and CAL-ADDRESS
@@ -9,7 +8,6 @@
 --     Quoting         parameter values between double quotes
 --     Unescaped       TEXT followed a byte at a time
 --     Kept            the answer of a reader of characters, and its loops
---     Written         TEXT written
 --     Items           the items of a list of TEXT, found at a cursor
 --     StatusParts     the parts of a REQUEST-STATUS, found at a cursor
 --     Elements        TEXT written as elements of XML
@@ -17,8 +15,8 @@
 --     Chars           values kept by their characters, written
 --     Computing       opens all of these, for examples that compute
 --     Examples        computed examples
+--     laws            laws of these, and what proofs need
 pub mod Text
-pub mod Escaped
 pub mod TextList
 pub mod RequestStatus
 pub mod Uri
@@ -27,7 +25,6 @@ pub mod Unknown
 pub mod Quoting
 pub mod Unescaped
 pub mod Kept
-pub mod Written
 pub mod Items
 pub mod StatusParts
 pub mod Elements
@@ -35,3 +32,4 @@ pub mod StatusXml
 pub mod Chars
 pub mod Computing
 pub mod Examples
+pub mod laws

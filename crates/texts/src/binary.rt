@@ -5,16 +5,25 @@ use octets::is_capital;
 use octets::is_digit;
 use octets::is_small;
 use octets::is_space;
+use octets::unit::END;
+use octets::unit::EQUALS;
+use octets::unit::LOWER_A;
+use octets::unit::PLUS;
+use octets::unit::SLASH;
+use octets::unit::UPPER_A;
 use source::unit;
 ghost use mathlib.Core.Path.{_≡_};
 ghost use Prim.Native.Nat.{_≤_};
 ghost use lib.Dec.{eqb};
 ghost use Rattle.octets.specs.Pick.{_or_, _and_};
 ghost use Rattle.octets.specs.Class.{isSpace};
-ghost use Rattle.model.specs.Calendar.{formatOf};
+ghost use Rattle.calendar.specs.Calendar.{formatOf};
 ghost use Rattle.source.specs.Source.{rest};
 ghost use Rattle.texts.specs.Kept.{isKept};
 ghost use Rattle.texts.specs.Binary.{isBase64, base64Value, padFits, inGroup, nextPlace, binaryChars, isBinary};
+
+// What a small letter is above its worth: a is worth 26.
+const SMALL_BASE: usize = LOWER_A - 26;
 
 fn is_base64(u: usize) -> bool
     ensures { λ r. ⌜ r ≡ isBase64 u ⌝ }
@@ -25,29 +34,29 @@ fn is_base64(u: usize) -> bool
     if is_digit(u) {
         return true;
     }
-    if u == 43 {
+    if u == PLUS {
         return true;
     }
-    u == 47
+    u == SLASH
 }
 
-// What a character is worth.
+// What a character is worth: A to Z are worth 0 to 25, a to z 26 to 51, 0 to 9 52 to 61.
 fn worth(u: usize) -> usize
     ensures { λ r. ⌜ r ≡ base64Value u ⌝ }
 {
     if is_capital(u) {
-        return u - 65;
+        return u - UPPER_A;
     }
     if is_small(u) {
-        return u - 71;
+        return u - SMALL_BASE;
     }
     if is_digit(u) {
         return u + 4;
     }
-    if u == 43 {
+    if u == PLUS {
         return 62;
     }
-    if u == 47 {
+    if u == SLASH {
         return 63;
     }
     0
@@ -72,7 +81,7 @@ fn pad_fits(n: usize, last: usize) -> bool
 fn in_group(n: usize, last: usize, u: usize) -> bool
     ensures { λ r. ⌜ r ≡ inGroup n last u ⌝ }
 {
-    if u == 61 {
+    if u == EQUALS {
         return pad_fits(n, last);
     }
     if is_base64(u) {
@@ -86,7 +95,7 @@ fn next_place(n: usize, u: usize) -> usize
     requires { ⌜ n ≤ 5 ⌝ }
     ensures { λ r. ⌜ r ≡ nextPlace n u ⌝ }
 {
-    if u == 61 {
+    if u == EQUALS {
         if n == 2 {
             return 4;
         }
@@ -129,7 +138,7 @@ pub fn read_binary(xcal: bool, mode: usize, s: &[u8], at: usize) -> Kept
     loop {
         let t = unit(mode, s, c);
         let u = t.u;
-        if u == 256 {
+        if u == END {
             return ended(n);
         }
         if is_passed(xcal, u) {

@@ -4,12 +4,13 @@ use crate::binary::read_binary;
 use crate::is_kept;
 use crate::unknown::read_unknown;
 use crate::uri::read_uri;
-use markup::put_escaped;
+use octets::unit::END;
 use sink::put;
 use source::unit;
+use tags::put_escaped;
 ghost use mathlib.Core.Path.{_≡_};
 ghost use Rattle.octets.specs.Reading.{orNothing};
-ghost use Rattle.model.specs.Calendar.{formatOf};
+ghost use Rattle.calendar.specs.Calendar.{formatOf};
 ghost use Rattle.sink.specs.Sink.{Put};
 ghost use Rattle.source.specs.Source.{rest};
 ghost use Rattle.xml.specs.Escape.{escaped};
@@ -32,7 +33,7 @@ fn put_chars(out: &mut [u8], at: usize, mode: usize, s: &[u8], from: usize) -> u
     loop {
         let t = unit(mode, s, c);
         let u = t.u;
-        if u == 256 {
+        if u == END {
             return o;
         }
         o = put_byte(out, o, u as u8);
@@ -42,7 +43,8 @@ fn put_chars(out: &mut [u8], at: usize, mode: usize, s: &[u8], from: usize) -> u
 
 // A URI as iCalendar text has it; nothing where it is none.
 pub fn put_uri(out: &mut [u8], at: usize, mode: usize, s: &[u8], from: usize) -> usize
-    ensures { λ r. ⌜ Put (now (out .entry)) (now (out .exit)) at r (orNothing asIs (readUri (rest mode (now (s .entry)) from))) ⌝ }
+    ensures { λ r. ⌜
+        Put (now (out .entry)) (now (out .exit)) at r (orNothing asIs (readUri (rest mode (now (s .entry)) from))) ⌝ }
 {
     let k = read_uri(mode, s, from);
     if is_kept(k) {
@@ -53,7 +55,9 @@ pub fn put_uri(out: &mut [u8], at: usize, mode: usize, s: &[u8], from: usize) ->
 
 // The same as character data of XML.
 pub fn put_uri_xml(out: &mut [u8], at: usize, mode: usize, s: &[u8], from: usize) -> usize
-    ensures { λ r. ⌜ Put (now (out .entry)) (now (out .exit)) at r (orNothing escaped (readUri (rest mode (now (s .entry)) from))) ⌝ }
+    ensures { λ r. ⌜
+        Put (now (out .entry)) (now (out .exit)) at r
+        (orNothing escaped (readUri (rest mode (now (s .entry)) from))) ⌝ }
 {
     let k = read_uri(mode, s, from);
     if is_kept(k) {
@@ -64,7 +68,9 @@ pub fn put_uri_xml(out: &mut [u8], at: usize, mode: usize, s: &[u8], from: usize
 
 // A value of no known type as iCalendar text has it; nothing where it is none.
 pub fn put_unknown(out: &mut [u8], at: usize, mode: usize, s: &[u8], from: usize) -> usize
-    ensures { λ r. ⌜ Put (now (out .entry)) (now (out .exit)) at r (orNothing asIs (readUnknown (rest mode (now (s .entry)) from))) ⌝ }
+    ensures { λ r. ⌜
+        Put (now (out .entry)) (now (out .exit)) at r
+        (orNothing asIs (readUnknown (rest mode (now (s .entry)) from))) ⌝ }
 {
     let k = read_unknown(mode, s, from);
     if is_kept(k) {
@@ -75,7 +81,9 @@ pub fn put_unknown(out: &mut [u8], at: usize, mode: usize, s: &[u8], from: usize
 
 // The same as character data of XML.
 pub fn put_unknown_xml(out: &mut [u8], at: usize, mode: usize, s: &[u8], from: usize) -> usize
-    ensures { λ r. ⌜ Put (now (out .entry)) (now (out .exit)) at r (orNothing escaped (readUnknown (rest mode (now (s .entry)) from))) ⌝ }
+    ensures { λ r. ⌜
+        Put (now (out .entry)) (now (out .exit)) at r
+        (orNothing escaped (readUnknown (rest mode (now (s .entry)) from))) ⌝ }
 {
     let k = read_unknown(mode, s, from);
     if is_kept(k) {
@@ -85,14 +93,16 @@ pub fn put_unknown_xml(out: &mut [u8], at: usize, mode: usize, s: &[u8], from: u
 }
 
 fn put_base64(out: &mut [u8], at: usize, xcal: bool, mode: usize, s: &[u8], from: usize) -> usize
-    ensures { λ r. ⌜ Put (now (out .entry)) (now (out .exit)) at r (binaryChars (formatOf xcal) (rest mode (now (s .entry)) from)) ⌝ }
+    ensures { λ r. ⌜
+        Put (now (out .entry)) (now (out .exit)) at r
+        (binaryChars (formatOf xcal) (rest mode (now (s .entry)) from)) ⌝ }
 {
     let mut o = at;
     let mut c = from;
     loop {
         let t = unit(mode, s, c);
         let u = t.u;
-        if u == 256 {
+        if u == END {
             return o;
         }
         if is_passed(xcal, u) {
@@ -113,7 +123,9 @@ pub fn put_binary(
     s: &[u8],
     from: usize,
 ) -> usize
-    ensures { λ r. ⌜ Put (now (out .entry)) (now (out .exit)) at r (orNothing asIs (readBinary (formatOf xcal) (rest mode (now (s .entry)) from))) ⌝ }
+    ensures { λ r. ⌜
+        Put (now (out .entry)) (now (out .exit)) at r
+        (orNothing asIs (readBinary (formatOf xcal) (rest mode (now (s .entry)) from))) ⌝ }
 {
     let k = read_binary(xcal, mode, s, from);
     if is_kept(k) {

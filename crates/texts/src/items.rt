@@ -1,6 +1,7 @@
 // The items of a list of TEXT, and the parts of a REQUEST-STATUS, found at a cursor. See specs/Items.antt.
 use crate::text::is_break;
 use crate::text::is_opening;
+use octets::unit::END;
 use source::unit;
 ghost use mathlib.Core.Path.{_≡_};
 ghost use Rattle.texts.specs.Items.{isBetween, ItemEnds};
@@ -27,7 +28,7 @@ pub fn item_end(sep: usize, mode: usize, s: &[u8], at: usize) -> usize
     loop {
         let n = unit(mode, s, c);
         let u = n.u;
-        if u == 256 {
+        if u == END {
             return c;
         }
         if is_between(after, sep, u) {

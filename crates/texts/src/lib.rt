@@ -1,8 +1,5 @@
 // TEXT and lists of it, URI, BINARY and unknown values, read through a cursor and written. Definitions and laws are in specs/.
 
-ghost use mathlib.Core.Path.{_≡_};
-ghost use Rattle.texts.specs.Kept.{isKept};
-
 mod binary;
 mod chars;
 mod elements;
@@ -30,6 +27,8 @@ pub use unknown::read_unknown;
 pub use uri::read_uri;
 pub use written::put_text_escaped;
 pub use written::put_text_xml;
+ghost use mathlib.Core.Path.{_≡_};
+ghost use Rattle.texts.specs.Kept.{isKept};
 
 // Whether a value that is kept by its characters is of the type.
 pub enum Kept {

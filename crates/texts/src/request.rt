@@ -4,6 +4,8 @@ use crate::elements::put_text_element;
 use crate::is_kept;
 use crate::items::item_end;
 use crate::text::read_text;
+use octets::unit::END;
+use octets::unit::SEMICOLON;
 use source::unit;
 ghost use mathlib.Core.Path.{_≡_};
 ghost use mathlib.Core.Bool.{true};
@@ -20,13 +22,13 @@ fn is_soon_over(mode: usize, s: &[u8], at: usize) -> bool
 {
     let n = unit(mode, s, at);
     let u = n.u;
-    if u == 256 {
+    if u == END {
         return true;
     }
-    let e = item_end(59, mode, s, n.next);
+    let e = item_end(SEMICOLON, mode, s, n.next);
     let w = unit(mode, s, e);
     let v = w.u;
-    if v == 256 {
+    if v == END {
         return true;
     }
     false
@@ -35,14 +37,14 @@ fn is_soon_over(mode: usize, s: &[u8], at: usize) -> bool
 fn find_parts(mode: usize, s: &[u8], at: usize) -> Status
     ensures { λ r. ⌜ PartsFound mode (now (s .entry)) at r ⌝ }
 {
-    let a = item_end(59, mode, s, at);
+    let a = item_end(SEMICOLON, mode, s, at);
     let n = unit(mode, s, a);
     let u = n.u;
-    if u == 256 {
+    if u == END {
         return Status::NoStatus;
     }
     let d = n.next;
-    let b = item_end(59, mode, s, d);
+    let b = item_end(SEMICOLON, mode, s, d);
     if is_soon_over(mode, s, b) {
         return Status::Parts(a, d, b);
     }
@@ -52,7 +54,7 @@ fn find_parts(mode: usize, s: &[u8], at: usize) -> Status
 pub fn read_request_status(mode: usize, s: &[u8], at: usize) -> Status
     ensures { λ r. ⌜ StatusEnds mode (now (s .entry)) at r ⌝ }
 {
-    let k = read_text(59, mode, s, at);
+    let k = read_text(SEMICOLON, mode, s, at);
     if is_kept(k) {
         return find_parts(mode, s, at);
     }
@@ -65,7 +67,7 @@ fn put_data_xml(out: &mut [u8], at: usize, mode: usize, s: &[u8], from: usize) -
 {
     let n = unit(mode, s, from);
     let u = n.u;
-    if u == 256 {
+    if u == END {
         return at;
     }
     put_text_element(out, at, b"data", mode, s, n.next, s.len())
@@ -97,7 +99,9 @@ pub fn put_request_status_xml(
     from: usize,
 ) -> usize
     requires { ⌜ cuts mode ≡ true ⌝ }
-    ensures { λ r. ⌜ Put (now (out .entry)) (now (out .exit)) at r (orNothing statusXml (readRequestStatus (rest mode (now (s .entry)) from))) ⌝ }
+    ensures { λ r. ⌜
+        Put (now (out .entry)) (now (out .exit)) at r
+        (orNothing statusXml (readRequestStatus (rest mode (now (s .entry)) from))) ⌝ }
 {
     let Status::Parts(a, d, b) = read_request_status(mode, s, from) else {
         return at;

@@ -1,5 +1,11 @@
 // TEXT as iCalendar text writes it, single or between separators. See specs/Text.antt and specs/Unescaped.antt.
 use crate::Kept;
+use octets::unit::BACKSLASH;
+use octets::unit::COMMA;
+use octets::unit::END;
+use octets::unit::LOWER_N;
+use octets::unit::SEMICOLON;
+use octets::unit::UPPER_N;
 use source::plain_unit;
 use source::unit;
 ghost use mathlib.Core.Path.{_≡_};
@@ -15,10 +21,10 @@ ghost use Rattle.texts.specs.Kept.{isKept};
 pub fn is_break(u: usize) -> bool
     ensures { λ r. ⌜ r ≡ isBreak u ⌝ }
 {
-    if u == 44 {
+    if u == COMMA {
         return true;
     }
-    u == 59
+    u == SEMICOLON
 }
 
 // A character that is written with a backslash before it.
@@ -28,16 +34,16 @@ pub fn is_escaped(u: usize) -> bool
     if is_break(u) {
         return true;
     }
-    u == 92
+    u == BACKSLASH
 }
 
 fn is_newline(u: usize) -> bool
     ensures { λ r. ⌜ r ≡ isNewline u ⌝ }
 {
-    if u == 110 {
+    if u == LOWER_N {
         return true;
     }
-    u == 78
+    u == UPPER_N
 }
 
 // What may stand after a backslash.
@@ -56,7 +62,7 @@ fn in_text(after: bool, sep: usize, u: usize) -> bool
     if after {
         return is_escape(u);
     }
-    if u == 92 {
+    if u == BACKSLASH {
         return true;
     }
     if is_break(u) {
@@ -72,7 +78,7 @@ pub fn is_opening(after: bool, u: usize) -> bool
     if after {
         return false;
     }
-    u == 92
+    u == BACKSLASH
 }
 
 // At the end no backslash may stand open.
@@ -94,7 +100,7 @@ fn read_text_plain(sep: usize, s: &[u8], at: usize) -> Kept
     loop {
         let t = plain_unit(s, c);
         let u = t.u;
-        if u == 256 {
+        if u == END {
             return ended(after);
         }
         if in_text(after, sep, u) {
@@ -106,7 +112,7 @@ fn read_text_plain(sep: usize, s: &[u8], at: usize) -> Kept
     }
 }
 
-// Texts between bare separators: 44 comma, 59 semicolon, 0 none.
+// Texts between bare separators: COMMA, SEMICOLON, or 0 for none.
 pub fn read_text(sep: usize, mode: usize, s: &[u8], at: usize) -> Kept
     ensures { λ r. ⌜ isKept r ≡ isRead (splitText sep (rest mode (now (s .entry)) at)) ⌝ }
 {
@@ -118,7 +124,7 @@ pub fn read_text(sep: usize, mode: usize, s: &[u8], at: usize) -> Kept
     loop {
         let t = unit(mode, s, c);
         let u = t.u;
-        if u == 256 {
+        if u == END {
             return ended(after);
         }
         if in_text(after, sep, u) {

@@ -1,5 +1,7 @@
 // Values of no known type: any characters but LF. See specs/Unknown.antt.
 use crate::Kept;
+use octets::unit::END;
+use octets::unit::LF;
 use source::unit;
 ghost use mathlib.Core.Path.{_≡_};
 ghost use Rattle.source.specs.Source.{rest};
@@ -13,10 +15,10 @@ pub fn read_unknown(mode: usize, s: &[u8], at: usize) -> Kept
     loop {
         let t = unit(mode, s, c);
         let u = t.u;
-        if u == 256 {
+        if u == END {
             return Kept::Good;
         }
-        if u == 10 {
+        if u == LF {
             return Kept::Bad;
         }
         c = t.next;

@@ -3,6 +3,20 @@ use crate::Kept;
 use octets::is_alpha;
 use octets::is_digit;
 use octets::is_visible;
+use octets::unit::BACKSLASH;
+use octets::unit::BAR;
+use octets::unit::CARET;
+use octets::unit::COLON;
+use octets::unit::END;
+use octets::unit::GRAVE;
+use octets::unit::GREATER;
+use octets::unit::HYPHEN;
+use octets::unit::LEFT_BRACE;
+use octets::unit::LESS;
+use octets::unit::PLUS;
+use octets::unit::POINT;
+use octets::unit::QUOTE;
+use octets::unit::RIGHT_BRACE;
 use source::unit;
 ghost use mathlib.Core.Path.{_≡_};
 ghost use mathlib.Core.Bool.{false};
@@ -21,44 +35,44 @@ fn is_scheme_char(u: usize) -> bool
     if is_digit(u) {
         return true;
     }
-    if u == 43 {
+    if u == PLUS {
         return true;
     }
-    if u == 45 {
+    if u == HYPHEN {
         return true;
     }
-    u == 46
+    u == POINT
 }
 
 // `"`, `<`, `>`, `\`, `^`, the grave accent, `{`, `|`, `}`.
 fn is_outside(u: usize) -> bool
     ensures { λ r. ⌜ r ≡ isOutside u ⌝ }
 {
-    if u == 34 {
+    if u == QUOTE {
         return true;
     }
-    if u == 60 {
+    if u == LESS {
         return true;
     }
-    if u == 62 {
+    if u == GREATER {
         return true;
     }
-    if u == 92 {
+    if u == BACKSLASH {
         return true;
     }
-    if u == 94 {
+    if u == CARET {
         return true;
     }
-    if u == 96 {
+    if u == GRAVE {
         return true;
     }
-    if u == 123 {
+    if u == LEFT_BRACE {
         return true;
     }
-    if u == 124 {
+    if u == BAR {
         return true;
     }
-    u == 125
+    u == RIGHT_BRACE
 }
 
 fn is_uri_char(u: usize) -> bool
@@ -76,7 +90,7 @@ fn in_uri(past: bool, u: usize) -> bool
     if past {
         return is_uri_char(u);
     }
-    if u == 58 {
+    if u == COLON {
         return true;
     }
     is_scheme_char(u)
@@ -97,7 +111,7 @@ fn past_colon(past: bool, u: usize) -> bool
     if past {
         return true;
     }
-    u == 58
+    u == COLON
 }
 
 // What follows the first letter.
@@ -109,7 +123,7 @@ fn read_after(mode: usize, s: &[u8], from: usize) -> Kept
     loop {
         let t = unit(mode, s, c);
         let u = t.u;
-        if u == 256 {
+        if u == END {
             return ended(past);
         }
         if in_uri(past, u) {

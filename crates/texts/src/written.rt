@@ -1,11 +1,12 @@
-// TEXT written: unescaped, as XML's character data; and escaped, as iCalendar text. See specs/Written.antt.
+// TEXT written: unescaped, as XML's character data; and escaped, as iCalendar text. See specs/laws/Written.antt.
 use crate::is_kept;
 use crate::text::is_escaped;
 use crate::text::is_opening;
 use crate::text::read_one_text;
-use markup::put_escaped_byte;
+use octets::unit::END;
 use sink::put;
 use source::unit;
+use tags::put_escaped_byte;
 ghost use mathlib.Core.Path.{_≡_};
 ghost use mathlib.Core.Bool.{false};
 ghost use Rattle.octets.specs.Reading.{orNothing};
@@ -20,11 +21,11 @@ fn meant_by(after: bool, b: u8) -> u8
     ensures { λ r. ⌜ r ≡ meant after b ⌝ }
 {
     if after {
-        if b == 110 {
-            return 10;
+        if b == b'n' {
+            return b'\n';
         }
-        if b == 78 {
-            return 10;
+        if b == b'N' {
+            return b'\n';
         }
         return b;
     }
@@ -32,7 +33,8 @@ fn meant_by(after: bool, b: u8) -> u8
 }
 
 fn put_unescaped(out: &mut [u8], at: usize, mode: usize, s: &[u8], from: usize) -> usize
-    ensures { λ r. ⌜ Put (now (out .entry)) (now (out .exit)) at r (escaped (unescaped false (rest mode (now (s .entry)) from))) ⌝ }
+    ensures { λ r. ⌜
+        Put (now (out .entry)) (now (out .exit)) at r (escaped (unescaped false (rest mode (now (s .entry)) from))) ⌝ }
 {
     let mut o = at;
     let mut after = false;
@@ -40,7 +42,7 @@ fn put_unescaped(out: &mut [u8], at: usize, mode: usize, s: &[u8], from: usize) 
     loop {
         let t = unit(mode, s, c);
         let u = t.u;
-        if u == 256 {
+        if u == END {
             return o;
         }
         if is_opening(after, u) {
@@ -57,7 +59,9 @@ fn put_unescaped(out: &mut [u8], at: usize, mode: usize, s: &[u8], from: usize) 
 
 // A TEXT of iCalendar text as XML's character data; nothing where it is none.
 pub fn put_text_xml(out: &mut [u8], at: usize, mode: usize, s: &[u8], from: usize) -> usize
-    ensures { λ r. ⌜ Put (now (out .entry)) (now (out .exit)) at r (orNothing escaped (readText (rest mode (now (s .entry)) from))) ⌝ }
+    ensures { λ r. ⌜
+        Put (now (out .entry)) (now (out .exit)) at r
+        (orNothing escaped (readText (rest mode (now (s .entry)) from))) ⌝ }
 {
     let k = read_one_text(mode, s, from);
     if is_kept(k) {
@@ -69,12 +73,12 @@ pub fn put_text_xml(out: &mut [u8], at: usize, mode: usize, s: &[u8], from: usiz
 fn put_text_byte(out: &mut [u8], at: usize, b: u8) -> usize
     ensures { λ r. ⌜ Put (now (out .entry)) (now (out .exit)) at r (escapeText b) ⌝ }
 {
-    if b == 10 {
-        let o = put(out, at, 92);
-        return put(out, o, 110);
+    if b == b'\n' {
+        let o = put(out, at, b'\\');
+        return put(out, o, b'n');
     }
     if is_escaped(b as usize) {
-        let o = put(out, at, 92);
+        let o = put(out, at, b'\\');
         return put(out, o, b);
     }
     put(out, at, b)
@@ -89,7 +93,7 @@ pub fn put_text_escaped(out: &mut [u8], at: usize, mode: usize, s: &[u8], from: 
     loop {
         let t = unit(mode, s, c);
         let u = t.u;
-        if u == 256 {
+        if u == END {
             return o;
         }
         o = put_text_byte(out, o, u as u8);

@@ -1,5 +1,4 @@
 -- From XML to text, to XML, and to text again.
---     StatesXml t c     the document of a call to text states the calendar c
 --     back-and-there    of an accepted call to text whose text is within the input limit: a call to XML with this text, a work room no shorter and room
 --                       enough is accepted, states the same calendar and gives its canonical XML; where that is within the limit, a call to text with it
 --                       and room enough is accepted and gives the same text, byte for byte
@@ -8,21 +7,19 @@ use mathlib.Core.Bool.{true}
 use mathlib.Core.List.{List}
 use Prim.Native.Nat.{ℕ, _≤_}
 use lib.ListN.{length}
-use Rattle.model.specs.Calendar.{Calendar}
-use Rattle.model.specs.Refusal.{accepted, limit}
-use Rattle.ical.specs.ReadText.{readCalendar}
-use Rattle.ical.specs.WriteText.{writeCalendar}
-use Rattle.ical.specs.TextBack.{text-back}
+use Rattle.calendar.specs.Calendar.{Calendar}
+use Rattle.calendar.specs.Refusal.{accepted, limit}
+use Rattle.text.specs.ReadText.{readCalendar}
+use Rattle.text.specs.WriteText.{writeCalendar}
+use Rattle.text.specs.laws.TextBack.{text-back}
 use Rattle.xcal.specs.WriteXml.{writeDocument}
 use Rattle.xcal.specs.ReadDocument.{readDocument}
-use Rattle.xcal.specs.DocumentAccepted.{document-accepted}
-use Rattle.conversion.specs.ToText.{toText}
-use Rattle.theorems.specs.BridgeBack.{valid-stated}
-use Rattle.theorems.specs.Calls.{Call, isAccepted, xmlOf, States, TextCall, isTextAccepted, textOf, written-read, states-accepted, accepted-same}
+use Rattle.xcal.specs.laws.DocumentAccepted.{document-accepted}
+use Rattle.calls.specs.ToText.{toText}
+use Rattle.theorems.specs.laws.BridgeBack.{valid-stated}
+use Rattle.theorems.specs.Calls.{Call, isAccepted, xmlOf, States, TextCall, isTextAccepted, textOf, StatesXml}
+use Rattle.theorems.specs.laws.Calls.{written-read, states-accepted, accepted-same}
 use Rattle.theorems.specs.ThereAndBack.{within-too, there-and-back}
-
-abbrev pub StatesXml : TextCall → Calendar → Type 0
-StatesXml t c = readDocument (t .input) ≡ accepted c
 
 text-is : (t : TextCall) (c : Calendar) → isTextAccepted t ≡ true → StatesXml t c → textOf t ≡ writeCalendar c
 unfolding toText

@@ -10,16 +10,14 @@ use mathlib.Core.List.{List, [], _∷_, map}
 use Prim.Native.Nat.{ℕ}
 use Rattle.octets.specs.Pick.{pick}
 use Rattle.octets.specs.Append.{_⊕_, joined}
-use Rattle.model.specs.Calendar.{Calendar}
-use Rattle.model.specs.Refusal.{accepted}
+use Rattle.calendar.specs.Calendar.{Calendar}
+use Rattle.calendar.specs.Refusal.{accepted}
 use Rattle.xcal.specs.WriteXml.{writeDocument}
-use Rattle.theorems.specs.Injective.{document-unique, document-same, document-whole, document-some}
-use Rattle.theorems.specs.Calls.{Call, isAccepted, xmlOf, States, Given, given, states-one}
+use Rattle.theorems.specs.laws.Injective.{document-unique, document-same, document-whole, document-some}
+use Rattle.theorems.specs.Calls.{Call, isAccepted, xmlOf, SameCalendar, acceptedOnes, SameCalendars, streamOf}
+use Rattle.theorems.specs.laws.Calls.{Given, given, states-one}
 
 -- ---- two calls
-
-abbrev pub SameCalendar : Call → Call → Type 0
-SameCalendar k l = (c : Calendar) × States k c × States l c
 
 same-calendar : (k l : Call) (g : Given k) (f : Given l) → g .calendar ≡ f .calendar → SameCalendar k l
 same-calendar k l g f e = (g .calendar, g .states, f .states ∙ ap accepted (sym e))
@@ -42,22 +40,6 @@ no-proper-beginning k l h j more e =
     document-whole (g .calendar) (f .calendar) more (g .valid) (f .valid) (ap (λ (s : List ℕ). s ⊕ more) (sym (g .xml)) ∙ e ∙ f .xml)
 
 -- ---- two lists of calls
-
--- the accepted ones, in order
-unfoldable pub acceptedOnes : List Call → List Call
-acceptedOnes [] = []
-acceptedOnes (k ∷ ks) = pick (isAccepted k) (k ∷ acceptedOnes ks) (acceptedOnes ks)
-
--- as many calls, and place by place the same calendar
-abbrev pub SameCalendars : List Call → List Call → Type 0
-SameCalendars [] [] = Unit {0}
-SameCalendars [] (l ∷ ls) = ⊥
-SameCalendars (k ∷ ks) [] = ⊥
-SameCalendars (k ∷ ks) (l ∷ ls) = SameCalendar k l × SameCalendars ks ls
-
--- the XML of the accepted ones, joined
-abbrev pub streamOf : List Call → List ℕ
-streamOf ks = joined (map xmlOf (acceptedOnes ks))
 
 abbrev AllAccepted : List Call → Type 0
 AllAccepted [] = Unit {0}

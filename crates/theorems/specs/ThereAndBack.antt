@@ -8,19 +8,20 @@ use mathlib.Core.List.{List}
 use Prim.Native.Nat.{ℕ, _≤_}
 use native.Mathlib.Omega.{arith}
 use lib.ListN.{length}
-use Rattle.model.specs.Refusal.{limit}
-use Rattle.model.specs.Calendar.{Calendar}
-use Rattle.ical.specs.ReadText.{readCalendar}
-use Rattle.ical.specs.WriteText.{writeCalendar}
-use Rattle.ical.specs.AcceptedText.{accepted-valid, accepted-back}
+use Rattle.calendar.specs.Refusal.{limit}
+use Rattle.calendar.specs.Calendar.{Calendar}
+use Rattle.text.specs.ReadText.{readCalendar}
+use Rattle.text.specs.WriteText.{writeCalendar}
+use Rattle.text.specs.laws.AcceptedText.{accepted-valid, accepted-back}
 use Rattle.xcal.specs.WriteXml.{writeDocument}
 use Rattle.xcal.specs.ReadDocument.{readDocument}
-use Rattle.xcal.specs.DocumentBack.{document-back}
-use Rattle.conversion.specs.Conversion.{result, converted}
-use Rattle.conversion.specs.ToXml.{toXml}
-use Rattle.conversion.specs.ToText.{toText}
-use Rattle.theorems.specs.Bridge.{stated-valid}
-use Rattle.theorems.specs.Calls.{Call, isAccepted, xmlOf, States, TextCall, isTextAccepted, textOf, result-given, given, states-one}
+use Rattle.xcal.specs.laws.DocumentBack.{document-back}
+use Rattle.calls.specs.Conversion.{result, converted}
+use Rattle.calls.specs.ToXml.{toXml}
+use Rattle.calls.specs.ToText.{toText}
+use Rattle.theorems.specs.laws.Bridge.{stated-valid}
+use Rattle.theorems.specs.Calls.{Call, isAccepted, xmlOf, States, TextCall, isTextAccepted, textOf}
+use Rattle.theorems.specs.laws.Calls.{result-given, given, states-one}
 
 -- lists that are the same are as long
 pub within-too : (a b : List ℕ) (n : ℕ) → a ≡ b → length a ≤ n → length b ≤ n

@@ -2,24 +2,19 @@
 --     isLeapYear, daysInMonth    the Gregorian rule
 --     isDate                     a kept value: eight digits of a real day
 --     readDate, writeDate
---     date-read-back, date-accepted, date-visible, date-no-comma; date-exact: a date has one spelling in each
-use mathlib.Core.Path.{_≡_}
-use mathlib.Core.Bool.{Bool, true, false}
+use mathlib.Core.Bool.{Bool}
 use mathlib.Core.List.{List, [], _∷_}
-use mathlib.Core.Option.{Option, some}
+use mathlib.Core.Option.{Option}
 use Prim.Native.Nat.{ℕ, _%_}
 use lib.Dec.{eqb}
-use borrow.Author.Tests.{eqb-true}
 use lib.ListN.{length, take, drop}
-use Rattle.octets.specs.Pick.{pick, _and_, _or_, within, and-both}
+use Rattle.octets.specs.Pick.{pick, _and_, _or_, within}
 use Rattle.octets.specs.Scan.{allOf}
-use Rattle.octets.specs.Class.{isDigit, isVisible}
-use Rattle.octets.specs.Words.{holds}
+use Rattle.octets.specs.Class.{isDigit}
 use Rattle.octets.specs.Decimal.{value}
 use Rattle.octets.specs.Reading.{andThen}
-use Rattle.model.specs.Calendar.{Format, ical, xcal}
-use Rattle.times.specs.Spelling.{Mark, mark, withMarks, withoutMarks, keep, fits}
-use Rattle.times.specs.Spelling.{Chars, chars-digits, chars-visible, chars-no-comma, keep-yes, keep-is, keep-accepted, marked-read-back, marked-accepted, marked-exact}
+use Rattle.calendar.specs.Calendar.{Format, ical, xcal}
+use Rattle.times.specs.Spelling.{Mark, mark, withMarks, withoutMarks, keep}
 
 -- every fourth year, but of the full centuries only every fourth
 unfoldable pub isLeapYear : ℕ → Bool
@@ -52,36 +47,3 @@ readDate xcal s = andThen (withoutMarks dateMarks s) (keep isDate)
 unfoldable pub writeDate : Format → List ℕ → List ℕ
 writeDate ical v = v
 writeDate xcal v = withMarks dateMarks v
-
--- ---- laws
-
-pub date-length : (v : List ℕ) → isDate v ≡ true → length v ≡ 8
-unfolding isDate
-date-length v h = eqb-true _ _ (and-both _ _ h .0)
-
-pub date-chars : Chars isDate
-unfolding isDate
-date-chars v h = chars-digits v (and-both _ _ (and-both _ _ h .1) .0)
-
-pub date-read-back : (f : Format) (v : List ℕ) → isDate v ≡ true → readDate f (writeDate f v) ≡ some v
-unfolding readDate writeDate fits _and_
-date-read-back ical v h = keep-yes isDate v h
-date-read-back xcal v h = marked-read-back isDate dateMarks v h (rw (date-length v h))
-
-pub date-accepted : (f : Format) (s v : List ℕ) → readDate f s ≡ some v → isDate v ≡ true
-unfolding readDate
-date-accepted ical s v h = keep-accepted isDate s v h
-date-accepted xcal s v h = marked-accepted isDate (withoutMarks dateMarks s) v h
-
-pub date-exact : (f : Format) (s v : List ℕ) → readDate f s ≡ some v → s ≡ writeDate f v
-unfolding readDate writeDate
-date-exact ical s v h = keep-is isDate s v h
-date-exact xcal s v h = marked-exact isDate dateMarks s v h
-
-pub date-visible : (v : List ℕ) → isDate v ≡ true → allOf isVisible (writeDate ical v) ≡ true
-unfolding writeDate
-date-visible v h = chars-visible v (date-chars v h)
-
-pub date-no-comma : (v : List ℕ) → isDate v ≡ true → holds 44 (writeDate ical v) ≡ false
-unfolding writeDate
-date-no-comma v h = chars-no-comma v (date-chars v h)

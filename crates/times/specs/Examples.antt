@@ -3,7 +3,7 @@ use mathlib.Core.Path.{_≡_, refl}
 use mathlib.Core.List.{[], _∷_, map}
 use mathlib.Core.Option.{none, some}
 use Rattle.octets.specs.Ascii.{ascii}
-use Rattle.model.specs.Calendar.{ical, xcal, periodExplicit, periodStart}
+use Rattle.calendar.specs.Calendar.{ical, xcal, periodExplicit, periodStart}
 use Rattle.times.specs.Date.{daysInMonth, readDate, writeDate}
 use Rattle.times.specs.Time.{readTime, writeTime}
 use Rattle.times.specs.DateTime.{readDateTime, writeDateTime}

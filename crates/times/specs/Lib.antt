@@ -2,7 +2,6 @@
 -- (`ical`) and as XML character data (`xcal`). A kept value is the list of its characters as iCalendar text spells it in capitals.
 --     Spelling   the characters of these values, and the marks that XML puts between them
 --     Pattern    a spelling followed along a pattern
---     Digits     digits, and what they are worth
 --     Letters    characters from a cursor on
 --     Followed   what following a pattern answers
 --     Date       DATE, and the Gregorian month
@@ -24,9 +23,9 @@
 --     PeriodWritten  PERIOD written
 --     Computing  opens all of these, for examples that compute
 --     Examples   readings and writings, computed
+--     laws       laws of these, and what proofs need
 pub mod Spelling
 pub mod Pattern
-pub mod Digits
 pub mod Letters
 pub mod Followed
 pub mod Date
@@ -48,3 +47,4 @@ pub mod PeriodAt
 pub mod PeriodWritten
 pub mod Computing
 pub mod Examples
+pub mod laws

@@ -1,18 +1,18 @@
 // DATE. See specs/Date.antt and specs/DateAlong.antt.
+use crate::follow::Walk;
+use crate::follow::follow;
+use crate::letters::ended;
+use crate::written::put_day;
 ghost use mathlib.Core.Path.{_≡_};
 ghost use mathlib.Core.Bool.{true};
 ghost use Rattle.octets.specs.Pick.{within};
 ghost use Rattle.octets.specs.Reading.{orNothing};
-ghost use Rattle.model.specs.Calendar.{formatOf};
+ghost use Rattle.calendar.specs.Calendar.{formatOf};
 ghost use Rattle.source.specs.Source.{rest};
 ghost use Rattle.sink.specs.Sink.{Put};
 ghost use Rattle.times.specs.Date.{isLeapYear, hasThirtyDays, daysInMonth, isDay, readDate, writeDate};
 ghost use Rattle.times.specs.DateAlong.{datePattern, dayFrom, dayOf};
 ghost use Rattle.times.specs.Followed.{Walks};
-use crate::follow::Walk;
-use crate::follow::follow;
-use crate::letters::ended;
-use crate::written::put_day;
 
 // A day by year, month and day of the month.
 pub enum DateRead {
@@ -125,7 +125,9 @@ pub fn put_date(
     s: &[u8],
     at: usize,
 ) -> usize
-    ensures { λ r. ⌜ Put (now (out .entry)) (now (out .exit)) o r (orNothing (writeDate (formatOf to)) (readDate (formatOf from) (rest mode (now (s .entry)) at))) ⌝ }
+    ensures { λ r. ⌜
+        Put (now (out .entry)) (now (out .exit)) o r
+        (orNothing (writeDate (formatOf to)) (readDate (formatOf from) (rest mode (now (s .entry)) at))) ⌝ }
 {
     let r = read_date(from, mode, s, at);
     match r {

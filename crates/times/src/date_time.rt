@@ -1,15 +1,4 @@
 // DATE-TIME. See specs/DateTime.antt and specs/DateTimeAlong.antt.
-ghost use mathlib.Core.Path.{_≡_};
-ghost use Rattle.octets.specs.Reading.{orNothing};
-ghost use Rattle.model.specs.Calendar.{formatOf};
-ghost use Rattle.source.specs.Source.{rest};
-ghost use Rattle.sink.specs.Sink.{Put};
-ghost use Rattle.times.specs.MonthRule.{dateOf};
-ghost use Rattle.times.specs.TimeAlong.{clockOf};
-ghost use Rattle.times.specs.DateTime.{readDateTime, writeDateTime};
-ghost use Rattle.times.specs.DateTimeAlong.{dateTimePattern, joinTime, momentBy, momentOf};
-ghost use Rattle.times.specs.Followed.{Walks};
-ghost use Rattle.times.specs.Written.{momentBytes};
 use crate::date::DateRead;
 use crate::date::day_from;
 use crate::follow::Walk;
@@ -20,6 +9,17 @@ use crate::time::zone_at;
 use crate::written::put_clock;
 use crate::written::put_day;
 use sink::put;
+ghost use mathlib.Core.Path.{_≡_};
+ghost use Rattle.octets.specs.Reading.{orNothing};
+ghost use Rattle.calendar.specs.Calendar.{formatOf};
+ghost use Rattle.source.specs.Source.{rest};
+ghost use Rattle.sink.specs.Sink.{Put};
+ghost use Rattle.times.specs.MonthRule.{dateOf};
+ghost use Rattle.times.specs.TimeAlong.{clockOf};
+ghost use Rattle.times.specs.DateTime.{readDateTime, writeDateTime};
+ghost use Rattle.times.specs.DateTimeAlong.{dateTimePattern, joinTime, momentBy, momentOf};
+ghost use Rattle.times.specs.Followed.{Walks};
+ghost use Rattle.times.specs.Written.{momentBytes};
 
 // Year, month and day, hour, minute and second, and whether it is UTC.
 pub enum DateTimeRead {
@@ -85,7 +85,7 @@ pub fn put_moment(
     ensures { λ r. ⌜ Put (now (out .entry)) (now (out .exit)) o r (momentBytes to y m d h i c z) ⌝ }
 {
     let p = put_day(out, o, to, y, m, d);
-    let q = put(out, p, 84);
+    let q = put(out, p, b'T');
     put_clock(out, q, to, h, i, c, z)
 }
 
@@ -98,7 +98,9 @@ pub fn put_date_time(
     s: &[u8],
     at: usize,
 ) -> usize
-    ensures { λ r. ⌜ Put (now (out .entry)) (now (out .exit)) o r (orNothing (writeDateTime (formatOf to)) (readDateTime (formatOf from) (rest mode (now (s .entry)) at))) ⌝ }
+    ensures { λ r. ⌜
+        Put (now (out .entry)) (now (out .exit)) o r
+        (orNothing (writeDateTime (formatOf to)) (readDateTime (formatOf from) (rest mode (now (s .entry)) at))) ⌝ }
 {
     let r = read_date_time(from, mode, s, at);
     match r {

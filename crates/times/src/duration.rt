@@ -1,20 +1,30 @@
 // DURATION. See specs/Duration.antt and specs/DurationAt.antt.
+use crate::follow::is_digit;
+use crate::letters::ended;
+use crate::letters::letter;
+use crate::written::put_mark;
+use octets::unit::END;
+use octets::unit::HYPHEN;
+use octets::unit::PLUS;
+use octets::unit::UPPER_D;
+use octets::unit::UPPER_H;
+use octets::unit::UPPER_M;
+use octets::unit::UPPER_P;
+use octets::unit::UPPER_S;
+use octets::unit::UPPER_T;
+use octets::unit::UPPER_W;
+use sink::put;
 ghost use mathlib.Core.Path.{_≡_};
 ghost use Rattle.octets.specs.Reading.{orNothing};
 ghost use Rattle.octets.specs.Pick.{_or_};
 ghost use Rattle.octets.specs.Append.{_⊕_};
-ghost use Rattle.model.specs.Calendar.{formatOf};
+ghost use Rattle.calendar.specs.Calendar.{formatOf};
 ghost use Rattle.source.specs.Source.{rest};
 ghost use Rattle.sink.specs.Sink.{Put};
 ghost use Rattle.times.specs.Letters.{cased};
 ghost use Rattle.times.specs.Written.{markBytes};
 ghost use Rattle.times.specs.Duration.{optional, dur-second, dur-minute, dur-hour, dur-time, dur-date, dur-week, unsigned, readDuration, writeDuration};
 ghost use Rattle.times.specs.DurationAt.{Runs, spanIf, spanOf};
-use crate::follow::is_digit;
-use crate::letters::ended;
-use crate::letters::letter;
-use crate::written::put_mark;
-use sink::put;
 
 // Digits at a cursor: whether there are any, the character after them, and the cursor after that.
 pub struct Run {
@@ -58,7 +68,7 @@ fn second(exact: bool, mode: usize, s: &[u8], at: usize) -> bool
     let any = a.any;
     if any {
         let u = a.u;
-        if u == 83 {
+        if u == UPPER_S {
             return ended(mode, s, a.next);
         }
         return false;
@@ -83,7 +93,7 @@ fn minute(exact: bool, mode: usize, s: &[u8], at: usize) -> bool
     let any = a.any;
     if any {
         let u = a.u;
-        if u == 77 {
+        if u == UPPER_M {
             return no_or_second(exact, mode, s, a.next);
         }
         return false;
@@ -108,7 +118,7 @@ fn hour(exact: bool, mode: usize, s: &[u8], at: usize) -> bool
     let any = a.any;
     if any {
         let u = a.u;
-        if u == 72 {
+        if u == UPPER_H {
             return no_or_minute(exact, mode, s, a.next);
         }
         return false;
@@ -117,7 +127,11 @@ fn hour(exact: bool, mode: usize, s: &[u8], at: usize) -> bool
 }
 
 fn hours(exact: bool, mode: usize, s: &[u8], at: usize) -> bool
-    ensures { λ r. ⌜ r ≡ (dur-hour (cased exact (rest mode (now (s .entry)) at)) or dur-minute (cased exact (rest mode (now (s .entry)) at)) or dur-second (cased exact (rest mode (now (s .entry)) at))) ⌝ }
+    ensures { λ r. ⌜
+        r
+        ≡ (dur-hour (cased exact (rest mode (now (s .entry)) at))
+        or dur-minute (cased exact (rest mode (now (s .entry)) at))
+        or dur-second (cased exact (rest mode (now (s .entry)) at))) ⌝ }
 {
     let h = hour(exact, mode, s, at);
     if h {
@@ -135,7 +149,7 @@ fn after_t(exact: bool, mode: usize, s: &[u8], at: usize) -> bool
 {
     let a = letter(exact, mode, s, at);
     let u = a.u;
-    if u == 84 {
+    if u == UPPER_T {
         return hours(exact, mode, s, a.next);
     }
     false
@@ -158,7 +172,7 @@ fn days(exact: bool, mode: usize, s: &[u8], at: usize) -> bool
     let any = a.any;
     if any {
         let u = a.u;
-        if u == 68 {
+        if u == UPPER_D {
             return no_or_time(exact, mode, s, a.next);
         }
         return false;
@@ -173,7 +187,7 @@ fn weeks(exact: bool, mode: usize, s: &[u8], at: usize) -> bool
     let any = a.any;
     if any {
         let u = a.u;
-        if u == 87 {
+        if u == UPPER_W {
             return ended(mode, s, a.next);
         }
         return false;
@@ -182,7 +196,11 @@ fn weeks(exact: bool, mode: usize, s: &[u8], at: usize) -> bool
 }
 
 fn after_p(exact: bool, mode: usize, s: &[u8], at: usize) -> bool
-    ensures { λ r. ⌜ r ≡ (dur-date (cased exact (rest mode (now (s .entry)) at)) or dur-time (cased exact (rest mode (now (s .entry)) at)) or dur-week (cased exact (rest mode (now (s .entry)) at))) ⌝ }
+    ensures { λ r. ⌜
+        r
+        ≡ (dur-date (cased exact (rest mode (now (s .entry)) at))
+        or dur-time (cased exact (rest mode (now (s .entry)) at))
+        or dur-week (cased exact (rest mode (now (s .entry)) at))) ⌝ }
 {
     let d = days(exact, mode, s, at);
     if d {
@@ -200,7 +218,7 @@ fn is_unsigned(exact: bool, mode: usize, s: &[u8], at: usize) -> bool
 {
     let a = letter(exact, mode, s, at);
     let u = a.u;
-    if u == 80 {
+    if u == UPPER_P {
         return after_p(exact, mode, s, a.next);
     }
     false
@@ -216,15 +234,16 @@ fn span_if(ok: bool, neg: bool, at: usize) -> DurationRead
 }
 
 pub fn read_duration(xcal: bool, mode: usize, s: &[u8], at: usize) -> DurationRead
-    ensures { λ r. ⌜ readDuration (formatOf xcal) (rest mode (now (s .entry)) at) ≡ spanOf xcal mode (now (s .entry)) r ⌝ }
+    ensures { λ r. ⌜
+        readDuration (formatOf xcal) (rest mode (now (s .entry)) at) ≡ spanOf xcal mode (now (s .entry)) r ⌝ }
 {
     let a = letter(xcal, mode, s, at);
     let u = a.u;
-    if u == 43 {
+    if u == PLUS {
         let ok = is_unsigned(xcal, mode, s, a.next);
         return span_if(ok, false, a.next);
     }
-    if u == 45 {
+    if u == HYPHEN {
         let ok = is_unsigned(xcal, mode, s, a.next);
         return span_if(ok, true, a.next);
     }
@@ -241,7 +260,7 @@ fn put_letters(out: &mut [u8], o: usize, exact: bool, mode: usize, s: &[u8], at:
     loop {
         let a = letter(exact, mode, s, c);
         let u = a.u;
-        if u == 256 {
+        if u == END {
             return p;
         }
         p = put(out, p, u as u8);
@@ -258,9 +277,11 @@ fn put_span(
     s: &[u8],
     at: usize,
 ) -> usize
-    ensures { λ r. ⌜ Put (now (out .entry)) (now (out .exit)) o r (markBytes neg 45 ⊕ cased exact (rest mode (now (s .entry)) at)) ⌝ }
+    ensures { λ r. ⌜
+        Put (now (out .entry)) (now (out .exit)) o r
+        (markBytes neg 45 ⊕ cased exact (rest mode (now (s .entry)) at)) ⌝ }
 {
-    let p = put_mark(out, o, neg, 45);
+    let p = put_mark(out, o, neg, b'-');
     put_letters(out, p, exact, mode, s, at)
 }
 
@@ -273,7 +294,9 @@ pub fn put_duration(
     s: &[u8],
     at: usize,
 ) -> usize
-    ensures { λ r. ⌜ Put (now (out .entry)) (now (out .exit)) o r (orNothing (writeDuration (formatOf to)) (readDuration (formatOf from) (rest mode (now (s .entry)) at))) ⌝ }
+    ensures { λ r. ⌜
+        Put (now (out .entry)) (now (out .exit)) o r
+        (orNothing (writeDuration (formatOf to)) (readDuration (formatOf from) (rest mode (now (s .entry)) at))) ⌝ }
 {
     let r = read_duration(from, mode, s, at);
     match r {

@@ -1,4 +1,9 @@
 // A spelling followed along a pattern. See specs/Pattern.antt and specs/Followed.antt.
+use crate::letters::letter;
+use octets::unit::HYPHEN;
+use octets::unit::NINE;
+use octets::unit::PLUS;
+use octets::unit::ZERO;
 ghost use mathlib.Core.Path.{_≡_};
 ghost use Prim.Native.Nat.{_≤_, _<_, _^_};
 ghost use lib.ListN.{length};
@@ -8,7 +13,6 @@ ghost use Rattle.octets.specs.Class.{isDigit};
 ghost use Rattle.octets.specs.Decimal.{digitOf};
 ghost use Rattle.times.specs.Pattern.{passes, tally};
 ghost use Rattle.times.specs.Followed.{Walks};
-use crate::letters::letter;
 
 // Whether all of a pattern was passed, the number of its digits, and the cursor after it.
 pub struct Walk {
@@ -26,29 +30,29 @@ fn wide(b: u8) -> usize
 pub fn is_digit(u: usize) -> bool
     ensures { λ r. ⌜ r ≡ isDigit u ⌝ }
 {
-    if u < 48 {
+    if u < ZERO {
         return false;
     }
-    u <= 57
+    u <= NINE
 }
 
 fn is_sign(u: usize) -> bool
     ensures { λ r. ⌜ r ≡ (eqb u 43 or eqb u 45) ⌝ }
 {
-    if u == 43 {
+    if u == PLUS {
         return true;
     }
-    u == 45
+    u == HYPHEN
 }
 
 // Whether the character `k` of a pattern passes `u`.
 fn passing(k: usize, u: usize) -> bool
     ensures { λ r. ⌜ r ≡ passes k u ⌝ }
 {
-    if k == 48 {
+    if k == ZERO {
         return is_digit(u);
     }
-    if k == 43 {
+    if k == PLUS {
         return is_sign(u);
     }
     u == k
@@ -57,13 +61,13 @@ fn passing(k: usize, u: usize) -> bool
 fn digit_of(u: usize) -> usize
     ensures { λ r. ⌜ (r ≡ digitOf u) × (r ≤ 9) ⌝ }
 {
-    if u < 48 {
+    if u < ZERO {
         return 0;
     }
-    if 57 < u {
+    if NINE < u {
         return 0;
     }
-    u - 48
+    u - ZERO
 }
 
 // A digit more, where the pattern has one.
@@ -71,7 +75,7 @@ fn tallied(k: usize, n: usize, u: usize) -> usize
     requires { ⌜ n < 10 ^ 18 ⌝ }
     ensures { λ r. ⌜ r ≡ tally k n u ⌝ }
 {
-    if k == 48 {
+    if k == ZERO {
         let d = digit_of(u);
         return n * 10 + d;
     }

@@ -1,26 +1,30 @@
 // Characters from a cursor on, letters in capitals where text is read. See specs/Letters.antt.
+use octets::unit::CASE_STEP;
+use octets::unit::END;
+use octets::unit::LOWER_A;
+use octets::unit::LOWER_Z;
+use source::Step;
+use source::unit;
 ghost use mathlib.Core.Path.{_≡_};
 ghost use Rattle.octets.specs.Class.{upperByte};
 ghost use Rattle.octets.specs.Words.{isEmpty};
 ghost use Rattle.source.specs.Source.{rest};
 ghost use Rattle.times.specs.Letters.{Spells};
-use source::Step;
-use source::unit;
 
 // A letter as a capital.
 fn capital(u: usize) -> usize
     ensures { λ r. ⌜ r ≡ upperByte u ⌝ }
 {
-    if u < 97 {
+    if u < LOWER_A {
         return u;
     }
-    if 122 < u {
+    if LOWER_Z < u {
         return u;
     }
-    u - 32
+    u - CASE_STEP
 }
 
-// The character at the cursor `at`, as it stands or in capitals; 256 at the end.
+// The character at the cursor `at`, as it stands or in capitals; END at the end.
 pub fn letter(exact: bool, mode: usize, s: &[u8], at: usize) -> Step
     ensures { λ r. ⌜ Spells exact mode (now (s .entry)) at r ⌝ }
 {
@@ -37,5 +41,5 @@ pub fn ended(mode: usize, s: &[u8], at: usize) -> bool
     ensures { λ r. ⌜ r ≡ isEmpty (rest mode (now (s .entry)) at) ⌝ }
 {
     let a = unit(mode, s, at);
-    a.u == 256
+    a.u == END
 }

@@ -1,4 +1,13 @@
 // UTC-OFFSET. See specs/UtcOffset.antt and specs/OffsetAlong.antt.
+use crate::follow::Walk;
+use crate::follow::follow;
+use crate::letters::ended;
+use crate::time::is_hms;
+use crate::written::put_marked;
+use crate::written::put_two;
+use octets::unit::HYPHEN;
+use sink::put;
+use source::unit;
 ghost use mathlib.Core.Path.{_≡_};
 ghost use mathlib.Core.Bool.{true};
 ghost use Prim.Native.Nat.{_≤_};
@@ -6,20 +15,12 @@ ghost use lib.Dec.{ltb};
 ghost use lib.ListN.{length};
 ghost use Rattle.octets.specs.Pick.{pick};
 ghost use Rattle.octets.specs.Reading.{orNothing};
-ghost use Rattle.model.specs.Calendar.{formatOf};
+ghost use Rattle.calendar.specs.Calendar.{formatOf};
 ghost use Rattle.source.specs.Source.{rest};
 ghost use Rattle.sink.specs.Sink.{Put};
 ghost use Rattle.times.specs.UtcOffset.{readUtcOffset, writeUtcOffset};
 ghost use Rattle.times.specs.OffsetAlong.{minutePattern, secondPattern, isMinus, offsetBy, shiftOf, Whole};
 ghost use Rattle.times.specs.OffsetWritten.{signOf, lastBytes, offsetBytes};
-use crate::follow::Walk;
-use crate::follow::follow;
-use crate::letters::ended;
-use crate::time::is_hms;
-use crate::written::put_marked;
-use crate::written::put_two;
-use sink::put;
-use source::unit;
 
 // Whether it is negative, hour, minute and second, and whether the second was given.
 pub enum OffsetRead {
@@ -74,7 +75,7 @@ fn minus_at(mode: usize, s: &[u8], at: usize) -> bool
     ensures { λ r. ⌜ r ≡ isMinus (rest mode (now (s .entry)) at) ⌝ }
 {
     let a = unit(mode, s, at);
-    a.u == 45
+    a.u == HYPHEN
 }
 
 // There is no negative zero.
@@ -124,16 +125,16 @@ fn sign(neg: bool) -> u8
     ensures { λ r. ⌜ r ≡ signOf neg ⌝ }
 {
     if neg {
-        return 45;
+        return b'-';
     }
-    43
+    b'+'
 }
 
 fn put_last(out: &mut [u8], o: usize, to: bool, s: u8, given: bool) -> usize
     ensures { λ r. ⌜ Put (now (out .entry)) (now (out .exit)) o r (lastBytes to s given) ⌝ }
 {
     if given {
-        return put_marked(out, o, to, 58, s);
+        return put_marked(out, o, to, b':', s);
     }
     o
 }
@@ -153,7 +154,7 @@ fn put_shift(
     let g = sign(neg);
     let p = put(out, o, g);
     let q = put_two(out, p, h as u16);
-    let e = put_marked(out, q, to, 58, m);
+    let e = put_marked(out, q, to, b':', m);
     put_last(out, e, to, s, given)
 }
 
@@ -166,7 +167,9 @@ pub fn put_utc_offset(
     s: &[u8],
     at: usize,
 ) -> usize
-    ensures { λ r. ⌜ Put (now (out .entry)) (now (out .exit)) o r (orNothing (writeUtcOffset (formatOf to)) (readUtcOffset (formatOf from) (rest mode (now (s .entry)) at))) ⌝ }
+    ensures { λ r. ⌜
+        Put (now (out .entry)) (now (out .exit)) o r
+        (orNothing (writeUtcOffset (formatOf to)) (readUtcOffset (formatOf from) (rest mode (now (s .entry)) at))) ⌝ }
 {
     let r = read_utc_offset(from, mode, s, at);
     match r {

@@ -1,18 +1,4 @@
 // PERIOD in iCalendar text. See specs/Period.antt, specs/PeriodAlong.antt and specs/PeriodAt.antt.
-ghost use mathlib.Core.Path.{_≡_};
-ghost use mathlib.Core.Bool.{true, false};
-ghost use mathlib.Core.Option.{none};
-ghost use Rattle.octets.specs.Reading.{isRead, orNothing};
-ghost use Rattle.model.specs.Calendar.{ical, xcal};
-ghost use Rattle.source.specs.Source.{rest};
-ghost use Rattle.sink.specs.Sink.{Put};
-ghost use Rattle.times.specs.DateTime.{readDateTime, writeDateTime};
-ghost use Rattle.times.specs.Letters.{cased};
-ghost use Rattle.times.specs.DateTimeAlong.{momentBy};
-ghost use Rattle.times.specs.Period.{readPeriod};
-ghost use Rattle.times.specs.PeriodAlong.{periodBy};
-ghost use Rattle.times.specs.PeriodAt.{Cuts, Periods};
-ghost use Rattle.times.specs.PeriodWritten.{startXml, endXml, endBytes};
 use crate::date_time::DateTimeRead;
 use crate::date_time::follow_date_time;
 use crate::date_time::moment_from;
@@ -23,6 +9,22 @@ use crate::duration::DurationRead;
 use crate::duration::put_duration;
 use crate::duration::read_duration;
 use crate::letters::letter;
+use octets::unit::SLASH;
+use octets::unit::UPPER_Z;
+ghost use mathlib.Core.Path.{_≡_};
+ghost use mathlib.Core.Bool.{true, false};
+ghost use mathlib.Core.Option.{none};
+ghost use Rattle.octets.specs.Reading.{isRead, orNothing};
+ghost use Rattle.calendar.specs.Calendar.{ical, xcal};
+ghost use Rattle.source.specs.Source.{rest};
+ghost use Rattle.sink.specs.Sink.{Put};
+ghost use Rattle.times.specs.DateTime.{readDateTime, writeDateTime};
+ghost use Rattle.times.specs.Letters.{cased};
+ghost use Rattle.times.specs.DateTimeAlong.{momentBy};
+ghost use Rattle.times.specs.Period.{readPeriod};
+ghost use Rattle.times.specs.PeriodAlong.{periodBy};
+ghost use Rattle.times.specs.PeriodAt.{Cuts, Periods};
+ghost use Rattle.times.specs.PeriodWritten.{startXml, endXml, endBytes};
 
 // Whether a slash stands after the start's digits, the kind of the zone before it, and the cursor after it.
 pub struct Cut {
@@ -42,17 +44,17 @@ fn slash_at(mode: usize, s: &[u8], at: usize) -> Cut
 {
     let a = letter(false, mode, s, at);
     let u = a.u;
-    if u == 47 {
+    if u == SLASH {
         return Cut {
             ok: true,
             k: 0,
             next: a.next,
         };
     }
-    if u == 90 {
+    if u == UPPER_Z {
         let b = letter(false, mode, s, a.next);
         let v = b.u;
-        if v == 47 {
+        if v == SLASH {
             return Cut {
                 ok: true,
                 k: 1,
@@ -136,7 +138,8 @@ fn put_start(out: &mut [u8], o: usize, n: usize, k: usize) -> usize
 
 // What stands after the slash, to XML.
 fn put_end(out: &mut [u8], o: usize, explicit: bool, mode: usize, s: &[u8], at: usize) -> usize
-    ensures { λ r. ⌜ Put (now (out .entry)) (now (out .exit)) o r (endBytes explicit (rest mode (now (s .entry)) at)) ⌝ }
+    ensures { λ r. ⌜
+        Put (now (out .entry)) (now (out .exit)) o r (endBytes explicit (rest mode (now (s .entry)) at)) ⌝ }
 {
     if explicit {
         return put_date_time(out, o, false, true, mode, s, at);
@@ -146,7 +149,9 @@ fn put_end(out: &mut [u8], o: usize, explicit: bool, mode: usize, s: &[u8], at: 
 
 // The start of a period, to XML.
 pub fn put_period_start(out: &mut [u8], o: usize, mode: usize, s: &[u8], at: usize) -> usize
-    ensures { λ r. ⌜ Put (now (out .entry)) (now (out .exit)) o r (orNothing startXml (readPeriod (rest mode (now (s .entry)) at))) ⌝ }
+    ensures { λ r. ⌜
+        Put (now (out .entry)) (now (out .exit)) o r
+        (orNothing startXml (readPeriod (rest mode (now (s .entry)) at))) ⌝ }
 {
     let r = read_period(mode, s, at);
     match r {
@@ -157,7 +162,8 @@ pub fn put_period_start(out: &mut [u8], o: usize, mode: usize, s: &[u8], at: usi
 
 // The end of a period, or its duration, to XML.
 pub fn put_period_end(out: &mut [u8], o: usize, mode: usize, s: &[u8], at: usize) -> usize
-    ensures { λ r. ⌜ Put (now (out .entry)) (now (out .exit)) o r (orNothing endXml (readPeriod (rest mode (now (s .entry)) at))) ⌝ }
+    ensures { λ r. ⌜
+        Put (now (out .entry)) (now (out .exit)) o r (orNothing endXml (readPeriod (rest mode (now (s .entry)) at))) ⌝ }
 {
     let r = read_period(mode, s, at);
     match r {

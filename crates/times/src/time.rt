@@ -1,18 +1,20 @@
 // TIME. See specs/Time.antt and specs/TimeAlong.antt.
+use crate::follow::Walk;
+use crate::follow::follow;
+use crate::letters::ended;
+use crate::letters::letter;
+use crate::written::put_clock;
+use octets::unit::END;
+use octets::unit::UPPER_Z;
 ghost use mathlib.Core.Path.{_≡_};
 ghost use Rattle.octets.specs.Reading.{orNothing};
-ghost use Rattle.model.specs.Calendar.{formatOf};
+ghost use Rattle.calendar.specs.Calendar.{formatOf};
 ghost use Rattle.source.specs.Source.{rest};
 ghost use Rattle.sink.specs.Sink.{Put};
 ghost use Rattle.times.specs.Letters.{cased};
 ghost use Rattle.times.specs.Time.{readTime, writeTime};
 ghost use Rattle.times.specs.TimeAlong.{timePattern, isHms, zone, clockBy, clockOf};
 ghost use Rattle.times.specs.Followed.{Walks};
-use crate::follow::Walk;
-use crate::follow::follow;
-use crate::letters::ended;
-use crate::letters::letter;
-use crate::written::put_clock;
 
 // Hour, minute and second, and whether it is UTC.
 pub enum TimeRead {
@@ -38,10 +40,10 @@ pub fn zone_at(exact: bool, mode: usize, s: &[u8], at: usize) -> usize
 {
     let a = letter(exact, mode, s, at);
     let u = a.u;
-    if u == 256 {
+    if u == END {
         return 0;
     }
-    if u == 90 {
+    if u == UPPER_Z {
         let end = ended(mode, s, a.next);
         if end {
             return 1;
@@ -98,7 +100,9 @@ pub fn put_time(
     s: &[u8],
     at: usize,
 ) -> usize
-    ensures { λ r. ⌜ Put (now (out .entry)) (now (out .exit)) o r (orNothing (writeTime (formatOf to)) (readTime (formatOf from) (rest mode (now (s .entry)) at))) ⌝ }
+    ensures { λ r. ⌜
+        Put (now (out .entry)) (now (out .exit)) o r
+        (orNothing (writeTime (formatOf to)) (readTime (formatOf from) (rest mode (now (s .entry)) at))) ⌝ }
 {
     let r = read_time(from, mode, s, at);
     match r {

@@ -1,17 +1,20 @@
 // Digits two by two and the marks between them, written. See specs/Written.antt.
+use sink::put;
 ghost use mathlib.Core.Path.{_≡_};
 ghost use Prim.Native.Nat.{_<_};
 ghost use Rattle.sink.specs.Sink.{Put};
 ghost use Rattle.times.specs.MonthRule.{twoDigits};
 ghost use Rattle.times.specs.Written.{markBytes, marked, yearDigits, dayBytes, clockBytes};
-use sink::put;
+
+// The byte of the digit 0, to be added to a number.
+const ZERO: u16 = b'0' as u16;
 
 pub fn put_two(out: &mut [u8], o: usize, n: u16) -> usize
     requires { ⌜ n < 1000 ⌝ }
     ensures { λ r. ⌜ Put (now (out .entry)) (now (out .exit)) o r (twoDigits n) ⌝ }
 {
-    let a = (48 + n / 10) as u8;
-    let b = (48 + n % 10) as u8;
+    let a = (ZERO + n / 10) as u8;
+    let b = (ZERO + n % 10) as u8;
     let p = put(out, o, a);
     put(out, p, b)
 }
@@ -43,15 +46,15 @@ pub fn put_day(out: &mut [u8], o: usize, to: bool, y: u16, m: u8, d: u8) -> usiz
     ensures { λ r. ⌜ Put (now (out .entry)) (now (out .exit)) o r (dayBytes to y m d) ⌝ }
 {
     let p = put_year(out, o, y);
-    let q = put_marked(out, p, to, 45, m);
-    put_marked(out, q, to, 45, d)
+    let q = put_marked(out, p, to, b'-', m);
+    put_marked(out, q, to, b'-', d)
 }
 
 pub fn put_clock(out: &mut [u8], o: usize, to: bool, h: u8, m: u8, s: u8, z: bool) -> usize
     ensures { λ r. ⌜ Put (now (out .entry)) (now (out .exit)) o r (clockBytes to h m s z) ⌝ }
 {
     let p = put_two(out, o, h as u16);
-    let q = put_marked(out, p, to, 58, m);
-    let e = put_marked(out, q, to, 58, s);
-    put_mark(out, e, z, 90)
+    let q = put_marked(out, p, to, b':', m);
+    let e = put_marked(out, q, to, b':', s);
+    put_mark(out, e, z, b'Z')
 }

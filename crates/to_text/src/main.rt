@@ -10,7 +10,7 @@ fn convert(input: &[u8], out: &mut [u8]) {
     say_answer(a, out);
 }
 
-// An output with 6 bytes for each byte of the longest input: no text is longer (text_lengths/specs/Documents.antt).
+// An output with 6 bytes for each byte of the longest input: no text is longer (lengths_text/specs/laws/Documents.antt).
 fn with_room(input: &[u8]) {
     let mut out = [0u8; 393216];
     convert(input, &mut out);

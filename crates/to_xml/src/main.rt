@@ -10,7 +10,7 @@ fn convert(input: &[u8], work: &mut [u8], out: &mut [u8]) {
     say_answer(a, out);
 }
 
-// A work room as long as the longest input, and an output with 20 bytes for each byte of it: no XML is longer (lengths/specs/Documents.antt).
+// A work room as long as the longest input, and an output with 20 bytes for each byte of it: no XML is longer (lengths_xml/specs/laws/Documents.antt).
 fn with_rooms(input: &[u8]) {
     let mut work = io::large_buffer();
     let mut out = [0u8; 1310720];

@@ -5,9 +5,11 @@
 --     SpellAt  the same by their numbers
 --     Computing  opens all of these, for examples that compute
 --     Examples   computed
+--     laws     laws of these, and what proofs need
 pub mod Utf8
 pub mod Automaton
 pub mod Spell
 pub mod SpellAt
 pub mod Computing
 pub mod Examples
+pub mod laws

@@ -43,13 +43,13 @@ fn is_ascii(a: u8) -> bool
     if is_within(0x20, 0x7E, a) {
         return true;
     }
-    if a == 9 {
+    if a == b'\t' {
         return true;
     }
-    if a == 10 {
+    if a == b'\n' {
         return true;
     }
-    a == 13
+    a == b'\r'
 }
 
 // How many bytes follow a lead byte; 4 where it is none.

@@ -1,5 +1,7 @@
 // The bytes of a code point, one by one. See specs/Spell.antt.
 use octets::is_within;
+use octets::unit::LF;
+use octets::unit::TAB;
 ghost use mathlib.Core.Path.{_≡_};
 ghost use Prim.Native.Nat.{_<_};
 ghost use lib.ListN.{length, getD};
@@ -13,10 +15,10 @@ pub fn is_character(c: usize) -> bool
     if is_within(0x20, 0x7E, c) {
         return true;
     }
-    if c == 9 {
+    if c == TAB {
         return true;
     }
-    if c == 10 {
+    if c == LF {
         return true;
     }
     if is_within(0x80, 0xD7FF, c) {

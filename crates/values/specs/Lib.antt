@@ -5,15 +5,15 @@
 --     Valid        what a parameter and a property of a calendar are
 --     Characters   the characters that values are written in
 --     ValueAt      the laws of the code that reads a value of a type by its number
---     Bare         characters that stand in XML as they are
 --     PutValue     the rules of the code that writes a value to XML
 --     Computing    opens all of these, for examples that compute
+--     laws         laws of these, and what proofs need
 pub mod ReadValue
 pub mod WriteValue
 pub mod ReadBack
 pub mod Valid
 pub mod Characters
 pub mod ValueAt
-pub mod Bare
 pub mod PutValue
 pub mod Computing
+pub mod laws

@@ -4,7 +4,7 @@
 use mathlib.Core.List.{List}
 use mathlib.Core.Option.{Option, none, some, Option·map}
 use Prim.Native.Nat.{ℕ}
-use Rattle.model.specs.Calendar.{Format, ical, xcal, ValueType, BINARY, BOOLEAN, CAL-ADDRESS, DATE, DATE-TIME, DURATION, FLOAT, INTEGER, PERIOD, RECUR, TEXT, TIME, URI, UTC-OFFSET, UNKNOWN, Value, binary, boolean, calAddress, date, dateTime, duration, float, integer, recur, text, time, uri, utcOffset, unknown}
+use Rattle.calendar.specs.Calendar.{Format, ical, xcal, ValueType, BINARY, BOOLEAN, CAL-ADDRESS, DATE, DATE-TIME, DURATION, FLOAT, INTEGER, PERIOD, RECUR, TEXT, TIME, URI, UTC-OFFSET, UNKNOWN, Value, binary, boolean, calAddress, date, dateTime, duration, float, integer, recur, text, time, uri, utcOffset, unknown}
 use Rattle.times.specs.Date.{readDate}
 use Rattle.times.specs.Time.{readTime}
 use Rattle.times.specs.DateTime.{readDateTime}

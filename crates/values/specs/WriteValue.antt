@@ -1,14 +1,12 @@
 -- A value written to iCalendar text (RFC 5545, section 3.3) and as the character data of its XML element (RFC 6321, section 3.6).
 --     writeValue      a value in iCalendar text
---     writeValues     the values of a property, with commas between them;   one-written: of one value
+--     writeValues     the values of a property, with commas between them
 --     typeOfAll       the type of the values of a property, which all have that of the first
 --     characters      the character data of a value's XML element, before its characters are escaped; a value that is made of elements has none
-use mathlib.Core.Path.{_≡_}
 use mathlib.Core.List.{List, [], _∷_, map}
 use Prim.Native.Nat.{ℕ}
-use Rattle.octets.specs.Append.{append-none}
-use Rattle.octets.specs.Words.{eachAfter, joinedBy}
-use Rattle.model.specs.Calendar.{ical, xcal, Value, binary, boolean, calAddress, date, dateTime, duration, float, integer, periodExplicit, periodStart, recur, text, time, uri, utcOffset, unknown, geo, requestStatus, ValueType, UNKNOWN, typeOf}
+use Rattle.octets.specs.Words.{joinedBy}
+use Rattle.calendar.specs.Calendar.{ical, xcal, Value, binary, boolean, calAddress, date, dateTime, duration, float, integer, periodExplicit, periodStart, recur, text, time, uri, utcOffset, unknown, geo, requestStatus, ValueType, UNKNOWN, typeOf}
 use Rattle.times.specs.Date.{writeDate}
 use Rattle.times.specs.Time.{writeTime}
 use Rattle.times.specs.DateTime.{writeDateTime}
@@ -46,11 +44,6 @@ writeValue (requestStatus c d x) = writeRequestStatus c d x
 -- 44 is the comma
 unfoldable pub writeValues : List Value → List ℕ
 writeValues vs = joinedBy 44 (map writeValue vs)
-
--- one value has nothing between values
-pub one-written : (v : Value) → writeValues (v ∷ []) ≡ writeValue v
-unfolding writeValues joinedBy eachAfter
-one-written v = append-none (writeValue v)
 
 abbrev pub typeOfAll : List Value → ValueType
 typeOfAll [] = UNKNOWN

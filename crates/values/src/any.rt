@@ -1,12 +1,4 @@
 // A value of a type by the type's number. See specs/ValueAt.antt.
-ghost use mathlib.Core.Path.{_≡_};
-ghost use mathlib.Core.Bool.{true, false};
-ghost use Rattle.octets.specs.Reading.{isRead};
-ghost use Rattle.model.specs.Calendar.{formatOf};
-ghost use Rattle.source.specs.Source.{rest, cuts};
-ghost use Rattle.schema.specs.Numbers.{typeAt};
-ghost use Rattle.values.specs.ReadValue.{readValue};
-ghost use Rattle.values.specs.ValueAt.{fromTime, fromInteger, fromDate, fromBinary, valueRead};
 use crate::ValueRead;
 use crate::number::is_boolean;
 use crate::number::is_float;
@@ -23,18 +15,27 @@ use crate::time::is_duration;
 use crate::time::is_period;
 use crate::time::is_time;
 use crate::time::is_utc_offset;
+use schema::value_type;
+ghost use mathlib.Core.Path.{_≡_};
+ghost use mathlib.Core.Bool.{true, false};
+ghost use Rattle.octets.specs.Reading.{isRead};
+ghost use Rattle.calendar.specs.Calendar.{formatOf};
+ghost use Rattle.source.specs.Source.{rest, cuts};
+ghost use Rattle.schema.specs.Numbers.{typeAt};
+ghost use Rattle.values.specs.ReadValue.{readValue};
+ghost use Rattle.values.specs.ValueAt.{fromTime, fromInteger, fromDate, fromBinary, valueRead};
 
 // A value of TIME, or of a type after it.
 fn is_from_time(xcal: bool, t: usize, mode: usize, s: &[u8], at: usize) -> bool
     ensures { λ r. ⌜ r ≡ isRead (readValue (formatOf xcal) (fromTime t) (rest mode (now (s .entry)) at)) ⌝ }
 {
-    if t == 11 {
+    if t == value_type::TIME {
         return is_time(xcal, mode, s, at);
     }
-    if t == 12 {
+    if t == value_type::URI {
         return is_uri(xcal, mode, s, at);
     }
-    if t == 13 {
+    if t == value_type::UTC_OFFSET {
         return is_utc_offset(xcal, mode, s, at);
     }
     is_unknown(xcal, mode, s, at)
@@ -42,18 +43,20 @@ fn is_from_time(xcal: bool, t: usize, mode: usize, s: &[u8], at: usize) -> bool
 
 // A value of INTEGER, or of a type after it.
 fn is_from_integer(xcal: bool, t: usize, mode: usize, s: &[u8], at: usize) -> bool
-    ensures { λ r. ⌜ ((xcal ≡ false → cuts mode ≡ true) → r ≡ isRead (readValue (formatOf xcal) (fromInteger t) (rest mode (now (s .entry)) at))) ⌝ }
+    ensures { λ r. ⌜
+        ((xcal ≡ false → cuts mode ≡ true) →
+        r ≡ isRead (readValue (formatOf xcal) (fromInteger t) (rest mode (now (s .entry)) at))) ⌝ }
 {
-    if t == 7 {
+    if t == value_type::INTEGER {
         return is_integer(xcal, mode, s, at);
     }
-    if t == 8 {
+    if t == value_type::PERIOD {
         return is_period(xcal, mode, s, at);
     }
-    if t == 9 {
+    if t == value_type::RECUR {
         return is_recur(xcal, mode, s, at);
     }
-    if t == 10 {
+    if t == value_type::TEXT {
         return is_text(xcal, mode, s, at);
     }
     is_from_time(xcal, t, mode, s, at)
@@ -61,18 +64,20 @@ fn is_from_integer(xcal: bool, t: usize, mode: usize, s: &[u8], at: usize) -> bo
 
 // A value of DATE, or of a type after it.
 fn is_from_date(xcal: bool, t: usize, mode: usize, s: &[u8], at: usize) -> bool
-    ensures { λ r. ⌜ ((xcal ≡ false → cuts mode ≡ true) → r ≡ isRead (readValue (formatOf xcal) (fromDate t) (rest mode (now (s .entry)) at))) ⌝ }
+    ensures { λ r. ⌜
+        ((xcal ≡ false → cuts mode ≡ true) →
+        r ≡ isRead (readValue (formatOf xcal) (fromDate t) (rest mode (now (s .entry)) at))) ⌝ }
 {
-    if t == 3 {
+    if t == value_type::DATE {
         return is_date(xcal, mode, s, at);
     }
-    if t == 4 {
+    if t == value_type::DATE_TIME {
         return is_date_time(xcal, mode, s, at);
     }
-    if t == 5 {
+    if t == value_type::DURATION {
         return is_duration(xcal, mode, s, at);
     }
-    if t == 6 {
+    if t == value_type::FLOAT {
         return is_float(xcal, mode, s, at);
     }
     is_from_integer(xcal, t, mode, s, at)
@@ -80,15 +85,17 @@ fn is_from_date(xcal: bool, t: usize, mode: usize, s: &[u8], at: usize) -> bool
 
 // A value of BINARY, or of a type after it.
 fn is_from_binary(xcal: bool, t: usize, mode: usize, s: &[u8], at: usize) -> bool
-    ensures { λ r. ⌜ ((xcal ≡ false → cuts mode ≡ true) → r ≡ isRead (readValue (formatOf xcal) (fromBinary t) (rest mode (now (s .entry)) at))) ⌝ }
+    ensures { λ r. ⌜
+        ((xcal ≡ false → cuts mode ≡ true) →
+        r ≡ isRead (readValue (formatOf xcal) (fromBinary t) (rest mode (now (s .entry)) at))) ⌝ }
 {
-    if t == 0 {
+    if t == value_type::BINARY {
         return is_binary(xcal, mode, s, at);
     }
-    if t == 1 {
+    if t == value_type::BOOLEAN {
         return is_boolean(xcal, mode, s, at);
     }
-    if t == 2 {
+    if t == value_type::CAL_ADDRESS {
         return is_cal_address(xcal, mode, s, at);
     }
     is_from_date(xcal, t, mode, s, at)
@@ -96,7 +103,9 @@ fn is_from_binary(xcal: bool, t: usize, mode: usize, s: &[u8], at: usize) -> boo
 
 // The value of the type at the place `t`, from the cursor to the end; of the text format in an encoding that can be cut.
 pub fn read_value(xcal: bool, t: usize, mode: usize, s: &[u8], at: usize) -> ValueRead
-    ensures { λ r. ⌜ ((xcal ≡ false → cuts mode ≡ true) → r ≡ valueRead t (isRead (readValue (formatOf xcal) (typeAt t) (rest mode (now (s .entry)) at)))) ⌝ }
+    ensures { λ r. ⌜
+        ((xcal ≡ false → cuts mode ≡ true) →
+        r ≡ valueRead t (isRead (readValue (formatOf xcal) (typeAt t) (rest mode (now (s .entry)) at)))) ⌝ }
 {
     let ok = is_from_binary(xcal, t, mode, s, at);
     if ok {

@@ -1,15 +1,15 @@
 // BOOLEAN, FLOAT, INTEGER: whether there is a value from the cursor to the end.
-ghost use mathlib.Core.Path.{_≡_};
-ghost use Rattle.octets.specs.Reading.{isRead};
-ghost use Rattle.model.specs.Calendar.{formatOf, BOOLEAN, FLOAT, INTEGER};
-ghost use Rattle.source.specs.Source.{rest};
-ghost use Rattle.values.specs.ReadValue.{readValue};
 use numbers::boolean::BooleanRead;
 use numbers::boolean::read_boolean;
 use numbers::float::FloatRead;
 use numbers::float::read_float;
 use numbers::integer::IntegerRead;
 use numbers::integer::read_integer;
+ghost use mathlib.Core.Path.{_≡_};
+ghost use Rattle.octets.specs.Reading.{isRead};
+ghost use Rattle.calendar.specs.Calendar.{formatOf, BOOLEAN, FLOAT, INTEGER};
+ghost use Rattle.source.specs.Source.{rest};
+ghost use Rattle.values.specs.ReadValue.{readValue};
 
 pub fn is_boolean(xcal: bool, mode: usize, s: &[u8], at: usize) -> bool
     ensures { λ r. ⌜ r ≡ isRead (readValue (formatOf xcal) BOOLEAN (rest mode (now (s .entry)) at)) ⌝ }

@@ -1,9 +1,4 @@
 // The types of dates and times: whether there is a value from the cursor to the end.
-ghost use mathlib.Core.Path.{_≡_};
-ghost use Rattle.octets.specs.Reading.{isRead};
-ghost use Rattle.model.specs.Calendar.{formatOf, DATE, DATE-TIME, DURATION, PERIOD, TIME, UTC-OFFSET};
-ghost use Rattle.source.specs.Source.{rest};
-ghost use Rattle.values.specs.ReadValue.{readValue};
 use times::date::DateRead;
 use times::date::read_date;
 use times::date_time::DateTimeRead;
@@ -16,6 +11,11 @@ use times::period::PeriodRead;
 use times::period::read_period;
 use times::time::TimeRead;
 use times::time::read_time;
+ghost use mathlib.Core.Path.{_≡_};
+ghost use Rattle.octets.specs.Reading.{isRead};
+ghost use Rattle.calendar.specs.Calendar.{formatOf, DATE, DATE-TIME, DURATION, PERIOD, TIME, UTC-OFFSET};
+ghost use Rattle.source.specs.Source.{rest};
+ghost use Rattle.values.specs.ReadValue.{readValue};
 
 pub fn is_date(xcal: bool, mode: usize, s: &[u8], at: usize) -> bool
     ensures { λ r. ⌜ r ≡ isRead (readValue (formatOf xcal) DATE (rest mode (now (s .entry)) at)) ⌝ }

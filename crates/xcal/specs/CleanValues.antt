@@ -1,38 +1,11 @@
 -- The characters of values are well formed and hold no CR.
 --     isCleanValue      a TEXT, an `unknown` value, the parts of a REQUEST-STATUS are clean; other values always are
---     data-clean        the character data of a value;   moment-clean, span-clean, float-clean, item-clean: of the elements inside one
-use mathlib.Core.Path.{_≡_, refl}
-use mathlib.Core.Bool.{Bool, true, false, false≢true}
-use mathlib.Core.List.{List, [], _∷_}
+use mathlib.Core.Bool.{Bool, true}
+use mathlib.Core.List.{List}
 use mathlib.Core.Option.{Option, none, some}
-use Prim.Native.Nat.{ℕ, zero, suc}
-use lib.Dec.{eqb}
-use lib.ListN.{length}
-use Rattle.octets.specs.Pick.{pick, pick-either, _and_, _or_}
-use Rattle.octets.specs.Scan.{allOf, all-cons, all-split}
-use Rattle.octets.specs.Class.{isVisible}
-use Rattle.octets.specs.Words.{all-without}
-use Rattle.octets.specs.Lists.{every, every-both}
-use Rattle.octets.specs.Computing.{octets-compute}
-use Rattle.model.specs.Calendar.{ical, xcal, RuleItem, moment, number, word, weekday}
-use Rattle.model.specs.Calendar.{Value, binary, boolean, calAddress, date, dateTime, duration, float, integer, periodExplicit, periodStart, recur, text, time, uri, utcOffset, unknown, geo, requestStatus}
-use Rattle.utf8.specs.Utf8.{good-well-formed, visible-good}
-use Rattle.times.specs.Spelling.{Mark, putMark, withMarks, chars-visible}
-use Rattle.times.specs.Date.{isDate, writeDate, dateMarks, date-chars}
-use Rattle.times.specs.Time.{writeTime, timeMarks, time-chars}
-use Rattle.times.specs.DateTime.{isDateTime, writeDateTime, dateTimeMarks, date-time-chars}
-use Rattle.times.specs.Duration.{isDuration, writeDuration, duration-chars}
-use Rattle.times.specs.UtcOffset.{writeUtcOffset, minuteMarks, secondMarks, utc-offset-chars}
-use Rattle.numbers.specs.Boolean.{boolean-visible}
-use Rattle.numbers.specs.Integer.{integer-visible}
-use Rattle.numbers.specs.Float.{isNormal, writeFloat}
-use Rattle.numbers.specs.FloatLaws.{float-visible}
-use Rattle.texts.specs.Uri.{uri-visible}
-use Rattle.texts.specs.Binary.{binary-visible}
-use Rattle.recur.specs.Item.{writeItem, isItem}
-use Rattle.recur.specs.ItemLaws.{item-characters}
-use Rattle.values.specs.WriteValue.{characters as dataOf}
-use Rattle.values.specs.ReadBack.{isValue, isCharacterData}
+use Prim.Native.Nat.{ℕ}
+use Rattle.octets.specs.Pick.{_and_}
+use Rattle.calendar.specs.Calendar.{Value, binary, boolean, calAddress, date, dateTime, duration, float, integer, periodExplicit, periodStart, recur, text, time, uri, utcOffset, unknown, geo, requestStatus}
 use Rattle.xcal.specs.SoundContent.{isClean}
 
 abbrev pub isCleanData : Option (List ℕ) → Bool
@@ -58,87 +31,3 @@ isCleanValue (utcOffset s) = true
 isCleanValue (unknown s) = isClean s
 isCleanValue (geo la lo) = true
 isCleanValue (requestStatus c d x) = isClean c and isClean d and isCleanData x
-
--- ---- characters
-
-pub visible-clean : (s : List ℕ) → allOf isVisible s ≡ true → isClean s ≡ true
-unfolding isClean _and_
-visible-clean s h = rw (all-without isVisible 13 refl s h) (good-well-formed s (visible-good s h))
-
-put-visible : (n c : ℕ) (s : List ℕ) → isVisible c ≡ true → allOf isVisible s ≡ true → allOf isVisible (putMark n c s) ≡ true
-unfolding putMark
-put-visible zero c s v h = all-cons isVisible c s v h
-put-visible (suc n) c [] v h = all-cons isVisible c [] v h
-put-visible (suc n) c (b ∷ s) v h = let a = all-split isVisible b s h in all-cons isVisible b (putMark n c s) (a .0) (put-visible n c s v (a .1))
-
-marks-visible : (ms : List Mark) (s : List ℕ) → every (λ (m : Mark). isVisible (m .sign)) ms ≡ true → allOf isVisible s ≡ true → allOf isVisible (withMarks ms s) ≡ true
-unfolding withMarks
-marks-visible [] s v h = h
-marks-visible (m ∷ ms) s v h = let a = every-both (λ (m : Mark). isVisible (m .sign)) m ms v in marks-visible ms (putMark (m .place) (m .sign) s) (a .1) (put-visible (m .place) (m .sign) s (a .0) h)
-
-date-clean : (s : List ℕ) → allOf isVisible s ≡ true → allOf isVisible (writeDate xcal s) ≡ true
-unfolding octets-compute writeDate
-date-clean s h = marks-visible dateMarks s refl h
-
-time-clean : (s : List ℕ) → allOf isVisible s ≡ true → allOf isVisible (writeTime xcal s) ≡ true
-unfolding octets-compute writeTime
-time-clean s h = marks-visible timeMarks s refl h
-
-date-time-clean : (s : List ℕ) → allOf isVisible s ≡ true → allOf isVisible (writeDateTime xcal s) ≡ true
-unfolding octets-compute writeDateTime
-date-time-clean s h = marks-visible dateTimeMarks s refl h
-
-offset-clean : (s : List ℕ) → allOf isVisible s ≡ true → allOf isVisible (writeUtcOffset xcal s) ≡ true
-unfolding octets-compute writeUtcOffset
-offset-clean s h = pick-either (λ ms. allOf isVisible (withMarks ms s) ≡ true) (eqb (length s) 5) minuteMarks secondMarks (marks-visible minuteMarks s refl h) (marks-visible secondMarks s refl h)
-
-duration-clean : (s : List ℕ) → allOf isVisible s ≡ true → allOf isVisible (writeDuration xcal s) ≡ true
-unfolding writeDuration
-duration-clean s h = h
-
-pub moment-clean : (s : List ℕ) → isDateTime s ≡ true → isClean (writeDateTime xcal s) ≡ true
-moment-clean s h = visible-clean _ (date-time-clean s (chars-visible s (date-time-chars s h)))
-
-pub span-clean : (s : List ℕ) → isDuration s ≡ true → isClean (writeDuration xcal s) ≡ true
-span-clean s h = visible-clean _ (duration-clean s (chars-visible s (duration-chars s h)))
-
-pub float-clean : (d : _) → isNormal d ≡ true → isClean (writeFloat d) ≡ true
-float-clean d h = visible-clean _ (float-visible d h)
-
-pub data-clean : (v : Value) → isCharacterData v ≡ true → isValue v ≡ true → isCleanValue v ≡ true → isClean (dataOf v) ≡ true
-unfolding dataOf
-data-clean (binary s) c h k = visible-clean s (binary-visible s h)
-data-clean (boolean b) c h k = visible-clean _ (boolean-visible xcal b)
-data-clean (calAddress s) c h k = visible-clean s (uri-visible s h)
-data-clean (date s) c h k = visible-clean _ (date-clean s (chars-visible s (date-chars s h)))
-data-clean (dateTime s) c h k = moment-clean s h
-data-clean (duration s) c h k = span-clean s h
-data-clean (float d) c h k = float-clean d h
-data-clean (integer w) c h k = visible-clean _ (integer-visible w)
-data-clean (periodExplicit s e) c h k = absurd (false≢true c)
-data-clean (periodStart s d) c h k = absurd (false≢true c)
-data-clean (recur ps) c h k = absurd (false≢true c)
-data-clean (text s) c h k = k
-data-clean (time s) c h k = visible-clean _ (time-clean s (chars-visible s (time-chars s h)))
-data-clean (uri s) c h k = visible-clean s (uri-visible s h)
-data-clean (utcOffset s) c h k = visible-clean _ (offset-clean s (chars-visible s (utc-offset-chars s h)))
-data-clean (unknown s) c h k = k
-data-clean (geo la lo) c h k = absurd (false≢true c)
-data-clean (requestStatus a b x) c h k = absurd (false≢true c)
-
-item-visible : (n : List ℕ) (i : RuleItem) → isItem n i ≡ true → allOf isVisible (writeItem xcal i) ≡ true
-unfolding writeDate writeDateTime pick
-item-visible n i h = go i (chars-visible _ (item-characters n i h))
-  where
-    either : (m : List ℕ) (t : Bool) → allOf isVisible (pick t (writeDate ical m) (writeDateTime ical m)) ≡ true → allOf isVisible (pick t (writeDate xcal m) (writeDateTime xcal m)) ≡ true
-    either m true k = date-clean m k
-    either m false k = date-time-clean m k
-
-    go : (i : RuleItem) → allOf isVisible (writeItem ical i) ≡ true → allOf isVisible (writeItem xcal i) ≡ true
-    go (moment m) k = either m (isDate m) k
-    go (number w) k = k
-    go (word w) k = k
-    go (weekday o d) k = k
-
-pub item-clean : (n : List ℕ) (i : RuleItem) → isItem n i ≡ true → isClean (writeItem xcal i) ≡ true
-item-clean n i h = visible-clean _ (item-visible n i h)

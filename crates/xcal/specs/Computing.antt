@@ -1,10 +1,10 @@
 -- One name that opens every shut definition on the way from a document to its answer and from a calendar to its XML: `unfolding xcal-compute`.
 use Prim.Native.Nat.{ℕ}
 use Rattle.octets.specs.Computing.{octets-compute}
-use Rattle.model.specs.Refusal.{_otherwise_}
+use Rattle.calendar.specs.Refusal.{_otherwise_}
 use Rattle.utf8.specs.Computing.{utf8-compute}
 use Rattle.schema.specs.Computing.{schema-compute}
-use Rattle.lines.specs.Computing.{lines-compute}
+use Rattle.read_text_line.specs.Computing.{lines-compute}
 use Rattle.values.specs.Computing.{values-compute}
 use Rattle.xml.specs.Computing.{xml-compute}
 use Rattle.xcal.specs.Layout.{hasCapital, lacks, sequence, innerElement}

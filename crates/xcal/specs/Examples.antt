@@ -11,12 +11,12 @@ use lib.ListN.{length}
 use lib.Dec.{leb}
 use borrow.Author.Tests.{leb-true}
 use Rattle.octets.specs.Ascii.{ascii}
-use Rattle.model.specs.Calendar.{moment, word, weekday, Value, binary, boolean, calAddress, date, dateTime, integer, periodStart, recur, text, uri, unknown, geo, requestStatus, Parameter, Property, Components, noMore, component}
-use Rattle.model.specs.Refusal.{accepted}
+use Rattle.calendar.specs.Calendar.{moment, word, weekday, Value, binary, boolean, calAddress, date, dateTime, integer, periodStart, recur, text, uri, unknown, geo, requestStatus, Parameter, Property, Components, noMore, component}
+use Rattle.calendar.specs.Refusal.{accepted}
 use Rattle.xcal.specs.WriteXml.{writeDocument}
 use Rattle.xcal.specs.ReadDocument.{readDocument}
 use Rattle.xcal.specs.Carried.{isValid}
-use Rattle.xcal.specs.DocumentBack.{document-back}
+use Rattle.xcal.specs.laws.DocumentBack.{document-back}
 use Rattle.xcal.specs.Computing.{xcal-compute}
 
 abbrev prop : List ℕ → List Value → Property

@@ -14,7 +14,7 @@ use Rattle.octets.specs.Pick.{pick, _and_, _or_}
 use Rattle.octets.specs.Class.{isCapital, isSpace}
 use Rattle.octets.specs.Words.{same, isOneOf}
 use Rattle.octets.specs.Lists.{every, anyOne}
-use Rattle.model.specs.Refusal.{NAME, FRAME, VALUE, Verdict, fine, refuse, _otherwise_}
+use Rattle.calendar.specs.Refusal.{NAME, FRAME, VALUE, Verdict, fine, refuse, _otherwise_}
 use Rattle.xml.specs.Nodes.{Nodes, noNodes, element, literal, referred, charactersOf}
 
 unfoldable pub hasCapital : List ℕ → Bool

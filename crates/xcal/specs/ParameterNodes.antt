@@ -13,12 +13,12 @@ use Rattle.octets.specs.Pick.{pick, _and_, _or_}
 use Rattle.octets.specs.Class.{upper, lower, isSpace}
 use Rattle.octets.specs.Words.{same, isOneOf, holds, isEmpty}
 use Rattle.octets.specs.Reading.{provided, andThen, consRead, isRead, readOr}
-use Rattle.model.specs.Calendar.{xcal, ValueType, BINARY, TEXT, Value, text, textIn, Parameter}
-use Rattle.model.specs.Refusal.{NAME, FRAME, PARAMETER, Verdict, fine, refuse, _otherwise_}
+use Rattle.calendar.specs.Calendar.{xcal, ValueType, BINARY, TEXT, Value, text, textIn, Parameter}
+use Rattle.calendar.specs.Refusal.{NAME, FRAME, PARAMETER, Verdict, fine, refuse, _otherwise_}
 use Rattle.schema.specs.Types.{typeName, sameType}
 use Rattle.schema.specs.Properties.{permitsParameter}
 use Rattle.schema.specs.Parameters.{parameterType, isListedParameter, parameterWords}
-use Rattle.lines.specs.Names.{isCarriedName}
+use Rattle.read_text_line.specs.Names.{isCarriedName}
 use Rattle.values.specs.ReadValue.{readValue}
 use Rattle.xml.specs.Nodes.{Nodes, noNodes, element, literal, referred, charactersOf, hasElement}
 use Rattle.xcal.specs.Layout.{hasCapital}

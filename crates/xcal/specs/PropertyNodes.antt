@@ -10,12 +10,12 @@ use Rattle.octets.specs.Ascii.{ascii}
 use Rattle.octets.specs.Pick.{pick, _and_, _or_}
 use Rattle.octets.specs.Class.{upper, isSpace}
 use Rattle.octets.specs.Words.{same, isOneOf}
-use Rattle.model.specs.Calendar.{ValueType, BINARY, Parameter, Property}
-use Rattle.model.specs.Refusal.{NAME, FRAME, PARAMETER, Verdict, fine, refuse, _otherwise_}
+use Rattle.calendar.specs.Calendar.{ValueType, BINARY, Parameter, Property}
+use Rattle.calendar.specs.Refusal.{NAME, FRAME, PARAMETER, Verdict, fine, refuse, _otherwise_}
 use Rattle.schema.specs.Types.{sameType}
 use Rattle.schema.specs.Components.{mayStand}
 use Rattle.schema.specs.Properties.{isKnownProperty}
-use Rattle.lines.specs.Names.{isCarriedName}
+use Rattle.read_text_line.specs.Names.{isCarriedName}
 use Rattle.xml.specs.Nodes.{Nodes, noNodes, element, literal, referred}
 use Rattle.xcal.specs.Layout.{hasCapital, Slot, sequence, slotOf}
 use Rattle.xcal.specs.ValueNodes.{may, valueSlots, typeOfNodes, valueVerdict, readValueNodes}

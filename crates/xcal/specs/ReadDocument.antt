@@ -7,7 +7,7 @@ use Prim.Native.Nat.{ℕ}
 use lib.Dec.{leb}
 use lib.ListN.{length}
 use Rattle.octets.specs.Pick.{pick}
-use Rattle.model.specs.Refusal.{LENGTH, Verdict, fine, refuse, _otherwise_, Answer, answer, limit, characters}
+use Rattle.calendar.specs.Refusal.{LENGTH, Verdict, fine, refuse, _otherwise_, Answer, answer, limit, characters}
 use Rattle.utf8.specs.Utf8.{firstBad}
 use Rattle.xml.specs.WellFormed.{xmlVerdict}
 use Rattle.xml.specs.Nodes.{documentNodes}

@@ -12,8 +12,8 @@ use Rattle.octets.specs.Append.{_⊕_}
 use Rattle.octets.specs.Class.{upper, lower}
 use Rattle.octets.specs.Words.{same, isOneOf}
 use Rattle.octets.specs.Reading.{isRead, readOr}
-use Rattle.model.specs.Calendar.{Format, xcal, ValueType, TEXT, PERIOD, RECUR, UNKNOWN, Decimal, RuleItem, word, RulePart, Value, text, geo, requestStatus, periodExplicit, periodStart, recur}
-use Rattle.model.specs.Refusal.{VALUE, Verdict, refuse}
+use Rattle.calendar.specs.Calendar.{Format, xcal, ValueType, TEXT, PERIOD, RECUR, UNKNOWN, Decimal, RuleItem, word, RulePart, Value, text, geo, requestStatus, periodExplicit, periodStart, recur}
+use Rattle.calendar.specs.Refusal.{VALUE, Verdict, refuse}
 use Rattle.schema.specs.Types.{typeName, valueTypes, typeNamed, sameType, isTypeOf}
 use Rattle.schema.specs.Properties.{permittedTypes, defaultType, isListedProperty, propertyWords}
 use Rattle.times.specs.DateTime.{readDateTime}

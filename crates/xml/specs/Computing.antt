@@ -1,7 +1,7 @@
 -- One name that opens every shut definition of this crate and of those it uses, for examples that compute: `unfolding xml-compute`.
 use Prim.Native.Nat.{ℕ}
 use Rattle.octets.specs.Computing.{octets-compute}
-use Rattle.model.specs.Refusal.{_otherwise_}
+use Rattle.calendar.specs.Refusal.{_otherwise_}
 use Rattle.utf8.specs.Computing.{utf8-compute}
 use Rattle.xml.specs.Pieces.{from, first, exactly, inAnyCase, S, S?, Name, nameOf, both, _then_, Eq, quoted}
 use Rattle.xml.specs.Token.{namespaceAttribute, startBy, endBy, tag, rootTag, hexValue, charRef, reference, literalByte, token}

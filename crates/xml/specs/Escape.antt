@@ -2,14 +2,12 @@
 --     escaped      character data: `&`, `<`, `>` as entities, all else as it stands
 --     startTag, endTag, elementOf
 --     documentOf   the declaration, LF, the root with its content, LF
-use mathlib.Core.Path.{_≡_, refl, ap}
-use mathlib.Core.List.{List, [], _∷_, _++_}
+use mathlib.Core.List.{List, [], _∷_}
 use Prim.Native.Nat.{ℕ}
 use lib.Dec.{eqb}
 use Rattle.octets.specs.Ascii.{ascii}
 use Rattle.octets.specs.Pick.{pick}
 use Rattle.octets.specs.Append.{_⊕_}
-use Rattle.sink.specs.Sink.{each}
 
 abbrev pub escapedByte : ℕ → List ℕ
 escapedByte b = pick (eqb b 38) (ascii "&amp;") (pick (eqb b 60) (ascii "&lt;") (pick (eqb b 62) (ascii "&gt;") (b ∷ [])))
@@ -35,9 +33,3 @@ rootStart = ascii "<icalendar xmlns=\"urn:ietf:params:xml:ns:icalendar-2.0\">"
 
 abbrev pub documentOf : List ℕ → List ℕ
 documentOf content = declaration ⊕ rootStart ⊕ content ⊕ endTag (ascii "icalendar") ⊕ ascii "\n"
-
--- byte by byte
-pub escaped-each : (s : List ℕ) → escaped s ≡ each escapedByte s
-unfolding escaped each _⊕_
-escaped-each [] = refl
-escaped-each (b ∷ s) = ap (λ (l : List ℕ). escapedByte b ++ l) (escaped-each s)

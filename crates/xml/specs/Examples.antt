@@ -4,7 +4,7 @@ use mathlib.Core.Bool.{true, false}
 use mathlib.Core.List.{List, [], _∷_, _++_, map}
 use Prim.Native.Nat.{ℕ}
 use Rattle.octets.specs.Ascii.{ascii}
-use Rattle.model.specs.Refusal.{XML, fine, refuse}
+use Rattle.calendar.specs.Refusal.{XML, fine, refuse}
 use Rattle.xml.specs.WellFormed.{xmlVerdict}
 use Rattle.xml.specs.Nodes.{Nodes, noNodes, element, literal, referred, documentNodes, charactersOf, hasElement}
 use Rattle.xml.specs.Escape.{escaped, documentOf}

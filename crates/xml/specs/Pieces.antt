@@ -1,5 +1,5 @@
 -- Pieces of markup: how many bytes at the front of a list are such a piece, if one stands there. XML 1.0's productions are written with them, in its words.
---     from        what is left after so many bytes;   length-from: how long it is
+--     from        what is left after so many bytes
 --     first       the first byte, 256 where there is none
 --     exactly     given bytes;   inAnyCase: given bytes, their letters in any case
 --     S, S?       white space, at least one byte or also none
@@ -7,12 +7,11 @@
 --     _then_      one piece and another after it
 --     quoted      a piece between two quotes of one kind
 --     Eq          an equals sign, with white space round it
-use mathlib.Core.Path.{_≡_}
 use mathlib.Core.List.{List, [], _∷_}
 use mathlib.Core.Option.{Option, none, some}
-use Prim.Native.Nat.{ℕ, _+_, _-_}
+use Prim.Native.Nat.{ℕ, _+_}
 use lib.Dec.{ltb}
-use lib.ListN.{length, getD, take, drop, length-drop}
+use lib.ListN.{length, getD, take, drop}
 use Rattle.octets.specs.Ascii.{ascii}
 use Rattle.octets.specs.Pick.{pick}
 use Rattle.octets.specs.Scan.{spanLen}
@@ -22,10 +21,6 @@ use Rattle.octets.specs.Reading.{provided, andThen}
 
 unfoldable pub from : ℕ → List ℕ → List ℕ
 from n xs = drop n xs
-
-pub length-from : (n : ℕ) (xs : List ℕ) → length (from n xs) ≡ length xs - n
-unfolding from
-length-from n xs = length-drop n xs
 
 unfoldable pub first : List ℕ → ℕ
 first xs = getD xs 0 256

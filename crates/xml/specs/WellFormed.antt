@@ -10,7 +10,7 @@ use lib.ListN.{length}
 use Rattle.octets.specs.Pick.{pick, _and_}
 use Rattle.octets.specs.Class.{isSpace}
 use Rattle.octets.specs.Words.{same, isEmpty}
-use Rattle.model.specs.Refusal.{XML, Verdict, fine, refuse}
+use Rattle.calendar.specs.Refusal.{XML, Verdict, fine, refuse}
 use Rattle.xml.specs.Marks.{Mark, opens, closes, char, refers, fault, documentMarks}
 
 -- what a mark comes to: on with whether a root came and the names of the open elements, the innermost first; or a fault at a place

@@ -1,6 +1,16 @@
 // Character references: XML 1.0, section 4.1. See specs/Token.antt, Digits.antt.
+use crate::CharRead;
+use crate::entities::entity_at;
+use crate::starting::starts_at;
 use octets::is_digit;
 use octets::is_within;
+use octets::unit::END;
+use octets::unit::LOWER_A;
+use octets::unit::LOWER_F;
+use octets::unit::NINE;
+use octets::unit::UPPER_A;
+use octets::unit::UPPER_F;
+use octets::unit::ZERO;
 use octets::wide;
 use utf8::is_character;
 ghost use mathlib.Core.Path.{_≡_};
@@ -10,9 +20,18 @@ ghost use Rattle.octets.specs.Scan.{spanLen};
 ghost use Rattle.xml.specs.Token.{isHexDigit, hexDigitOf, charRef, reference};
 ghost use Rattle.xml.specs.CharAt.{Character};
 ghost use Rattle.xml.specs.Digits.{isDigitIn, base, worthOn, capped, Counted};
-use crate::CharRead;
-use crate::entities::entity_at;
-use crate::starting::starts_at;
+
+// The unit after the decimal digits.
+const AFTER_DIGITS: usize = NINE + 1;
+
+// The unit after the small letters that are digits.
+const AFTER_SMALL: usize = LOWER_F + 1;
+
+// What a capital is above its worth: A is worth 10.
+const CAPITAL_BASE: usize = UPPER_A - 10;
+
+// What a small letter is above its worth: a is worth 10.
+const SMALL_BASE: usize = LOWER_A - 10;
 
 // Where digits end, and what they are worth.
 pub struct Digits {
@@ -26,10 +45,10 @@ fn is_hex_digit(u: usize) -> bool
     if is_digit(u) {
         return true;
     }
-    if is_within(97, 102, u) {
+    if is_within(LOWER_A, LOWER_F, u) {
         return true;
     }
-    is_within(65, 70, u)
+    is_within(UPPER_A, UPPER_F, u)
 }
 
 fn is_digit_in(hex: bool, u: usize) -> bool
@@ -45,19 +64,19 @@ fn is_digit_in(hex: bool, u: usize) -> bool
 fn hex_digit_of(u: usize) -> usize
     ensures { λ r. ⌜ (r ≡ hexDigitOf u) × (r ≤ u) ⌝ }
 {
-    if u < 48 {
+    if u < ZERO {
         return 0;
     }
-    if u < 58 {
-        return u - 48;
+    if u < AFTER_DIGITS {
+        return u - ZERO;
     }
-    if u < 97 {
-        return u - 55;
+    if u < LOWER_A {
+        return u - CAPITAL_BASE;
     }
-    if u < 103 {
-        return u - 87;
+    if u < AFTER_SMALL {
+        return u - SMALL_BASE;
     }
-    u - 55
+    u - CAPITAL_BASE
 }
 
 fn cap(n: usize) -> usize
@@ -102,7 +121,9 @@ fn digits_at(s: &[u8], at: usize, hex: bool) -> Digits
 // The character whose number stands in digits, k bytes after `at`.
 fn number_at(s: &[u8], at: usize, k: usize, hex: bool) -> CharRead
     requires { ⌜ (1 ≤ k) × (at + k ≤ length (now s)) ⌝ }
-    ensures { λ r. ⌜ Character (charRef k (spanLen (isDigitIn hex) (drop (at + k) (now (s .entry)))) (worthOn hex 0 (drop (at + k) (now (s .entry)))) (drop (at + k) (now (s .entry)))) (now (s .entry)) at r ⌝ }
+    ensures { λ r. ⌜
+        Character (charRef k (spanLen (isDigitIn hex) (drop (at + k) (now (s .entry))))
+        (worthOn hex 0 (drop (at + k) (now (s .entry)))) (drop (at + k) (now (s .entry)))) (now (s .entry)) at r ⌝ }
 {
     let d = digits_at(s, at + k, hex);
     let e = d.end;
@@ -119,7 +140,7 @@ fn number_at(s: &[u8], at: usize, k: usize, hex: bool) -> CharRead
             }
         }
     }
-    CharRead { u: 256, next: at }
+    CharRead { u: END, next: at }
 }
 
 // The character that a reference names, after its `&`.

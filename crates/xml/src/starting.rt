@@ -1,4 +1,4 @@
-// Given bytes at a place. See specs/Starting.antt.
+// Given bytes at a place. See specs/laws/Starting.antt.
 ghost use mathlib.Core.Path.{_≡_};
 ghost use Prim.Native.Nat.{_≤_};
 ghost use lib.ListN.{length, drop};

@@ -1,32 +1,38 @@
 // xCal to canonical iCalendar text. See specs/ToText.antt.
+use calls::Answer;
+use calls::refused;
+use read_xml::root_verdict;
+use read_xml_nodes::Judged;
+use read_xml_nodes::root_node;
+use read_xml_tokens::Xml;
+use read_xml_tokens::well_formed;
+use utf8::Found;
+use utf8::first_bad;
+use write_text::put_calendar;
 ghost use mathlib.Core.Path.{_≡_};
 ghost use Prim.Native.Nat.{_*_, _≤_};
 ghost use lib.ListN.{length};
-ghost use Rattle.model.specs.Refusal.{fine, answer, _otherwise_};
+ghost use Rattle.calendar.specs.Refusal.{fine, answer, _otherwise_};
 ghost use Rattle.xml.specs.WellFormed.{xmlVerdict};
 ghost use Rattle.xml.specs.Nodes.{documentNodes};
 ghost use Rattle.xml.specs.NodesAt.{nodesAt};
-ghost use Rattle.ical.specs.WriteText.{writeCalendar};
+ghost use Rattle.text.specs.WriteText.{writeCalendar};
 ghost use Rattle.xcal.specs.ComponentNodes.{rootVerdict, readComponents};
-ghost use Rattle.conversion.specs.Conversion.{converted};
-ghost use Rattle.conversion.specs.ToText.{toTextOutcome, toTextOutput};
-ghost use Rattle.conversion.specs.Answered.{outcomeOf, Done};
+ghost use Rattle.calls.specs.Conversion.{converted};
+ghost use Rattle.calls.specs.ToText.{toTextOutcome, toTextOutput};
+ghost use Rattle.calls.specs.Answered.{outcomeOf, Done};
 ghost use Rattle.xml_to_text.specs.Steps.{nodesGive};
-use component_nodes::root_verdict;
-use conversion::Answer;
-use conversion::refused;
-use nodes::Judged;
-use nodes::root_node;
-use text_lines::put_calendar;
-use tokens::Xml;
-use tokens::well_formed;
-use utf8::Found;
-use utf8::first_bad;
 
 // The text of the components from `from` on, where there is certainly room for it. `line` is the room for a line.
 fn written_at_once(s: &[u8], from: usize, line: &mut [u8], out: &mut [u8]) -> Answer
-    requires { ⌜ (length (now s) ≤ 65535) × (length (now line) ≡ 262144) × (length (writeCalendar (readComponents (nodesAt (now s) from))) ≤ 6 * length (now s)) × (6 * length (now s) ≤ length (now out)) ⌝ }
-    ensures { λ r. ⌜ Done (converted writeCalendar (answer fine (readComponents (nodesAt (now (s .entry)) from)))) (now (out .entry)) (now (out .exit)) r ⌝ }
+    requires { ⌜
+        (length (now s) ≤ 65535)
+        × (length (now line) ≡ 262144)
+        × (length (writeCalendar (readComponents (nodesAt (now s) from))) ≤ 6 * length (now s))
+        × (6 * length (now s) ≤ length (now out)) ⌝ }
+    ensures { λ r. ⌜
+        Done (converted writeCalendar (answer fine (readComponents (nodesAt (now (s .entry)) from)))) (now (out .entry))
+        (now (out .exit)) r ⌝ }
 {
     let n = put_calendar(out, 0, line, s, from);
     Answer::Written(n)
@@ -34,8 +40,13 @@ fn written_at_once(s: &[u8], from: usize, line: &mut [u8], out: &mut [u8]) -> An
 
 // The text of the components from `from` on: first how long it is, then, if there is room, all of it.
 fn measured(s: &[u8], from: usize, line: &mut [u8], out: &mut [u8]) -> Answer
-    requires { ⌜ (length (now s) ≤ 65535) × (length (now line) ≡ 262144) × (length (writeCalendar (readComponents (nodesAt (now s) from))) ≤ 6 * length (now s)) ⌝ }
-    ensures { λ r. ⌜ Done (converted writeCalendar (answer fine (readComponents (nodesAt (now (s .entry)) from)))) (now (out .entry)) (now (out .exit)) r ⌝ }
+    requires { ⌜
+        (length (now s) ≤ 65535)
+        × (length (now line) ≡ 262144)
+        × (length (writeCalendar (readComponents (nodesAt (now s) from))) ≤ 6 * length (now s)) ⌝ }
+    ensures { λ r. ⌜
+        Done (converted writeCalendar (answer fine (readComponents (nodesAt (now (s .entry)) from)))) (now (out .entry))
+        (now (out .exit)) r ⌝ }
 {
     let need = put_calendar(&mut out[..0], 0, line, s, from);
     if need <= out.len() {
@@ -47,8 +58,13 @@ fn measured(s: &[u8], from: usize, line: &mut [u8], out: &mut [u8]) -> Answer
 
 // The text of the components from `from` on: it has no more than 6 bytes for each byte of the document.
 fn written(s: &[u8], from: usize, line: &mut [u8], out: &mut [u8]) -> Answer
-    requires { ⌜ (length (now s) ≤ 65535) × (length (now line) ≡ 262144) × (length (writeCalendar (readComponents (nodesAt (now s) from))) ≤ 6 * length (now s)) ⌝ }
-    ensures { λ r. ⌜ Done (converted writeCalendar (answer fine (readComponents (nodesAt (now (s .entry)) from)))) (now (out .entry)) (now (out .exit)) r ⌝ }
+    requires { ⌜
+        (length (now s) ≤ 65535)
+        × (length (now line) ≡ 262144)
+        × (length (writeCalendar (readComponents (nodesAt (now s) from))) ≤ 6 * length (now s)) ⌝ }
+    ensures { λ r. ⌜
+        Done (converted writeCalendar (answer fine (readComponents (nodesAt (now (s .entry)) from)))) (now (out .entry))
+        (now (out .exit)) r ⌝ }
 {
     let most = 6 * s.len();
     if most <= out.len() {
@@ -59,8 +75,12 @@ fn written(s: &[u8], from: usize, line: &mut [u8], out: &mut [u8]) -> Answer
 
 // The same with a room for a line of its own: a content line of a document within the limit is shorter.
 fn lined(s: &[u8], from: usize, out: &mut [u8]) -> Answer
-    requires { ⌜ (length (now s) ≤ 65535) × (length (writeCalendar (readComponents (nodesAt (now s) from))) ≤ 6 * length (now s)) ⌝ }
-    ensures { λ r. ⌜ Done (converted writeCalendar (answer fine (readComponents (nodesAt (now (s .entry)) from)))) (now (out .entry)) (now (out .exit)) r ⌝ }
+    requires { ⌜
+        (length (now s) ≤ 65535)
+        × (length (writeCalendar (readComponents (nodesAt (now s) from))) ≤ 6 * length (now s)) ⌝ }
+    ensures { λ r. ⌜
+        Done (converted writeCalendar (answer fine (readComponents (nodesAt (now (s .entry)) from)))) (now (out .entry))
+        (now (out .exit)) r ⌝ }
 {
     let mut line = [0u8; 262144];
     written(s, from, &mut line, out)
@@ -69,7 +89,9 @@ fn lined(s: &[u8], from: usize, out: &mut [u8]) -> Answer
 // The first fault in a document that is within the XML profile; or its text.
 fn judged(s: &[u8], out: &mut [u8]) -> Answer
     requires { ⌜ (length (now s) ≤ 65535) × (xmlVerdict (now s) ≡ fine) ⌝ }
-    ensures { λ r. ⌜ Done (nodesGive (now (s .entry)) (rootVerdict (documentNodes (now (s .entry))))) (now (out .entry)) (now (out .exit)) r ⌝ }
+    ensures { λ r. ⌜
+        Done (nodesGive (now (s .entry)) (rootVerdict (documentNodes (now (s .entry))))) (now (out .entry))
+        (now (out .exit)) r ⌝ }
 {
     let t = root_node(s);
     let from = t.inside;
@@ -82,7 +104,10 @@ fn judged(s: &[u8], out: &mut [u8]) -> Answer
 // Where a document leaves the XML profile; or its first fault; or its text.
 fn formed(s: &[u8], out: &mut [u8]) -> Answer
     requires { ⌜ length (now s) ≤ 65535 ⌝ }
-    ensures { λ r. ⌜ Done (nodesGive (now (s .entry)) (xmlVerdict (now (s .entry)) otherwise rootVerdict (documentNodes (now (s .entry))))) (now (out .entry)) (now (out .exit)) r ⌝ }
+    ensures { λ r. ⌜
+        Done (nodesGive (now (s .entry))
+        (xmlVerdict (now (s .entry)) otherwise rootVerdict (documentNodes (now (s .entry))))) (now (out .entry))
+        (now (out .exit)) r ⌝ }
 {
     match well_formed(s) {
         Xml::Refused(p) => Answer::Xml(p),
@@ -92,7 +117,9 @@ fn formed(s: &[u8], out: &mut [u8]) -> Answer
 
 // Converts the xCal document `input` to canonical iCalendar text in `out`.
 pub fn to_text(input: &[u8], out: &mut [u8]) -> Answer
-    ensures { λ r. ⌜ (outcomeOf r ≡ toTextOutcome (now (input .entry)) (now (out .entry))) × (now (out .exit) ≡ toTextOutput (now (input .entry)) (now (out .entry))) ⌝ }
+    ensures { λ r. ⌜
+        (outcomeOf r ≡ toTextOutcome (now (input .entry)) (now (out .entry)))
+        × (now (out .exit) ≡ toTextOutput (now (input .entry)) (now (out .entry))) ⌝ }
 {
     if input.len() <= 65535 {
         match first_bad(input) {

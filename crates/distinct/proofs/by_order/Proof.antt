@@ -1,5 +1,5 @@
 -- `distinct::by_order` meets its contract.
-use Rattle.distinct.specs.Rising.{rising-fewer, rising-distinct}
+use Rattle.distinct.specs.laws.Rising.{rising-fewer, rising-distinct}
 use mathlib.Core.Path.{sym}
 use borrow.Author.Needs.{needs}
 use Rattle.distinct.proofs.by_order.Statement.{statement}

@@ -1,5 +1,5 @@
 -- `mallettriton::mallettriton_to_text` meets its contract. Assumes nothing.
-use Rattle.mallettriton.specs.Codes.{code-of, code-fits, to-text-small}
+use Rattle.mallettriton.specs.laws.Codes.{code-of, code-fits, to-text-small}
 use borrow.Author.Needs.{needs}
 use Rattle.mallettriton.proofs.mallettriton_to_text.Statement.{statement}
 use Rattle.mallettriton.proofs.mallettriton_to_text.Tie as tie

@@ -1,7 +1,7 @@
 -- `names::find_cased` meets its contract.
 use Prim.Native.Nat.{_-_}
 use lib.ListN.{length}
-use Rattle.names.specs.Matching.{Seeking, seeking}
+use Rattle.names.specs.laws.Matching.{Seeking, seeking}
 use Rattle.names.proofs.find_cased.Statement.{statement}
 use Rattle.names.proofs.find_cased.Tie as tie
 

@@ -2,7 +2,7 @@
 use native.Mathlib.Omega.{arith}
 use Prim.Native.Nat.{_-_}
 use lib.ListN.{length}
-use Rattle.names.specs.Runs.{Comparing, comparing, comparing-stop}
+use Rattle.names.specs.laws.Runs.{Comparing, comparing, comparing-stop}
 use Rattle.names.proofs.is_cased.Statement.{statement}
 use Rattle.names.proofs.is_cased.Tie as tie
 

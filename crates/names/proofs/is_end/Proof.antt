@@ -1,6 +1,6 @@
 -- `names::is_end` meets its contract.
-use Rattle.octets.specs.Pick.{branching, and-go}
-use Rattle.names.specs.Case.{empty-unit}
+use Rattle.octets.specs.laws.Pick.{branching, and-go}
+use Rattle.names.specs.laws.Case.{empty-unit}
 use Rattle.names.proofs.is_end.Statement.{statement}
 use Rattle.names.proofs.is_end.Tie as tie
 

@@ -2,8 +2,8 @@
 use Prim.Native.Nat.{_*_, _-_}
 use lib.ListN.{length}
 use Rattle.octets.specs.Class.{isNameChar}
-use Rattle.names.specs.Runs.{Running, running}
-use Rattle.names.specs.Plain.{run-as}
+use Rattle.names.specs.laws.Runs.{Running, running}
+use Rattle.names.specs.laws.Plain.{run-as}
 use Rattle.names.proofs.name_end.Statement.{statement}
 use Rattle.names.proofs.name_end.Tie as tie
 

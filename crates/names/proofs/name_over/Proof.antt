@@ -1,7 +1,8 @@
 -- `names::name_over` meets its contract.
 use Prim.Native.Nat.{_-_}
 use lib.ListN.{length}
-use Rattle.names.specs.Matching.{Passes, passing}
+use Rattle.names.specs.Matching.{Passes}
+use Rattle.names.specs.laws.Matching.{passing}
 use Rattle.names.proofs.name_over.Statement.{statement}
 use Rattle.names.proofs.name_over.Tie as tie
 

@@ -1,10 +1,10 @@
 -- `names::put_cased` meets its contract.
 use native.Mathlib.Omega.{arith}
-use Rattle.names.specs.Case.{cased-small}
-use Rattle.source.specs.Facts.{byte-small}
+use Rattle.names.specs.laws.Case.{cased-small}
+use Rattle.source.specs.laws.Facts.{byte-small}
 use Prim.Native.Nat.{_*_, _-_}
 use lib.ListN.{length}
-use Rattle.names.specs.Runs.{Copying, copying, copying-more}
+use Rattle.names.specs.laws.Runs.{Copying, copying, copying-more}
 use Rattle.names.proofs.put_cased.Statement.{statement}
 use Rattle.names.proofs.put_cased.Tie as tie
 

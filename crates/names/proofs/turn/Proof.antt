@@ -1,5 +1,5 @@
 -- `names::turn` meets its contract.
-use Rattle.names.specs.Matching.{turning, turn-other, turn-same}
+use Rattle.names.specs.laws.Matching.{turning, turn-other, turn-same}
 use Rattle.names.proofs.turn.Statement.{statement}
 use Rattle.names.proofs.turn.Tie as tie
 

@@ -1,5 +1,5 @@
 -- `source::folded_unit` meets its contract.
-use Rattle.source.specs.Facts.{stepping}
+use Rattle.source.specs.laws.Facts.{stepping}
 use Rattle.source.proofs.folded_unit.Statement.{statement}
 use Rattle.source.proofs.folded_unit.Tie as tie
 

@@ -1,5 +1,5 @@
 -- `source::settled` meets its contract.
-use Rattle.source.specs.Facts.{settling}
+use Rattle.source.specs.laws.Facts.{settling}
 use Rattle.source.proofs.settled.Statement.{statement}
 use Rattle.source.proofs.settled.Tie as tie
 

@@ -1,5 +1,5 @@
 -- `source::unit` meets its contract.
-use Rattle.source.specs.Facts.{stepping}
+use Rattle.source.specs.laws.Facts.{stepping}
 use Rattle.source.proofs.unit.Statement.{statement}
 use Rattle.source.proofs.unit.Tie as tie
 

@@ -1,8 +1,8 @@
 -- `text_to_xml::checked` meets its contract.
 use mathlib.Core.Path.{_≡_, refl, sym, ap, subst, _∙_}
 use borrow.Author.Needs.{needs}
-use Rattle.frame.specs.Answers.{Checks}
-use Rattle.text_to_xml.specs.Steps.{check-fine, check-refused, lines-refused, lines-fine}
+use Rattle.read_text.specs.Answers.{Checks}
+use Rattle.text_to_xml.specs.laws.Steps.{check-fine, check-refused, lines-refused, lines-fine}
 use Rattle.text_to_xml.proofs.checked.Statement.{statement}
 use Rattle.text_to_xml.proofs.checked.Tie as tie
 

@@ -1,7 +1,7 @@
 -- `text_to_xml::converted` meets its contract.
 use mathlib.Core.Path.{_≡_, sym, ap, _∙_}
 use borrow.Author.Needs.{needs}
-use Rattle.text_to_xml.specs.Steps.{kept-good, kept-bad}
+use Rattle.text_to_xml.specs.laws.Steps.{kept-good, kept-bad}
 use Rattle.utf8.specs.Automaton.{foundOf}
 use Rattle.text_to_xml.proofs.converted.Statement.{statement}
 use Rattle.text_to_xml.proofs.converted.Tie as tie

@@ -4,11 +4,11 @@ use Prim.Native.Nat.{_^_, _<_}
 use native.Mathlib.Omega.{arith}
 use borrow.Author.Needs.{needs}
 use lib.ListN.{length}
-use Rattle.sink.specs.Sink.{writing}
-use Rattle.conversion.specs.Answered.{done-written, done-room}
-use Rattle.text_to_xml.specs.Steps.{put-kept, xml-counted}
+use Rattle.sink.specs.laws.Sink.{writing}
+use Rattle.calls.specs.laws.Answered.{done-written, done-room}
+use Rattle.text_to_xml.specs.laws.Steps.{put-kept, xml-counted}
 use Rattle.folding.specs.Lines.{lines}
-use Rattle.ical.specs.Tree.{calendarOf}
+use Rattle.text.specs.Tree.{calendarOf}
 use Rattle.xcal.specs.WriteXml.{writeDocument}
 use Rattle.text_to_xml.proofs.measured.Statement.{statement}
 use Rattle.text_to_xml.proofs.measured.Tie as tie

@@ -1,7 +1,7 @@
 -- `text_to_xml::to_xml` meets its contract.
 use native.Mathlib.Omega.{arith}
 use borrow.Author.Needs.{needs}
-use Rattle.text_to_xml.specs.Steps.{kept-inside, kept-count, kept-limit, too-long, no-room, unfolded-done}
+use Rattle.text_to_xml.specs.laws.Steps.{kept-inside, kept-count, kept-limit, too-long, no-room, unfolded-done}
 use Rattle.text_to_xml.proofs.to_xml.Statement.{statement}
 use Rattle.text_to_xml.proofs.to_xml.Tie as tie
 

@@ -1,9 +1,9 @@
 -- `text_to_xml::written_at_once` meets its contract.
 use mathlib.Core.Path.{refl}
 use borrow.Author.Needs.{needs}
-use Rattle.lengths.specs.Documents.{xml-fits}
-use Rattle.conversion.specs.Answered.{done-at-once}
-use Rattle.text_to_xml.specs.Steps.{put-kept, xml-counted}
+use Rattle.lengths_xml.specs.laws.Documents.{xml-fits}
+use Rattle.calls.specs.laws.Answered.{done-at-once}
+use Rattle.text_to_xml.specs.laws.Steps.{put-kept, xml-counted}
 use Rattle.text_to_xml.proofs.written_at_once.Statement.{statement}
 use Rattle.text_to_xml.proofs.written_at_once.Tie as tie
 

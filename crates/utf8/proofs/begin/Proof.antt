@@ -1,5 +1,5 @@
 -- `utf8::begin` meets its contract.
-use Rattle.octets.specs.Pick.{branching}
+use Rattle.octets.specs.laws.Pick.{branching}
 use Rattle.utf8.proofs.begin.Statement.{statement}
 use Rattle.utf8.proofs.begin.Tie as tie
 

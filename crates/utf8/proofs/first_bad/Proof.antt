@@ -1,8 +1,9 @@
 -- `utf8::first_bad` meets its contract.
 use Prim.Native.Nat.{_-_}
 use lib.ListN.{length}
-use Rattle.octets.specs.Scan.{FoldingI, scanning}
-use Rattle.utf8.specs.Automaton.{step, start, found}
+use Rattle.octets.specs.laws.Scan.{FoldingI, scanning}
+use Rattle.utf8.specs.Automaton.{step}
+use Rattle.utf8.specs.laws.Automaton.{start, found}
 use Rattle.utf8.proofs.first_bad.Statement.{statement}
 use Rattle.utf8.proofs.first_bad.Tie as tie
 

@@ -1,5 +1,5 @@
 -- `utf8::go_on` meets its contract.
-use Rattle.octets.specs.Pick.{branching}
+use Rattle.octets.specs.laws.Pick.{branching}
 use Rattle.utf8.proofs.go_on.Statement.{statement}
 use Rattle.utf8.proofs.go_on.Tie as tie
 

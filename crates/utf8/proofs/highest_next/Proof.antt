@@ -1,5 +1,6 @@
 -- `utf8::highest_next` meets its contract.
-use Rattle.octets.specs.Pick.{branching, pick, _and_}
+use Rattle.octets.specs.Pick.{pick, _and_}
+use Rattle.octets.specs.laws.Pick.{branching}
 use Rattle.utf8.proofs.highest_next.Statement.{statement}
 use Rattle.utf8.proofs.highest_next.Tie as tie
 

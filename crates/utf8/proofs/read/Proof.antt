@@ -1,5 +1,5 @@
 -- `utf8::read` meets its contract.
-use Rattle.octets.specs.Pick.{branching}
+use Rattle.octets.specs.laws.Pick.{branching}
 use Rattle.utf8.proofs.read.Statement.{statement}
 use Rattle.utf8.proofs.read.Tie as tie
 

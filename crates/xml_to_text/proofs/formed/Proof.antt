@@ -1,6 +1,6 @@
 -- `xml_to_text::formed` meets its contract. Assumes nothing.
-use Rattle.xml_to_text.specs.Steps.{xml-refused, xml-fine}
-use Rattle.tokens.specs.Formed.{Formed}
+use Rattle.xml_to_text.specs.laws.Steps.{xml-refused, xml-fine}
+use Rattle.read_xml_tokens.specs.Formed.{Formed}
 use native.Mathlib.Omega.{arith}
 use mathlib.Core.Path.{subst}
 use borrow.Author.Needs.{needs}

@@ -1,5 +1,5 @@
 -- `xml_to_text::judged` meets its contract. Assumes nothing.
-use Rattle.xml_to_text.specs.Steps.{root-bound, root-refused, root-fine}
+use Rattle.xml_to_text.specs.laws.Steps.{root-bound, root-refused, root-fine}
 use native.Mathlib.Omega.{arith}
 use borrow.Author.Needs.{needs}
 use Rattle.xml_to_text.proofs.judged.Statement.{statement}

@@ -3,11 +3,11 @@ use Prim.Native.Nat.{_^_, _<_}
 use native.Mathlib.Omega.{arith}
 use borrow.Author.Needs.{needs}
 use lib.ListN.{length}
-use Rattle.sink.specs.Sink.{writing}
+use Rattle.sink.specs.laws.Sink.{writing}
 use Rattle.xml.specs.NodesAt.{nodesAt}
-use Rattle.ical.specs.WriteText.{writeCalendar}
+use Rattle.text.specs.WriteText.{writeCalendar}
 use Rattle.xcal.specs.ComponentNodes.{readComponents}
-use Rattle.conversion.specs.Answered.{done-written, done-room}
+use Rattle.calls.specs.laws.Answered.{done-written, done-room}
 use Rattle.xml_to_text.proofs.measured.Statement.{statement}
 use Rattle.xml_to_text.proofs.measured.Tie as tie
 

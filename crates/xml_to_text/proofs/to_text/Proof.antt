@@ -1,5 +1,5 @@
 -- `xml_to_text::to_text` meets its contract. Assumes nothing.
-use Rattle.xml_to_text.specs.Steps.{too-long, bad-character, good-characters}
+use Rattle.xml_to_text.specs.laws.Steps.{too-long, bad-character, good-characters}
 use Rattle.utf8.specs.Automaton.{foundOf}
 use native.Mathlib.Omega.{arith}
 use mathlib.Core.Path.{sym, ap, _∙_}

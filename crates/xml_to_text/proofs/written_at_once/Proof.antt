@@ -4,9 +4,9 @@ use native.Mathlib.Omega.{arith}
 use lib.ListN.{length}
 use borrow.Author.Needs.{needs}
 use Rattle.xml.specs.NodesAt.{nodesAt}
-use Rattle.ical.specs.WriteText.{writeCalendar}
+use Rattle.text.specs.WriteText.{writeCalendar}
 use Rattle.xcal.specs.ComponentNodes.{readComponents}
-use Rattle.conversion.specs.Answered.{done-at-once}
+use Rattle.calls.specs.laws.Answered.{done-at-once}
 use Rattle.xml_to_text.proofs.written_at_once.Statement.{statement}
 use Rattle.xml_to_text.proofs.written_at_once.Tie as tie
 

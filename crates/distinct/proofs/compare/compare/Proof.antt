@@ -1,5 +1,5 @@
 -- `distinct::compare` meets its contract.
-use Rattle.distinct.specs.Listed.{word-cut}
+use Rattle.distinct.specs.laws.Listed.{word-cut}
 use lib.ListN.{length-take}
 use native.Mathlib.Omega.{arith}
 use borrow.Author.Needs.{needs}

@@ -1,6 +1,7 @@
 -- `distinct::compare_from` meets its contract.
 use mathlib.Core.Path.{_≡_, refl, sym, _∙_}
-use Rattle.distinct.specs.Order.{order, order-less, order-more, order-end, order-on, order-nearer}
+use Rattle.distinct.specs.Order.{order}
+use Rattle.distinct.specs.laws.Order.{order-less, order-more, order-end, order-on, order-nearer}
 use Rattle.source.specs.Source.{rest}
 use Rattle.octets.specs.Class.{upper}
 use Prim.Native.Nat.{_*_, _-_}

@@ -1,6 +1,6 @@
 -- `distinct::are_alike` meets its contract.
 use Rattle.distinct.specs.Listed.{wordAt}
-use Rattle.distinct.specs.Pairs.{alike}
+use Rattle.distinct.specs.laws.Pairs.{alike}
 use borrow.Author.Tests.{eqb-true}
 use mathlib.Core.Bool.{false≢true}
 use borrow.Author.Needs.{needs}

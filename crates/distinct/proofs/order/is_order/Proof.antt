@@ -1,5 +1,6 @@
 -- `distinct::is_order` meets its contract.
-use Rattle.distinct.specs.Rising.{Ranked, ranked-start, ranked-more, ranked-end}
+use Rattle.distinct.specs.Rising.{Ranked}
+use Rattle.distinct.specs.laws.Rising.{ranked-start, ranked-more, ranked-end}
 use mathlib.Core.Bool.{false≢true}
 use Prim.Native.Nat.{_-_}
 use borrow.Author.Needs.{needs}

@@ -1,5 +1,6 @@
 -- `distinct::rise` meets its contract.
-use Rattle.distinct.specs.Rising.{Rising, rising-start, rising-more, rising-fewer}
+use Rattle.distinct.specs.Rising.{Rising}
+use Rattle.distinct.specs.laws.Rising.{rising-start, rising-more, rising-fewer}
 use Rattle.distinct.specs.Listed.{wordAt}
 use native.Mathlib.Omega.{arith}
 use Prim.Native.Nat.{_+_, _-_, _^_, _<_}

@@ -1,5 +1,5 @@
 -- `distinct::are_all_apart` meets its contract.
-use Rattle.distinct.specs.Pairs.{AllApart, pairwise}
+use Rattle.distinct.specs.laws.Pairs.{AllApart, pairwise}
 use Rattle.distinct.specs.Listed.{wordAt}
 use Prim.Native.Nat.{_-_}
 use borrow.Author.Needs.{needs}

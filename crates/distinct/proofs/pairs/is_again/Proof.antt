@@ -1,5 +1,6 @@
 -- `distinct::is_again` meets its contract.
-use Rattle.distinct.specs.Pairs.{Apart, pairwise}
+use Rattle.distinct.specs.Pairs.{Apart}
+use Rattle.distinct.specs.laws.Pairs.{pairwise}
 use Rattle.distinct.specs.Listed.{wordAt}
 use Prim.Native.Nat.{_-_}
 use borrow.Author.Needs.{needs}

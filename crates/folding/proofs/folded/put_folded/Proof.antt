@@ -5,8 +5,10 @@ use native.Mathlib.Omega.{arith}
 use lib.ListN.{length, drop}
 use lib.Seq.{length-take-le}
 use borrow.Author.Needs.{needs}
-use Rattle.sink.specs.Sink.{Todo, writing}
-use Rattle.folding.specs.Rows.{spaced, takes-some}
+use Rattle.sink.specs.Sink.{Todo}
+use Rattle.sink.specs.laws.Sink.{writing}
+use Rattle.folding.specs.Rows.{spaced}
+use Rattle.folding.specs.laws.Rows.{takes-some}
 use Rattle.folding.proofs.Rowed.{todo-begun, todo-next, todo-rows}
 use Rattle.folding.proofs.folded.put_folded.Statement.{statement}
 use Rattle.folding.proofs.folded.put_folded.Tie as tie

@@ -1,5 +1,5 @@
 -- `folding::put_lead` meets its contract.
-use Rattle.sink.specs.Sink.{writing}
+use Rattle.sink.specs.laws.Sink.{writing}
 use Rattle.folding.proofs.folded.put_lead.Statement.{statement}
 use Rattle.folding.proofs.folded.put_lead.Tie as tie
 

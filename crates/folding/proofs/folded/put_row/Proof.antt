@@ -1,5 +1,5 @@
 -- `folding::put_row` meets its contract.
-use Rattle.sink.specs.Sink.{writing}
+use Rattle.sink.specs.laws.Sink.{writing}
 use Rattle.folding.proofs.folded.put_row.Statement.{statement}
 use Rattle.folding.proofs.folded.put_row.Tie as tie
 

@@ -1,6 +1,6 @@
 -- `folding::put_row_at` meets its contract.
-use Rattle.sink.specs.Sink.{writing}
-use Rattle.sink.specs.Rest.{put-rest}
+use Rattle.sink.specs.laws.Sink.{writing}
+use Rattle.sink.specs.laws.Rest.{put-rest}
 use Rattle.folding.proofs.folded.put_row_at.Statement.{statement}
 use Rattle.folding.proofs.folded.put_row_at.Tie as tie
 

@@ -1,5 +1,5 @@
 -- `folding::width_of` meets its contract.
-use Rattle.octets.specs.Pick.{branching}
+use Rattle.octets.specs.laws.Pick.{branching}
 use Rattle.folding.proofs.folded.width_of.Statement.{statement}
 use Rattle.folding.proofs.folded.width_of.Tie as tie
 

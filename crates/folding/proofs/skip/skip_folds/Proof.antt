@@ -4,7 +4,8 @@ use mathlib.Core.Path.{_≡_, sym, _∙_}
 use native.Mathlib.Omega.{arith}
 use borrow.Author.Needs.{needs}
 use lib.ListN.{length}
-use Rattle.folding.specs.Cut.{Passed, passed-here, passed-more, behind-byte, behind-end, fold-fits}
+use Rattle.folding.specs.Cut.{Passed}
+use Rattle.folding.specs.laws.Cut.{passed-here, passed-more, behind-byte, behind-end, fold-fits}
 use Rattle.folding.proofs.skip.skip_folds.Statement.{statement}
 use Rattle.folding.proofs.skip.skip_folds.Tie as tie
 

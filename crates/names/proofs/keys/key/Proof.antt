@@ -2,9 +2,9 @@
 use Prim.Native.Nat.{_*_, _-_}
 use native.Mathlib.Omega.{arith}
 use lib.ListN.{length}
-use Rattle.source.specs.Facts.{byte-small}
-use Rattle.names.specs.Case.{cased-small}
-use Rattle.names.specs.Keying.{Keying, keying, keying-more, keying-end}
+use Rattle.source.specs.laws.Facts.{byte-small}
+use Rattle.names.specs.laws.Case.{cased-small}
+use Rattle.names.specs.laws.Keying.{Keying, keying, keying-more, keying-end}
 use Rattle.names.proofs.keys.key.Statement.{statement}
 use Rattle.names.proofs.keys.key.Tie as tie
 

@@ -2,8 +2,8 @@
 use Prim.Native.Nat.{_-_}
 use native.Mathlib.Omega.{arith}
 use lib.ListN.{length}
-use Rattle.names.specs.Case.{cased-small}
-use Rattle.names.specs.Keying.{Keying, keying-bytes, keying-bytes-end}
+use Rattle.names.specs.laws.Case.{cased-small}
+use Rattle.names.specs.laws.Keying.{Keying, keying-bytes, keying-bytes-end}
 use Rattle.names.proofs.keys.key_plain.Statement.{statement}
 use Rattle.names.proofs.keys.key_plain.Tie as tie
 

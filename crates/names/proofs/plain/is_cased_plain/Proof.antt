@@ -1,8 +1,8 @@
 -- `names::plain::is_cased_plain` meets its contract.
 use Prim.Native.Nat.{_-_}
 use lib.ListN.{length}
-use Rattle.names.specs.Runs.{Comparing}
-use Rattle.names.specs.Plain.{comparing-bytes, comparing-bytes-other}
+use Rattle.names.specs.laws.Runs.{Comparing}
+use Rattle.names.specs.laws.Plain.{comparing-bytes, comparing-bytes-other}
 use Rattle.names.proofs.plain.is_cased_plain.Statement.{statement}
 use Rattle.names.proofs.plain.is_cased_plain.Tie as tie
 

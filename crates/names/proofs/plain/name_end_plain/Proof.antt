@@ -3,8 +3,8 @@ use mathlib.Core.Path.{sym, _∙_}
 use Prim.Native.Nat.{_-_}
 use lib.ListN.{length}
 use Rattle.octets.specs.Class.{isNameChar}
-use Rattle.names.specs.Runs.{Running, name-end}
-use Rattle.names.specs.Plain.{running-bytes-more, running-bytes-stop, running-bytes}
+use Rattle.names.specs.laws.Runs.{Running, name-end}
+use Rattle.names.specs.laws.Plain.{running-bytes-more, running-bytes-stop, running-bytes}
 use Rattle.names.proofs.plain.name_end_plain.Statement.{statement}
 use Rattle.names.proofs.plain.name_end_plain.Tie as tie
 

@@ -2,9 +2,9 @@
 use Prim.Native.Nat.{_-_}
 use native.Mathlib.Omega.{arith}
 use lib.ListN.{length}
-use Rattle.names.specs.Case.{cased-small}
-use Rattle.names.specs.Runs.{Copying}
-use Rattle.names.specs.Plain.{copying-bytes}
+use Rattle.names.specs.laws.Case.{cased-small}
+use Rattle.names.specs.laws.Runs.{Copying}
+use Rattle.names.specs.laws.Plain.{copying-bytes}
 use Rattle.names.proofs.plain.put_plain.Statement.{statement}
 use Rattle.names.proofs.plain.put_plain.Tie as tie
 

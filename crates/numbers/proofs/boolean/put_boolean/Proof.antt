@@ -1,5 +1,5 @@
 -- `numbers::boolean::put_boolean` meets its contract.
-use Rattle.sink.specs.Sink.{writing}
+use Rattle.sink.specs.laws.Sink.{writing}
 use Rattle.numbers.proofs.boolean.put_boolean.Statement.{statement}
 use Rattle.numbers.proofs.boolean.put_boolean.Tie as tie
 

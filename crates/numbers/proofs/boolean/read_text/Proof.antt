@@ -1,5 +1,5 @@
 -- `numbers::boolean::read_text` meets its contract.
-use Rattle.numbers.specs.ReadBoolean.{text-true, text-false, text-neither}
+use Rattle.numbers.specs.laws.ReadBoolean.{text-true, text-false, text-neither}
 use borrow.Author.Needs.{needs}
 use Rattle.numbers.proofs.boolean.read_text.Statement.{statement}
 use Rattle.numbers.proofs.boolean.read_text.Tie as tie

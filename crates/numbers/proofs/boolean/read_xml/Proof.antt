@@ -1,5 +1,5 @@
 -- `numbers::boolean::read_xml` meets its contract.
-use Rattle.numbers.specs.ReadBoolean.{xml-true, xml-one, xml-false, xml-zero, xml-neither}
+use Rattle.numbers.specs.laws.ReadBoolean.{xml-true, xml-one, xml-false, xml-zero, xml-neither}
 use borrow.Author.Needs.{needs}
 use Rattle.numbers.proofs.boolean.read_xml.Statement.{statement}
 use Rattle.numbers.proofs.boolean.read_xml.Tie as tie

@@ -1,5 +1,5 @@
 -- `numbers::float::float_to` meets its contract.
-use Rattle.numbers.specs.ReadFloat.{float-good, float-bad}
+use Rattle.numbers.specs.laws.ReadFloat.{float-good, float-bad}
 use borrow.Author.Needs.{needs}
 use Rattle.numbers.proofs.float.float_to.Statement.{statement}
 use Rattle.numbers.proofs.float.float_to.Tie as tie

@@ -1,7 +1,7 @@
 -- `numbers::float::is_minus` meets its contract.
 use mathlib.Core.Path.{_∙_}
-use Rattle.numbers.specs.ReadFloat.{minus-digit, minus-zero, minus-after}
-use Rattle.numbers.specs.Spans.{lead-is}
+use Rattle.numbers.specs.laws.ReadFloat.{minus-digit, minus-zero, minus-after}
+use Rattle.numbers.specs.laws.Spans.{lead-is}
 use borrow.Author.Needs.{needs}
 use Rattle.numbers.proofs.float.is_minus.Statement.{statement}
 use Rattle.numbers.proofs.float.is_minus.Tie as tie

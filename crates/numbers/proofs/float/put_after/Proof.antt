@@ -1,9 +1,9 @@
 -- `numbers::float::put_after` meets its contract.
 use mathlib.Core.Path.{sym, _∙_}
-use Rattle.numbers.specs.PutInteger.{put-front}
-use Rattle.numbers.specs.PutFloat.{put-same}
-use Rattle.numbers.specs.Spans.{point-none, point-some}
-use Rattle.sink.specs.Sink.{writing}
+use Rattle.numbers.specs.laws.PutInteger.{put-front}
+use Rattle.numbers.specs.laws.PutFloat.{put-same}
+use Rattle.numbers.specs.laws.Spans.{point-none, point-some}
+use Rattle.sink.specs.laws.Sink.{writing}
 use Rattle.numbers.proofs.float.put_after.Statement.{statement}
 use Rattle.numbers.proofs.float.put_after.Tie as tie
 

@@ -1,8 +1,8 @@
 -- `numbers::float::put_before` meets its contract.
 use mathlib.Core.Path.{sym}
-use Rattle.numbers.specs.PutFloat.{put-same}
-use Rattle.numbers.specs.Spans.{lead-is, lead-some, lead-none}
-use Rattle.sink.specs.Sink.{writing}
+use Rattle.numbers.specs.laws.PutFloat.{put-same}
+use Rattle.numbers.specs.laws.Spans.{lead-is, lead-some, lead-none}
+use Rattle.sink.specs.laws.Sink.{writing}
 use Rattle.numbers.proofs.float.put_before.Statement.{statement}
 use Rattle.numbers.proofs.float.put_before.Tie as tie
 

@@ -1,6 +1,6 @@
 -- `numbers::float::put_decimal` meets its contract.
-use Rattle.numbers.specs.PutInteger.{putting}
-use Rattle.sink.specs.Sink.{writing}
+use Rattle.numbers.specs.laws.PutInteger.{putting}
+use Rattle.sink.specs.laws.Sink.{writing}
 use Rattle.numbers.proofs.float.put_decimal.Statement.{statement}
 use Rattle.numbers.proofs.float.put_decimal.Tie as tie
 

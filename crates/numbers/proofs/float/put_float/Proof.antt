@@ -1,6 +1,6 @@
 -- `numbers::float::put_float` meets its contract.
-use Rattle.numbers.specs.PutFloat.{put-all-float}
-use Rattle.sink.specs.Sink.{writing}
+use Rattle.numbers.specs.laws.PutFloat.{put-all-float}
+use Rattle.sink.specs.laws.Sink.{writing}
 use Rattle.numbers.proofs.float.put_float.Statement.{statement}
 use Rattle.numbers.proofs.float.put_float.Tie as tie
 

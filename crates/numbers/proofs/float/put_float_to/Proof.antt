@@ -1,6 +1,6 @@
 -- `numbers::float::put_float_to` meets its contract.
 use borrow.Author.Needs.{needs}
-use Rattle.sink.specs.Sink.{writing}
+use Rattle.sink.specs.laws.Sink.{writing}
 use Rattle.numbers.proofs.float.put_float_to.Statement.{statement}
 use Rattle.numbers.proofs.float.put_float_to.Tie as tie
 

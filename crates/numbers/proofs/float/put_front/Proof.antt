@@ -3,12 +3,14 @@ use lib.ListN.{length}
 use native.Mathlib.Omega.{arith}
 use Prim.Native.Nat.{_-_, _*_}
 use mathlib.Core.Path.{_≡_}
-use Rattle.sink.specs.Sink.{Todo, todo-step, todo-done, writing}
-use Rattle.numbers.specs.Digit.{is-digit, below-digit, above-digit}
-use Rattle.numbers.specs.Spans.{front-end, front-more, front-stop}
+use Rattle.sink.specs.Sink.{Todo}
+use Rattle.sink.specs.laws.Sink.{todo-step, todo-done, writing}
+use Rattle.numbers.specs.laws.Digit.{is-digit, below-digit, above-digit}
+use Rattle.numbers.specs.laws.Spans.{front-end, front-more, front-stop}
 use Rattle.numbers.specs.FloatParts.{front}
-use Rattle.numbers.specs.Until.{until, turn-byte, turn-end}
-use Rattle.sink.specs.Sink.{writing}
+use Rattle.numbers.specs.Until.{until}
+use Rattle.numbers.specs.laws.Until.{turn-byte, turn-end}
+use Rattle.sink.specs.laws.Sink.{writing}
 use Rattle.numbers.proofs.float.put_front.Statement.{statement}
 use Rattle.numbers.proofs.float.put_front.Tie as tie
 

@@ -1,5 +1,5 @@
 -- `numbers::float::put_magnitude` meets its contract.
-use Rattle.sink.specs.Sink.{writing}
+use Rattle.sink.specs.laws.Sink.{writing}
 use Rattle.numbers.proofs.float.put_magnitude.Statement.{statement}
 use Rattle.numbers.proofs.float.put_magnitude.Tie as tie
 

@@ -3,14 +3,16 @@ use lib.ListN.{length}
 use native.Mathlib.Omega.{arith}
 use Prim.Native.Nat.{_≤_, _-_, _*_}
 use mathlib.Core.Path.{_≡_}
-use Rattle.sink.specs.Sink.{Todo, todo-step, todo-done, writing}
+use Rattle.sink.specs.Sink.{Todo}
+use Rattle.sink.specs.laws.Sink.{todo-step, todo-done, writing}
 use Rattle.octets.specs.Append.{_⊕_}
-use Rattle.numbers.specs.PutFloat.{todo-same, trim-all}
-use Rattle.numbers.specs.Spans.{trim-end, trim-zero, trim-more}
+use Rattle.numbers.specs.laws.PutFloat.{todo-same, trim-all}
+use Rattle.numbers.specs.laws.Spans.{trim-end, trim-zero, trim-more}
 use Rattle.numbers.specs.Worth.{zeros}
 use Rattle.numbers.specs.Float.{noTrailing}
-use Rattle.numbers.specs.Until.{until, turn-byte, turn-end}
-use Rattle.sink.specs.Sink.{writing}
+use Rattle.numbers.specs.Until.{until}
+use Rattle.numbers.specs.laws.Until.{turn-byte, turn-end}
+use Rattle.sink.specs.laws.Sink.{writing}
 use Rattle.numbers.proofs.float.put_trimmed.Statement.{statement}
 use Rattle.numbers.proofs.float.put_trimmed.Tie as tie
 

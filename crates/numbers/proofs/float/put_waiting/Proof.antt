@@ -1,5 +1,5 @@
 -- `numbers::float::put_waiting` meets its contract.
-use Rattle.sink.specs.Sink.{writing}
+use Rattle.sink.specs.laws.Sink.{writing}
 use Rattle.numbers.proofs.float.put_waiting.Statement.{statement}
 use Rattle.numbers.proofs.float.put_waiting.Tie as tie
 

@@ -2,10 +2,11 @@
 use lib.ListN.{length}
 use native.Mathlib.Omega.{arith}
 use mathlib.Core.Path.{_≡_}
-use Rattle.sink.specs.Sink.{Todo, todo-step, todo-done, writing}
-use Rattle.numbers.specs.Spans.{zeros-next, zeros-done}
+use Rattle.sink.specs.Sink.{Todo}
+use Rattle.sink.specs.laws.Sink.{todo-step, todo-done, writing}
+use Rattle.numbers.specs.laws.Spans.{zeros-next, zeros-done}
 use Rattle.numbers.specs.Worth.{zeros}
-use Rattle.sink.specs.Sink.{writing}
+use Rattle.sink.specs.laws.Sink.{writing}
 use Rattle.numbers.proofs.float.put_zeros.Statement.{statement}
 use Rattle.numbers.proofs.float.put_zeros.Tie as tie
 

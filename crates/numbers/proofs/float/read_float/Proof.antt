@@ -1,5 +1,5 @@
 -- `numbers::float::read_float` meets its contract.
-use Rattle.numbers.specs.ReadFloat.{float-all}
+use Rattle.numbers.specs.laws.ReadFloat.{float-all}
 use borrow.Author.Needs.{needs}
 use Rattle.numbers.proofs.float.read_float.Statement.{statement}
 use Rattle.numbers.proofs.float.read_float.Tie as tie

@@ -1,8 +1,8 @@
 -- `numbers::float::read_shape` meets its contract.
 use mathlib.Core.Path.{refl, _∙_}
-use Rattle.numbers.specs.ReadFloat.{shape-none, shape-whole, shape-pointed, shape-other}
-use Rattle.numbers.specs.Spans.{lead-is}
-use Rattle.numbers.specs.Until.{turn-byte, turn-this, turn-end}
+use Rattle.numbers.specs.laws.ReadFloat.{shape-none, shape-whole, shape-pointed, shape-other}
+use Rattle.numbers.specs.laws.Spans.{lead-is}
+use Rattle.numbers.specs.laws.Until.{turn-byte, turn-this, turn-end}
 use borrow.Author.Needs.{needs}
 use Rattle.numbers.proofs.float.read_shape.Statement.{statement}
 use Rattle.numbers.proofs.float.read_shape.Tie as tie

@@ -1,5 +1,5 @@
 -- `numbers::geo::is_float` meets its contract.
-use Rattle.numbers.specs.ReadGeo.{read-some, read-none}
+use Rattle.numbers.specs.laws.ReadGeo.{read-some, read-none}
 use borrow.Author.Needs.{needs}
 use Rattle.numbers.proofs.geo.is_float.Statement.{statement}
 use Rattle.numbers.proofs.geo.is_float.Tie as tie

@@ -3,9 +3,9 @@ use lib.ListN.{length}
 use native.Mathlib.Omega.{arith}
 use Prim.Native.Nat.{_-_, _*_}
 use mathlib.Core.Path.{_≡_, refl, _∙_}
-use Rattle.numbers.specs.ReadGeo.{part-none, part-here, part-more, parted-no, parted-yes}
+use Rattle.numbers.specs.laws.ReadGeo.{part-none, part-here, part-more, parted-no, parted-yes}
 use Rattle.numbers.specs.FloatParts.{moreAfter}
-use Rattle.source.specs.Facts.{rest-byte, rest-end}
+use Rattle.source.specs.laws.Facts.{rest-byte, rest-end}
 use Rattle.source.specs.Source.{rest}
 use borrow.Author.Needs.{needs}
 use Rattle.numbers.proofs.geo.part_end.Statement.{statement}

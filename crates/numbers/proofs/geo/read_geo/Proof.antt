@@ -1,5 +1,5 @@
 -- `numbers::geo::read_geo` meets its contract.
-use Rattle.numbers.specs.ReadGeo.{geo-single, geo-triple, geo-no-latitude, geo-no-longitude, geo-both}
+use Rattle.numbers.specs.laws.ReadGeo.{geo-single, geo-triple, geo-no-latitude, geo-no-longitude, geo-both}
 use borrow.Author.Needs.{needs}
 use Rattle.numbers.proofs.geo.read_geo.Statement.{statement}
 use Rattle.numbers.proofs.geo.read_geo.Tie as tie

@@ -1,5 +1,5 @@
 -- `numbers::integer::put_digits`, which calls itself, meets its contract.
-use Rattle.numbers.specs.PutInteger.{putting}
+use Rattle.numbers.specs.laws.PutInteger.{putting}
 use Prim.Native.Nat.{ℕ, _<_}
 use borrow.Fn.Kinds.{In}
 use borrow.Fn.PlainCycle.{Measures, is, falls, and}

@@ -1,7 +1,7 @@
 -- `numbers::integer::number` meets its contract.
 use mathlib.Core.Path.{_≡_, refl, _∙_}
-use Rattle.numbers.specs.ReadInteger.{number-none, number-some}
-use Rattle.source.specs.Facts.{rest-byte, rest-end}
+use Rattle.numbers.specs.laws.ReadInteger.{number-none, number-some}
+use Rattle.source.specs.laws.Facts.{rest-byte, rest-end}
 use borrow.Author.Needs.{needs}
 use Rattle.numbers.proofs.integer.number.Statement.{statement}
 use Rattle.numbers.proofs.integer.number.Tie as tie

@@ -1,6 +1,6 @@
 -- `numbers::integer::put_integer` meets its contract.
 use borrow.Author.Needs.{needs}
-use Rattle.numbers.specs.PutInteger.{putting}
+use Rattle.numbers.specs.laws.PutInteger.{putting}
 use Rattle.numbers.proofs.integer.put_integer.Statement.{statement}
 use Rattle.numbers.proofs.integer.put_integer.Tie as tie
 

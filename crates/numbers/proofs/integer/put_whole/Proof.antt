@@ -1,5 +1,5 @@
 -- `numbers::integer::put_whole` meets its contract.
-use Rattle.numbers.specs.PutInteger.{putting}
+use Rattle.numbers.specs.laws.PutInteger.{putting}
 use Rattle.numbers.proofs.integer.put_whole.Statement.{statement}
 use Rattle.numbers.proofs.integer.put_whole.Tie as tie
 

@@ -1,7 +1,7 @@
 -- `numbers::integer::read_integer` meets its contract.
 use mathlib.Core.Path.{_≡_, refl, _∙_}
-use Rattle.numbers.specs.ReadInteger.{integer-minus, integer-plus, integer-plain}
-use Rattle.numbers.specs.Cursor.{rest-this}
+use Rattle.numbers.specs.laws.ReadInteger.{integer-minus, integer-plus, integer-plain}
+use Rattle.numbers.specs.laws.Cursor.{rest-this}
 use borrow.Author.Needs.{needs}
 use Rattle.numbers.proofs.integer.read_integer.Statement.{statement}
 use Rattle.numbers.proofs.integer.read_integer.Tie as tie

@@ -1,5 +1,5 @@
 -- `numbers::integer::signed` meets its contract.
-use Rattle.numbers.specs.ReadInteger.{whole-none, whole-zero, whole-some}
+use Rattle.numbers.specs.laws.ReadInteger.{whole-none, whole-zero, whole-some}
 use borrow.Author.Needs.{needs}
 use Rattle.numbers.proofs.integer.signed.Statement.{statement}
 use Rattle.numbers.proofs.integer.signed.Tie as tie

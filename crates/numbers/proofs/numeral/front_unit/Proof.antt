@@ -1,6 +1,6 @@
 -- `numbers::numeral::front_unit` meets its contract.
-use Rattle.numbers.specs.Numeral.{front-all, front-byte, front-letter}
-use Rattle.octets.specs.Pick.{flag-yes, flag-no}
+use Rattle.numbers.specs.laws.Numeral.{front-all, front-byte, front-letter}
+use Rattle.octets.specs.laws.Pick.{flag-yes, flag-no}
 use borrow.Author.Needs.{needs}
 use Rattle.numbers.proofs.numeral.front_unit.Statement.{statement}
 use Rattle.numbers.proofs.numeral.front_unit.Tie as tie

@@ -1,5 +1,6 @@
 -- `numbers::numeral::worth` meets its contract.
-use Rattle.numbers.specs.Numeral.{front, worthTo, worth-end, worth-low, worth-high, worth-more, worth-much, fronts-byte, fronts-end}
+use Rattle.numbers.specs.Numeral.{front, worthTo}
+use Rattle.numbers.specs.laws.Numeral.{worth-end, worth-low, worth-high, worth-more, worth-much, fronts-byte, fronts-end}
 use Rattle.source.specs.Source.{rest}
 use mathlib.Core.Path.{_≡_, refl, _∙_}
 use Prim.Native.Nat.{_≤_, _-_, _*_}

@@ -3,9 +3,10 @@ use lib.ListN.{length}
 use native.Mathlib.Omega.{arith}
 use Prim.Native.Nat.{_-_, _*_}
 use mathlib.Core.Path.{_≡_, refl, sym, _∙_}
-use Rattle.numbers.specs.Spans.{after-end, after-more, after-stop}
+use Rattle.numbers.specs.laws.Spans.{after-end, after-more, after-stop}
 use Rattle.numbers.specs.FloatParts.{afterDigits}
-use Rattle.numbers.specs.Until.{until, turn-byte, turn-end}
+use Rattle.numbers.specs.Until.{until}
+use Rattle.numbers.specs.laws.Until.{turn-byte, turn-end}
 use borrow.Author.Needs.{needs}
 use Rattle.numbers.proofs.scan.digits_end.Statement.{statement}
 use Rattle.numbers.proofs.scan.digits_end.Tie as tie

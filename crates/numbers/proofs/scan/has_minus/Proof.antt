@@ -1,5 +1,5 @@
 -- `numbers::scan::has_minus` meets its contract.
-use Rattle.numbers.specs.Spans.{minus-at}
+use Rattle.numbers.specs.laws.Spans.{minus-at}
 use borrow.Author.Needs.{needs}
 use Rattle.numbers.proofs.scan.has_minus.Statement.{statement}
 use Rattle.numbers.proofs.scan.has_minus.Tie as tie

@@ -1,7 +1,7 @@
 -- `numbers::scan::only_digits` meets its contract.
 use mathlib.Core.Path.{_∙_}
-use Rattle.numbers.specs.Spans.{all-none, all-after}
-use Rattle.numbers.specs.Until.{turn-byte, turn-end}
+use Rattle.numbers.specs.laws.Spans.{all-none, all-after}
+use Rattle.numbers.specs.laws.Until.{turn-byte, turn-end}
 use borrow.Author.Needs.{needs}
 use Rattle.numbers.proofs.scan.only_digits.Statement.{statement}
 use Rattle.numbers.proofs.scan.only_digits.Tie as tie

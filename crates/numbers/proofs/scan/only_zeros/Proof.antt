@@ -3,10 +3,11 @@ use lib.ListN.{length}
 use native.Mathlib.Omega.{arith}
 use Prim.Native.Nat.{_-_, _*_}
 use mathlib.Core.Path.{_≡_, refl, _∙_}
-use Rattle.numbers.specs.Spans.{zeros-end, zeros-more, zeros-stop}
+use Rattle.numbers.specs.laws.Spans.{zeros-end, zeros-more, zeros-stop}
 use Rattle.numbers.specs.Float.{noTrailing}
 use Rattle.octets.specs.Words.{isEmpty}
-use Rattle.numbers.specs.Until.{until, turn-byte, turn-end}
+use Rattle.numbers.specs.Until.{until}
+use Rattle.numbers.specs.laws.Until.{turn-byte, turn-end}
 use borrow.Author.Needs.{needs}
 use Rattle.numbers.proofs.scan.only_zeros.Statement.{statement}
 use Rattle.numbers.proofs.scan.only_zeros.Tie as tie

@@ -1,7 +1,7 @@
 -- `numbers::scan::sign_end` meets its contract.
 use native.Mathlib.Omega.{arith}
-use Rattle.numbers.specs.Spans.{sign-minus, sign-plus, sign-none}
-use Rattle.numbers.specs.Until.{turn-byte}
+use Rattle.numbers.specs.laws.Spans.{sign-minus, sign-plus, sign-none}
+use Rattle.numbers.specs.laws.Until.{turn-byte}
 use borrow.Author.Needs.{needs}
 use Rattle.numbers.proofs.scan.sign_end.Statement.{statement}
 use Rattle.numbers.proofs.scan.sign_end.Tie as tie

@@ -1,6 +1,6 @@
 -- `numbers::scan::unit_to` meets its contract.
 use native.Mathlib.Omega.{arith}
-use Rattle.numbers.specs.Until.{turn-on, turn-stop}
+use Rattle.numbers.specs.laws.Until.{turn-on, turn-stop}
 use borrow.Author.Needs.{needs}
 use Rattle.numbers.proofs.scan.unit_to.Statement.{statement}
 use Rattle.numbers.proofs.scan.unit_to.Tie as tie

@@ -3,9 +3,10 @@ use lib.ListN.{length}
 use native.Mathlib.Omega.{arith}
 use Prim.Native.Nat.{_-_, _*_}
 use mathlib.Core.Path.{_≡_, refl, _∙_}
-use Rattle.numbers.specs.Spans.{leading-end, leading-more, leading-stop}
+use Rattle.numbers.specs.laws.Spans.{leading-end, leading-more, leading-stop}
 use Rattle.numbers.specs.Float.{noLeading}
-use Rattle.numbers.specs.Until.{until, turn-byte, turn-end}
+use Rattle.numbers.specs.Until.{until}
+use Rattle.numbers.specs.laws.Until.{turn-byte, turn-end}
 use borrow.Author.Needs.{needs}
 use Rattle.numbers.proofs.scan.zeros_end.Statement.{statement}
 use Rattle.numbers.proofs.scan.zeros_end.Tie as tie

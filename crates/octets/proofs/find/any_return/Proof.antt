@@ -1,6 +1,7 @@
 -- `octets::find::any_return` meets its contract.
 use Prim.Native.Nat.{_-_}
-use Rattle.octets.specs.Block.{Any, isReturn, testing}
+use Rattle.octets.specs.Block.{isReturn}
+use Rattle.octets.specs.laws.Block.{Any, testing}
 use Rattle.octets.proofs.find.any_return.Statement.{statement}
 use Rattle.octets.proofs.find.any_return.Tie as tie
 

@@ -1,8 +1,9 @@
 -- `octets::find::find_return` meets its contract.
 use Prim.Native.Nat.{_-_}
 use lib.ListN.{length}
-use Rattle.octets.specs.Scan.{SpanFrom}
-use Rattle.octets.specs.Block.{without, isReturn, blocking}
+use Rattle.octets.specs.laws.Scan.{SpanFrom}
+use Rattle.octets.specs.Block.{without, isReturn}
+use Rattle.octets.specs.laws.Block.{blocking}
 use Rattle.octets.proofs.find.find_return.Statement.{statement}
 use Rattle.octets.proofs.find.find_return.Tie as tie
 

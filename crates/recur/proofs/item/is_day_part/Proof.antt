@@ -1,7 +1,7 @@
 -- `recur::is_day_part` meets its contract.
 use Rattle.source.specs.Source.{rest}
-use Rattle.model.specs.Calendar.{formatOf}
-use Rattle.recur.specs.Fits.{item-at}
+use Rattle.calendar.specs.Calendar.{formatOf}
+use Rattle.recur.specs.laws.Fits.{item-at}
 use native.Mathlib.Omega.{arith}
 use mathlib.Core.Path.{refl}
 use borrow.Author.Needs.{needs}

@@ -1,7 +1,7 @@
 -- `recur::is_item` meets its contract.
 use Rattle.source.specs.Source.{rest}
-use Rattle.model.specs.Calendar.{formatOf}
-use Rattle.recur.specs.Fits.{item-beyond}
+use Rattle.calendar.specs.Calendar.{formatOf}
+use Rattle.recur.specs.laws.Fits.{item-beyond}
 use borrow.Author.Needs.{needs}
 use Rattle.recur.proofs.item.is_item.Statement.{statement}
 use Rattle.recur.proofs.item.is_item.Tie as tie

@@ -1,5 +1,5 @@
 -- `recur::after_sign` meets its contract.
-use Rattle.recur.specs.Numeral.{sign-plus, sign-minus, sign-none}
+use Rattle.recur.specs.laws.Numeral.{sign-plus, sign-minus, sign-none}
 use borrow.Author.Needs.{needs}
 use Rattle.recur.proofs.number.after_sign.Statement.{statement}
 use Rattle.recur.proofs.number.after_sign.Tie as tie

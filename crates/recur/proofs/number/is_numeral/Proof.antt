@@ -1,5 +1,5 @@
 -- `recur::is_numeral` meets its contract.
-use Rattle.recur.specs.Numeral.{numeral-told}
+use Rattle.recur.specs.laws.Numeral.{numeral-told}
 use native.Mathlib.Omega.{arith}
 use borrow.Author.Needs.{needs}
 use Rattle.recur.proofs.number.is_numeral.Statement.{statement}

@@ -1,5 +1,5 @@
 -- `recur::is_short` meets its contract.
-use Rattle.recur.specs.Numeral.{Passed, passed-start, passed-end, passed-long, passed-more, passed-less}
+use Rattle.recur.specs.laws.Numeral.{Passed, passed-start, passed-end, passed-long, passed-more, passed-less}
 use native.Mathlib.Omega.{arith}
 use Prim.Native.Nat.{_-_, _*_}
 use lib.ListN.{length}

@@ -1,5 +1,5 @@
 -- `recur::is_unsigned` meets its contract.
-use Rattle.octets.specs.Pick.{flag-yes, flag-no, and-go, and-stop}
+use Rattle.octets.specs.laws.Pick.{flag-yes, flag-no, and-go, and-stop}
 use borrow.Author.Needs.{needs}
 use Rattle.recur.proofs.number.is_unsigned.Statement.{statement}
 use Rattle.recur.proofs.number.is_unsigned.Tie as tie

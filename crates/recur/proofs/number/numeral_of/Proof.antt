@@ -1,6 +1,6 @@
 -- `recur::numeral_of` meets its contract.
-use Rattle.numbers.specs.Numeral.{fronts-byte, fronts-end}
-use Rattle.recur.specs.Numeral.{numeral-none, numeral-low, numeral-some}
+use Rattle.numbers.specs.laws.Numeral.{fronts-byte, fronts-end}
+use Rattle.recur.specs.laws.Numeral.{numeral-none, numeral-low, numeral-some}
 use borrow.Author.Needs.{needs}
 use Rattle.recur.proofs.number.numeral_of.Statement.{statement}
 use Rattle.recur.proofs.number.numeral_of.Tie as tie

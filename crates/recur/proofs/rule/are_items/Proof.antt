@@ -1,7 +1,7 @@
 -- `recur::are_items` meets its contract.
-use Rattle.recur.specs.PieceLaws.{Left, left-start, items-bad, items-last, items-more, pieces-less, cut-count}
+use Rattle.recur.specs.laws.PieceLaws.{Left, left-start, items-bad, items-last, items-more, pieces-less, cut-count}
 use Rattle.recur.specs.Pieces.{areItems}
-use Rattle.octets.specs.Pick.{flag-yes, flag-no}
+use Rattle.octets.specs.laws.Pick.{flag-yes, flag-no}
 use lib.ListN.{length}
 use Prim.Native.Nat.{_-_}
 use borrow.Author.Needs.{needs}

@@ -1,5 +1,5 @@
 -- `recur::byte_end` meets its contract.
-use Rattle.recur.specs.PieceLaws.{Ending, ending-start, ending-stop, ending-here, ending-more, step-less}
+use Rattle.recur.specs.laws.PieceLaws.{Ending, ending-start, ending-stop, ending-here, ending-more, step-less}
 use native.Mathlib.Omega.{arith}
 use lib.ListN.{length}
 use Prim.Native.Nat.{_-_}

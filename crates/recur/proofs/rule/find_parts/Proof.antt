@@ -2,9 +2,9 @@
 use Prim.Native.Nat.{_-_}
 use native.Mathlib.Omega.{arith}
 use lib.ListN.{length}
-use Rattle.octets.specs.Pick.{flag-yes, flag-no}
-use Rattle.recur.specs.PieceLaws.{pieces-less, cut-count, cut-inside}
-use Rattle.recur.specs.NotedLaws.{Walked, walk-start, walk-bad, walk-again, walk-place, walk-last, walk-more}
+use Rattle.octets.specs.laws.Pick.{flag-yes, flag-no}
+use Rattle.recur.specs.laws.PieceLaws.{pieces-less, cut-count, cut-inside}
+use Rattle.recur.specs.laws.NotedLaws.{Walked, walk-start, walk-bad, walk-again, walk-place, walk-last, walk-more}
 use borrow.Author.Needs.{needs}
 use Rattle.recur.proofs.rule.find_parts.Statement.{statement}
 use Rattle.recur.proofs.rule.find_parts.Tie as tie

@@ -1,5 +1,5 @@
 -- `recur::is_list_part` meets its contract.
-use Rattle.recur.specs.Whole.{listed-at, listed-beyond}
+use Rattle.recur.specs.laws.Whole.{listed-at, listed-beyond}
 use borrow.Author.Needs.{needs}
 use Rattle.recur.proofs.rule.is_list_part.Statement.{statement}
 use Rattle.recur.proofs.rule.is_list_part.Tie as tie

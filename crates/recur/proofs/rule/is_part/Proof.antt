@@ -1,7 +1,7 @@
 -- `recur::is_part` meets its contract.
-use Rattle.octets.specs.Pick.{flag-yes, flag-no}
+use Rattle.octets.specs.laws.Pick.{flag-yes, flag-no}
 use Rattle.source.specs.Source.{rest}
-use Rattle.recur.specs.Whole.{part-listed, part-single}
+use Rattle.recur.specs.laws.Whole.{part-listed, part-single}
 use borrow.Author.Needs.{needs}
 use Rattle.recur.proofs.rule.is_part.Statement.{statement}
 use Rattle.recur.proofs.rule.is_part.Tie as tie

@@ -1,5 +1,5 @@
 -- `recur::is_whole` meets its contract.
-use Rattle.octets.specs.Pick.{branching}
+use Rattle.octets.specs.laws.Pick.{branching}
 use borrow.Author.Needs.{needs}
 use Rattle.recur.proofs.rule.is_whole.Statement.{statement}
 use Rattle.recur.proofs.rule.is_whole.Tie as tie

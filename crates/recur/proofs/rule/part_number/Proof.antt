@@ -1,9 +1,10 @@
 -- `recur::rule::part_number` meets its contract.
 use mathlib.Core.Path.{refl}
 use borrow.Author.Needs.{needs}
-use Rattle.names.specs.Keys.{by-key, by-no-key, keys-compute}
+use Rattle.names.specs.Keys.{keys-compute}
+use Rattle.names.specs.laws.Keys.{by-key, by-no-key}
 use Rattle.recur.specs.Parts.{partNames}
-use Rattle.recur.specs.Whole.{names-apart}
+use Rattle.recur.specs.laws.Whole.{names-apart}
 use Rattle.recur.proofs.rule.part_number.Statement.{statement}
 use Rattle.recur.proofs.rule.part_number.Tie as tie
 

@@ -1,6 +1,6 @@
 -- `recur::rule::part_place` meets its contract.
-use Rattle.recur.specs.PieceLaws.{cut-count}
-use Rattle.recur.specs.Whole.{name-found}
+use Rattle.recur.specs.laws.PieceLaws.{cut-count}
+use Rattle.recur.specs.laws.Whole.{name-found}
 use borrow.Author.Needs.{needs}
 use Rattle.recur.proofs.rule.part_place.Statement.{statement}
 use Rattle.recur.proofs.rule.part_place.Tie as tie

@@ -1,5 +1,5 @@
 -- `recur::read_parts` meets its contract.
-use Rattle.recur.specs.NotedLaws.{parts-beyond}
+use Rattle.recur.specs.laws.NotedLaws.{parts-beyond}
 use Rattle.recur.proofs.rule.read_parts.Statement.{statement}
 use Rattle.recur.proofs.rule.read_parts.Tie as tie
 

@@ -1,6 +1,6 @@
 -- `recur::value_at` meets its contract.
-use Rattle.recur.specs.PieceLaws.{step-less}
-use Rattle.recur.specs.Whole.{value-none, value-after}
+use Rattle.recur.specs.laws.PieceLaws.{step-less}
+use Rattle.recur.specs.laws.Whole.{value-none, value-after}
 use borrow.Author.Needs.{needs}
 use Rattle.recur.proofs.rule.value_at.Statement.{statement}
 use Rattle.recur.proofs.rule.value_at.Tie as tie

@@ -1,7 +1,7 @@
 -- `recur::first_letter` meets its contract.
-use Rattle.recur.specs.Fits.{Lettered, letter-end, letter-here, letter-later}
-use Rattle.source.specs.Facts.{byte-small}
-use Rattle.octets.specs.Pick.{flag-yes, flag-no}
+use Rattle.recur.specs.laws.Fits.{Lettered, letter-end, letter-here, letter-later}
+use Rattle.source.specs.laws.Facts.{byte-small}
+use Rattle.octets.specs.laws.Pick.{flag-yes, flag-no}
 use native.Mathlib.Omega.{arith}
 use mathlib.Core.Path.{refl}
 use Prim.Native.Nat.{_-_, _*_}

@@ -1,6 +1,6 @@
 -- `recur::is_enddate` meets its contract.
 use Rattle.octets.specs.Reading.{isRead}
-use Rattle.recur.specs.Fits.{end-there, end-other}
+use Rattle.recur.specs.laws.Fits.{end-there, end-other}
 use mathlib.Core.Path.{_∙_}
 use borrow.Author.Needs.{needs}
 use Rattle.recur.proofs.word.is_enddate.Statement.{statement}

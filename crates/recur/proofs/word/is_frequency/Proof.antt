@@ -1,6 +1,6 @@
 -- `recur::is_frequency` meets its contract.
 use Rattle.source.specs.Source.{rest}
-use Rattle.recur.specs.Fits.{word-found, frequencies-are}
+use Rattle.recur.specs.laws.Fits.{word-found, frequencies-are}
 use Rattle.recur.specs.Parts.{frequencies}
 use borrow.Author.Needs.{needs}
 use Rattle.recur.proofs.word.is_frequency.Statement.{statement}

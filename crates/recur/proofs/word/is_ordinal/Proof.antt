@@ -1,6 +1,6 @@
 -- `recur::is_ordinal` meets its contract.
-use Rattle.numbers.specs.Numeral.{fronts-byte, fronts-end}
-use Rattle.octets.specs.Pick.{or-take, or-skip}
+use Rattle.numbers.specs.laws.Numeral.{fronts-byte, fronts-end}
+use Rattle.octets.specs.laws.Pick.{or-take, or-skip}
 use borrow.Author.Needs.{needs}
 use Rattle.recur.proofs.word.is_ordinal.Statement.{statement}
 use Rattle.recur.proofs.word.is_ordinal.Tie as tie

@@ -1,6 +1,6 @@
 -- `recur::is_weekday` meets its contract.
 use Rattle.source.specs.Source.{rest}
-use Rattle.recur.specs.Fits.{word-found, weekdays-are}
+use Rattle.recur.specs.laws.Fits.{word-found, weekdays-are}
 use Rattle.recur.specs.Parts.{weekdays}
 use borrow.Author.Needs.{needs}
 use Rattle.recur.proofs.word.is_weekday.Statement.{statement}

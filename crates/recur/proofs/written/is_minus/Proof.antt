@@ -1,6 +1,6 @@
 -- `recur::is_minus` meets its contract.
-use Rattle.sink.specs.Sink.{writing}
-use Rattle.recur.specs.PutShown.{minus-is}
+use Rattle.sink.specs.laws.Sink.{writing}
+use Rattle.recur.specs.laws.PutShown.{minus-is}
 use Rattle.recur.proofs.written.is_minus.Statement.{statement}
 use Rattle.recur.proofs.written.is_minus.Tie as tie
 

@@ -1,6 +1,6 @@
 -- `recur::put_enddate` meets its contract.
-use Rattle.sink.specs.Sink.{writing}
-use Rattle.recur.specs.PutShown.{put-end-day, put-end-moment}
+use Rattle.sink.specs.laws.Sink.{writing}
+use Rattle.recur.specs.laws.PutShown.{put-end-day, put-end-moment}
 use Rattle.recur.proofs.written.put_enddate.Statement.{statement}
 use Rattle.recur.proofs.written.put_enddate.Tie as tie
 

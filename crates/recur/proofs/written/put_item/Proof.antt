@@ -1,7 +1,7 @@
 -- `recur::put_item` meets its contract.
-use Rattle.octets.specs.Pick.{flag-yes, flag-no}
-use Rattle.sink.specs.Sink.{writing}
-use Rattle.recur.specs.PutShown.{put-item-shown, put-item-none}
+use Rattle.octets.specs.laws.Pick.{flag-yes, flag-no}
+use Rattle.sink.specs.laws.Sink.{writing}
+use Rattle.recur.specs.laws.PutShown.{put-item-shown, put-item-none}
 use Rattle.recur.proofs.written.put_item.Statement.{statement}
 use Rattle.recur.proofs.written.put_item.Tie as tie
 

@@ -1,6 +1,6 @@
 -- `recur::put_number` meets its contract.
-use Rattle.sink.specs.Sink.{writing}
-use Rattle.recur.specs.PutShown.{put-number}
+use Rattle.sink.specs.laws.Sink.{writing}
+use Rattle.recur.specs.laws.PutShown.{put-number}
 use Rattle.recur.proofs.written.put_number.Statement.{statement}
 use Rattle.recur.proofs.written.put_number.Tie as tie
 

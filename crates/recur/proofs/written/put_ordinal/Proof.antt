@@ -1,6 +1,6 @@
 -- `recur::put_ordinal` meets its contract.
-use Rattle.sink.specs.Sink.{writing}
-use Rattle.recur.specs.PutShown.{put-no-ordinal, put-an-ordinal}
+use Rattle.sink.specs.laws.Sink.{writing}
+use Rattle.recur.specs.laws.PutShown.{put-no-ordinal, put-an-ordinal}
 use Rattle.recur.proofs.written.put_ordinal.Statement.{statement}
 use Rattle.recur.proofs.written.put_ordinal.Tie as tie
 

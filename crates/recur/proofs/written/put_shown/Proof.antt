@@ -1,6 +1,6 @@
 -- `recur::put_shown` meets its contract.
-use Rattle.sink.specs.Sink.{writing}
-use Rattle.recur.specs.PutShown.{put-shown-at, put-shown-number, put-shown-beyond}
+use Rattle.sink.specs.laws.Sink.{writing}
+use Rattle.recur.specs.laws.PutShown.{put-shown-at, put-shown-number, put-shown-beyond}
 use Rattle.recur.proofs.written.put_shown.Statement.{statement}
 use Rattle.recur.proofs.written.put_shown.Tie as tie
 

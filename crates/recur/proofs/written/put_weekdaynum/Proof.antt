@@ -1,5 +1,5 @@
 -- `recur::put_weekdaynum` meets its contract.
-use Rattle.sink.specs.Sink.{_▷_, writing}
+use Rattle.sink.specs.laws.Sink.{_▷_, writing}
 use Rattle.recur.proofs.written.put_weekdaynum.Statement.{statement}
 use Rattle.recur.proofs.written.put_weekdaynum.Tie as tie
 

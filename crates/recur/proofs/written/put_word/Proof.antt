@@ -1,6 +1,6 @@
 -- `recur::put_word` meets its contract.
-use Rattle.sink.specs.Sink.{writing}
-use Rattle.recur.specs.PutShown.{put-kept, put-raised}
+use Rattle.sink.specs.laws.Sink.{writing}
+use Rattle.recur.specs.laws.PutShown.{put-kept, put-raised}
 use Rattle.recur.proofs.written.put_word.Statement.{statement}
 use Rattle.recur.proofs.written.put_word.Tie as tie
 

@@ -2,7 +2,7 @@
 use borrow.Author.Needs.{needs}
 use Rattle.schema.specs.Cells.{tabled}
 use Rattle.schema.specs.Computing.{schema-compute}
-use Rattle.schema.specs.Columns.{carries-at}
+use Rattle.schema.specs.laws.Columns.{carries-at}
 use Rattle.schema.proofs.columns.carries.Statement.{statement}
 use Rattle.schema.proofs.columns.carries.Tie as tie
 

@@ -3,7 +3,7 @@ use borrow.Author.Needs.{needs}
 use mathlib.Core.Path.{_∙_}
 use Rattle.schema.specs.Types.{typePlace}
 use Rattle.schema.specs.Properties.{propertyTable, unrecognisedProperty}
-use Rattle.schema.specs.Cells.{column-at, column-past}
+use Rattle.schema.specs.laws.Cells.{column-at, column-past}
 use Rattle.schema.proofs.columns.default_type.Statement.{statement}
 use Rattle.schema.proofs.columns.default_type.Tie as tie
 

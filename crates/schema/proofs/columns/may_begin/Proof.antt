@@ -2,7 +2,7 @@
 use borrow.Author.Needs.{needs}
 use Rattle.schema.specs.Cells.{tabled}
 use Rattle.schema.specs.Computing.{schema-compute}
-use Rattle.schema.specs.Columns.{inner-at, begin-none, begin-nowhere}
+use Rattle.schema.specs.laws.Columns.{inner-at, begin-none, begin-nowhere}
 use Rattle.schema.proofs.columns.may_begin.Statement.{statement}
 use Rattle.schema.proofs.columns.may_begin.Tie as tie
 

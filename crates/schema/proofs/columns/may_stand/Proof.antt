@@ -2,7 +2,7 @@
 use borrow.Author.Needs.{needs}
 use Rattle.schema.specs.Cells.{tabled}
 use Rattle.schema.specs.Computing.{schema-compute}
-use Rattle.schema.specs.Columns.{standing-at, stand-past-property, stand-past-component}
+use Rattle.schema.specs.laws.Columns.{standing-at, stand-past-property, stand-past-component}
 use Rattle.schema.proofs.columns.may_stand.Statement.{statement}
 use Rattle.schema.proofs.columns.may_stand.Tie as tie
 

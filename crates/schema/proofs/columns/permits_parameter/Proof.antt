@@ -1,6 +1,6 @@
 -- `schema::columns::permits_parameter` meets its contract.
 use borrow.Author.Needs.{needs}
-use Rattle.octets.specs.Pick.{branching}
+use Rattle.octets.specs.laws.Pick.{branching}
 use Rattle.schema.proofs.columns.permits_parameter.Statement.{statement}
 use Rattle.schema.proofs.columns.permits_parameter.Tie as tie
 

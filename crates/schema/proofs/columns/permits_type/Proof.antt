@@ -2,7 +2,7 @@
 use borrow.Author.Needs.{needs}
 use Rattle.schema.specs.Cells.{tabled}
 use Rattle.schema.specs.Computing.{schema-compute}
-use Rattle.schema.specs.Columns.{permitted-at, type-unknown, type-free}
+use Rattle.schema.specs.laws.Columns.{permitted-at, type-unknown, type-free}
 use Rattle.schema.proofs.columns.permits_type.Statement.{statement}
 use Rattle.schema.proofs.columns.permits_type.Tie as tie
 

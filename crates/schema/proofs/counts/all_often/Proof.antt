@@ -1,6 +1,6 @@
 -- `schema::counts::all_often` meets its contract.
 use Prim.Native.Nat.{_-_}
-use Rattle.schema.specs.Completing.{Testing, testing}
+use Rattle.schema.specs.laws.Completing.{Testing, testing}
 use Rattle.schema.proofs.counts.all_often.Statement.{statement}
 use Rattle.schema.proofs.counts.all_often.Tie as tie
 

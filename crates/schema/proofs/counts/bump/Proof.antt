@@ -3,7 +3,7 @@ use lib.ListN.{getD}
 use mir.Syntax.{w8}
 use mir.Val.{Fits}
 use borrow.Author.Needs.{needs}
-use Rattle.schema.specs.Arrays.{bumped-more, bumped-full, bumped-past}
+use Rattle.schema.specs.laws.Arrays.{bumped-more, bumped-full, bumped-past}
 use Rattle.schema.proofs.counts.bump.Statement.{statement}
 use Rattle.schema.proofs.counts.bump.Tie as tie
 

@@ -1,5 +1,5 @@
 -- `schema::counts::complete_counts` meets its contract.
-use Rattle.octets.specs.Pick.{branching}
+use Rattle.octets.specs.laws.Pick.{branching}
 use Rattle.schema.proofs.counts.complete_counts.Statement.{statement}
 use Rattle.schema.proofs.counts.complete_counts.Tie as tie
 

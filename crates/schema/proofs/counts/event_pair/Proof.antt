@@ -1,5 +1,5 @@
 -- `schema::counts::event_pair` meets its contract.
-use Rattle.octets.specs.Pick.{branching}
+use Rattle.octets.specs.laws.Pick.{branching}
 use Rattle.schema.proofs.counts.event_pair.Statement.{statement}
 use Rattle.schema.proofs.counts.event_pair.Tie as tie
 

@@ -1,5 +1,5 @@
 -- `schema::counts::is_signed` meets its contract.
-use Rattle.octets.specs.Pick.{branching}
+use Rattle.octets.specs.laws.Pick.{branching}
 use Rattle.schema.proofs.counts.is_signed.Statement.{statement}
 use Rattle.schema.proofs.counts.is_signed.Tie as tie
 

@@ -1,5 +1,5 @@
 -- `schema::counts::pairs_at` meets its contract.
-use Rattle.octets.specs.Pick.{branching}
+use Rattle.octets.specs.laws.Pick.{branching}
 use Rattle.schema.proofs.counts.pairs_at.Statement.{statement}
 use Rattle.schema.proofs.counts.pairs_at.Tie as tie
 

@@ -2,7 +2,7 @@
 use borrow.Author.Needs.{needs}
 use Rattle.schema.specs.Computing.{schema-compute}
 use Rattle.schema.specs.Cells.{tabled}
-use Rattle.schema.specs.Completing.{sign-at, sign-past}
+use Rattle.schema.specs.laws.Completing.{sign-at, sign-past}
 use Rattle.schema.proofs.counts.sign_at.Statement.{statement}
 use Rattle.schema.proofs.counts.sign_at.Tie as tie
 

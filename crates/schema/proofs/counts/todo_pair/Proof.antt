@@ -1,5 +1,5 @@
 -- `schema::counts::todo_pair` meets its contract.
-use Rattle.octets.specs.Pick.{branching}
+use Rattle.octets.specs.laws.Pick.{branching}
 use Rattle.schema.proofs.counts.todo_pair.Statement.{statement}
 use Rattle.schema.proofs.counts.todo_pair.Tie as tie
 

@@ -1,9 +1,10 @@
 -- `schema::numbers::component_number` meets its contract.
 use mathlib.Core.Path.{refl}
 use borrow.Author.Needs.{needs}
-use Rattle.names.specs.Keys.{by-key, by-no-key, keys-compute}
+use Rattle.names.specs.Keys.{keys-compute}
+use Rattle.names.specs.laws.Keys.{by-key, by-no-key}
 use Rattle.schema.specs.Components.{componentNames}
-use Rattle.schema.specs.Numbers.{components-apart}
+use Rattle.schema.specs.laws.Numbers.{components-apart}
 use Rattle.schema.proofs.numbers.component_number.Statement.{statement}
 use Rattle.schema.proofs.numbers.component_number.Tie as tie
 

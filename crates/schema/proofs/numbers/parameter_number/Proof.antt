@@ -1,9 +1,10 @@
 -- `schema::numbers::parameter_number` meets its contract.
 use mathlib.Core.Path.{refl}
 use borrow.Author.Needs.{needs}
-use Rattle.names.specs.Keys.{by-key, by-no-key, keys-compute}
+use Rattle.names.specs.Keys.{keys-compute}
+use Rattle.names.specs.laws.Keys.{by-key, by-no-key}
 use Rattle.schema.specs.Parameters.{parameterNames}
-use Rattle.schema.specs.Numbers.{parameters-apart}
+use Rattle.schema.specs.laws.Numbers.{parameters-apart}
 use Rattle.schema.proofs.numbers.parameter_number.Statement.{statement}
 use Rattle.schema.proofs.numbers.parameter_number.Tie as tie
 

@@ -1,9 +1,10 @@
 -- `schema::numbers::property_number` meets its contract.
 use mathlib.Core.Path.{refl}
 use borrow.Author.Needs.{needs}
-use Rattle.names.specs.Keys.{by-key, by-no-key, keys-compute}
+use Rattle.names.specs.Keys.{keys-compute}
+use Rattle.names.specs.laws.Keys.{by-key, by-no-key}
 use Rattle.schema.specs.Properties.{propertyNames}
-use Rattle.schema.specs.Numbers.{properties-apart}
+use Rattle.schema.specs.laws.Numbers.{properties-apart}
 use Rattle.schema.proofs.numbers.property_number.Statement.{statement}
 use Rattle.schema.proofs.numbers.property_number.Tie as tie
 

@@ -1,8 +1,10 @@
 -- `schema::numbers::type_number` meets its contract.
 use mathlib.Core.Path.{refl}
 use borrow.Author.Needs.{needs}
-use Rattle.names.specs.Keys.{by-key, by-no-key, keys-compute}
-use Rattle.schema.specs.Numbers.{typeNames, types-apart}
+use Rattle.names.specs.Keys.{keys-compute}
+use Rattle.names.specs.laws.Keys.{by-key, by-no-key}
+use Rattle.schema.specs.Numbers.{typeNames}
+use Rattle.schema.specs.laws.Numbers.{types-apart}
 use Rattle.schema.proofs.numbers.type_number.Statement.{statement}
 use Rattle.schema.proofs.numbers.type_number.Tie as tie
 

@@ -1,7 +1,7 @@
 -- `schema::words::action_number` meets its contract.
 use borrow.Author.Needs.{needs}
-use Rattle.names.specs.Table.{by-table}
-use Rattle.schema.specs.Completing.{actions-are}
+use Rattle.names.specs.laws.Table.{by-table}
+use Rattle.schema.specs.laws.Completing.{actions-are}
 use Rattle.schema.proofs.words.action_number.Statement.{statement}
 use Rattle.schema.proofs.words.action_number.Tie as tie
 

@@ -1,7 +1,8 @@
 -- `schema::words::has_words` meets its contract.
 use borrow.Author.Needs.{needs}
 use mathlib.Core.Path.{_∙_}
-use Rattle.schema.specs.Sets.{wordSets, nth-read}
+use Rattle.schema.specs.Sets.{wordSets}
+use Rattle.schema.specs.laws.Sets.{nth-read}
 use Rattle.schema.proofs.words.has_words.Statement.{statement}
 use Rattle.schema.proofs.words.has_words.Tie as tie
 

@@ -4,7 +4,8 @@ use native.Mathlib.Omega.{arith}
 use mathlib.Core.Path.{refl}
 use Rattle.octets.specs.Pick.{pick}
 use Rattle.names.specs.Table.{nth, namesIn}
-use Rattle.schema.specs.Sets.{parameterSets, word-in, word-none}
+use Rattle.schema.specs.Sets.{parameterSets}
+use Rattle.schema.specs.laws.Sets.{word-in, word-none}
 use Rattle.schema.proofs.words.is_in_parameter_set.Statement.{statement}
 use Rattle.schema.proofs.words.is_in_parameter_set.Tie as tie
 

@@ -1,6 +1,6 @@
 -- `schema::words::is_word_of_parameter` meets its contract.
 use borrow.Author.Needs.{needs}
-use Rattle.schema.specs.Sets.{parameter-set}
+use Rattle.schema.specs.laws.Sets.{parameter-set}
 use Rattle.schema.proofs.words.is_word_of_parameter.Statement.{statement}
 use Rattle.schema.proofs.words.is_word_of_parameter.Tie as tie
 

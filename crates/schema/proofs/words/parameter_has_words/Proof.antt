@@ -1,7 +1,8 @@
 -- `schema::words::parameter_has_words` meets its contract.
 use borrow.Author.Needs.{needs}
 use mathlib.Core.Path.{_∙_}
-use Rattle.schema.specs.Sets.{parameterSets, nth-read, parameter-set}
+use Rattle.schema.specs.Sets.{parameterSets}
+use Rattle.schema.specs.laws.Sets.{nth-read, parameter-set}
 use Rattle.schema.proofs.words.parameter_has_words.Statement.{statement}
 use Rattle.schema.proofs.words.parameter_has_words.Tie as tie
 

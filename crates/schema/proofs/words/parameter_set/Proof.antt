@@ -2,7 +2,7 @@
 use borrow.Author.Needs.{needs}
 use mathlib.Core.Path.{_∙_}
 use Rattle.schema.specs.Sets.{parameterSetNumbers}
-use Rattle.schema.specs.Cells.{column-at, column-past}
+use Rattle.schema.specs.laws.Cells.{column-at, column-past}
 use Rattle.schema.proofs.words.parameter_set.Statement.{statement}
 use Rattle.schema.proofs.words.parameter_set.Tie as tie
 

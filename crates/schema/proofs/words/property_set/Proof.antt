@@ -1,5 +1,6 @@
 -- `schema::words::property_set` meets its contract.
-use Rattle.octets.specs.Pick.{pick, branching}
+use Rattle.octets.specs.Pick.{pick}
+use Rattle.octets.specs.laws.Pick.{branching}
 use Rattle.schema.proofs.words.property_set.Statement.{statement}
 use Rattle.schema.proofs.words.property_set.Tie as tie
 

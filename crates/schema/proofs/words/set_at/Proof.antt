@@ -1,5 +1,5 @@
 -- `schema::words::set_at` meets its contract.
-use Rattle.octets.specs.Pick.{branching}
+use Rattle.octets.specs.laws.Pick.{branching}
 use Rattle.schema.proofs.words.set_at.Statement.{statement}
 use Rattle.schema.proofs.words.set_at.Tie as tie
 

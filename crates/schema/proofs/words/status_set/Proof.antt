@@ -1,5 +1,5 @@
 -- `schema::words::status_set` meets its contract.
-use Rattle.octets.specs.Pick.{branching}
+use Rattle.octets.specs.laws.Pick.{branching}
 use Rattle.schema.proofs.words.status_set.Statement.{statement}
 use Rattle.schema.proofs.words.status_set.Tie as tie
 

@@ -1,6 +1,6 @@
 -- `source::characters::ampersand_at` meets its contract.
 use borrow.Author.Needs.{needs}
-use Rattle.source.specs.Stepping.{ampersand-here, ampersand-one, ampersand-two}
+use Rattle.source.specs.laws.Stepping.{ampersand-here, ampersand-one, ampersand-two}
 use Rattle.source.proofs.characters.ampersand_at.Statement.{statement}
 use Rattle.source.proofs.characters.ampersand_at.Tie as tie
 

@@ -1,7 +1,7 @@
 -- `source::characters::begin_unit` meets its contract.
 use native.Mathlib.Omega.{arith}
 use borrow.Author.Needs.{needs}
-use Rattle.source.specs.Stepping.{byte-step, none-step, begin-step, referring}
+use Rattle.source.specs.laws.Stepping.{byte-step, none-step, begin-step, referring}
 use Rattle.source.proofs.characters.begin_unit.Statement.{statement}
 use Rattle.source.proofs.characters.begin_unit.Tie as tie
 

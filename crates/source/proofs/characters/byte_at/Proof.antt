@@ -1,6 +1,6 @@
 -- `source::characters::byte_at` meets its contract.
 use borrow.Author.Needs.{needs}
-use Rattle.source.specs.Stepping.{byte-none}
+use Rattle.source.specs.laws.Stepping.{byte-none}
 use Rattle.source.proofs.characters.byte_at.Statement.{statement}
 use Rattle.source.proofs.characters.byte_at.Tie as tie
 

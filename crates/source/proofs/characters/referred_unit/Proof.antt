@@ -1,7 +1,7 @@
 -- `source::characters::referred_unit` meets its contract.
 use native.Mathlib.Omega.{arith}
 use borrow.Author.Needs.{needs}
-use Rattle.source.specs.Stepping.{left-more, left-last, left-none}
+use Rattle.source.specs.laws.Stepping.{left-more, left-last, left-none}
 use Rattle.source.proofs.characters.referred_unit.Statement.{statement}
 use Rattle.source.proofs.characters.referred_unit.Tie as tie
 

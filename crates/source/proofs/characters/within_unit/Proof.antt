@@ -1,7 +1,7 @@
 -- `source::characters::within_unit` meets its contract.
 use native.Mathlib.Omega.{arith}
 use borrow.Author.Needs.{needs}
-use Rattle.source.specs.Stepping.{astray-step, within-step, referring}
+use Rattle.source.specs.laws.Stepping.{astray-step, within-step, referring}
 use Rattle.source.proofs.characters.within_unit.Statement.{statement}
 use Rattle.source.proofs.characters.within_unit.Tie as tie
 

@@ -1,5 +1,5 @@
 -- `texts::in_group` meets its contract.
-use Rattle.octets.specs.Pick.{branching}
+use Rattle.octets.specs.laws.Pick.{branching}
 use Rattle.texts.proofs.binary.in_group.Statement.{statement}
 use Rattle.texts.proofs.binary.in_group.Tie as tie
 

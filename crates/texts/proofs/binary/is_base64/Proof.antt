@@ -1,5 +1,5 @@
 -- `texts::is_base64` meets its contract.
-use Rattle.octets.specs.Pick.{branching}
+use Rattle.octets.specs.laws.Pick.{branching}
 use Rattle.texts.proofs.binary.is_base64.Statement.{statement}
 use Rattle.texts.proofs.binary.is_base64.Tie as tie
 

@@ -1,5 +1,5 @@
 -- `texts::is_passed` meets its contract.
-use Rattle.octets.specs.Pick.{branching}
+use Rattle.octets.specs.laws.Pick.{branching}
 use Rattle.texts.proofs.binary.is_passed.Statement.{statement}
 use Rattle.texts.proofs.binary.is_passed.Tie as tie
 

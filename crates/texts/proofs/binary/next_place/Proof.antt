@@ -1,5 +1,5 @@
 -- `texts::next_place` meets its contract.
-use Rattle.octets.specs.Pick.{branching}
+use Rattle.octets.specs.laws.Pick.{branching}
 use Rattle.texts.proofs.binary.next_place.Statement.{statement}
 use Rattle.texts.proofs.binary.next_place.Tie as tie
 

@@ -1,6 +1,6 @@
 -- `texts::pad_fits` meets its contract.
-use Rattle.octets.specs.Pick.{branching, branching-joined}
-use Rattle.texts.specs.Kept.{pad-two, pad-three}
+use Rattle.octets.specs.laws.Pick.{branching, branching-joined}
+use Rattle.texts.specs.laws.Kept.{pad-two, pad-three}
 use Rattle.texts.proofs.binary.pad_fits.Statement.{statement}
 use Rattle.texts.proofs.binary.pad_fits.Tie as tie
 

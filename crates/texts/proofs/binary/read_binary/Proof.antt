@@ -2,9 +2,9 @@
 use mathlib.Core.Path.{_≡_}
 use Prim.Native.Nat.{_-_, _*_, _≤_}
 use lib.ListN.{length}
-use Rattle.model.specs.Calendar.{formatOf}
+use Rattle.calendar.specs.Calendar.{formatOf}
 use Rattle.source.specs.Source.{rest}
-use Rattle.texts.specs.Kept.{reading-binary}
+use Rattle.texts.specs.laws.Kept.{reading-binary}
 use Rattle.texts.specs.Binary.{isBinary, binaryFrom, binaryChars}
 use Rattle.texts.proofs.binary.read_binary.Statement.{statement}
 use Rattle.texts.proofs.binary.read_binary.Tie as tie

@@ -2,7 +2,7 @@
 use mathlib.Core.Path.{sym, _∙_}
 use native.Mathlib.Omega.{arith}
 use borrow.Author.Tests.{eq-eqb, ne-eqb}
-use Rattle.octets.specs.Pick.{branching, within-range, pick-take, pick-skip, flag-no}
+use Rattle.octets.specs.laws.Pick.{branching, within-range, pick-take, pick-skip, flag-no}
 use Rattle.texts.proofs.binary.worth.Statement.{statement}
 use Rattle.texts.proofs.binary.worth.Tie as tie
 

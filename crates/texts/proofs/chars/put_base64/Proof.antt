@@ -2,11 +2,12 @@
 use mathlib.Core.Path.{_≡_}
 use Prim.Native.Nat.{_-_, _*_}
 use lib.ListN.{length}
-use Rattle.model.specs.Calendar.{formatOf}
-use Rattle.sink.specs.Sink.{Todo, writing}
+use Rattle.calendar.specs.Calendar.{formatOf}
+use Rattle.sink.specs.Sink.{Todo}
+use Rattle.sink.specs.laws.Sink.{writing}
 use Rattle.source.specs.Source.{rest}
 use Rattle.texts.specs.Binary.{binaryChars}
-use Rattle.texts.specs.Chars.{writing-base64}
+use Rattle.texts.specs.laws.Chars.{writing-base64}
 use Rattle.texts.proofs.chars.put_base64.Statement.{statement}
 use Rattle.texts.proofs.chars.put_base64.Tie as tie
 

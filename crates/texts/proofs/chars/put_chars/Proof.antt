@@ -2,10 +2,12 @@
 use mathlib.Core.Path.{_≡_}
 use Prim.Native.Nat.{_-_, _*_}
 use lib.ListN.{length}
-use Rattle.sink.specs.Sink.{Todo, each}
+use Rattle.sink.specs.Sink.{Todo}
+use Rattle.sink.specs.laws.Sink.{each}
 use Rattle.source.specs.Source.{rest}
-use Rattle.source.specs.Copying.{copying}
-use Rattle.texts.specs.Chars.{asIsByte, put-as-is}
+use Rattle.source.specs.laws.Copying.{copying}
+use Rattle.texts.specs.Chars.{asIsByte}
+use Rattle.texts.specs.laws.Chars.{put-as-is}
 use Rattle.texts.proofs.chars.put_chars.Statement.{statement}
 use Rattle.texts.proofs.chars.put_chars.Tie as tie
 

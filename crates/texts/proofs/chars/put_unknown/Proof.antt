@@ -1,5 +1,5 @@
 -- `texts::put_unknown` meets its contract.
-use Rattle.texts.specs.Chars.{writing-kept}
+use Rattle.texts.specs.laws.Chars.{writing-kept}
 use Rattle.texts.proofs.chars.put_unknown.Statement.{statement}
 use Rattle.texts.proofs.chars.put_unknown.Tie as tie
 

@@ -1,5 +1,5 @@
 -- `texts::put_unknown_xml` meets its contract.
-use Rattle.texts.specs.Chars.{writing-kept}
+use Rattle.texts.specs.laws.Chars.{writing-kept}
 use Rattle.texts.proofs.chars.put_unknown_xml.Statement.{statement}
 use Rattle.texts.proofs.chars.put_unknown_xml.Tie as tie
 

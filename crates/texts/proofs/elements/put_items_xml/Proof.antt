@@ -1,7 +1,7 @@
 -- `texts::put_items_xml` meets its contract.
 use Prim.Native.Nat.{_-_, _*_}
 use lib.ListN.{length}
-use Rattle.texts.specs.Elements.{Listing, listing}
+use Rattle.texts.specs.laws.Elements.{Listing, listing}
 use Rattle.texts.proofs.elements.put_items_xml.Statement.{statement}
 use Rattle.texts.proofs.elements.put_items_xml.Tie as tie
 

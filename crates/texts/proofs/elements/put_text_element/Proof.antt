@@ -1,8 +1,8 @@
 -- `texts::put_text_element` meets its contract.
 use native.Mathlib.Omega.{arith}
 use lib.ListN.{length-take}
-use Rattle.sink.specs.Sink.{writing}
-use Rattle.texts.specs.Elements.{put-part}
+use Rattle.sink.specs.laws.Sink.{writing}
+use Rattle.texts.specs.laws.Elements.{put-part}
 use Rattle.texts.proofs.elements.put_text_element.Statement.{statement}
 use Rattle.texts.proofs.elements.put_text_element.Tie as tie
 

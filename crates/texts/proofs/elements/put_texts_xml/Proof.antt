@@ -1,6 +1,6 @@
 -- `texts::put_texts_xml` meets its contract.
-use Rattle.sink.specs.Sink.{writing}
-use Rattle.texts.specs.Elements.{texts-read, put-no-texts}
+use Rattle.sink.specs.laws.Sink.{writing}
+use Rattle.texts.specs.laws.Elements.{texts-read, put-no-texts}
 use Rattle.texts.proofs.elements.put_texts_xml.Statement.{statement}
 use Rattle.texts.proofs.elements.put_texts_xml.Tie as tie
 

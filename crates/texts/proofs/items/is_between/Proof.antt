@@ -1,5 +1,5 @@
 -- `texts::is_between` meets its contract.
-use Rattle.octets.specs.Pick.{branching}
+use Rattle.octets.specs.laws.Pick.{branching}
 use Rattle.texts.proofs.items.is_between.Statement.{statement}
 use Rattle.texts.proofs.items.is_between.Tie as tie
 

@@ -1,7 +1,7 @@
 -- `texts::item_end` meets its contract.
 use Prim.Native.Nat.{_-_, _*_}
 use lib.ListN.{length}
-use Rattle.texts.specs.Items.{Walking, walking}
+use Rattle.texts.specs.laws.Items.{Walking, walking}
 use Rattle.texts.proofs.items.item_end.Statement.{statement}
 use Rattle.texts.proofs.items.item_end.Tie as tie
 

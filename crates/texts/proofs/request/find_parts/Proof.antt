@@ -1,5 +1,5 @@
 -- `texts::find_parts` meets its contract.
-use Rattle.texts.specs.StatusParts.{finding-parts}
+use Rattle.texts.specs.laws.StatusParts.{finding-parts}
 use Rattle.texts.proofs.request.find_parts.Statement.{statement}
 use Rattle.texts.proofs.request.find_parts.Tie as tie
 

@@ -1,5 +1,5 @@
 -- `texts::is_soon_over` meets its contract.
-use Rattle.texts.specs.StatusParts.{ending-soon}
+use Rattle.texts.specs.laws.StatusParts.{ending-soon}
 use Rattle.texts.proofs.request.is_soon_over.Statement.{statement}
 use Rattle.texts.proofs.request.is_soon_over.Tie as tie
 

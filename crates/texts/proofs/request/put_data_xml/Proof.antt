@@ -1,6 +1,6 @@
 -- `texts::put_data_xml` meets its contract.
-use Rattle.sink.specs.Sink.{writing}
-use Rattle.texts.specs.StatusXml.{put-data, put-no-data}
+use Rattle.sink.specs.laws.Sink.{writing}
+use Rattle.texts.specs.laws.StatusXml.{put-data, put-no-data}
 use Rattle.texts.proofs.request.put_data_xml.Statement.{statement}
 use Rattle.texts.proofs.request.put_data_xml.Tie as tie
 

@@ -1,5 +1,5 @@
 -- `texts::put_parts_xml` meets its contract.
-use Rattle.sink.specs.Sink.{writing}
+use Rattle.sink.specs.laws.Sink.{writing}
 use Rattle.texts.proofs.request.put_parts_xml.Statement.{statement}
 use Rattle.texts.proofs.request.put_parts_xml.Tie as tie
 

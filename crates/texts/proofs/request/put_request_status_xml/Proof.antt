@@ -1,6 +1,6 @@
 -- `texts::put_request_status_xml` meets its contract.
-use Rattle.sink.specs.Sink.{writing}
-use Rattle.texts.specs.StatusXml.{put-status, put-no-status}
+use Rattle.sink.specs.laws.Sink.{writing}
+use Rattle.texts.specs.laws.StatusXml.{put-status, put-no-status}
 use Rattle.texts.proofs.request.put_request_status_xml.Statement.{statement}
 use Rattle.texts.proofs.request.put_request_status_xml.Tie as tie
 

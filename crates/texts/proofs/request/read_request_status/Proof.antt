@@ -1,5 +1,5 @@
 -- `texts::read_request_status` meets its contract.
-use Rattle.texts.specs.StatusParts.{reading-status}
+use Rattle.texts.specs.laws.StatusParts.{reading-status}
 use Rattle.texts.proofs.request.read_request_status.Statement.{statement}
 use Rattle.texts.proofs.request.read_request_status.Tie as tie
 

@@ -1,5 +1,5 @@
 -- `texts::in_text` meets its contract.
-use Rattle.octets.specs.Pick.{branching}
+use Rattle.octets.specs.laws.Pick.{branching}
 use Rattle.texts.proofs.text.in_text.Statement.{statement}
 use Rattle.texts.proofs.text.in_text.Tie as tie
 

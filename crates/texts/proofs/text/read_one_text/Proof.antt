@@ -1,6 +1,6 @@
 -- `texts::read_one_text` meets its contract.
 use borrow.Author.Needs.{needs}
-use Rattle.texts.specs.Unescaped.{text-alone}
+use Rattle.texts.specs.laws.Unescaped.{text-alone}
 use Rattle.texts.proofs.text.read_one_text.Statement.{statement}
 use Rattle.texts.proofs.text.read_one_text.Tie as tie
 

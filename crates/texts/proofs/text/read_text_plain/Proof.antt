@@ -5,7 +5,8 @@ use lib.ListN.{length}
 use Rattle.octets.specs.Reading.{isRead}
 use Rattle.source.specs.Source.{rest}
 use Rattle.texts.specs.Text.{splitText}
-use Rattle.texts.specs.Unescaped.{isSplit, reading-text}
+use Rattle.texts.specs.Unescaped.{isSplit}
+use Rattle.texts.specs.laws.Unescaped.{reading-text}
 use Rattle.texts.proofs.text.read_text_plain.Statement.{statement}
 use Rattle.texts.proofs.text.read_text_plain.Tie as tie
 

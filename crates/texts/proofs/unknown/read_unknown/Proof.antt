@@ -3,7 +3,7 @@ use mathlib.Core.Path.{_≡_}
 use Prim.Native.Nat.{_-_, _*_}
 use lib.ListN.{length}
 use Rattle.source.specs.Source.{rest}
-use Rattle.texts.specs.Kept.{reading-unknown}
+use Rattle.texts.specs.laws.Kept.{reading-unknown}
 use Rattle.texts.specs.Unknown.{isUnknown}
 use Rattle.texts.proofs.unknown.read_unknown.Statement.{statement}
 use Rattle.texts.proofs.unknown.read_unknown.Tie as tie

@@ -1,5 +1,5 @@
 -- `texts::in_uri` meets its contract.
-use Rattle.octets.specs.Pick.{branching}
+use Rattle.octets.specs.laws.Pick.{branching}
 use Rattle.texts.proofs.uri.in_uri.Statement.{statement}
 use Rattle.texts.proofs.uri.in_uri.Tie as tie
 

@@ -1,5 +1,5 @@
 -- `texts::is_outside` meets its contract.
-use Rattle.octets.specs.Pick.{branching}
+use Rattle.octets.specs.laws.Pick.{branching}
 use Rattle.texts.proofs.uri.is_outside.Statement.{statement}
 use Rattle.texts.proofs.uri.is_outside.Tie as tie
 

@@ -1,5 +1,5 @@
 -- `texts::is_scheme_char` meets its contract.
-use Rattle.octets.specs.Pick.{branching}
+use Rattle.octets.specs.laws.Pick.{branching}
 use Rattle.texts.proofs.uri.is_scheme_char.Statement.{statement}
 use Rattle.texts.proofs.uri.is_scheme_char.Tie as tie
 

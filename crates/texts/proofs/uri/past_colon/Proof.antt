@@ -1,5 +1,5 @@
 -- `texts::past_colon` meets its contract.
-use Rattle.octets.specs.Pick.{branching}
+use Rattle.octets.specs.laws.Pick.{branching}
 use Rattle.texts.proofs.uri.past_colon.Statement.{statement}
 use Rattle.texts.proofs.uri.past_colon.Tie as tie
 

@@ -4,7 +4,7 @@ use mathlib.Core.Path.{_≡_}
 use Prim.Native.Nat.{_-_, _*_}
 use lib.ListN.{length}
 use Rattle.source.specs.Source.{rest}
-use Rattle.texts.specs.Kept.{reading-uri}
+use Rattle.texts.specs.laws.Kept.{reading-uri}
 use Rattle.texts.specs.Uri.{uriFrom}
 use Rattle.texts.proofs.uri.read_after.Statement.{statement}
 use Rattle.texts.proofs.uri.read_after.Tie as tie

@@ -1,5 +1,5 @@
 -- `texts::read_uri` meets its contract.
-use Rattle.texts.specs.Kept.{reading-uri}
+use Rattle.texts.specs.laws.Kept.{reading-uri}
 use Rattle.texts.proofs.uri.read_uri.Statement.{statement}
 use Rattle.texts.proofs.uri.read_uri.Tie as tie
 

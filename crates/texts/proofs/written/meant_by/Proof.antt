@@ -1,5 +1,5 @@
 -- `texts::meant_by` meets its contract.
-use Rattle.octets.specs.Pick.{branching-joined}
+use Rattle.octets.specs.laws.Pick.{branching-joined}
 use Rattle.texts.proofs.written.meant_by.Statement.{statement}
 use Rattle.texts.proofs.written.meant_by.Tie as tie
 

@@ -1,7 +1,7 @@
 -- `texts::put_text_byte` meets its contract.
-use Rattle.octets.specs.Pick.{flag-yes, flag-no}
-use Rattle.sink.specs.Sink.{writing}
-use Rattle.texts.specs.Written.{put-two}
+use Rattle.octets.specs.laws.Pick.{flag-yes, flag-no}
+use Rattle.sink.specs.laws.Sink.{writing}
+use Rattle.texts.specs.laws.Written.{put-two}
 use Rattle.texts.proofs.written.put_text_byte.Statement.{statement}
 use Rattle.texts.proofs.written.put_text_byte.Tie as tie
 

@@ -2,11 +2,12 @@
 use mathlib.Core.Path.{_≡_}
 use Prim.Native.Nat.{_-_, _*_}
 use lib.ListN.{length}
-use Rattle.sink.specs.Sink.{Todo, each}
+use Rattle.sink.specs.Sink.{Todo}
+use Rattle.sink.specs.laws.Sink.{each}
 use Rattle.source.specs.Source.{rest}
-use Rattle.source.specs.Copying.{copying}
+use Rattle.source.specs.laws.Copying.{copying}
 use Rattle.texts.specs.Text.{escapeText}
-use Rattle.texts.specs.Written.{text-each-of}
+use Rattle.texts.specs.laws.Written.{text-each-of}
 use Rattle.texts.proofs.written.put_text_escaped.Statement.{statement}
 use Rattle.texts.proofs.written.put_text_escaped.Tie as tie
 

@@ -1,6 +1,6 @@
 -- `texts::put_text_xml` meets its contract.
-use Rattle.sink.specs.Sink.{writing}
-use Rattle.texts.specs.Written.{put-read, put-unread}
+use Rattle.sink.specs.laws.Sink.{writing}
+use Rattle.texts.specs.laws.Written.{put-read, put-unread}
 use Rattle.texts.proofs.written.put_text_xml.Statement.{statement}
 use Rattle.texts.proofs.written.put_text_xml.Tie as tie
 

@@ -7,7 +7,7 @@ use Rattle.sink.specs.Sink.{Todo}
 use Rattle.source.specs.Source.{rest}
 use Rattle.xml.specs.Escape.{escaped}
 use Rattle.texts.specs.Unescaped.{unescaped}
-use Rattle.texts.specs.Written.{writing-xml}
+use Rattle.texts.specs.laws.Written.{writing-xml}
 use Rattle.texts.proofs.written.put_unescaped.Statement.{statement}
 use Rattle.texts.proofs.written.put_unescaped.Tie as tie
 

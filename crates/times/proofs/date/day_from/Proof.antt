@@ -1,6 +1,6 @@
 -- `times::date::day_from` meets its contract.
-use Rattle.octets.specs.Pick.{flag-yes, flag-no, branching}
-use Rattle.times.specs.DateAlong.{day-found, day-missing}
+use Rattle.octets.specs.laws.Pick.{flag-yes, flag-no, branching}
+use Rattle.times.specs.laws.DateAlong.{day-found, day-missing}
 use Rattle.times.proofs.date.day_from.Statement.{statement}
 use Rattle.times.proofs.date.day_from.Tie as tie
 

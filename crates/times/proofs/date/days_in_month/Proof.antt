@@ -1,5 +1,5 @@
 -- `times::date::days_in_month` meets its contract.
-use Rattle.octets.specs.Pick.{branching}
+use Rattle.octets.specs.laws.Pick.{branching}
 use Rattle.times.specs.Date.{daysInMonth}
 use Rattle.times.proofs.date.days_in_month.Statement.{statement}
 use Rattle.times.proofs.date.days_in_month.Tie as tie

@@ -1,5 +1,5 @@
 -- `times::date::follow_date` meets its contract.
-use Rattle.octets.specs.Pick.{branching}
+use Rattle.octets.specs.laws.Pick.{branching}
 use Rattle.times.proofs.date.follow_date.Statement.{statement}
 use Rattle.times.proofs.date.follow_date.Tie as tie
 

@@ -1,5 +1,5 @@
 -- `times::date::has_thirty_days` meets its contract.
-use Rattle.octets.specs.Pick.{branching}
+use Rattle.octets.specs.laws.Pick.{branching}
 use Rattle.times.specs.Date.{hasThirtyDays}
 use Rattle.times.proofs.date.has_thirty_days.Statement.{statement}
 use Rattle.times.proofs.date.has_thirty_days.Tie as tie

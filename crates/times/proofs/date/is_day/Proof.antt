@@ -1,5 +1,5 @@
 -- `times::date::is_day` meets its contract.
-use Rattle.octets.specs.Pick.{branching}
+use Rattle.octets.specs.laws.Pick.{branching}
 use Rattle.times.specs.Date.{isDay}
 use Rattle.times.proofs.date.is_day.Statement.{statement}
 use Rattle.times.proofs.date.is_day.Tie as tie

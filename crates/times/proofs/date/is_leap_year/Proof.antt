@@ -1,5 +1,5 @@
 -- `times::date::is_leap_year` meets its contract.
-use Rattle.octets.specs.Pick.{branching}
+use Rattle.octets.specs.laws.Pick.{branching}
 use Rattle.times.specs.Date.{isLeapYear}
 use Rattle.times.proofs.date.is_leap_year.Statement.{statement}
 use Rattle.times.proofs.date.is_leap_year.Tie as tie

@@ -1,5 +1,5 @@
 -- `times::date::is_within` meets its contract.
-use Rattle.octets.specs.Pick.{branching}
+use Rattle.octets.specs.laws.Pick.{branching}
 use Rattle.times.proofs.date.is_within.Statement.{statement}
 use Rattle.times.proofs.date.is_within.Tie as tie
 

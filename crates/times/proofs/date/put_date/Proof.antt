@@ -1,6 +1,6 @@
 -- `times::date::put_date` meets its contract.
-use Rattle.sink.specs.Sink.{writing}
-use Rattle.times.specs.Written.{put-day-read, put-no-day}
+use Rattle.sink.specs.laws.Sink.{writing}
+use Rattle.times.specs.laws.Written.{put-day-read, put-no-day}
 use Rattle.times.proofs.date.put_date.Statement.{statement}
 use Rattle.times.proofs.date.put_date.Tie as tie
 

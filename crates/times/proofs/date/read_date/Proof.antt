@@ -1,8 +1,8 @@
 -- `times::date::read_date` meets its contract.
-use Rattle.octets.specs.Pick.{flag-yes, flag-no, branching}
-use Rattle.times.specs.DateAlong.{date-ended, date-longer, date-lost}
+use Rattle.octets.specs.laws.Pick.{flag-yes, flag-no, branching}
+use Rattle.times.specs.laws.DateAlong.{date-ended, date-longer, date-lost}
 use mathlib.Core.Path.{_∙_}
-use Rattle.model.specs.Calendar.{formatOf}
+use Rattle.calendar.specs.Calendar.{formatOf}
 use Rattle.times.proofs.date.read_date.Statement.{statement}
 use Rattle.times.proofs.date.read_date.Tie as tie
 

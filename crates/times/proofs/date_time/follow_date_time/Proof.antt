@@ -1,5 +1,5 @@
 -- `times::date_time::follow_date_time` meets its contract.
-use Rattle.octets.specs.Pick.{branching}
+use Rattle.octets.specs.laws.Pick.{branching}
 use Rattle.times.proofs.date_time.follow_date_time.Statement.{statement}
 use Rattle.times.proofs.date_time.follow_date_time.Tie as tie
 

@@ -1,6 +1,6 @@
 -- `times::date_time::moment_from` meets its contract.
 use borrow.Author.Needs.{needs}
-use Rattle.times.specs.DateTimeAlong.{moment-day, moment-none}
+use Rattle.times.specs.laws.DateTimeAlong.{moment-day, moment-none}
 use mathlib.Core.Path.{_∙_, ap}
 use Rattle.times.specs.DateAlong.{dayOf}
 use Rattle.times.proofs.date_time.moment_from.Statement.{statement}

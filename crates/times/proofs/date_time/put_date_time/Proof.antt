@@ -1,6 +1,6 @@
 -- `times::date_time::put_date_time` meets its contract.
-use Rattle.sink.specs.Sink.{writing}
-use Rattle.times.specs.Written.{put-moment-read, put-no-moment}
+use Rattle.sink.specs.laws.Sink.{writing}
+use Rattle.times.specs.laws.Written.{put-moment-read, put-no-moment}
 use Rattle.times.proofs.date_time.put_date_time.Statement.{statement}
 use Rattle.times.proofs.date_time.put_date_time.Tie as tie
 

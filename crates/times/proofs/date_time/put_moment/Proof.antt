@@ -1,5 +1,5 @@
 -- `times::date_time::put_moment` meets its contract.
-use Rattle.sink.specs.Sink.{writing}
+use Rattle.sink.specs.laws.Sink.{writing}
 use Rattle.times.specs.Written.{momentBytes}
 use Rattle.times.proofs.date_time.put_moment.Statement.{statement}
 use Rattle.times.proofs.date_time.put_moment.Tie as tie

@@ -1,6 +1,6 @@
 -- `times::date_time::read_date_time` meets its contract.
 use borrow.Author.Needs.{needs}
-use Rattle.times.specs.DateTimeAlong.{date-time-ended, date-time-lost}
+use Rattle.times.specs.laws.DateTimeAlong.{date-time-ended, date-time-lost}
 use mathlib.Core.Path.{_∙_}
 use Rattle.times.proofs.date_time.read_date_time.Statement.{statement}
 use Rattle.times.proofs.date_time.read_date_time.Tie as tie

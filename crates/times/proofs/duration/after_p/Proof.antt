@@ -1,5 +1,5 @@
 -- `times::duration::after_p` meets its contract.
-use Rattle.times.specs.DurationAt.{counting}
+use Rattle.times.specs.laws.DurationAt.{counting}
 use Rattle.times.proofs.duration.after_p.Statement.{statement}
 use Rattle.times.proofs.duration.after_p.Tie as tie
 

@@ -1,5 +1,5 @@
 -- `times::duration::after_t` meets its contract.
-use Rattle.times.specs.DurationAt.{counting}
+use Rattle.times.specs.laws.DurationAt.{counting}
 use Rattle.times.specs.Duration.{dur-time}
 use Rattle.times.proofs.duration.after_t.Statement.{statement}
 use Rattle.times.proofs.duration.after_t.Tie as tie

@@ -1,5 +1,5 @@
 -- `times::duration::days` meets its contract.
-use Rattle.times.specs.DurationAt.{counting}
+use Rattle.times.specs.laws.DurationAt.{counting}
 use Rattle.times.specs.Duration.{dur-date}
 use Rattle.times.proofs.duration.days.Statement.{statement}
 use Rattle.times.proofs.duration.days.Tie as tie

@@ -1,8 +1,8 @@
 -- `times::duration::digits` meets its contract.
-use Rattle.times.specs.DurationAt.{Running, run-less, running}
+use Rattle.times.specs.laws.DurationAt.{Running, run-less, running}
 use Prim.Native.Nat.{_*_, _-_}
 use lib.ListN.{length}
-use Rattle.octets.specs.Pick.{flag-yes}
+use Rattle.octets.specs.laws.Pick.{flag-yes}
 use Rattle.times.proofs.duration.digits.Statement.{statement}
 use Rattle.times.proofs.duration.digits.Tie as tie
 

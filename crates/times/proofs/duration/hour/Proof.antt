@@ -1,5 +1,5 @@
 -- `times::duration::hour` meets its contract.
-use Rattle.times.specs.DurationAt.{counting}
+use Rattle.times.specs.laws.DurationAt.{counting}
 use Rattle.times.specs.Duration.{dur-hour}
 use Rattle.times.proofs.duration.hour.Statement.{statement}
 use Rattle.times.proofs.duration.hour.Tie as tie

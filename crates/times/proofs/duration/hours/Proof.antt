@@ -1,5 +1,5 @@
 -- `times::duration::hours` meets its contract.
-use Rattle.times.specs.DurationAt.{counting}
+use Rattle.times.specs.laws.DurationAt.{counting}
 use Rattle.times.proofs.duration.hours.Statement.{statement}
 use Rattle.times.proofs.duration.hours.Tie as tie
 

@@ -1,5 +1,5 @@
 -- `times::duration::is_unsigned` meets its contract.
-use Rattle.times.specs.DurationAt.{counting}
+use Rattle.times.specs.laws.DurationAt.{counting}
 use Rattle.times.specs.Duration.{unsigned}
 use Rattle.times.proofs.duration.is_unsigned.Statement.{statement}
 use Rattle.times.proofs.duration.is_unsigned.Tie as tie

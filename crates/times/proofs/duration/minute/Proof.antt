@@ -1,5 +1,5 @@
 -- `times::duration::minute` meets its contract.
-use Rattle.times.specs.DurationAt.{counting}
+use Rattle.times.specs.laws.DurationAt.{counting}
 use Rattle.times.specs.Duration.{dur-minute}
 use Rattle.times.proofs.duration.minute.Statement.{statement}
 use Rattle.times.proofs.duration.minute.Tie as tie

@@ -1,5 +1,5 @@
 -- `times::duration::no_or_minute` meets its contract.
-use Rattle.times.specs.DurationAt.{counting}
+use Rattle.times.specs.laws.DurationAt.{counting}
 use Rattle.times.proofs.duration.no_or_minute.Statement.{statement}
 use Rattle.times.proofs.duration.no_or_minute.Tie as tie
 

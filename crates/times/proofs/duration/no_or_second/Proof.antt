@@ -1,5 +1,5 @@
 -- `times::duration::no_or_second` meets its contract.
-use Rattle.times.specs.DurationAt.{counting}
+use Rattle.times.specs.laws.DurationAt.{counting}
 use Rattle.times.proofs.duration.no_or_second.Statement.{statement}
 use Rattle.times.proofs.duration.no_or_second.Tie as tie
 

@@ -1,6 +1,6 @@
 -- `times::duration::put_duration` meets its contract.
-use Rattle.sink.specs.Sink.{writing}
-use Rattle.times.specs.DurationAt.{put-span-read, put-no-span}
+use Rattle.sink.specs.laws.Sink.{writing}
+use Rattle.times.specs.laws.DurationAt.{put-span-read, put-no-span}
 use denote.Ref.{now}
 use Rattle.times.proofs.duration.put_duration.Statement.{statement}
 use Rattle.times.proofs.duration.put_duration.Tie as tie

@@ -1,5 +1,5 @@
 -- `times::duration::put_letters` meets its contract.
-use Rattle.times.specs.DurationAt.{copying}
+use Rattle.times.specs.laws.DurationAt.{copying}
 use mathlib.Core.Path.{_≡_}
 use Prim.Native.Nat.{_*_, _-_}
 use lib.ListN.{length}

@@ -1,5 +1,5 @@
 -- `times::duration::put_span` meets its contract.
-use Rattle.sink.specs.Sink.{writing}
+use Rattle.sink.specs.laws.Sink.{writing}
 use Rattle.times.proofs.duration.put_span.Statement.{statement}
 use Rattle.times.proofs.duration.put_span.Tie as tie
 

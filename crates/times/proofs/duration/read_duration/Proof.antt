@@ -1,5 +1,5 @@
 -- `times::duration::read_duration` meets its contract.
-use Rattle.times.specs.DurationAt.{spanning}
+use Rattle.times.specs.laws.DurationAt.{spanning}
 use Rattle.times.proofs.duration.read_duration.Statement.{statement}
 use Rattle.times.proofs.duration.read_duration.Tie as tie
 

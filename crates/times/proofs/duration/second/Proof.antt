@@ -1,5 +1,5 @@
 -- `times::duration::second` meets its contract.
-use Rattle.times.specs.DurationAt.{counting}
+use Rattle.times.specs.laws.DurationAt.{counting}
 use Rattle.times.specs.Duration.{dur-second}
 use Rattle.times.proofs.duration.second.Statement.{statement}
 use Rattle.times.proofs.duration.second.Tie as tie

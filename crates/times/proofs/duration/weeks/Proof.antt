@@ -1,5 +1,5 @@
 -- `times::duration::weeks` meets its contract.
-use Rattle.times.specs.DurationAt.{counting}
+use Rattle.times.specs.laws.DurationAt.{counting}
 use Rattle.times.specs.Duration.{dur-week}
 use Rattle.times.proofs.duration.weeks.Statement.{statement}
 use Rattle.times.proofs.duration.weeks.Tie as tie

@@ -1,6 +1,6 @@
 -- `times::follow::digit_of` meets its contract.
 use native.Mathlib.Omega.{arith}
-use Rattle.octets.specs.Pick.{branching-joined}
+use Rattle.octets.specs.laws.Pick.{branching-joined}
 use Rattle.times.proofs.follow.digit_of.Statement.{statement}
 use Rattle.times.proofs.follow.digit_of.Tie as tie
 

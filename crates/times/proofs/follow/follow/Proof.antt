@@ -1,7 +1,7 @@
 -- `times::follow::follow` meets its contract.
 use Prim.Native.Nat.{_-_}
 use lib.ListN.{length}
-use Rattle.times.specs.Followed.{Following, following}
+use Rattle.times.specs.laws.Followed.{Following, following}
 use Rattle.times.proofs.follow.follow.Statement.{statement}
 use Rattle.times.proofs.follow.follow.Tie as tie
 

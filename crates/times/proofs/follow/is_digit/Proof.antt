@@ -1,5 +1,5 @@
 -- `times::follow::is_digit` meets its contract.
-use Rattle.octets.specs.Pick.{branching}
+use Rattle.octets.specs.laws.Pick.{branching}
 use Rattle.times.proofs.follow.is_digit.Statement.{statement}
 use Rattle.times.proofs.follow.is_digit.Tie as tie
 

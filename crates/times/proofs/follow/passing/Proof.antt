@@ -1,5 +1,5 @@
 -- `times::follow::passing` meets its contract.
-use Rattle.octets.specs.Pick.{branching}
+use Rattle.octets.specs.laws.Pick.{branching}
 use Rattle.times.specs.Pattern.{passes}
 use Rattle.times.proofs.follow.passing.Statement.{statement}
 use Rattle.times.proofs.follow.passing.Tie as tie

@@ -1,5 +1,5 @@
 -- `times::follow::tallied` meets its contract.
-use Rattle.octets.specs.Pick.{branching}
+use Rattle.octets.specs.laws.Pick.{branching}
 use Rattle.times.specs.Pattern.{tally}
 use Rattle.times.proofs.follow.tallied.Statement.{statement}
 use Rattle.times.proofs.follow.tallied.Tie as tie

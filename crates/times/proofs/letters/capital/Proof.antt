@@ -1,5 +1,5 @@
 -- `times::letters::capital` meets its contract.
-use Rattle.octets.specs.Pick.{branching-joined}
+use Rattle.octets.specs.laws.Pick.{branching-joined}
 use Rattle.times.proofs.letters.capital.Statement.{statement}
 use Rattle.times.proofs.letters.capital.Tie as tie
 

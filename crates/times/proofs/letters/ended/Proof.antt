@@ -1,5 +1,5 @@
 -- `times::letters::ended` meets its contract.
-use Rattle.times.specs.Letters.{lettering}
+use Rattle.times.specs.laws.Letters.{lettering}
 use Rattle.times.proofs.letters.ended.Statement.{statement}
 use Rattle.times.proofs.letters.ended.Tie as tie
 

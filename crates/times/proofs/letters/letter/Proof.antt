@@ -1,5 +1,5 @@
 -- `times::letters::letter` meets its contract.
-use Rattle.times.specs.Letters.{lettering}
+use Rattle.times.specs.laws.Letters.{lettering}
 use Rattle.times.proofs.letters.letter.Statement.{statement}
 use Rattle.times.proofs.letters.letter.Tie as tie
 

@@ -1,5 +1,5 @@
 -- `times::offset::follow_whole` meets its contract.
-use Rattle.times.specs.OffsetAlong.{wholly}
+use Rattle.times.specs.laws.OffsetAlong.{wholly}
 use Rattle.times.proofs.offset.follow_whole.Statement.{statement}
 use Rattle.times.proofs.offset.follow_whole.Tie as tie
 

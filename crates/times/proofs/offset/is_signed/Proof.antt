@@ -1,5 +1,5 @@
 -- `times::offset::is_signed` meets its contract.
-use Rattle.octets.specs.Pick.{branching}
+use Rattle.octets.specs.laws.Pick.{branching}
 use Rattle.times.proofs.offset.is_signed.Statement.{statement}
 use Rattle.times.proofs.offset.is_signed.Tie as tie
 

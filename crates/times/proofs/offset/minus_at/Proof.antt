@@ -1,6 +1,6 @@
 -- `times::offset::minus_at` meets its contract.
 use borrow.Author.Needs.{needs}
-use Rattle.times.specs.OffsetAlong.{minus-here}
+use Rattle.times.specs.laws.OffsetAlong.{minus-here}
 use Rattle.times.proofs.offset.minus_at.Statement.{statement}
 use Rattle.times.proofs.offset.minus_at.Tie as tie
 

@@ -1,5 +1,5 @@
 -- `times::offset::put_last` meets its contract.
-use Rattle.sink.specs.Sink.{writing}
+use Rattle.sink.specs.laws.Sink.{writing}
 use Rattle.times.specs.OffsetWritten.{lastBytes}
 use Rattle.times.proofs.offset.put_last.Statement.{statement}
 use Rattle.times.proofs.offset.put_last.Tie as tie

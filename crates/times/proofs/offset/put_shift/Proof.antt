@@ -1,5 +1,5 @@
 -- `times::offset::put_shift` meets its contract.
-use Rattle.sink.specs.Sink.{put-length, _▷_, writing}
+use Rattle.sink.specs.laws.Sink.{put-length, _▷_, writing}
 use Rattle.times.specs.OffsetWritten.{offsetBytes}
 use Rattle.times.proofs.offset.put_shift.Statement.{statement}
 use Rattle.times.proofs.offset.put_shift.Tie as tie

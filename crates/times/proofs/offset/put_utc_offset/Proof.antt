@@ -1,6 +1,6 @@
 -- `times::offset::put_utc_offset` meets its contract.
-use Rattle.sink.specs.Sink.{writing}
-use Rattle.times.specs.OffsetWritten.{put-shift-read, put-no-shift}
+use Rattle.sink.specs.laws.Sink.{writing}
+use Rattle.times.specs.laws.OffsetWritten.{put-shift-read, put-no-shift}
 use Rattle.times.proofs.offset.put_utc_offset.Statement.{statement}
 use Rattle.times.proofs.offset.put_utc_offset.Tie as tie
 

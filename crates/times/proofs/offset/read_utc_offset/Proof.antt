@@ -1,6 +1,6 @@
 -- `times::offset::read_utc_offset` meets its contract.
 use borrow.Author.Needs.{needs}
-use Rattle.times.specs.OffsetAlong.{offset-minutes, offset-seconds, offset-lost}
+use Rattle.times.specs.laws.OffsetAlong.{offset-minutes, offset-seconds, offset-lost}
 use mathlib.Core.Path.{_∙_}
 use Rattle.times.proofs.offset.read_utc_offset.Statement.{statement}
 use Rattle.times.proofs.offset.read_utc_offset.Tie as tie

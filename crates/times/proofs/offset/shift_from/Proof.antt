@@ -1,7 +1,7 @@
 -- `times::offset::shift_from` meets its contract.
 use borrow.Author.Needs.{needs}
-use Rattle.times.specs.OffsetAlong.{offset-found, offset-zero, offset-wide}
-use Rattle.octets.specs.Pick.{flag-yes, flag-no}
+use Rattle.times.specs.laws.OffsetAlong.{offset-found, offset-zero, offset-wide}
+use Rattle.octets.specs.laws.Pick.{flag-yes, flag-no}
 use Rattle.times.proofs.offset.shift_from.Statement.{statement}
 use Rattle.times.proofs.offset.shift_from.Tie as tie
 

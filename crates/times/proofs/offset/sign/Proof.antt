@@ -1,5 +1,5 @@
 -- `times::offset::sign` meets its contract.
-use Rattle.octets.specs.Pick.{branching}
+use Rattle.octets.specs.laws.Pick.{branching}
 use Rattle.times.specs.OffsetWritten.{signOf}
 use Rattle.times.proofs.offset.sign.Statement.{statement}
 use Rattle.times.proofs.offset.sign.Tie as tie

@@ -1,6 +1,6 @@
 -- `times::period::period_from` meets its contract.
 use borrow.Author.Needs.{needs}
-use Rattle.times.specs.PeriodAt.{starts-not, is-read}
+use Rattle.times.specs.laws.PeriodAt.{starts-not, is-read}
 use denote.Ref.{now}
 use mathlib.Core.Path.{_∙_, ap}
 use Rattle.times.specs.DateTimeAlong.{momentOf}

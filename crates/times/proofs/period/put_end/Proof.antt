@@ -1,5 +1,5 @@
 -- `times::period::put_end` meets its contract.
-use Rattle.sink.specs.Sink.{writing}
+use Rattle.sink.specs.laws.Sink.{writing}
 use Rattle.times.specs.PeriodWritten.{endBytes}
 use Rattle.times.proofs.period.put_end.Statement.{statement}
 use Rattle.times.proofs.period.put_end.Tie as tie

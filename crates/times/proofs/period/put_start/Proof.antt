@@ -1,6 +1,6 @@
 -- `times::period::put_start` meets its contract.
-use Rattle.sink.specs.Sink.{writing}
-use Rattle.times.specs.Written.{put-moment-read, put-no-moment}
+use Rattle.sink.specs.laws.Sink.{writing}
+use Rattle.times.specs.laws.Written.{put-moment-read, put-no-moment}
 use mathlib.Core.Bool.{true}
 use Rattle.times.proofs.period.put_start.Statement.{statement}
 use Rattle.times.proofs.period.put_start.Tie as tie

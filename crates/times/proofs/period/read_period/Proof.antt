@@ -1,6 +1,6 @@
 -- `times::period::read_period` meets its contract.
 use borrow.Author.Needs.{needs}
-use Rattle.times.specs.PeriodAt.{period-lost, period-uncut, period-cut}
+use Rattle.times.specs.laws.PeriodAt.{period-lost, period-uncut, period-cut}
 use Rattle.times.proofs.period.read_period.Statement.{statement}
 use Rattle.times.proofs.period.read_period.Tie as tie
 

@@ -1,5 +1,5 @@
 -- `times::period::slash_at` meets its contract.
-use Rattle.times.specs.PeriodAt.{cutting}
+use Rattle.times.specs.laws.PeriodAt.{cutting}
 use Rattle.times.proofs.period.slash_at.Statement.{statement}
 use Rattle.times.proofs.period.slash_at.Tie as tie
 

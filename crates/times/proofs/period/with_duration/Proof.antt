@@ -1,6 +1,6 @@
 -- `times::period::with_duration` meets its contract.
 use borrow.Author.Needs.{needs}
-use Rattle.times.specs.PeriodAt.{ends-duration, ends-not}
+use Rattle.times.specs.laws.PeriodAt.{ends-duration, ends-not}
 use denote.Ref.{now}
 use mathlib.Core.Path.{_∙_, ap}
 use Rattle.times.specs.DurationAt.{spanOf}

@@ -1,6 +1,6 @@
 -- `times::period::with_end` meets its contract.
 use borrow.Author.Needs.{needs}
-use Rattle.times.specs.PeriodAt.{ends-explicit}
+use Rattle.times.specs.laws.PeriodAt.{ends-explicit}
 use denote.Ref.{now}
 use mathlib.Core.Path.{_∙_, ap}
 use Rattle.times.specs.DateTimeAlong.{momentOf}

@@ -1,6 +1,6 @@
 -- `times::time::clock_from` meets its contract.
-use Rattle.octets.specs.Pick.{flag-yes, flag-no, branching}
-use Rattle.times.specs.TimeAlong.{clock-found, clock-missing, clock-longer}
+use Rattle.octets.specs.laws.Pick.{flag-yes, flag-no, branching}
+use Rattle.times.specs.laws.TimeAlong.{clock-found, clock-missing, clock-longer}
 use Rattle.times.proofs.time.clock_from.Statement.{statement}
 use Rattle.times.proofs.time.clock_from.Tie as tie
 

@@ -1,5 +1,5 @@
 -- `times::time::follow_time` meets its contract.
-use Rattle.octets.specs.Pick.{branching}
+use Rattle.octets.specs.laws.Pick.{branching}
 use Rattle.times.proofs.time.follow_time.Statement.{statement}
 use Rattle.times.proofs.time.follow_time.Tie as tie
 

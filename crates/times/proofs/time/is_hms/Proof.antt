@@ -1,5 +1,5 @@
 -- `times::time::is_hms` meets its contract.
-use Rattle.octets.specs.Pick.{branching}
+use Rattle.octets.specs.laws.Pick.{branching}
 use Rattle.times.specs.TimeAlong.{isHms}
 use Rattle.times.proofs.time.is_hms.Statement.{statement}
 use Rattle.times.proofs.time.is_hms.Tie as tie

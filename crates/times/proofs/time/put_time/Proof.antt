@@ -1,6 +1,6 @@
 -- `times::time::put_time` meets its contract.
-use Rattle.sink.specs.Sink.{writing}
-use Rattle.times.specs.Written.{put-clock-read, put-no-clock}
+use Rattle.sink.specs.laws.Sink.{writing}
+use Rattle.times.specs.laws.Written.{put-clock-read, put-no-clock}
 use Rattle.times.proofs.time.put_time.Statement.{statement}
 use Rattle.times.proofs.time.put_time.Tie as tie
 

@@ -1,6 +1,6 @@
 -- `times::time::read_time` meets its contract.
-use Rattle.octets.specs.Pick.{branching}
-use Rattle.times.specs.TimeAlong.{time-ended, time-lost}
+use Rattle.octets.specs.laws.Pick.{branching}
+use Rattle.times.specs.laws.TimeAlong.{time-ended, time-lost}
 use mathlib.Core.Path.{_∙_}
 use Rattle.times.proofs.time.read_time.Statement.{statement}
 use Rattle.times.proofs.time.read_time.Tie as tie

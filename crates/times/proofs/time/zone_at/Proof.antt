@@ -1,5 +1,5 @@
 -- `times::time::zone_at` meets its contract.
-use Rattle.times.specs.TimeAlong.{zoning}
+use Rattle.times.specs.laws.TimeAlong.{zoning}
 use Rattle.times.proofs.time.zone_at.Statement.{statement}
 use Rattle.times.proofs.time.zone_at.Tie as tie
 

@@ -1,5 +1,5 @@
 -- `times::written::put_clock` meets its contract.
-use Rattle.sink.specs.Sink.{writing}
+use Rattle.sink.specs.laws.Sink.{writing}
 use Rattle.times.specs.Written.{clockBytes}
 use Rattle.times.proofs.written.put_clock.Statement.{statement}
 use Rattle.times.proofs.written.put_clock.Tie as tie

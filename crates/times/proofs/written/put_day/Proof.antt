@@ -1,5 +1,5 @@
 -- `times::written::put_day` meets its contract.
-use Rattle.sink.specs.Sink.{writing}
+use Rattle.sink.specs.laws.Sink.{writing}
 use Rattle.times.specs.Written.{dayBytes}
 use Rattle.times.proofs.written.put_day.Statement.{statement}
 use Rattle.times.proofs.written.put_day.Tie as tie

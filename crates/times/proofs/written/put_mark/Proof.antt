@@ -1,5 +1,5 @@
 -- `times::written::put_mark` meets its contract.
-use Rattle.sink.specs.Sink.{writing}
+use Rattle.sink.specs.laws.Sink.{writing}
 use Rattle.times.proofs.written.put_mark.Statement.{statement}
 use Rattle.times.proofs.written.put_mark.Tie as tie
 

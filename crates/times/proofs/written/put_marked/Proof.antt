@@ -1,5 +1,5 @@
 -- `times::written::put_marked` meets its contract.
-use Rattle.sink.specs.Sink.{writing}
+use Rattle.sink.specs.laws.Sink.{writing}
 use Rattle.times.specs.Written.{marked}
 use Rattle.times.proofs.written.put_marked.Statement.{statement}
 use Rattle.times.proofs.written.put_marked.Tie as tie

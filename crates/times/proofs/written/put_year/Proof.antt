@@ -1,5 +1,5 @@
 -- `times::written::put_year` meets its contract.
-use Rattle.sink.specs.Sink.{writing}
+use Rattle.sink.specs.laws.Sink.{writing}
 use Rattle.times.specs.Written.{yearDigits}
 use Rattle.times.proofs.written.put_year.Statement.{statement}
 use Rattle.times.proofs.written.put_year.Tie as tie

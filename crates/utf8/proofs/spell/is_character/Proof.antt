@@ -1,7 +1,7 @@
 -- `utf8::spell::is_character` meets its contract.
 use borrow.Author.Tests.{ne-eqb}
-use Rattle.octets.specs.Pick.{branching, or-take, or-skip, flag-yes, flag-no}
-use Rattle.utf8.specs.SpellAt.{character-tests}
+use Rattle.octets.specs.laws.Pick.{branching, or-take, or-skip, flag-yes, flag-no}
+use Rattle.utf8.specs.laws.SpellAt.{character-tests}
 use Rattle.utf8.proofs.spell.is_character.Statement.{statement}
 use Rattle.utf8.proofs.spell.is_character.Tie as tie
 

@@ -1,6 +1,6 @@
 -- `utf8::spell::spelled_byte` meets its contract.
 use borrow.Author.Needs.{needs}
-use Rattle.utf8.specs.SpellAt.{byte-one, byte-past, byte-two, byte-three, byte-four}
+use Rattle.utf8.specs.laws.SpellAt.{byte-one, byte-past, byte-two, byte-three, byte-four}
 use Rattle.utf8.proofs.spell.spelled_byte.Statement.{statement}
 use Rattle.utf8.proofs.spell.spelled_byte.Tie as tie
 

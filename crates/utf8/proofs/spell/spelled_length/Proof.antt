@@ -1,5 +1,5 @@
 -- `utf8::spell::spelled_length` meets its contract.
-use Rattle.utf8.specs.SpellAt.{spelling}
+use Rattle.utf8.specs.laws.SpellAt.{spelling}
 use Rattle.utf8.proofs.spell.spelled_length.Statement.{statement}
 use Rattle.utf8.proofs.spell.spelled_length.Tie as tie
 

@@ -1,5 +1,5 @@
 -- `values::any::read_value` meets its contract.
-use Rattle.values.specs.ValueAt.{choosing}
+use Rattle.values.specs.laws.ValueAt.{choosing}
 use Rattle.values.proofs.any.read_value.Statement.{statement}
 use Rattle.values.proofs.any.read_value.Tie as tie
 

@@ -1,5 +1,5 @@
 -- `values::number::is_boolean` meets its contract.
-use Rattle.values.specs.ValueAt.{counting}
+use Rattle.values.specs.laws.ValueAt.{counting}
 use Rattle.values.proofs.number.is_boolean.Statement.{statement}
 use Rattle.values.proofs.number.is_boolean.Tie as tie
 

@@ -1,5 +1,5 @@
 -- `values::number::is_float` meets its contract.
-use Rattle.values.specs.ValueAt.{counting}
+use Rattle.values.specs.laws.ValueAt.{counting}
 use Rattle.values.proofs.number.is_float.Statement.{statement}
 use Rattle.values.proofs.number.is_float.Tie as tie
 

@@ -1,6 +1,6 @@
 -- `values::put::put_boolean_xml` meets its contract.
-use Rattle.sink.specs.Sink.{writing}
-use Rattle.values.specs.PutValue.{put-no-truth, put-truth}
+use Rattle.sink.specs.laws.Sink.{writing}
+use Rattle.values.specs.laws.PutValue.{put-no-truth, put-truth}
 use Rattle.values.proofs.put.put_boolean_xml.Statement.{statement}
 use Rattle.values.proofs.put.put_boolean_xml.Tie as tie
 

@@ -1,6 +1,6 @@
 -- `values::put::put_from_binary` meets its contract.
-use Rattle.sink.specs.Sink.{writing}
-use Rattle.values.specs.PutValue.{placing, put-address, put-binary}
+use Rattle.sink.specs.laws.Sink.{writing}
+use Rattle.values.specs.laws.PutValue.{placing, put-address, put-binary}
 use Rattle.values.proofs.put.put_from_binary.Statement.{statement}
 use Rattle.values.proofs.put.put_from_binary.Tie as tie
 

@@ -1,6 +1,6 @@
 -- `values::put::put_from_date` meets its contract.
-use Rattle.sink.specs.Sink.{writing}
-use Rattle.values.specs.PutValue.{placing, put-date, put-date-time, put-duration, put-float}
+use Rattle.sink.specs.laws.Sink.{writing}
+use Rattle.values.specs.laws.PutValue.{placing, put-date, put-date-time, put-duration, put-float}
 use Rattle.values.proofs.put.put_from_date.Statement.{statement}
 use Rattle.values.proofs.put.put_from_date.Tie as tie
 

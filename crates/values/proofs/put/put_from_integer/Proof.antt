@@ -1,6 +1,6 @@
 -- `values::put::put_from_integer` meets its contract.
-use Rattle.sink.specs.Sink.{put-none, writing}
-use Rattle.values.specs.PutValue.{placing, put-integer, put-period, put-rule, put-text}
+use Rattle.sink.specs.laws.Sink.{put-none, writing}
+use Rattle.values.specs.laws.PutValue.{placing, put-integer, put-period, put-rule, put-text}
 use Rattle.values.proofs.put.put_from_integer.Statement.{statement}
 use Rattle.values.proofs.put.put_from_integer.Tie as tie
 

@@ -1,6 +1,6 @@
 -- `values::put::put_from_time` meets its contract.
-use Rattle.sink.specs.Sink.{writing}
-use Rattle.values.specs.PutValue.{placing, put-offset, put-time, put-unknown, put-uri}
+use Rattle.sink.specs.laws.Sink.{writing}
+use Rattle.values.specs.laws.PutValue.{placing, put-offset, put-time, put-unknown, put-uri}
 use Rattle.values.proofs.put.put_from_time.Statement.{statement}
 use Rattle.values.proofs.put.put_from_time.Tie as tie
 

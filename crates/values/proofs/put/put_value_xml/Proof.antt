@@ -1,6 +1,6 @@
 -- `values::put::put_value_xml` meets its contract.
-use Rattle.sink.specs.Sink.{writing}
-use Rattle.values.specs.PutValue.{put-value}
+use Rattle.sink.specs.laws.Sink.{writing}
+use Rattle.values.specs.laws.PutValue.{put-value}
 use Rattle.values.proofs.put.put_value_xml.Statement.{statement}
 use Rattle.values.proofs.put.put_value_xml.Tie as tie
 

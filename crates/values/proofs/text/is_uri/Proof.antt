@@ -1,5 +1,5 @@
 -- `values::text::is_uri` meets its contract.
-use Rattle.values.specs.ValueAt.{keeping}
+use Rattle.values.specs.laws.ValueAt.{keeping}
 use Rattle.values.proofs.text.is_uri.Statement.{statement}
 use Rattle.values.proofs.text.is_uri.Tie as tie
 

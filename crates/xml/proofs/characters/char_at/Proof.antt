@@ -1,6 +1,6 @@
 -- `xml::characters::char_at` meets its contract.
 use borrow.Author.Needs.{needs}
-use Rattle.xml.specs.References.{at-tag, at-reference, at-literal, past-end}
+use Rattle.xml.specs.laws.References.{at-tag, at-reference, at-literal, past-end}
 use Rattle.xml.proofs.characters.char_at.Statement.{statement}
 use Rattle.xml.proofs.characters.char_at.Tie as tie
 

@@ -1,7 +1,7 @@
 -- `xml::characters::literal_at` meets its contract.
 use borrow.Author.Needs.{needs}
-use Rattle.octets.specs.Pick.{flag-yes, flag-no}
-use Rattle.xml.specs.References.{cr-lf, cr-alone, bracket-end, bracket-alone, as-it-is}
+use Rattle.octets.specs.laws.Pick.{flag-yes, flag-no}
+use Rattle.xml.specs.laws.References.{cr-lf, cr-alone, bracket-end, bracket-alone, as-it-is}
 use Rattle.xml.proofs.characters.literal_at.Statement.{statement}
 use Rattle.xml.proofs.characters.literal_at.Tie as tie
 

@@ -2,10 +2,10 @@
 use mathlib.Core.Path.{refl}
 use native.Mathlib.Omega.{arith}
 use borrow.Author.Needs.{needs}
-use Rattle.octets.specs.Pick.{flag-yes, flag-no}
+use Rattle.octets.specs.laws.Pick.{flag-yes, flag-no}
 use Rattle.octets.specs.Ascii.{ascii}
-use Rattle.xml.specs.References.{named, pick-first-character, pick-other-character}
-use Rattle.xml.specs.CharAt.{no-character}
+use Rattle.xml.specs.laws.References.{named, pick-first-character, pick-other-character}
+use Rattle.xml.specs.laws.CharAt.{no-character}
 use Rattle.xml.proofs.entities.entity_at.Statement.{statement}
 use Rattle.xml.proofs.entities.entity_at.Tie as tie
 

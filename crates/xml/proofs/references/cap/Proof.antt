@@ -1,5 +1,5 @@
 -- `xml::references::cap` meets its contract.
-use Rattle.xml.specs.Digits.{capping}
+use Rattle.xml.specs.laws.Digits.{capping}
 use Rattle.xml.proofs.references.cap.Statement.{statement}
 use Rattle.xml.proofs.references.cap.Tie as tie
 

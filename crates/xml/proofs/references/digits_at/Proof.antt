@@ -2,7 +2,7 @@
 use Prim.Native.Nat.{_-_}
 use lib.ListN.{length}
 use borrow.Author.Needs.{needs}
-use Rattle.xml.specs.Digits.{Counting, counting}
+use Rattle.xml.specs.laws.Digits.{Counting, counting}
 use Rattle.xml.proofs.references.digits_at.Statement.{statement}
 use Rattle.xml.proofs.references.digits_at.Tie as tie
 

@@ -1,6 +1,6 @@
 -- `xml::references::grow` meets its contract.
 use borrow.Author.Needs.{needs}
-use Rattle.xml.specs.Digits.{capping}
+use Rattle.xml.specs.laws.Digits.{capping}
 use Rattle.xml.proofs.references.grow.Statement.{statement}
 use Rattle.xml.proofs.references.grow.Tie as tie
 

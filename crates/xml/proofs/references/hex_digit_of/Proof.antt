@@ -1,7 +1,7 @@
 -- `xml::references::hex_digit_of` meets its contract.
 use native.Mathlib.Omega.{arith}
 use borrow.Author.Needs.{needs}
-use Rattle.xml.specs.Digits.{worths}
+use Rattle.xml.specs.laws.Digits.{worths}
 use Rattle.xml.proofs.references.hex_digit_of.Statement.{statement}
 use Rattle.xml.proofs.references.hex_digit_of.Tie as tie
 

@@ -1,5 +1,5 @@
 -- `xml::references::is_digit_in` meets its contract.
-use Rattle.octets.specs.Pick.{branching}
+use Rattle.octets.specs.laws.Pick.{branching}
 use Rattle.xml.proofs.references.is_digit_in.Statement.{statement}
 use Rattle.xml.proofs.references.is_digit_in.Tie as tie
 

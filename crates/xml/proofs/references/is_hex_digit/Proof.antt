@@ -1,5 +1,5 @@
 -- `xml::references::is_hex_digit` meets its contract.
-use Rattle.octets.specs.Pick.{branching}
+use Rattle.octets.specs.laws.Pick.{branching}
 use Rattle.xml.proofs.references.is_hex_digit.Statement.{statement}
 use Rattle.xml.proofs.references.is_hex_digit.Tie as tie
 

@@ -1,7 +1,7 @@
 -- `xml::references::number_at` meets its contract.
 use borrow.Author.Needs.{needs}
-use Rattle.octets.specs.Pick.{flag-yes, flag-no}
-use Rattle.xml.specs.References.{number-good, number-empty, number-short, number-other, number-none}
+use Rattle.octets.specs.laws.Pick.{flag-yes, flag-no}
+use Rattle.xml.specs.laws.References.{number-good, number-empty, number-short, number-other, number-none}
 use Rattle.xml.proofs.references.number_at.Statement.{statement}
 use Rattle.xml.proofs.references.number_at.Tie as tie
 

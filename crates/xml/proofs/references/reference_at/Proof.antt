@@ -1,10 +1,10 @@
 -- `xml::references::reference_at` meets its contract.
 use native.Mathlib.Omega.{arith}
 use borrow.Author.Needs.{needs}
-use Rattle.octets.specs.Pick.{flag-yes, flag-no}
+use Rattle.octets.specs.laws.Pick.{flag-yes, flag-no}
 use Rattle.octets.specs.Ascii.{ascii}
-use Rattle.xml.specs.References.{hex-reference, decimal-reference, entity-reference}
-use Rattle.xml.specs.Starting.{starts-inside}
+use Rattle.xml.specs.laws.References.{hex-reference, decimal-reference, entity-reference}
+use Rattle.xml.specs.laws.Starting.{starts-inside}
 use Rattle.xml.proofs.references.reference_at.Statement.{statement}
 use Rattle.xml.proofs.references.reference_at.Tie as tie
 

@@ -2,7 +2,7 @@
 use Prim.Native.Nat.{_-_}
 use lib.ListN.{length}
 use borrow.Author.Needs.{needs}
-use Rattle.xml.specs.Starting.{Starting, starting}
+use Rattle.xml.specs.laws.Starting.{Starting, starting}
 use Rattle.xml.proofs.starting.starts_at.Statement.{statement}
 use Rattle.xml.proofs.starting.starts_at.Tie as tie
 

@@ -1,0 +1,3 @@
+-- Laws. The two conversions: the complete answer of each call.
+--     Answered  what the code answers, as an outcome and as one number
+pub mod Answered

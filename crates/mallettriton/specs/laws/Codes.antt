@@ -1,0 +1,102 @@
+-- Every value that a conversion answers is below 2 ^ 32, so that its number and its value can be told from the one number that C gets.
+--     to-xml-small, to-text-small    the value of an outcome
+--     code-back                      its number and its value from the one number
+use mathlib.Core.Path.{_≡_, refl, sym, ap, _∙_}
+use mathlib.Core.Bool.{Bool, true, false}
+use mathlib.Core.List.{List, [], _∷_}
+use Prim.Native.Nat.{ℕ, _+_, _*_, _/_, _%_, _^_, _≤_, _<_}
+use native.Mathlib.Decide.{decLe}
+use native.Mathlib.Omega.{arith}
+use lib.Dec.{leb}
+use lib.ListN.{length}
+use borrow.Author.Tests.{leb-true, lt-leb}
+use Rattle.octets.specs.Pick.{pick}
+use Rattle.calendar.specs.Refusal.{Refusal, LENGTH, WORK, CHARACTER, LINE, NAME, FRAME, PARAMETER, VALUE, COUNT, ROOM, XML, numberOf, Verdict, fine, refuse, answer}
+use Rattle.folding.specs.Unfold.{unfolded, origin}
+use Rattle.folding.specs.laws.Unfold.{origin-inside, origin-past, length-unfolded}
+use Rattle.folding.specs.Lines.{lines}
+use Rattle.text.specs.Tree.{calendarOf}
+use Rattle.text.specs.ReadText.{keptVerdict, placed, textVerdict, readCalendar}
+use Rattle.text.specs.WriteText.{writeCalendar}
+use Rattle.xml.specs.Nodes.{documentNodes}
+use Rattle.xcal.specs.WriteXml.{writeDocument}
+use Rattle.xcal.specs.ComponentNodes.{readRoot}
+use Rattle.xcal.specs.ReadDocument.{documentVerdict, readDocument}
+use Rattle.lengths_xml.specs.laws.Documents.{xml-short}
+use Rattle.lengths_text.specs.laws.Documents.{text-short}
+use Rattle.places.specs.laws.Documents.{document-place}
+use Rattle.calls.specs.Conversion.{Converted, result, fault, converted, Outcome, written, refusal, numbers, outcome}
+use Rattle.calls.specs.ToXml.{toXml, toXmlOutcome}
+use Rattle.calls.specs.ToText.{toText, toTextOutcome}
+use Rattle.calls.specs.Answered.{outcomeOf, codeOf}
+use Rattle.calls.specs.declared.Answer.{Answer}
+
+-- a place among the lent bytes, or their end
+origin-within : (s : List ℕ) (w : ℕ) → origin s w ≤ length s
+origin-within s w = go (decLe (length (unfolded s)) w)
+  where
+    go : Dec (length (unfolded s) ≤ w) → origin s w ≤ length s
+    go (yes h) = omega (arith, origin-past s w h)
+    go (no h) = omega (arith, origin-inside s w (omega (arith, h)))
+
+result-small : (bs : List ℕ) (n : ℕ) → length bs < 2 ^ 32 → numbers (outcome (result bs) n) .1 < 4294967296
+unfolding outcome pick
+result-small bs n h = go (leb (length bs) n)
+  where
+    go : (t : Bool) → numbers (pick t (written (length bs)) (refusal ROOM (length bs))) .1 < 4294967296
+    go true = omega arith
+    go false = omega arith
+
+kept-small : (s : List ℕ) (v : Verdict) (n : ℕ) → length s ≤ 65535 → numbers (outcome (converted writeDocument (answer (placed s v) (calendarOf (lines (unfolded s))))) n) .1 < 4294967296
+unfolding placed outcome
+kept-small s fine n h = result-small (writeDocument (calendarOf (lines (unfolded s)))) n (xml-short (unfolded s) (omega (arith, length-unfolded s)))
+kept-small s (refuse r p) n h = omega (arith, origin-within s p)
+
+pub to-xml-small : (s w d : List ℕ) → numbers (toXmlOutcome s w d) .1 < 4294967296
+unfolding toXml readCalendar textVerdict pick outcome
+to-xml-small s w d = go (leb (length s) 65535) (leb (length s) (length w)) refl
+  where
+    go : (a b : Bool) → leb (length s) 65535 ≡ a →
+        numbers (outcome (converted writeDocument (answer (pick a (pick b (placed s (keptVerdict (unfolded s))) (refuse WORK 0)) (refuse LENGTH 0)) (calendarOf (lines (unfolded s))))) (length d)) .1 < 4294967296
+    go true true e = kept-small s (keptVerdict (unfolded s)) (length d) (leb-true (length s) 65535 e)
+    go true false e = omega arith
+    go false b e = omega arith
+
+pub to-text-small : (s d : List ℕ) → numbers (toTextOutcome s d) .1 < 4294967296
+unfolding toText readDocument documentVerdict pick outcome
+to-text-small s d = go (decLe (length s) 65535)
+  where
+    by-verdict : (v : Verdict) → documentVerdict s ≡ v → length s ≤ 65535 → numbers (outcome (converted writeCalendar (answer v (readRoot (documentNodes s)))) (length d)) .1 < 4294967296
+    by-verdict fine e h = result-small (writeCalendar (readRoot (documentNodes s))) (length d) (text-short s h)
+    by-verdict (refuse r p) e h = omega (arith, document-place s e)
+
+    go : Dec (length s ≤ 65535) → numbers (toTextOutcome s d) .1 < 4294967296
+    go (yes h) = by-verdict (documentVerdict s) refl h
+    go (no h) = rw (lt-leb (length s) 65535 (omega (arith, h))) (omega arith)
+
+number-small : (r : Refusal) → numberOf r < 12
+number-small LENGTH = omega arith
+number-small WORK = omega arith
+number-small CHARACTER = omega arith
+number-small LINE = omega arith
+number-small NAME = omega arith
+number-small FRAME = omega arith
+number-small PARAMETER = omega arith
+number-small VALUE = omega arith
+number-small COUNT = omega arith
+number-small ROOM = omega arith
+number-small XML = omega arith
+
+pub numbers-small : (o : Outcome) → numbers o .0 < 12
+numbers-small (written n) = omega arith
+numbers-small (refusal r p) = number-small r
+
+-- the answer's number and value, put together
+pub code-of : (a : Answer) {o : Outcome} {n v r : ℕ} → outcomeOf a ≡ o → n ≡ numbers (outcomeOf a) .0 → v ≡ numbers (outcomeOf a) .1 → r ≡ n * 4294967296 + v → r ≡ codeOf o
+code-of a {o} {n} {v} {r} e f g h = h ∙ rw (f, g, e)
+
+pub code-fits : (a : Answer) {o : Outcome} {n v : ℕ} → numbers o .1 < 4294967296 → outcomeOf a ≡ o → n ≡ numbers (outcomeOf a) .0 → v ≡ numbers (outcomeOf a) .1 → (n < 12) × (v < 4294967296)
+code-fits a h e f g = (rw f (numbers-small (outcomeOf a)), rw (g, e) h)
+
+pub code-back : (o : Outcome) → numbers o .1 < 4294967296 → (codeOf o / 4294967296 ≡ numbers o .0) × (codeOf o % 4294967296 ≡ numbers o .1)
+code-back o h = (omega (arith, h), omega (arith, h))

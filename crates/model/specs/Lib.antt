@@ -1,5 +1,0 @@
--- The calendar that an input states, and what is answered of an input that states none.
---     Calendar   components, properties, parameters, typed values
---     Refusal    the refusals with their numbers, and the answer of a reading
-pub mod Calendar
-pub mod Refusal

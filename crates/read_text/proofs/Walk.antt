@@ -1,0 +1,162 @@
+-- From line to line in a component, and from calendar to calendar: what holds before each line, kept by each that goes on, and the answer at each that does not.
+--     Reached     in a component;   reached-none, reached-held, reached-inner, body-closed ..
+--     Between     between calendars;   between-none, between-more, checked-refused ..
+use mathlib.Core.Path.{_≡_, refl, sym, ap, subst, _∙_}
+use mathlib.Core.Bool.{Bool, true, false}
+use mathlib.Core.List.{List, [], _∷_}
+use Prim.Native.Nat.{ℕ, _-_, _≤_, _<_}
+use native.Mathlib.Omega.{arith}
+use lib.Dec.{eqb}
+use lib.ListN.{length, replicate}
+use Rattle.octets.specs.Pick.{pick}
+use Rattle.calendar.specs.Calendar.{Property}
+use Rattle.calendar.specs.Refusal.{COUNT, refusalAt}
+use Rattle.schema.specs.Numbers.{componentName}
+use Rattle.schema.specs.Counts.{actionOf, complete}
+use Rattle.schema.specs.Arrays.{bumped, tallies}
+use Rattle.schema.specs.Completing.{actionNumber, completeAt}
+use Rattle.schema.specs.laws.Completing.{complete-tallies}
+use Rattle.schema.specs.laws.Places.{component-at}
+use Rattle.folding.specs.Lines.{Line, lines, linesAfter}
+use Rattle.folding.specs.laws.Lines.{lines-some}
+use Rattle.source.specs.Source.{rest, cuts, Settled}
+use Rattle.read_text_line.specs.LineEnd.{index, linesAt}
+use Rattle.source.specs.laws.Facts.{rest-past}
+use Rattle.read_text_line.specs.Ready.{Ready}
+use Rattle.read_text_line.specs.laws.Ready.{ready-start, lines-start, lines-past, index-end}
+use Rattle.text.specs.Nesting.{Open, on, stop, opened, onward, ended, nesting}
+use Rattle.text.specs.LineKind.{LineKind, step}
+use Rattle.text.specs.ReadText.{linesVerdict}
+use Rattle.read_text.specs.Answers.{Checks}
+use Rattle.read_text.specs.laws.Action.{action-seen}
+use Rattle.read_text.specs.Kinds.{Held, KindIs}
+use Rattle.read_text.specs.Turns.{onFrom, openIn, Turned, Body}
+use Rattle.read_text.specs.Outer.{Outer}
+use Rattle.read_text.specs.declared.Kind.{Kind}
+use Rattle.read_text.specs.declared.Kind.the-variants.{Starts, Stops, Holds, Faulty}
+use Rattle.read_text.specs.declared.Turn.{Turn}
+use Rattle.read_text.specs.declared.Step.the-variants.{Closed, Failed}
+use Rattle.read_text.specs.declared.Checked.the-variants.{Fine, Refused}
+
+-- ---- in a component
+
+-- from the line behind the BEGIN of the component k to a place, with these tallies, the number of ACTION's word, and whether a subcomponent has come
+pub record Reached (k m : ℕ) (s : List ℕ) (from at : ℕ) (counts : List ℕ) (action : ℕ) (inner : Bool) : Type 0 where
+  pub low : from ≤ at
+  pub high : Ready m s at
+  pub seen : List Property
+  pub tallied : counts ≡ tallies seen
+  pub acted : action ≡ actionNumber (actionOf seen)
+  pub agrees : (st : List Open) → onFrom m s from (opened (componentName k) ∷ st) ≡ onFrom m s at (openIn k seen inner ∷ st)
+
+pub reached-none : (k m : ℕ) (s : List ℕ) (from : ℕ) → Ready m s from → Reached k m s from from (replicate 46 0) 3 false
+unfolding tallies actionOf
+reached-none k m s from h = record { low = omega arith; high = h; seen = []; tallied = refl; acted = refl; agrees = λ st. refl }
+
+module _ {k m : ℕ} {s : List ℕ} {from at : ℕ} {counts : List ℕ} {action : ℕ} {inner : Bool} (r : Reached k m s from at counts action inner) where
+  pub body-open : length s ≤ at → Body k m s from (Failed 6 (length s))
+  unfolding nesting ended refusalAt
+  body-open h = record { ends = omega arith; agrees = λ st. r .agrees st ∙ rw (lines-past m s at (r .high .cut) h, index-end m s (length s) (r .high .cut) (omega arith)) }
+
+  module _ {t : Turn} (d : Turned k inner m s at t) where
+    -- the check up to a line, and what that line does
+    moves : (st : List Open) → onFrom m s from (opened (componentName k) ∷ st) ≡ onward (step (d .line) (openIn k (r .seen) inner) st) (index m s at) (onFrom m s (t .next))
+    moves st = r .agrees st ∙ d .does (r .seen) st
+
+    said-as : (x : Kind) → t .kind ≡ x → KindIs (d .line) x
+    said-as x e = subst (KindIs (d .line)) e (d .said)
+
+    pub body-faulty : {n : ℕ} → t .kind ≡ Faulty n → Body k m s from (Failed n at)
+    unfolding step onward
+    body-faulty {n} e = record { ends = r .high .most; agrees = λ st. moves st ∙ rw (said-as (Faulty n) e) }
+
+    -- a property
+    pub reached-held : {p a action' : ℕ} {counts' : List ℕ} → t .kind ≡ Holds p a → counts' ≡ bumped p counts → action' ≡ pick (eqb p 38) a action →
+        Reached k m s from (t .next) counts' action' inner
+    unfolding step onward tallies
+    reached-held {p} {a} e f g = let h : Held (d .line) p a = said-as (Holds p a) e in record {
+      low = omega (arith, r .low, d .low);
+      high = d .high;
+      seen = h .property ∷ r .seen;
+      tallied = f ∙ ap (bumped p) (r .tallied) ∙ ap (λ (n : ℕ). bumped n (tallies (r .seen))) (h .number);
+      acted = g ∙ action-seen (h .property) (r .seen) (h .number) (h .action) (r .acted);
+      agrees = λ st. moves st ∙ ap (λ (x : LineKind). onward (step x (openIn k (r .seen) inner) st) (index m s at) (onFrom m s (t .next))) (h .is);
+    }
+
+    -- a subcomponent
+    module _ {n : ℕ} (e : t .kind ≡ Starts n) where
+      pub starts-known : n < 9
+      starts-known = said-as (Starts n) e .1
+
+      begins-inner : (st : List Open) → onFrom m s from (opened (componentName k) ∷ st) ≡ onFrom m s (t .next) (opened (componentName n) ∷ openIn k (r .seen) true ∷ st)
+      unfolding step onward
+      begins-inner st = moves st ∙ rw (said-as (Starts n) e .0)
+
+      pub reached-inner : {next : ℕ} → Body n m s (t .next) (Closed next) → Reached k m s from next counts action true
+      reached-inner b = record {
+        low = omega (arith, r .low, d .low, b .ends .0);
+        high = b .ends .1;
+        seen = r .seen;
+        tallied = r .tallied;
+        acted = r .acted;
+        agrees = λ st. begins-inner st ∙ b .agrees (openIn k (r .seen) true ∷ st);
+      }
+
+      pub body-inner : {i p : ℕ} → Body n m s (t .next) (Failed i p) → Body k m s from (Failed i p)
+      body-inner b = record { ends = b .ends; agrees = λ st. begins-inner st ∙ b .agrees (openIn k (r .seen) true ∷ st) }
+
+    -- the end
+    module _ {b : Bool} (e : t .kind ≡ Stops) (l : k < 9) (q : b ≡ completeAt k counts action inner) where
+      counted : complete (componentName k) (r .seen) inner ≡ b
+      counted = sym (complete-tallies (componentName k) (r .seen) inner) ∙ rw (component-at k l, ← (r .tallied), ← (r .acted)) (sym q)
+
+      stopped : (st : List Open) → onFrom m s from (opened (componentName k) ∷ st) ≡ onward (pick b (on st) (stop COUNT)) (index m s at) (onFrom m s (t .next))
+      unfolding step
+      stopped st = moves st ∙ rw (said-as Stops e, counted)
+
+      pub body-closed : b ≡ true → Body k m s from (Closed (t .next))
+      unfolding onward pick
+      body-closed f = record { ends = (omega (arith, r .low, d .low), d .high); agrees = λ st. stopped st ∙ rw f }
+
+      pub body-short : b ≡ false → Body k m s from (Failed 9 at)
+      unfolding onward pick refusalAt
+      body-short f = record { ends = r .high .most; agrees = λ st. stopped st ∙ rw f }
+
+-- ---- between calendars
+
+-- from the first line of a text to a place where nothing is open
+pub record Between (m : ℕ) (s : List ℕ) (at : ℕ) : Type 0 where
+  pub high : Ready m s at
+  pub agrees : linesVerdict (length (rest m s 0)) (lines (rest m s 0)) ≡ onFrom m s at []
+
+lines-verdict : (e : ℕ) (ls : List Line) → 0 < length ls → linesVerdict e ls ≡ nesting e ls []
+unfolding linesVerdict
+lines-verdict e [] h = absurd (omega arith)
+lines-verdict e (l ∷ ls) h = refl
+
+-- the first line begins behind folds
+pub between-none : {m : ℕ} {s : List ℕ} {c : ℕ} → cuts m ≡ true → Settled m s 0 c → c < length s → Between m s c
+between-none {m} {s} {c} y p h = record {
+  high = ready-start y p;
+  agrees = some (rest m s 0) (λ e. let k = p .some-byte y (sym (p .is) ∙ e) in omega arith) ∙ rw (lines-start p);
+}
+  where
+    some : (l : List ℕ) → (l ≡ [] → ⊥) → linesVerdict (length l) (lines l) ≡ nesting (length l) (lines l) []
+    some [] h = absurd (h refl)
+    some (a ∷ l) h = lines-verdict (length (a ∷ l)) (lines (a ∷ l)) (lines-some a l 0)
+
+module _ {m : ℕ} {s : List ℕ} {at : ℕ} (r : Between m s at) where
+  pub between-more : {next : ℕ} → Outer m s at (Closed next) → Between m s next
+  between-more o = record { high = o .ends .1; agrees = r .agrees ∙ o .agrees }
+
+  pub checked-refused : {n p : ℕ} → Outer m s at (Failed n p) → Checks m s (Refused n p)
+  checked-refused o = record { is = r .agrees ∙ o .agrees; place = o .ends }
+
+  pub checked-fine : length s ≤ at → Checks m s Fine
+  unfolding nesting ended
+  checked-fine h = record { is = r .agrees ∙ rw (lines-past m s at (r .high .cut) h); place = tt }
+
+-- nothing but folds
+pub checked-empty : {m : ℕ} {s : List ℕ} {c : ℕ} → cuts m ≡ true → Settled m s 0 c → length s ≤ c → Checks m s (Refused 6 0)
+unfolding linesVerdict linesAfter refusalAt index
+checked-empty {m} {s} {c} y p h = let e : rest m s 0 ≡ [] = p .is ∙ rest-past m s c y h in record { is = rw e; place = omega arith }

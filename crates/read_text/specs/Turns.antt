@@ -1,0 +1,51 @@
+-- A line in its text, and a component from the line behind its BEGIN to its END: contracts.
+--     onFrom      the verdict from a place on, with components open
+--     Turned      a line's kind, what it does to the open components, and the place behind it
+--     Body        a component: whatever is open around it, the text goes on behind it, or is refused
+use mathlib.Core.Path.{_≡_}
+use mathlib.Core.Bool.{Bool}
+use mathlib.Core.List.{List, _∷_}
+use Prim.Native.Nat.{ℕ, _≤_, _<_}
+use lib.ListN.{length}
+use Rattle.source.specs.Source.{rest}
+use Rattle.calendar.specs.Calendar.{Property}
+use Rattle.calendar.specs.Refusal.{Verdict, refuse, refusalAt}
+use Rattle.schema.specs.Numbers.{componentName}
+use Rattle.read_text_line.specs.LineEnd.{index, linesAt}
+use Rattle.read_text_line.specs.Ready.{Ready}
+use Rattle.text.specs.Nesting.{Open, opened, onward, nesting}
+use Rattle.text.specs.LineKind.{LineKind, step}
+use Rattle.read_text.specs.Kinds.{KindIs}
+use Rattle.read_text.specs.declared.Turn.{Turn}
+use Rattle.read_text.specs.declared.Step.{Step}
+use Rattle.read_text.specs.declared.Step.the-variants.{Closed, Failed}
+
+abbrev pub onFrom : ℕ → List ℕ → ℕ → List Open → Verdict
+onFrom m s at st = nesting (length (rest m s 0)) (linesAt m s at) st
+
+abbrev pub openIn : ℕ → List Property → Bool → Open
+openIn k seen inner = record { name = componentName k; seen = seen; inner = inner }
+
+-- ---- a line
+
+pub record Turned (k : ℕ) (inner : Bool) (m : ℕ) (s : List ℕ) (at : ℕ) (t : Turn) : Type 0 where
+  pub line : LineKind
+  pub said : KindIs line (t .kind)
+  pub low : at < t .next
+  pub high : Ready m s (t .next)
+  pub does : (seen : List Property) (st : List Open) → onFrom m s at (openIn k seen inner ∷ st) ≡ onward (step line (openIn k seen inner) st) (index m s at) (onFrom m s (t .next))
+
+-- ---- a component
+
+-- the text goes on at a cursor, or is refused
+abbrev pub resumed : ℕ → List ℕ → Step → List Open → Verdict
+resumed m s (Closed next) st = onFrom m s next st
+resumed m s (Failed n p) st = refuse (refusalAt n) (index m s p)
+
+abbrev pub Ends : ℕ → List ℕ → ℕ → Step → Type 0
+Ends m s from (Closed next) = (from < next) × Ready m s next
+Ends m s from (Failed n p) = p ≤ length s
+
+pub record Body (k m : ℕ) (s : List ℕ) (from : ℕ) (r : Step) : Type 0 where
+  pub ends : Ends m s from r
+  pub agrees : (st : List Open) → onFrom m s from (opened (componentName k) ∷ st) ≡ resumed m s r st

@@ -1,0 +1,101 @@
+-- A property in an open component, by numbers.
+--     follow-inner ..     a property may stand behind subcomponents, or not
+--     hold-known ..       it may stand in the component
+--     property-held ..    the kind of its line
+use mathlib.Core.Path.{_≡_, refl, sym, ap, _∙_}
+use mathlib.Core.Bool.{Bool, true, false, not}
+use mathlib.Core.List.{List}
+use mathlib.Core.Option.{Option, none, some}
+use Prim.Native.Nat.{ℕ, _≤_, _<_}
+use native.Mathlib.Omega.{arith}
+use lib.Dec.{eqb, ltb}
+use borrow.Author.Tests.{eq-eqb, lt-ltb, le-ltb}
+use Rattle.octets.specs.Ascii.{ascii}
+use Rattle.octets.specs.Pick.{pick, _and_, _or_}
+use Rattle.octets.specs.laws.Pick.{pick-yes, pick-no}
+use Rattle.octets.specs.Class.{upper}
+use Rattle.octets.specs.Words.{same}
+use Rattle.names.specs.Table.{placeOf}
+use Rattle.names.specs.laws.Table.{one-of-place}
+use Rattle.calendar.specs.Calendar.{Property}
+use Rattle.calendar.specs.Refusal.{Refusal, LENGTH, numberOf, refusalAt}
+use Rattle.calendar.specs.laws.Refusal.{refusal-back}
+use Rattle.schema.specs.Components.{mayStand}
+use Rattle.schema.specs.Properties.{propertyNames, isKnownProperty}
+use Rattle.schema.specs.Numbers.{componentName, propertyName}
+use Rattle.schema.specs.laws.Columns.{stand-place}
+use Rattle.schema.specs.laws.Sets.{timezone-place}
+use Rattle.schema.specs.Completing.{actionNames}
+use Rattle.schema.specs.laws.Places.{component-at}
+use Rattle.read_text_line.specs.ContentLine.{ContentLine}
+use Rattle.text.specs.Statement.{propertyFault, propertyOf}
+use Rattle.text.specs.Nesting.{mayHold}
+use Rattle.text.specs.LineKind.{faulty, openAs, heldBy, propertyKind}
+use Rattle.read_text_property.specs.Faults.{faultNumber}
+use Rattle.read_text.specs.laws.Action.{action-read}
+use Rattle.read_text.specs.Kinds.{KindIs}
+use Rattle.read_text.specs.declared.Kind.the-variants.{Holds, Faulty}
+
+-- ---- where it may stand
+
+pub follow-inner : (inner t : Bool) → inner ≡ true → t ≡ (not inner or t)
+unfolding _or_
+follow-inner inner t h = rw h
+
+pub follow-first : (inner t : Bool) → inner ≡ false → true ≡ (not inner or t)
+unfolding _or_
+follow-first inner t h = rw h
+
+module _ {k p : ℕ} (inner : Bool) (w : List ℕ) (h : k < 9) (e : p ≡ placeOf w propertyNames) where
+  follow-at : (not inner or same (componentName k) (ascii "VTIMEZONE")) ≡ (not inner or eqb k 5)
+  follow-at = rw (timezone-place (componentName k), component-at k h)
+
+  hold-at : mayHold w (openAs (componentName k) inner) ≡ ((not (ltb p 46) or mayStand (componentName k) (propertyName p)) and (not inner or eqb k 5))
+  unfolding isKnownProperty
+  hold-at = rw (one-of-place w propertyNames, stand-place (componentName k) w, component-at k h, ← e, follow-at)
+
+  pub hold-known : {m r : Bool} → p < 46 → m ≡ mayStand (componentName k) (propertyName p) → m ≡ true → r ≡ (not inner or eqb k 5) → r ≡ mayHold w (openAs (componentName k) inner)
+  unfolding _and_ _or_
+  hold-known f q g u = u ∙ sym (hold-at ∙ rw (lt-ltb p 46 f, ← q, g))
+
+  pub hold-not : {m : Bool} → p < 46 → m ≡ mayStand (componentName k) (propertyName p) → m ≡ false → false ≡ mayHold w (openAs (componentName k) inner)
+  unfolding _and_ _or_
+  hold-not f q g = sym (hold-at ∙ rw (lt-ltb p 46 f, ← q, g))
+
+  pub hold-other : {r : Bool} → 46 ≤ p → r ≡ (not inner or eqb k 5) → r ≡ mayHold w (openAs (componentName k) inner)
+  unfolding _and_ _or_
+  hold-other f u = u ∙ sym (hold-at ∙ rw (le-ltb p 46 f))
+
+-- ---- its line
+
+-- a fault's number
+fault-none : (o : Option Refusal) → faultNumber o ≡ 0 → o ≡ none
+unfolding refusalAt
+fault-none none h = refl
+fault-none (some r) h = absurd (no-zero r h)
+  where
+    no-zero : (r : Refusal) → numberOf r ≡ 0 → ⊥
+    no-zero r h = let q : r ≡ LENGTH = sym (refusal-back r) ∙ ap refusalAt h in let z : numberOf r ≡ 1 = ap numberOf q in omega arith
+
+fault-some : (o : Option Refusal) (p : Property) (f : ℕ) → f ≡ faultNumber o → (f ≡ 0 → ⊥) → heldBy o p ≡ faulty (refusalAt f)
+fault-some none p f e h = absurd (h e)
+fault-some (some r) p f e h = ap faulty (sym (ap refusalAt e ∙ refusal-back r))
+
+module _ (l : ContentLine) (k : ℕ) {p : ℕ} (inner : Bool) {m : Bool} (e : p ≡ placeOf (upper (l .name)) propertyNames) (q : m ≡ mayHold (upper (l .name)) (openAs (componentName k) inner)) where
+  pub property-not : m ≡ false → KindIs (propertyKind (componentName k) inner l) (Faulty 6)
+  unfolding refusalAt
+  property-not g = pick-no _ _ _ (sym q ∙ g)
+
+  module _ {f : ℕ} (g : m ≡ true) (u : f ≡ faultNumber (propertyFault (componentName k) l)) where
+    pub property-faulty : (f ≡ 0 → ⊥) → KindIs (propertyKind (componentName k) inner l) (Faulty f)
+    property-faulty z = pick-yes _ _ _ (sym q ∙ g) ∙ fault-some (propertyFault (componentName k) l) (propertyOf (componentName k) l) f u z
+
+    pub property-held : {a : ℕ} → f ≡ 0 → a ≡ pick (eqb p 38) (placeOf (upper (l .value)) actionNames) 3 → KindIs (propertyKind (componentName k) inner l) (Holds p a)
+    unfolding pick propertyOf
+    property-held {a} z y =
+        let none-here : propertyFault (componentName k) l ≡ none = fault-none (propertyFault (componentName k) l) (sym u ∙ z) in record {
+          property = propertyOf (componentName k) l;
+          is = pick-yes _ _ _ (sym q ∙ g) ∙ ap (λ (o : Option Refusal). heldBy o (propertyOf (componentName k) l)) none-here;
+          number = e;
+          action = λ x. y ∙ rw (eq-eqb p 38 x) (sym (action-read (componentName k) l none-here (sym e ∙ x)));
+        }

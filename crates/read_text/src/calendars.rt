@@ -1,0 +1,111 @@
+// The calendars of a text, one after another, and nothing between them.
+use crate::Checked;
+use crate::Step;
+use crate::component::body;
+use crate::line::no_params;
+use names::is_word_any_case;
+use read_text_line::Ending;
+use read_text_line::LineRead;
+use read_text_line::line_at;
+use read_text_line::line_end;
+use read_text_line::names_carried;
+use refusals::FRAME;
+use refusals::LINE;
+use refusals::NAME;
+use refusals::NO_FAULT;
+use refusals::PARAMETER;
+use schema::component;
+use schema::component_number;
+use source::settled;
+ghost use mathlib.Core.Path.{_≡_};
+ghost use mathlib.Core.Bool.{true};
+ghost use mathlib.Core.List.{[]};
+ghost use Prim.Native.Nat.{_≤_, _<_};
+ghost use lib.ListN.{length};
+ghost use Rattle.source.specs.Source.{rest, cuts};
+ghost use Rattle.read_text_line.specs.Line.{Parts};
+ghost use Rattle.text.specs.Nesting.{moveBy, move};
+ghost use Rattle.read_text_line.specs.Ready.{Ready};
+ghost use Rattle.read_text.specs.Kinds.{named};
+ghost use Rattle.read_text.specs.Outer.{outward, beginsOuter, Outer};
+ghost use Rattle.read_text.specs.Answers.{Checks};
+
+// The fault of a BEGIN where nothing is open, NO_FAULT where it has none: it begins a VCALENDAR.
+fn begin_fault(mode: usize, s: &[u8], e: usize, v: usize) -> u8
+    ensures { λ r. ⌜ beginsOuter mode (now (s .entry)) e v ≡ outward r ⌝ }
+{
+    let n = component_number(mode, s, v);
+    if n == component::VCALENDAR {
+        let bare = no_params(mode, s, e);
+        if bare {
+            return NO_FAULT;
+        }
+        return PARAMETER;
+    }
+    FRAME
+}
+
+// The fault of a content line where nothing is open.
+fn content_fault(mode: usize, s: &[u8], at: usize, e: usize, v: usize) -> u8
+    requires { ⌜ (at ≤ length (now s)) × Parts mode (now s) at e v × (cuts mode ≡ true) ⌝ }
+    ensures { λ r. ⌜ moveBy (named mode (now (s .entry)) at e v) [] ≡ outward r ⌝ }
+{
+    let good = names_carried(mode, s, at, e);
+    if good {
+        let begin = is_word_any_case(mode, &s[..e], at, b"BEGIN");
+        if begin {
+            return begin_fault(mode, s, e, v);
+        }
+        return FRAME;
+    }
+    NAME
+}
+
+// The fault of a line where nothing is open, NO_FAULT where it begins a VCALENDAR.
+fn outer_fault(mode: usize, s: &[u8], at: usize) -> u8
+    requires { ⌜ (at ≤ length (now s)) × (cuts mode ≡ true) ⌝ }
+    ensures { λ r. ⌜ move (rest mode (now (s .entry)) at) [] ≡ outward r ⌝ }
+{
+    let LineRead::Line(e, v) = line_at(mode, s, at) else {
+        return LINE;
+    };
+    content_fault(mode, s, at, e, v)
+}
+
+// A calendar, from its BEGIN on.
+fn calendar(mode: usize, s: &[u8], at: usize) -> Step
+    requires { ⌜ Ready mode (now s) at × (at < length (now s)) ⌝ }
+    ensures { λ r. ⌜ Outer mode (now (s .entry)) at r ⌝ }
+{
+    let Ending::Whole(e, next) = line_end(mode, s, at) else {
+        return Step::Failed(LINE, at);
+    };
+    let fault = outer_fault(mode, &s[..e], at);
+    if fault == NO_FAULT {
+        return body(mode, s, next, component::VCALENDAR);
+    }
+    Step::Failed(fault, at)
+}
+
+// The check of an unfolded text.
+pub fn check(mode: usize, s: &[u8]) -> Checked
+    requires { ⌜ cuts mode ≡ true ⌝ }
+    ensures { λ r. ⌜ Checks mode (now (s .entry)) r ⌝ }
+{
+    let start = settled(mode, s, 0);
+    if s.len() <= start {
+        return Checked::Refused(FRAME, 0);
+    }
+    let mut at = start;
+    while at < s.len() {
+        match calendar(mode, s, at) {
+            Step::Closed(next) => {
+                at = next;
+            }
+            Step::Failed(n, p) => {
+                return Checked::Refused(n, p);
+            }
+        }
+    }
+    Checked::Fine
+}

@@ -1,0 +1,86 @@
+// A component, from the line behind its BEGIN to its END.
+use crate::Kind;
+use crate::Step;
+use crate::Turn;
+use crate::line::line_kind;
+use read_text_line::Ending;
+use read_text_line::line_end;
+use refusals::COUNT;
+use refusals::FRAME;
+use refusals::LINE;
+use schema::action;
+use schema::bump;
+use schema::complete_counts;
+use schema::property;
+ghost use mathlib.Core.Path.{_≡_};
+ghost use Prim.Native.Nat.{_<_};
+ghost use lib.Dec.{eqb};
+ghost use lib.ListN.{length};
+ghost use Rattle.octets.specs.Pick.{pick};
+ghost use Rattle.read_text_line.specs.Ready.{Ready};
+ghost use Rattle.read_text.specs.Turns.{Turned, Body};
+
+// The line at a place in the component of the number `k`, in which a subcomponent has come or not.
+fn next_line(k: usize, inner: bool, mode: usize, s: &[u8], at: usize) -> Turn
+    requires { ⌜ (k < 9) × Ready mode (now s) at × (at < length (now s)) ⌝ }
+    ensures { λ r. ⌜ Turned k inner mode (now (s .entry)) at r ⌝ }
+{
+    let Ending::Whole(e, next) = line_end(mode, s, at) else {
+        return Turn {
+            kind: Kind::Faulty(LINE),
+            next: s.len(),
+        };
+    };
+    let kind = line_kind(k, inner, mode, &s[..e], at);
+    Turn { kind, next }
+}
+
+// The number of ACTION's word behind a property of the number `p`.
+fn action_after(p: usize, a: usize, last: usize) -> usize
+    ensures { λ r. ⌜ r ≡ pick (eqb p 38) a last ⌝ }
+{
+    if p == property::ACTION {
+        return a;
+    }
+    last
+}
+
+// The component of the number `k`, from the line behind its BEGIN on.
+pub fn body(mode: usize, s: &[u8], from: usize, k: usize) -> Step
+    requires { ⌜ Ready mode (now s) from × (k < 9) ⌝ }
+    ensures { λ r. ⌜ Body k mode (now (s .entry)) from r ⌝ }
+{
+    let mut at = from;
+    // One for each known property.
+    let mut counts = [0u8; 46];
+    let mut action = action::NONE;
+    let mut inner = false;
+    while at < s.len() {
+        let l = next_line(k, inner, mode, s, at);
+        let kind = l.kind;
+        match kind {
+            Kind::Starts(n) => match body(mode, s, l.next, n) {
+                Step::Closed(next) => {
+                    inner = true;
+                    at = next;
+                }
+                Step::Failed(r, p) => return Step::Failed(r, p),
+            },
+            Kind::Stops => {
+                let complete = complete_counts(k, counts, action, inner);
+                if complete {
+                    return Step::Closed(l.next);
+                }
+                return Step::Failed(COUNT, at);
+            }
+            Kind::Holds(p, a) => {
+                let more = bump(counts, p);
+                counts = more;
+                action = action_after(p, a, action);
+                at = l.next;
+            }
+            Kind::Faulty(r) => return Step::Failed(r, at),
+        }
+    }
+    Step::Failed(FRAME, s.len())
+}

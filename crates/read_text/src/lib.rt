@@ -1,0 +1,33 @@
+// The check of an unfolded text: refusals 4 to 9, in one pass over its lines that calls itself for each inner component. Definitions are in crate text, laws in specs/laws/.
+mod calendars;
+mod component;
+mod line;
+
+pub use calendars::check;
+
+// What a line is in an open component: the beginning of the component of a number; the component's end; a property of a number, with the number of
+// ACTION's word where it is ACTION; or a refusal of a number.
+pub enum Kind {
+    Starts(usize),
+    Stops,
+    Holds(usize, usize),
+    Faulty(u8),
+}
+
+// A line's kind, and the place behind the line.
+pub struct Turn {
+    pub kind: Kind,
+    pub next: usize,
+}
+
+// A component was closed, and the text goes on at a place; or a refusal and its place.
+pub enum Step {
+    Closed(usize),
+    Failed(u8, usize),
+}
+
+// The answer: the text is fine; or a refusal and its place.
+pub enum Checked {
+    Fine,
+    Refused(u8, usize),
+}

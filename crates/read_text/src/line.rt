@@ -1,0 +1,190 @@
+// What a line is in an open component, by the component's number. A line is cut at its end: it is all that stands from `at` on.
+use crate::Kind;
+use names::is_word_any_case;
+use read_text_line::LineRead;
+use read_text_line::line_at;
+use read_text_line::names_carried;
+use read_text_line::next_param;
+use read_text_property::property_fault;
+use refusals::FRAME;
+use refusals::LINE;
+use refusals::NAME;
+use refusals::NO_FAULT;
+use refusals::PARAMETER;
+use schema::action;
+use schema::action_number;
+use schema::component;
+use schema::component_number;
+use schema::may_begin;
+use schema::may_stand;
+use schema::property;
+use schema::property_number;
+ghost use mathlib.Core.Path.{_≡_};
+ghost use mathlib.Core.Bool.{true, not};
+ghost use mathlib.Core.List.{List};
+ghost use Prim.Native.Nat.{ℕ, _≤_, _<_};
+ghost use lib.Dec.{eqb};
+ghost use lib.ListN.{length};
+ghost use Rattle.octets.specs.Pick.{pick, _or_};
+ghost use Rattle.octets.specs.Class.{upper};
+ghost use Rattle.octets.specs.Words.{isEmpty};
+ghost use Rattle.source.specs.Source.{rest, cuts};
+ghost use Rattle.names.specs.Table.{placeOf};
+ghost use Rattle.schema.specs.Numbers.{componentName};
+ghost use Rattle.schema.specs.Properties.{propertyNames};
+ghost use Rattle.schema.specs.Completing.{actionNames};
+ghost use Rattle.read_text_line.specs.Cursor.{paramsAt};
+ghost use Rattle.read_text_line.specs.Line.{Parts};
+ghost use Rattle.text.specs.Nesting.{mayHold};
+ghost use Rattle.text.specs.LineKind.{openAs, beginKind, endKind, propertyKind, kindBy, lineKind};
+ghost use Rattle.read_text.specs.Kinds.{KindIs, lineFrom, named};
+
+// The line, whose name ends at `e`, has no parameters.
+pub fn no_params(mode: usize, s: &[u8], e: usize) -> bool
+    ensures { λ r. ⌜ r ≡ isEmpty (paramsAt mode (now (s .entry)) e) ⌝ }
+{
+    let p = next_param(mode, s, e);
+    if p.there {
+        if p.ok {
+            return false;
+        }
+        return true;
+    }
+    true
+}
+
+// The kind of a BEGIN, whose name ends at `e`, and whose value stands at `v`.
+fn begin_line(k: usize, mode: usize, s: &[u8], e: usize, v: usize) -> Kind
+    requires { ⌜ k < 9 ⌝ }
+    ensures { λ r. ⌜ ((w : List ℕ) → KindIs (beginKind (componentName k) (lineFrom w mode (now (s .entry)) e v)) r) ⌝ }
+{
+    let n = component_number(mode, s, v);
+    let may = may_begin(k, n);
+    if may {
+        let bare = no_params(mode, s, e);
+        if bare {
+            return Kind::Starts(n);
+        }
+        return Kind::Faulty(PARAMETER);
+    }
+    Kind::Faulty(FRAME)
+}
+
+// The kind of an END.
+fn end_line(k: usize, mode: usize, s: &[u8], e: usize, v: usize) -> Kind
+    requires { ⌜ k < 9 ⌝ }
+    ensures { λ r. ⌜ ((w : List ℕ) → KindIs (endKind (componentName k) (lineFrom w mode (now (s .entry)) e v)) r) ⌝ }
+{
+    let n = component_number(mode, s, v);
+    if n == k {
+        let bare = no_params(mode, s, e);
+        if bare {
+            return Kind::Stops;
+        }
+        return Kind::Faulty(PARAMETER);
+    }
+    Kind::Faulty(FRAME)
+}
+
+// Properties stand before subcomponents, except in VTIMEZONE.
+fn may_follow(k: usize, inner: bool) -> bool
+    ensures { λ r. ⌜ r ≡ (not inner or eqb k 5) ⌝ }
+{
+    if inner {
+        return k == component::VTIMEZONE;
+    }
+    true
+}
+
+// The property of the number `p` may stand in the component.
+fn may_hold(k: usize, inner: bool, p: usize) -> bool
+    requires { ⌜ k < 9 ⌝ }
+    ensures { λ r. ⌜ ((w : List ℕ) → p ≡ placeOf w propertyNames → r ≡ mayHold w (openAs (componentName k) inner)) ⌝ }
+{
+    if p < property::KNOWN {
+        let may = may_stand(k, p);
+        if may {
+            return may_follow(k, inner);
+        }
+        return false;
+    }
+    may_follow(k, inner)
+}
+
+// The number of the word of ACTION, NONE where the property is another.
+fn action_of(p: usize, mode: usize, s: &[u8], v: usize) -> usize
+    ensures { λ r. ⌜ r ≡ pick (eqb p 38) (placeOf (upper (rest mode (now (s .entry)) v)) actionNames) 3 ⌝ }
+{
+    if p == property::ACTION {
+        return action_number(false, mode, s, v);
+    }
+    action::NONE
+}
+
+// The kind of a line that is a property of the number `p`.
+fn numbered_line(k: usize, inner: bool, p: usize, mode: usize, s: &[u8], e: usize, v: usize) -> Kind
+    requires { ⌜ (k < 9) × (cuts mode ≡ true) ⌝ }
+    ensures { λ r. ⌜
+        ((w : List ℕ) →
+        p ≡ placeOf (upper w) propertyNames →
+        KindIs (propertyKind (componentName k) inner (lineFrom w mode (now (s .entry)) e v)) r) ⌝ }
+{
+    let may = may_hold(k, inner, p);
+    if may {
+        let f = property_fault(k, p, mode, s, e, v);
+        if f == NO_FAULT {
+            let a = action_of(p, mode, s, v);
+            return Kind::Holds(p, a);
+        }
+        return Kind::Faulty(f);
+    }
+    Kind::Faulty(FRAME)
+}
+
+// The kind of a line that is a property.
+fn property_line(
+    k: usize,
+    inner: bool,
+    mode: usize,
+    s: &[u8],
+    at: usize,
+    e: usize,
+    v: usize,
+) -> Kind
+    requires { ⌜ (k < 9) × (at ≤ length (now s)) × Parts mode (now s) at e v × (cuts mode ≡ true) ⌝ }
+    ensures { λ r. ⌜ KindIs (propertyKind (componentName k) inner (named mode (now (s .entry)) at e v)) r ⌝ }
+{
+    let p = property_number(mode, &s[..e], at);
+    numbered_line(k, inner, p, mode, s, e, v)
+}
+
+// The kind of a content line.
+fn content_line(k: usize, inner: bool, mode: usize, s: &[u8], at: usize, e: usize, v: usize) -> Kind
+    requires { ⌜ (k < 9) × (at ≤ length (now s)) × Parts mode (now s) at e v × (cuts mode ≡ true) ⌝ }
+    ensures { λ r. ⌜ KindIs (kindBy (componentName k) inner (named mode (now (s .entry)) at e v)) r ⌝ }
+{
+    let good = names_carried(mode, s, at, e);
+    if good {
+        let begin = is_word_any_case(mode, &s[..e], at, b"BEGIN");
+        if begin {
+            return begin_line(k, mode, s, e, v);
+        }
+        let end = is_word_any_case(mode, &s[..e], at, b"END");
+        if end {
+            return end_line(k, mode, s, e, v);
+        }
+        return property_line(k, inner, mode, s, at, e, v);
+    }
+    Kind::Faulty(NAME)
+}
+
+// The kind of a line in the component of the number `k`, in which a subcomponent has come or not.
+pub fn line_kind(k: usize, inner: bool, mode: usize, s: &[u8], at: usize) -> Kind
+    requires { ⌜ (k < 9) × (at ≤ length (now s)) × (cuts mode ≡ true) ⌝ }
+    ensures { λ r. ⌜ KindIs (lineKind (componentName k) inner (rest mode (now (s .entry)) at)) r ⌝ }
+{
+    let LineRead::Line(e, v) = line_at(mode, s, at) else {
+        return Kind::Faulty(LINE);
+    };
+    content_line(k, inner, mode, s, at, e, v)
+}

@@ -1,0 +1,18 @@
+-- Names of properties and parameters that can be carried (refusal 5): a name becomes an XML element's, so it may not begin with a digit, a hyphen or XML.
+--     isCarriedName         in any letter case
+use mathlib.Core.Bool.{Bool, true, false}
+use mathlib.Core.List.{List, [], _∷_}
+use Prim.Native.Nat.{ℕ}
+use lib.Dec.{eqb}
+use Rattle.octets.specs.Ascii.{ascii}
+use Rattle.octets.specs.Pick.{pick, _or_}
+use Rattle.octets.specs.Class.{isDigit, upper}
+use Rattle.octets.specs.Words.{starts}
+
+-- a digit or a hyphen at the front
+unfoldable pub startsOffName : List ℕ → Bool
+startsOffName [] = false
+startsOffName (b ∷ n) = isDigit b or eqb b 45
+
+unfoldable pub isCarriedName : List ℕ → Bool
+isCarriedName n = pick (startsOffName n or starts (ascii "XML") (upper n)) false true

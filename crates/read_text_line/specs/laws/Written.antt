@@ -1,0 +1,28 @@
+-- Laws of what specs/Written.antt defines.
+--     value-quoted-put, value-bare-put    a value, between quotes and not
+use mathlib.Core.Path.{_≡_, ap, subst, _∙_}
+use mathlib.Core.Bool.{Bool, true, false}
+use mathlib.Core.List.{List, [], _∷_}
+use Prim.Native.Nat.{ℕ}
+use Rattle.octets.specs.Append.{_⊕_}
+use Rattle.octets.specs.laws.Append.{append-cons, append-empty}
+use Rattle.sink.specs.Sink.{Put}
+use Rattle.sink.specs.laws.Sink.{put-yes, put-no, _▷_}
+use Rattle.read_text_line.specs.Write.{writeParamValue}
+use Rattle.read_text_line.specs.Written.{opening}
+
+-- a byte before other bytes
+byte-before : (x : ℕ) (l : List ℕ) → (x ∷ []) ⊕ l ≡ x ∷ l
+byte-before x l = append-cons x [] l ∙ ap (λ (y : List ℕ). x ∷ y) (append-empty l)
+
+module _ {d e f g : List ℕ} {o a b r : ℕ} {n : List ℕ} where
+  pub opening-put : Put d e o a (59 ∷ []) → Put e f a b n → Put f g b r (61 ∷ []) → Put d g o r (opening n)
+  opening-put p q w = subst (Put d g o r) (byte-before 59 (n ⊕ 61 ∷ [])) (p ▷ q ▷ w)
+
+  pub value-quoted-put : {t : Bool} → t ≡ true → Put d e o a (34 ∷ []) → Put e f a b n → Put f g b r (34 ∷ []) → Put d g o r (writeParamValue (record { quoted = t; chars = n }))
+  unfolding writeParamValue
+  value-quoted-put {t} h p q w = put-yes t _ _ h (subst (Put d g o r) (byte-before 34 (n ⊕ 34 ∷ [])) (p ▷ q ▷ w))
+
+pub value-bare-put : {d e : List ℕ} {o r : ℕ} {n : List ℕ} {t : Bool} → t ≡ false → Put d e o r n → Put d e o r (writeParamValue (record { quoted = t; chars = n }))
+unfolding writeParamValue
+value-bare-put {t = t} h p = put-no t _ _ h p

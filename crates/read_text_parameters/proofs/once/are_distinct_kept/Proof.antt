@@ -1,0 +1,17 @@
+-- `read_text_parameters::are_distinct_kept` meets its contract.
+use borrow.Author.Needs.{needs}
+use Rattle.read_text_parameters.proofs.once.are_distinct_kept.Statement.{statement}
+use Rattle.read_text_parameters.proofs.once.are_distinct_kept.Tie as tie
+
+pub are-distinct-kept-spec : {M : Type 1} → statement M
+are-distinct-kept-spec = tie.close (tie.spec
+    (λ c κs. search needs)  -- collect-requires
+    (λ c κs. search needs)  -- are-distinct-requires
+    (λ c. search needs)  -- same-length
+    (λ c. search needs)  -- same-length-2
+    (λ c. rw (c .before .before .before .before .before .before .before .before .collect .ensures (c .before .before .before .if1 .taken)) (c .are-distinct .ensures))  -- returns
+    (λ c κs. search needs)  -- are-apart-requires
+    (λ c. search needs)  -- same-length-3
+    (λ c. search needs)  -- same-length-4
+    (λ c. search needs)  -- returns-2
+    )

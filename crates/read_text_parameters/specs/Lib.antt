@@ -1,0 +1,17 @@
+-- The parameters of a line, checked through cursors. What is checked is defined in crate text.
+--     Cutting      parameters and values cut out of a line
+--     Typing       a value of a parameter, by the parameter's number
+--     Stating      the type that a line states
+--     Readable     parameters that can be read, by their numbers
+--     Comparing    names compared
+--     Collecting   names collected by their cursors
+--     Permitted    the rules of a property's parameters, by numbers
+--     laws         laws of these, and what proofs need
+pub mod Cutting
+pub mod Typing
+pub mod Stating
+pub mod Readable
+pub mod Comparing
+pub mod Collecting
+pub mod Permitted
+pub mod laws

@@ -1,0 +1,17 @@
+-- Laws. The parameters of a line, checked through cursors.
+--     Cutting     parameters and values cut out of a line
+--     Typing      a value of a parameter, by the parameter's number
+--     Stating     the type that a line states
+--     Steps       a test of a list, an element at a time
+--     Readable    parameters that can be read, by their numbers
+--     Comparing   names compared
+--     Collecting  names collected by their cursors
+--     Permitted   the rules of a property's parameters, by numbers
+pub mod Cutting
+pub mod Typing
+pub mod Stating
+pub mod Steps
+pub mod Readable
+pub mod Comparing
+pub mod Collecting
+pub mod Permitted

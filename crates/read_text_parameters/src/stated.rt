@@ -1,0 +1,81 @@
+// The type that a line states. See specs/Stating.antt.
+use crate::TypeRead;
+use crate::cut::is_value_name;
+use crate::several::is_last;
+use octets::smaller;
+use read_text_line::next_param;
+use read_text_line::param_value;
+use schema::default_type;
+use schema::type_number;
+use schema::value_type;
+ghost use mathlib.Core.Path.{_≡_};
+ghost use mathlib.Core.Bool.{true};
+ghost use mathlib.Core.Option.{some};
+ghost use lib.ListN.{take};
+ghost use Rattle.octets.specs.Class.{upper};
+ghost use Rattle.source.specs.Source.{rest, cuts};
+ghost use Rattle.schema.specs.Types.{typeNamed};
+ghost use Rattle.schema.specs.Numbers.{propertyAt};
+ghost use Rattle.read_text_line.specs.Cursor.{valuesAt};
+ghost use Rattle.text.specs.Parameters.{typeIn};
+ghost use Rattle.read_text_parameters.specs.Stating.{TypeOf, StatedAt};
+
+// The type of a name.
+fn named_type(mode: usize, s: &[u8], from: usize, to: usize) -> TypeRead
+    ensures { λ r. ⌜ TypeOf (typeNamed (upper (rest mode (take to (now (s .entry))) from))) r ⌝ }
+{
+    let e = smaller(to, s.len());
+    let t = type_number(mode, &s[..e], from);
+    if t < value_type::KNOWN {
+        return TypeRead::Type(t);
+    }
+    TypeRead::Bad
+}
+
+// The type that VALUE's one value names.
+fn type_in(mode: usize, s: &[u8], at: usize) -> TypeRead
+    requires { ⌜ cuts mode ≡ true ⌝ }
+    ensures { λ r. ⌜ TypeOf (typeIn (valuesAt mode (now (s .entry)) at)) r ⌝ }
+{
+    let v = param_value(mode, s, at);
+    if v.ok {
+        let last = is_last(mode, s, v.next);
+        if last {
+            return named_type(mode, s, v.from, v.to);
+        }
+        return TypeRead::Bad;
+    }
+    TypeRead::Bad
+}
+
+// The property's default.
+fn default_read(p: usize) -> TypeRead
+    ensures { λ r. ⌜ TypeOf (some (propertyAt p .default)) r ⌝ }
+{
+    let t = default_type(p);
+    TypeRead::Type(t)
+}
+
+// The type that VALUE names, of the parameters from the cursor `e` on, or the default of the property of the number `p`.
+pub fn stated_type(p: usize, mode: usize, s: &[u8], e: usize) -> TypeRead
+    requires { ⌜ cuts mode ≡ true ⌝ }
+    ensures { λ r. ⌜ StatedAt p mode (now (s .entry)) e r ⌝ }
+{
+    let mut c = e;
+    loop {
+        let a = next_param(mode, s, c);
+        if a.there {
+            if a.ok {
+                let value = is_value_name(mode, s, a.name, a.end);
+                if value {
+                    return type_in(mode, s, a.first);
+                }
+                c = a.next;
+            } else {
+                return default_read(p);
+            }
+        } else {
+            return default_read(p);
+        }
+    }
+}

@@ -1,0 +1,12 @@
+-- `read_text_property::own::read_values` meets its contract.
+use borrow.Author.Needs.{needs}
+use Rattle.read_text_property.specs.laws.ValuesAt.{values-good, values-bad}
+use Rattle.read_text_property.proofs.own.read_values.Statement.{statement}
+use Rattle.read_text_property.proofs.own.read_values.Tie as tie
+
+pub read-values-spec : {M : Type 1} → statement M
+read-values-spec = tie.close (tie.spec
+    (λ c κs. search needs)  -- are-permitted-requires
+    (λ c a w i j h. values-good _ _ _ _ (c .before .are-permitted .ensures) a w i j (c .if1 .taken))  -- returns
+    (λ c a w i j h. values-bad _ _ (c .before .before .before .args .t) _ (c .before .are-permitted .ensures) a w i j (c .if1 .left))  -- returns-2
+    )

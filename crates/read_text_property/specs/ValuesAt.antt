@@ -1,0 +1,31 @@
+-- The values of a property by numbers, of the component, of the property and of the type: what the code asks is what `readValues` says of the names.
+--     valuesRead      the answer of `read_values`: the type's number where the values are good
+--     ownAt, goodAt   whether the values are good, by numbers;   goodAt: and their type is permitted
+use mathlib.Core.Bool.{Bool, true, false}
+use mathlib.Core.List.{List}
+use Prim.Native.Nat.{ℕ}
+use lib.Dec.{eqb}
+use Rattle.octets.specs.Pick.{pick}
+use Rattle.octets.specs.Reading.{isRead}
+use Rattle.schema.specs.Numbers.{typeAt, propertyAt}
+use Rattle.schema.specs.Columns.{permitsType}
+use Rattle.schema.specs.Sets.{wordsAt}
+use Rattle.numbers.specs.Geo.{readGeo}
+use Rattle.texts.specs.RequestStatus.{readRequestStatus}
+use Rattle.text.specs.Values.{readListed, readChosen}
+use Rattle.read_text_property.specs.declared.ValuesRead.{ValuesRead}
+use Rattle.read_text_property.specs.declared.ValuesRead.the-variants.{Good, Bad}
+
+abbrev pub valuesRead : ℕ → Bool → ValuesRead
+valuesRead t true = Good t
+valuesRead t false = Bad
+
+-- 9 is GEO, 45 is REQUEST-STATUS
+abbrev pub ownAt : ℕ → ℕ → ℕ → List ℕ → Bool
+ownAt k p t l =
+    pick (eqb p 9) (isRead (readGeo l))
+    (pick (eqb p 45) (isRead (readRequestStatus l))
+    (pick (propertyAt p .listed) (isRead (readListed (typeAt t) l)) (isRead (readChosen (wordsAt k p) (typeAt t) l))))
+
+abbrev pub goodAt : ℕ → ℕ → ℕ → List ℕ → Bool
+goodAt k p t l = pick (permitsType p t) (ownAt k p t l) false

@@ -1,0 +1,61 @@
+-- The children of a property, by the property's number p and the child's number: 9 is GEO, 45 is REQUEST-STATUS.
+--     childWords p              the names of the children
+--     slotsAt                   their slots;   slotAt p i: the slot of the child of the number i, 4 where it has none
+--     afterAt                   the slot after a child
+--     flagsAt                             the slots that must be filled: the first of the value, and of GEO and REQUEST-STATUS the second
+use mathlib.Core.Bool.{Bool, true, false}
+use mathlib.Core.List.{List, [], _∷_}
+use mathlib.Core.Option.{Option, none, some}
+use Prim.Native.Nat.{ℕ, _+_}
+use lib.Dec.{eqb, ltb}
+use Rattle.octets.specs.Ascii.{ascii}
+use Rattle.octets.specs.Pick.{pick, _and_, _or_}
+use Rattle.schema.specs.Numbers.{propertyAt, typeWords}
+use Rattle.xcal.specs.Layout.{Slot}
+use Rattle.xcal.specs.ValueNodes.{may, must, typeElements}
+
+-- ---- their names and slots
+
+abbrev pub geoWords : List (List ℕ)
+geoWords = ascii "parameters" ∷ ascii "latitude" ∷ ascii "longitude" ∷ []
+
+abbrev pub statusWords : List (List ℕ)
+statusWords = ascii "parameters" ∷ ascii "code" ∷ ascii "description" ∷ ascii "data" ∷ []
+
+abbrev pub otherWords : List (List ℕ)
+otherWords = ascii "parameters" ∷ typeWords
+
+abbrev pub childWords : ℕ → List (List ℕ)
+childWords p = pick (eqb p 9) geoWords (pick (eqb p 45) statusWords otherWords)
+
+abbrev pub slotsOf : Bool → Bool → Bool → List Slot
+slotsOf g s l =
+    may (ascii "parameters")
+    ∷ pick g (must (ascii "latitude") ∷ must (ascii "longitude") ∷ [])
+    (pick s (must (ascii "code") ∷ must (ascii "description") ∷ may (ascii "data") ∷ [])
+    (record { names = typeElements; several = l; required = true } ∷ []))
+
+unfoldable pub slotsAt : ℕ → List Slot
+slotsAt p = slotsOf (eqb p 9) (eqb p 45) (propertyAt p .listed)
+
+-- ---- the slot of a child
+
+abbrev pub slotAt : ℕ → ℕ → ℕ
+slotAt p i = pick (eqb p 9) (pick (ltb i 3) i 4) (pick (eqb p 45) (pick (ltb i 4) i 4) (pick (eqb i 0) 0 (pick (ltb i 16) 1 4)))
+
+-- ---- the slot after a child
+
+unfoldable pub afterAt : Bool → ℕ → ℕ → Option ℕ
+afterAt l k next = pick (ltb k 4) (pick (ltb k next) none (pick (eqb k 1 and l) (some k) (some (k + 1)))) none
+
+-- ---- slots that must be filled
+
+abbrev pub hasTwo : ℕ → Bool
+hasTwo p = eqb p 9 or eqb p 45
+
+abbrev pub flagsOf : Bool → Bool → Bool → List Bool
+flagsOf true f g = f ∷ g ∷ []
+flagsOf false f g = f ∷ []
+
+abbrev pub flagsAt : ℕ → Bool → Bool → List Bool
+flagsAt p f g = flagsOf (hasTwo p) f g

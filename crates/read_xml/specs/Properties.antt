@@ -1,0 +1,37 @@
+-- A property's element, and the children of `properties`.
+--     PropertyAt   the contract of `property_verdict`
+use mathlib.Core.Path.{_≡_}
+use mathlib.Core.Bool.{Bool, not}
+use mathlib.Core.List.{List}
+use Prim.Native.Nat.{ℕ, _≤_}
+use Rattle.octets.specs.Pick.{_and_}
+use Rattle.names.specs.Table.{placeOf}
+use Rattle.schema.specs.Components.{componentNames, mayStand}
+use Rattle.schema.specs.Properties.{propertyNames, isKnownProperty}
+use Rattle.schema.specs.Numbers.{typeAt}
+use Rattle.xml.specs.Nodes.{Nodes}
+use Rattle.xcal.specs.ValueNodes.{typeOfNodes}
+use Rattle.xcal.specs.PropertyNodes.{lacksEncoding, propertyVerdict, propertiesVerdict}
+use Rattle.xml.specs.NodesAt.{nodesAt}
+use Rattle.read_xml_nodes.specs.Judging.{judgedAs}
+use Rattle.read_xml_nodes.specs.declared.Judged.{Judged}
+
+-- ---- a value of type BINARY with no ENCODING
+
+pub record LacksAt (p t : ℕ) (kids : Nodes) (r : Bool) : Type 0 where
+  pub is : (w : List ℕ) → p ≡ placeOf w propertyNames → t ≤ 14 → typeAt t ≡ typeOfNodes w kids → r ≡ lacksEncoding w kids
+
+-- ---- its name, and whether it may stand there
+
+pub record OffAt (k p : ℕ) (r : Bool) : Type 0 where
+  pub is : (c w : List ℕ) → k ≡ placeOf c componentNames → p ≡ placeOf w propertyNames → r ≡ (isKnownProperty w and not (mayStand c w))
+
+-- ---- the element
+
+pub record PropertyAt (k place : ℕ) (m : List ℕ) (end : ℕ) (kids : Nodes) (r : Judged) : Type 0 where
+  pub is : (c : List ℕ) → k ≡ placeOf c componentNames → propertyVerdict c place m end kids ≡ judgedAs r
+
+-- ---- the children of `properties`
+
+pub record ListedAt (k : ℕ) (s : List ℕ) (from : ℕ) (r : Judged) : Type 0 where
+  pub is : (c : List ℕ) → k ≡ placeOf c componentNames → propertiesVerdict c (nodesAt s from) ≡ judgedAs r

@@ -1,0 +1,257 @@
+-- Laws of what specs/Properties.antt defines.
+--     Seeking      the invariant of the walk to the `parameters` of a property;   seeking: the rules
+--     naming       the rules of the tests of a property's name and place
+--     Listing    the invariant of the walk over properties;   listing: the rules
+use mathlib.Core.Path.{_≡_, refl, sym, ap, _∙_}
+use mathlib.Core.Bool.{Bool, true, false, not}
+use mathlib.Core.List.{List, [], _∷_}
+use mathlib.Core.Option.{none, some}
+use Prim.Native.Nat.{ℕ, suc, _≤_, _<_}
+use native.Mathlib.Omega.{arith}
+use lib.Dec.{eqb, ltb}
+use lib.ListN.{length, take}
+use lib.Seq.{length-take-le}
+use borrow.Author.Needs.{needs}
+use borrow.Author.Tests.{eq-eqb, ne-eqb, lt-ltb, le-ltb}
+use Rattle.octets.specs.Ascii.{ascii}
+use Rattle.octets.specs.Pick.{pick, _and_, _or_}
+use Rattle.octets.specs.Class.{upper, isSpace}
+use Rattle.octets.specs.Words.{same, isOneOf}
+use Rattle.source.specs.Source.{rest}
+use Rattle.names.specs.Table.{placeOf}
+use Rattle.names.specs.laws.Table.{one-of-place}
+use Rattle.calendar.specs.Calendar.{BINARY}
+use Rattle.calendar.specs.Refusal.{_otherwise_}
+use Rattle.schema.specs.Types.{sameType}
+use Rattle.schema.specs.Components.{componentNames, mayStand}
+use Rattle.schema.specs.Properties.{propertyNames, isKnownProperty}
+use Rattle.schema.specs.Numbers.{componentName, propertyName, propertyAt, typeAt}
+use Rattle.schema.specs.laws.Columns.{stand-place}
+use Rattle.schema.specs.laws.Places.{type-back}
+use Rattle.read_text_line.specs.Names.{isCarriedName}
+use Rattle.xml.specs.Nodes.{Nodes, noNodes}
+use Rattle.xcal.specs.Layout.{Slot, slotOf, sequence, hasCapital}
+use Rattle.xcal.specs.ValueNodes.{valueSlots, typeOfNodes}
+use Rattle.xcal.specs.ParameterNodes.{hasEncoding}
+use Rattle.xcal.specs.PropertyNodes.{badName, propertySlots, stillBefore, parametersIn, childVerdict, propertyVerdict, propertiesVerdict}
+use Rattle.xml.specs.NodesAt.{nodesAt}
+use Rattle.xml.specs.laws.NodesAt.{nodes-none}
+use Rattle.read_xml_nodes.specs.NodeFound.{NodeAt}
+use Rattle.read_xml_nodes.specs.laws.NodeFound.{node-none, node-element, node-literal, node-referred, element-less, literal-less, referred-less}
+use Rattle.read_xml_nodes.specs.Judging.{judgedAs}
+use Rattle.read_xml_nodes.specs.laws.Judging.{is-name, is-frame, is-parameter}
+use Rattle.read_xml_nodes.specs.declared.Node.{Node}
+use Rattle.read_xml_nodes.specs.declared.NodeKind.the-variants.{None, Element, Literal, Referred}
+use Rattle.read_xml_nodes.specs.declared.Judged.{Judged}
+use Rattle.read_xml_nodes.specs.declared.Judged.the-variants.{Fine, Refused}
+use Rattle.read_xml.specs.Children.{childWords, slotAt}
+use Rattle.read_xml.specs.laws.Children.{slots-place, slotted, slot-at, parameters-at}
+use Rattle.read_xml.specs.Turning.{Holder}
+use Rattle.read_xml.specs.laws.Turning.{name-inside, content-inside}
+use Rattle.read_xml.specs.Properties.{LacksAt, OffAt, PropertyAt, ListedAt}
+
+-- ---- the `parameters` of a property
+
+-- whether a slot is found does not depend on the number of the first
+still-shift : (m : List ℕ) (ss : List Slot) (i j : ℕ) → stillBefore (slotOf m ss i) ≡ stillBefore (slotOf m ss j)
+unfolding pick
+still-shift m [] i j = refl
+still-shift m (x ∷ ss) i j = go (isOneOf m (x .names)) (still-shift m ss (suc i) (suc j))
+  where
+    go : (b : Bool) → stillBefore (slotOf m ss (suc i)) ≡ stillBefore (slotOf m ss (suc j)) →
+        stillBefore (pick b (some (i, x .several)) (slotOf m ss (suc i))) ≡ stillBefore (pick b (some (j, x .several)) (slotOf m ss (suc j)))
+    go true ih = refl
+    go false ih = ih
+
+still-slotted : (l : Bool) (k : ℕ) → stillBefore (slotted l k) ≡ not (ltb k 4)
+unfolding pick
+still-slotted l k = go (ltb k 4)
+  where
+    go : (b : Bool) → stillBefore (pick b (some (k, eqb k 1 and l)) none) ≡ not b
+    go true = refl
+    go false = refl
+
+module _ (w m : List ℕ) {p slot : ℕ} (o : p ≡ placeOf w propertyNames) (e : slot ≡ slotAt p (placeOf m (childWords p))) where
+  is-parameters : same m (ascii "parameters") ≡ eqb slot 0
+  is-parameters = parameters-at p m ∙ rw (← e)
+
+  value-slot : eqb slot 0 ≡ false → slotOf m (propertySlots w) 0 ≡ slotOf m (valueSlots w) 1
+  unfolding pick isOneOf _or_
+  value-slot h = rw (is-parameters, h)
+
+  before-slot : eqb slot 0 ≡ false → stillBefore (slotOf m (valueSlots w) 0) ≡ not (ltb slot 4)
+  before-slot h =
+      still-shift m (valueSlots w) 0 1
+      ∙ ap stillBefore (sym (value-slot h) ∙ ap (λ (ss : List Slot). slotOf m ss 0) (slots-place w o) ∙ slot-at p m ∙ ap (slotted (propertyAt p .listed)) (sym e))
+      ∙ still-slotted (propertyAt p .listed) slot
+
+pub record Seeking (p : ℕ) (s : List ℕ) (from at : ℕ) : Type 0 where
+  pub is : (w : List ℕ) → p ≡ placeOf w propertyNames → parametersIn w (nodesAt s from) ≡ parametersIn w (nodesAt s at)
+
+pub seek-start : (p : ℕ) (s : List ℕ) (from : ℕ) → Seeking p s from from
+seek-start p s from = record { is = λ w o. refl }
+
+module _ {p : ℕ} {s : List ℕ} {from at : ℕ} {r : Node} (i : Seeking p s from at) (n : NodeAt s at r) where
+  pub seek-none : r .kind ≡ None → (w : List ℕ) → p ≡ placeOf w propertyNames → nodesAt s (length s) ≡ parametersIn w (nodesAt s from)
+  unfolding parametersIn
+  seek-none q w o = nodes-none s (length s) (omega arith) ∙ sym (i .is w o ∙ ap (parametersIn w) (node-none n q))
+
+  pub seek-literal : r .kind ≡ Literal → Seeking p s from (r .next)
+  unfolding parametersIn
+  seek-literal q = record { is = λ w o. i .is w o ∙ ap (parametersIn w) (node-literal n q) }
+
+  pub seek-referred : r .kind ≡ Referred → Seeking p s from (r .next)
+  unfolding parametersIn
+  seek-referred q = record { is = λ w o. i .is w o ∙ ap (parametersIn w) (node-referred n q) }
+
+  module _ (q : r .kind ≡ Element) {slot : ℕ} (e : slot ≡ slotAt p (placeOf (rest 0 (take (r .«name_end») s) (r .name)) (childWords p))) where
+    at-element : (w : List ℕ) → p ≡ placeOf w propertyNames → parametersIn w (nodesAt s from) ≡
+        pick (eqb slot 0) (nodesAt s (r .inside)) (pick (stillBefore (slotOf (rest 0 (take (r .«name_end») s) (r .name)) (valueSlots w) 0)) (parametersIn w (nodesAt s (r .next))) noNodes)
+    unfolding parametersIn
+    at-element w o = i .is w o ∙ ap (parametersIn w) (node-element n q) ∙ rw (is-parameters w (rest 0 (take (r .«name_end») s) (r .name)) o e)
+
+    pub seek-here : slot ≡ 0 → (w : List ℕ) → p ≡ placeOf w propertyNames → nodesAt s (r .inside) ≡ parametersIn w (nodesAt s from)
+    unfolding pick
+    seek-here z w o = sym (at-element w o ∙ rw (eq-eqb slot 0 z))
+
+    pub seek-stop : (slot ≡ 0 → ⊥) → slot < 4 → (w : List ℕ) → p ≡ placeOf w propertyNames → nodesAt s (length s) ≡ parametersIn w (nodesAt s from)
+    unfolding pick
+    seek-stop z l w o =
+        nodes-none s (length s) (omega arith)
+        ∙ sym (at-element w o ∙ rw (before-slot w (rest 0 (take (r .«name_end») s) (r .name)) o e (ne-eqb slot 0 z), ne-eqb slot 0 z, lt-ltb slot 4 l))
+
+    pub seek-past : (slot ≡ 0 → ⊥) → 4 ≤ slot → Seeking p s from (r .next)
+    unfolding pick
+    seek-past z l = record {
+      is = λ w o. at-element w o ∙ rw (before-slot w (rest 0 (take (r .«name_end») s) (r .name)) o e (ne-eqb slot 0 z), ne-eqb slot 0 z, le-ltb slot 4 l);
+    }
+
+pub ruleset seeking = (seek-start, seek-none, seek-literal, seek-referred, seek-here, seek-stop, seek-past, name-inside, element-less, literal-less, referred-less, needs)
+
+-- ---- a value of type BINARY with no ENCODING
+
+module _ (p t : ℕ) (kids : Nodes) where
+  is-binary : (w : List ℕ) → t ≤ 14 → typeAt t ≡ typeOfNodes w kids → sameType (typeOfNodes w kids) BINARY ≡ eqb t 0
+  unfolding sameType
+  is-binary w h e = rw (← e, type-back t h)
+
+  pub lacks-not : (t ≡ 0 → ⊥) → LacksAt p t kids false
+  unfolding _and_
+  lacks-not z = record { is = λ w o h e. sym (rw (is-binary w h e, ne-eqb t 0 z)) }
+
+  module _ (s : List ℕ) (z : t ≡ 0) (q : ℕ) (f : (w : List ℕ) → p ≡ placeOf w propertyNames → nodesAt s q ≡ parametersIn w kids) {b : Bool} (g : b ≡ hasEncoding (nodesAt s q)) where
+    pub lacks-found : b ≡ true → LacksAt p t kids false
+    unfolding _and_
+    lacks-found y = record { is = λ w o h e. sym (rw (is-binary w h e, eq-eqb t 0 z, ← (f w o), ← g, y)) }
+
+    pub lacks-none : b ≡ false → LacksAt p t kids true
+    unfolding _and_
+    lacks-none y = record { is = λ w o h e. sym (rw (is-binary w h e, eq-eqb t 0 z, ← (f w o), ← g, y)) }
+
+pub ruleset lacking = (lacks-not, lacks-found, lacks-none, needs)
+
+-- ---- its name, and whether it may stand there
+
+module _ (m : List ℕ) {b : Bool} (e : b ≡ hasCapital m) where
+  pub bad-capital : b ≡ true → true ≡ badName m
+  unfolding _or_
+  bad-capital h = sym (rw (← e, h))
+
+  module _ (h : b ≡ false) {d : Bool} (f : d ≡ isCarriedName m) where
+    pub bad-carried : d ≡ false → true ≡ badName m
+    unfolding _or_
+    bad-carried g = sym (rw (← e, h, ← f, g))
+
+    module _ (g : d ≡ true) {x : Bool} (i : x ≡ same m (ascii "begin")) where
+      pub bad-begin : x ≡ true → true ≡ badName m
+      unfolding _or_
+      bad-begin j = sym (rw (← e, h, ← f, g, ← i, j))
+
+      pub bad-end : {r : Bool} → x ≡ false → r ≡ same m (ascii "end") → r ≡ badName m
+      unfolding _or_
+      bad-end j q = q ∙ sym (rw (← e, h, ← f, g, ← i, j))
+
+pub ruleset naming = (bad-capital, bad-carried, bad-begin, bad-end, length-take-le, needs)
+
+module _ (k p : ℕ) where
+  off-at : (c w : List ℕ) → k ≡ placeOf c componentNames → p ≡ placeOf w propertyNames →
+      (isKnownProperty w and not (mayStand c w)) ≡ (ltb p 46 and not (mayStand (componentName k) (propertyName p)))
+  unfolding isKnownProperty
+  off-at c w a o = rw (one-of-place w propertyNames, stand-place c w, ← a, ← o)
+
+  pub off-unknown : 46 ≤ p → OffAt k p false
+  unfolding _and_
+  off-unknown h = record { is = λ c w a o. sym (off-at c w a o ∙ rw (le-ltb p 46 h)) }
+
+  module _ (h : p < 46) {b : Bool} (e : b ≡ mayStand (componentName k) (propertyName p)) where
+    pub off-may : b ≡ true → OffAt k p false
+    unfolding _and_
+    off-may f = record { is = λ c w a o. sym (off-at c w a o ∙ rw (lt-ltb p 46 h, ← e, f)) }
+
+    pub off-not : b ≡ false → OffAt k p true
+    unfolding _and_
+    off-not f = record { is = λ c w a o. sym (off-at c w a o ∙ rw (lt-ltb p 46 h, ← e, f)) }
+
+pub ruleset standing = (off-unknown, off-may, off-not, needs)
+
+-- ---- the element
+
+module _ (k place : ℕ) (m : List ℕ) (end : ℕ) (kids : Nodes) {b : Bool} (e : b ≡ badName m) where
+  pub property-bad : b ≡ true → PropertyAt k place m end kids (Refused 5 place)
+  unfolding propertyVerdict pick
+  property-bad h = record { is = λ c a. rw (← e, h) (sym (is-name place)) }
+
+  module _ (h : b ≡ false) {p : ℕ} (o : p ≡ placeOf (upper m) propertyNames) {d : Bool} (f : OffAt k p d) where
+    pub property-off : d ≡ true → PropertyAt k place m end kids (Refused 6 place)
+    unfolding propertyVerdict pick
+    property-off g = record { is = λ c a. rw (← e, h, ← (f .is c (upper m) a o), g) (sym (is-frame place)) }
+
+    module _ (g : d ≡ false) {t : ℕ} (y : ((w : List ℕ) → p ≡ placeOf w propertyNames → typeAt t ≡ typeOfNodes w kids) × (t ≤ 14)) {x : Bool} (i : LacksAt p t kids x) where
+      pub property-lacks : x ≡ true → PropertyAt k place m end kids (Refused 7 place)
+      unfolding propertyVerdict pick
+      property-lacks j = record { is = λ c a. rw (← e, h, ← (f .is c (upper m) a o), g, ← (i .is (upper m) o (y .1) (y .0 (upper m) o)), j) (sym (is-parameter place)) }
+
+      pub property-children : {v : Judged} → x ≡ false → ((c w : List ℕ) → Holder k p t c w → judgedAs v ≡ sequence (propertySlots w) (childVerdict c w (typeAt t)) kids 0 [] end) → PropertyAt k place m end kids v
+      unfolding propertyVerdict pick
+      property-children {v} j q = record {
+        is = λ c a. rw (← e, h, ← (f .is c (upper m) a o), g, ← (i .is (upper m) o (y .1) (y .0 (upper m) o)), j, ← (y .0 (upper m) o)) (sym (q c (upper m) (record { component = a; property = o; small = y .1 })));
+      }
+
+pub ruleset propertying = (property-bad, property-off, property-lacks, property-children, length-take-le, needs)
+
+-- ---- the children of `properties`
+
+pub record Listing (k : ℕ) (s : List ℕ) (from at : ℕ) : Type 0 where
+  pub is : (c : List ℕ) → k ≡ placeOf c componentNames → propertiesVerdict c (nodesAt s from) ≡ propertiesVerdict c (nodesAt s at)
+
+pub list-start : (k : ℕ) (s : List ℕ) (from : ℕ) → Listing k s from from
+list-start k s from = record { is = λ c a. refl }
+
+module _ {k : ℕ} {s : List ℕ} {from at : ℕ} {r : Node} (i : Listing k s from at) (n : NodeAt s at r) where
+  pub list-none : r .kind ≡ None → ListedAt k s from Fine
+  unfolding propertiesVerdict
+  list-none q = record { is = λ c a. i .is c a ∙ ap (propertiesVerdict c) (node-none n q) }
+
+  pub list-referred : r .kind ≡ Referred → ListedAt k s from (Refused 6 at)
+  unfolding propertiesVerdict
+  list-referred q = record { is = λ c a. i .is c a ∙ ap (propertiesVerdict c) (node-referred n q) ∙ sym (is-frame at) }
+
+  module _ (q : r .kind ≡ Literal) {b : Bool} (e : b ≡ isSpace (r .unit)) where
+    pub list-space : b ≡ true → Listing k s from (r .next)
+    unfolding propertiesVerdict pick
+    list-space h = record { is = λ c a. i .is c a ∙ ap (propertiesVerdict c) (node-literal n q) ∙ rw (← e, h) }
+
+    pub list-text : b ≡ false → ListedAt k s from (Refused 6 at)
+    unfolding propertiesVerdict pick
+    list-text h = record { is = λ c a. i .is c a ∙ ap (propertiesVerdict c) (node-literal n q) ∙ rw (← e, h) (sym (is-frame at)) }
+
+  module _ (q : r .kind ≡ Element) {j : Judged} (d : PropertyAt k at (rest 0 (take (r .«name_end») s) (r .name)) (r .end) (nodesAt s (r .inside)) j) where
+    pub list-good : j ≡ Fine → Listing k s from (r .next)
+    unfolding propertiesVerdict _otherwise_
+    list-good h = record { is = λ c a. i .is c a ∙ ap (propertiesVerdict c) (node-element n q) ∙ rw (d .is c a, h) }
+
+    pub list-bad : {x y : ℕ} → j ≡ Refused x y → ListedAt k s from (Refused x y)
+    unfolding propertiesVerdict _otherwise_
+    list-bad h = record { is = λ c a. i .is c a ∙ ap (propertiesVerdict c) (node-element n q) ∙ rw (d .is c a, h) }
+
+pub ruleset listing = (list-start, list-none, list-referred, list-space, list-text, list-good, list-bad, name-inside, content-inside, element-less, literal-less, referred-less, needs)

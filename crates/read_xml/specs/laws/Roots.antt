@@ -1,0 +1,125 @@
+-- Laws of what specs/Roots.antt defines.
+--     wholes    the rules
+--     Streaming     the invariant of the walk over calendars;   streaming: the rules
+--     roots         the rules of the root
+use mathlib.Core.Path.{_≡_, refl, sym, ap, subst, _∙_}
+use mathlib.Core.Bool.{Bool, true, false}
+use mathlib.Core.List.{List}
+use Prim.Native.Nat.{ℕ}
+use lib.ListN.{take}
+use lib.Seq.{length-take-le}
+use borrow.Author.Needs.{needs}
+use Rattle.octets.specs.Ascii.{ascii}
+use Rattle.octets.specs.Pick.{pick}
+use Rattle.octets.specs.Class.{isSpace}
+use Rattle.octets.specs.Words.{same}
+use Rattle.octets.specs.Computing.{octets-compute}
+use Rattle.source.specs.Source.{rest}
+use Rattle.names.specs.Table.{placeOf}
+use Rattle.calendar.specs.Refusal.{_otherwise_}
+use Rattle.schema.specs.Components.{componentNames}
+use Rattle.xml.specs.Nodes.{Nodes}
+use Rattle.xcal.specs.Layout.{unexpected}
+use Rattle.xcal.specs.ComponentNodes.{streamVerdict, rootVerdict}
+use Rattle.xml.specs.NodesAt.{nodesAt}
+use Rattle.read_xml_nodes.specs.NodeFound.{NodeAt}
+use Rattle.read_xml_nodes.specs.laws.NodeFound.{node-none, node-element, node-literal, node-referred, element-less, literal-less}
+use Rattle.read_xml_nodes.specs.Judging.{judgedAs}
+use Rattle.read_xml_nodes.specs.laws.Judging.{is-frame}
+use Rattle.read_xml_nodes.specs.declared.Node.{Node}
+use Rattle.read_xml_nodes.specs.declared.NodeKind.the-variants.{None, Element, Literal, Referred}
+use Rattle.read_xml_nodes.specs.declared.Judged.{Judged}
+use Rattle.read_xml_nodes.specs.declared.Judged.the-variants.{Fine, Refused}
+use Rattle.read_xml.specs.laws.Turning.{name-inside}
+use Rattle.read_xml.specs.Counting.{CompleteAt}
+use Rattle.read_xml.specs.Components.{HeadAt, BehindAt}
+use Rattle.read_xml.specs.Subcomponents.{CompsAt}
+use Rattle.read_xml.specs.Roots.{ComponentAt, StreamAt, RootAt}
+use Rattle.read_xml.specs.declared.Part.{Part}
+use Rattle.read_xml.specs.declared.Part.the-variants.{Ends, Opens}
+
+-- ---- a component
+
+module _ {k : ℕ} {s : List ℕ} {from end : ℕ} {counts : Bool} (t : CompleteAt k (nodesAt s from) counts) {p : Part} (h : HeadAt k counts s from end p) where
+  pub whole-ends : {j : Judged} → p ≡ Ends j → ComponentAt k s from end j
+  whole-ends e = record { is = λ c o. rw (← (t .is c o)) (subst (HeadAt k counts s from end) e h .is c o) }
+
+  module _ {q x after : ℕ} {had : Bool} (e : p ≡ Opens q x after had) {r : Judged} (d : CompsAt k s q x r) where
+    opened : HeadAt k counts s from end (Opens q x after had)
+    opened = subst (HeadAt k counts s from end) e h
+
+    pub whole-refused : {f y : ℕ} → r ≡ Refused f y → ComponentAt k s from end (Refused f y)
+    unfolding _otherwise_
+    whole-refused g = record { is = λ c o. rw (← (t .is c o)) (opened .is c o ∙ rw (d .is c o, g)) }
+
+    pub whole-behind : {v : Judged} → r ≡ Fine → BehindAt k counts had s after end v → ComponentAt k s from end v
+    unfolding _otherwise_
+    whole-behind g w = record { is = λ c o. rw (← (t .is c o)) (opened .is c o ∙ rw (d .is c o, g) (w .is c o)) }
+
+pub ruleset wholes = (whole-ends, whole-refused, whole-behind, needs)
+
+-- ---- the children of `icalendar`
+
+pub record Streaming (s : List ℕ) (from e at : ℕ) (any : Bool) : Type 0 where
+  pub is : streamVerdict (nodesAt s from) false e ≡ streamVerdict (nodesAt s at) any e
+
+pub stream-start : (s : List ℕ) (from e : ℕ) → Streaming s from e from false
+stream-start s from e = record { is = refl }
+
+calendar-zero : 0 ≡ placeOf (ascii "VCALENDAR") componentNames
+unfolding octets-compute placeOf
+calendar-zero = refl
+
+module _ {s : List ℕ} {from e at : ℕ} {any : Bool} {r : Node} (i : Streaming s from e at any) (n : NodeAt s at r) where
+  in-nodes : {x : Nodes} → nodesAt s at ≡ x → streamVerdict (nodesAt s from) false e ≡ streamVerdict x any e
+  in-nodes h = i .is ∙ ap (λ (y : Nodes). streamVerdict y any e) h
+
+  pub stream-some : r .kind ≡ None → any ≡ true → StreamAt s from e Fine
+  unfolding streamVerdict pick
+  stream-some q h = record { is = in-nodes (node-none n q) ∙ rw h }
+
+  pub stream-empty : r .kind ≡ None → any ≡ false → StreamAt s from e (Refused 6 e)
+  unfolding streamVerdict pick
+  stream-empty q h = record { is = in-nodes (node-none n q) ∙ rw h (sym (is-frame e)) }
+
+  pub stream-referred : r .kind ≡ Referred → StreamAt s from e (Refused 6 at)
+  unfolding streamVerdict
+  stream-referred q = record { is = in-nodes (node-referred n q) ∙ sym (is-frame at) }
+
+  module _ (q : r .kind ≡ Literal) {b : Bool} (f : b ≡ isSpace (r .unit)) where
+    pub stream-space : b ≡ true → Streaming s from e (r .next) any
+    unfolding streamVerdict pick
+    stream-space h = record { is = in-nodes (node-literal n q) ∙ rw (← f, h) }
+
+    pub stream-text : b ≡ false → StreamAt s from e (Refused 6 at)
+    unfolding streamVerdict pick
+    stream-text h = record { is = in-nodes (node-literal n q) ∙ rw (← f, h) (sym (is-frame at)) }
+
+  module _ (q : r .kind ≡ Element) {b : Bool} (f : b ≡ same (rest 0 (take (r .«name_end») s) (r .name)) (ascii "vcalendar")) where
+    pub stream-other : {j : Judged} → b ≡ false → unexpected at (rest 0 (take (r .«name_end») s) (r .name)) ≡ judgedAs j → StreamAt s from e j
+    unfolding streamVerdict pick
+    stream-other h u = record { is = in-nodes (node-element n q) ∙ rw (← f, h) u }
+
+    module _ (h : b ≡ true) {j : Judged} (d : ComponentAt 0 s (r .inside) (r .end) j) where
+      pub stream-good : j ≡ Fine → Streaming s from e (r .next) true
+      unfolding streamVerdict pick _otherwise_
+      stream-good g = record { is = in-nodes (node-element n q) ∙ rw (← f, h, d .is (ascii "VCALENDAR") calendar-zero, g) }
+
+      pub stream-bad : {x y : ℕ} → j ≡ Refused x y → StreamAt s from e (Refused x y)
+      unfolding streamVerdict pick _otherwise_
+      stream-bad g = record { is = in-nodes (node-element n q) ∙ rw (← f, h, d .is (ascii "VCALENDAR") calendar-zero, g) }
+
+pub ruleset streaming = (stream-start, stream-some, stream-empty, stream-referred, stream-space, stream-text, stream-other, stream-good, stream-bad, name-inside, length-take-le, element-less, literal-less, needs)
+
+-- ---- the root
+
+module _ (s : List ℕ) (place : ℕ) (m : List ℕ) (inside end : ℕ) {b : Bool} (f : b ≡ same m (ascii "icalendar")) {j : Judged} where
+  pub root-stream : b ≡ true → StreamAt s inside end j → RootAt s place m inside end j
+  unfolding rootVerdict pick
+  root-stream h d = record { is = λ more. rw (← f, h) (d .is) }
+
+  pub root-other : b ≡ false → unexpected place m ≡ judgedAs j → RootAt s place m inside end j
+  unfolding rootVerdict pick
+  root-other h u = record { is = λ more. rw (← f, h) u }
+
+pub ruleset roots = (root-stream, root-other, length-take-le, needs)

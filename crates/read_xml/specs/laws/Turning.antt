@@ -1,0 +1,234 @@
+-- Laws of what specs/Turning.antt defines.
+--     Walking      the invariant of the walk
+--     parting, turning, walking     the rules of the code
+use Prim.{tt}
+use mathlib.Core.Path.{_≡_, refl, sym, ap, subst, _∙_}
+use mathlib.Core.Bool.{Bool, true, false}
+use mathlib.Core.List.{List, []}
+use Prim.Native.Nat.{ℕ, _+_, _-_, _≤_, _<_}
+use native.Mathlib.Omega.{arith}
+use lib.Dec.{eqb}
+use lib.ListN.{length, take}
+use lib.Seq.{length-take-le}
+use borrow.Author.Needs.{needs}
+use borrow.Author.Tests.{eq-eqb, ne-eqb, lt-ltb, le-ltb}
+use Rattle.octets.specs.Ascii.{ascii}
+use Rattle.octets.specs.Pick.{pick, _and_, _or_}
+use Rattle.octets.specs.Class.{isSpace}
+use Rattle.octets.specs.Computing.{octets-compute}
+use Rattle.source.specs.Source.{rest}
+use Rattle.names.specs.Table.{placeOf, namesIn}
+use Rattle.names.specs.laws.Table.{by-table}
+use Rattle.calendar.specs.Refusal.{FRAME, Verdict, fine, refuse, _otherwise_}
+use Rattle.schema.specs.Components.{componentNames}
+use Rattle.schema.specs.Properties.{propertyNames}
+use Rattle.schema.specs.Numbers.{propertyAt, typeAt}
+use Rattle.xml.specs.Nodes.{Nodes}
+use Rattle.xcal.specs.Layout.{slotOf, afterSlot, unexpected, sequence}
+use Rattle.xcal.specs.ValueNodes.{valueVerdict}
+use Rattle.xcal.specs.ParameterNodes.{parametersVerdict}
+use Rattle.xcal.specs.PropertyNodes.{propertySlots, childVerdict}
+use Rattle.read_xml_value.specs.Sequencing.{isShort, walked, marked}
+use Rattle.read_xml_value.specs.laws.Sequencing.{walked-none, walked-space, walked-text, walked-referred, walked-element, sequence-walked}
+use Rattle.xml.specs.NodesAt.{nodesAt}
+use Rattle.read_xml_nodes.specs.HeadFound.{HeadAt}
+use Rattle.read_xml_nodes.specs.NodeFound.{NodeAt}
+use Rattle.read_xml_nodes.specs.laws.NodeFound.{node-none, node-element, node-literal, node-referred, element-onward, literal-onward}
+use Rattle.read_xml_nodes.specs.Judging.{judgedAs}
+use Rattle.read_xml_nodes.specs.laws.Judging.{is-frame}
+use Rattle.read_xml_nodes.specs.declared.Head.{Head}
+use Rattle.read_xml_nodes.specs.declared.Node.{Node}
+use Rattle.read_xml_nodes.specs.declared.NodeKind.the-variants.{None, Element, Literal, Referred}
+use Rattle.read_xml_nodes.specs.declared.Judged.{Judged}
+use Rattle.read_xml_nodes.specs.declared.Judged.the-variants.{Fine, Refused}
+use Rattle.read_xml.specs.Children.{geoWords, statusWords, otherWords, childWords, slotsAt, slotAt, afterAt, hasTwo, flagsOf, flagsAt}
+use Rattle.read_xml.specs.laws.Children.{slots-place, after-at, flags-start, flags-more, parameters-at}
+use Rattle.read_xml.specs.Turning.{Holder, afterOf, childOf, ChildAt, Onward, Turns}
+use Rattle.read_xml.specs.declared.After.{After}
+use Rattle.read_xml.specs.declared.After.the-variants.{Slot as Then, Nowhere}
+use Rattle.read_xml.specs.declared.Tried.{Tried}
+use Rattle.read_xml.specs.declared.Tried.the-variants.{Good, Stops}
+use Rattle.read_xml.specs.declared.Next.{Next}
+use Rattle.read_xml.specs.declared.Next.the-variants.{Goes, Ends}
+
+-- ---- a child's number, and the slot after it
+
+geo-are : namesIn (ascii "parameters\nlatitude\nlongitude\n") ≡ geoWords
+unfolding namesIn pick
+geo-are = refl
+
+status-are : namesIn (ascii "parameters\ncode\ndescription\ndata\n") ≡ statusWords
+unfolding namesIn pick
+status-are = refl
+
+other-are : namesIn (ascii "parameters\nbinary\nboolean\ncal-address\ndate\ndate-time\nduration\nfloat\ninteger\nperiod\nrecur\ntext\ntime\nuri\nutc-offset\nunknown\n") ≡ otherWords
+unfolding namesIn pick
+other-are = refl
+
+module _ (n : List ℕ) {r : ℕ} (p : ℕ) where
+  pub word-geo : p ≡ 9 → r ≡ placeOf n (namesIn (ascii "parameters\nlatitude\nlongitude\n")) → r ≡ placeOf n (childWords p)
+  unfolding pick
+  word-geo h e = rw (eq-eqb p 9 h) (by-table n geo-are e)
+
+  pub word-status : (p ≡ 9 → ⊥) → p ≡ 45 → r ≡ placeOf n (namesIn (ascii "parameters\ncode\ndescription\ndata\n")) → r ≡ placeOf n (childWords p)
+  unfolding pick
+  word-status g h e = rw (ne-eqb p 9 g, eq-eqb p 45 h) (by-table n status-are e)
+
+  pub word-other : (p ≡ 9 → ⊥) → (p ≡ 45 → ⊥) → r ≡ placeOf n (namesIn (ascii "parameters\nbinary\nboolean\ncal-address\ndate\ndate-time\nduration\nfloat\ninteger\nperiod\nrecur\ntext\ntime\nuri\nutc-offset\nunknown\n")) → r ≡ placeOf n (childWords p)
+  unfolding pick
+  word-other g h e = rw (ne-eqb p 9 g, ne-eqb p 45 h) (by-table n other-are e)
+
+pub slot-numbered : (p : ℕ) (n : List ℕ) {r i : ℕ} → r ≡ slotAt p i → i ≡ placeOf n (childWords p) → r ≡ slotAt p (placeOf n (childWords p))
+slot-numbered p n e h = e ∙ ap (slotAt p) h
+
+pub ruleset wording = (word-geo, word-status, word-other, slot-numbered, length-take-le, needs)
+
+module _ (p k next : ℕ) where
+  pub after-out : 4 ≤ k → afterOf Nowhere ≡ afterAt (propertyAt p .listed) k next
+  unfolding pick afterAt
+  after-out h = rw (le-ltb k 4 h)
+
+  module _ (h : k < 4) where
+    pub after-passed : k < next → afterOf Nowhere ≡ afterAt (propertyAt p .listed) k next
+    unfolding pick afterAt
+    after-passed l = rw (lt-ltb k 4 h, lt-ltb k next l)
+
+    module _ {b : Bool} (l : next ≤ k) (t : b ≡ (eqb k 1 and (propertyAt p .listed))) where
+      pub after-several : b ≡ true → afterOf (Then k) ≡ afterAt (propertyAt p .listed) k next
+      unfolding pick afterAt
+      after-several f = rw (lt-ltb k 4 h, le-ltb k next l, ← t, f)
+
+      pub after-one : b ≡ false → afterOf (Then (k + 1)) ≡ afterAt (propertyAt p .listed) k next
+      unfolding pick afterAt
+      after-one f = rw (lt-ltb k 4 h, le-ltb k next l, ← t, f)
+
+pub ruleset aftering = (after-out, after-passed, after-several, after-one, needs)
+
+-- ---- what stands in a child
+
+module _ (k p t slot place : ℕ) (n : List ℕ) (end : ℕ) (kids : Nodes) {v : Verdict} where
+  pub inside-parameters : slot ≡ 0 → ((w : List ℕ) → p ≡ placeOf w propertyNames → t ≤ 14 → v ≡ parametersVerdict w (typeAt t) kids []) →
+      (c w : List ℕ) → Holder k p t c w → slot ≡ slotAt p (placeOf n (childWords p)) → v ≡ childVerdict c w (typeAt t) place n end kids
+  unfolding pick
+  inside-parameters z q c w o e = q w (o .property) (o .small) ∙ rw (parameters-at p n, ← e, eq-eqb slot 0 z)
+
+  pub inside-value : (slot ≡ 0 → ⊥) → ((c w : List ℕ) → k ≡ placeOf c componentNames → p ≡ placeOf w propertyNames → t ≤ 14 → v ≡ valueVerdict c w (typeAt t) place n end kids) →
+      (c w : List ℕ) → Holder k p t c w → slot ≡ slotAt p (placeOf n (childWords p)) → v ≡ childVerdict c w (typeAt t) place n end kids
+  unfolding pick
+  inside-value z q c w o e = q c w (o .component) (o .property) (o .small) ∙ rw (parameters-at p n, ← e, ne-eqb slot 0 z)
+
+pub ruleset insides = (inside-parameters, inside-value, needs)
+
+place-after : (p : ℕ) (n : List ℕ) {slot : ℕ} (next : ℕ) (a : After) → afterOf a ≡ afterAt (propertyAt p .listed) slot next → slot ≡ slotAt p (placeOf n (childWords p)) → afterSlot (slotOf n (slotsAt p) 0) next ≡ afterOf a
+place-after p n next a e h = after-at p n next h ∙ sym e
+
+module _ (k p t : ℕ) {slot : ℕ} (next place : ℕ) (n : List ℕ) (end : ℕ) (kids : Nodes) {a : After} (e : afterOf a ≡ afterAt (propertyAt p .listed) slot next) where
+  module _ {m : ℕ} (g : a ≡ Then m) {j : Judged} (q : (c w : List ℕ) → Holder k p t c w → slot ≡ slotAt p (placeOf n (childWords p)) → judgedAs j ≡ childVerdict c w (typeAt t) place n end kids) where
+    pub child-good : j ≡ Fine → slot ≡ slotAt p (placeOf n (childWords p)) → ChildAt k p t next place n end kids (Good m)
+    unfolding _otherwise_
+    child-good f h = record { is = λ c w o after. rw (place-after p n next a e h, g, ← (q c w o h), f) }
+
+    pub child-bad : {x y : ℕ} → j ≡ Refused x y → slot ≡ slotAt p (placeOf n (childWords p)) → ChildAt k p t next place n end kids (Stops (Refused x y))
+    unfolding _otherwise_
+    child-bad f h = record { is = λ c w o after. rw (place-after p n next a e h, g, ← (q c w o h), f) }
+
+  pub child-nowhere : {j : Judged} → a ≡ Nowhere → unexpected place n ≡ judgedAs j → slot ≡ slotAt p (placeOf n (childWords p)) → ChildAt k p t next place n end kids (Stops j)
+  child-nowhere g q h = record { is = λ c w o after. rw (place-after p n next a e h, g) q }
+
+pub ruleset childing = (child-good, child-bad, child-nowhere, needs)
+
+-- ---- at the end
+
+module _ (p e : ℕ) {first : Bool} (second : Bool) where
+  pub end-first : first ≡ false → judgedAs (Refused 6 e) ≡ pick (isShort (flagsAt p first second)) (refuse FRAME e) fine
+  unfolding octets-compute isShort
+  end-first h = rw h (go (hasTwo p))
+    where
+      go : (b : Bool) → judgedAs (Refused 6 e) ≡ pick (isShort (flagsOf b false second)) (refuse FRAME e) fine
+      go true = is-frame e
+      go false = is-frame e
+
+  module _ {b : Bool} (f : first ≡ true) (q : b ≡ hasTwo p) where
+    pub end-one : b ≡ false → judgedAs Fine ≡ pick (isShort (flagsAt p first second)) (refuse FRAME e) fine
+    unfolding octets-compute isShort
+    end-one h = rw (f, ← q, h)
+
+    pub end-both : b ≡ true → second ≡ true → judgedAs Fine ≡ pick (isShort (flagsAt p first second)) (refuse FRAME e) fine
+    unfolding octets-compute isShort
+    end-both h g = rw (f, ← q, h, g)
+
+    pub end-second : b ≡ true → second ≡ false → judgedAs (Refused 6 e) ≡ pick (isShort (flagsAt p first second)) (refuse FRAME e) fine
+    unfolding octets-compute isShort
+    end-second h g = rw (f, ← q, h, g) (is-frame e)
+
+pub ruleset ending = (end-first, end-one, end-both, end-second, needs)
+
+-- ---- a turn
+
+module _ (k p t : ℕ) {s : List ℕ} (e : ℕ) {at : ℕ} (next : ℕ) (f g : Bool) {r : Node} (m : NodeAt s at r) where
+  pub turn-none : {j : Judged} → r .kind ≡ None → judgedAs j ≡ pick (isShort (flagsAt p f g)) (refuse FRAME e) fine → Turns k p t s e at next f g (Ends j)
+  turn-none h q = record { is = λ c w o. walked-none (slotsAt p) (childVerdict c w (typeAt t)) next (flagsAt p f g) e (node-none m h) ∙ sym q; onward = tt }
+
+  pub turn-referred : r .kind ≡ Referred → Turns k p t s e at next f g (Ends (Refused 6 at))
+  turn-referred h = record { is = λ c w o. walked-referred (slotsAt p) (childVerdict c w (typeAt t)) next (flagsAt p f g) e (node-referred m h) ∙ sym (is-frame at); onward = tt }
+
+  pub turn-literal : {x : Next} → r .kind ≡ Literal → x ≡ pick (isSpace (r .unit)) (Goes (r .next) next f g) (Ends (Refused 6 at)) → Turns k p t s e at next f g x
+  unfolding pick
+  turn-literal {x} h q = go (isSpace (r .unit)) refl q
+    where
+      go : (b : Bool) → isSpace (r .unit) ≡ b → x ≡ pick b (Goes (r .next) next f g) (Ends (Refused 6 at)) → Turns k p t s e at next f g x
+      go true z y = rw y (record { is = λ c w o. walked-space (slotsAt p) (childVerdict c w (typeAt t)) next (flagsAt p f g) e (node-literal m h) z; onward = (literal-onward m h, m .next-within) })
+      go false z y = rw y (record { is = λ c w o. walked-text (slotsAt p) (childVerdict c w (typeAt t)) next (flagsAt p f g) e (node-literal m h) z ∙ sym (is-frame at); onward = tt })
+
+  module _ (h : r .kind ≡ Element) {slot : ℕ} (y : slot ≡ slotAt p (placeOf (rest 0 (take (r .«name_end») s) (r .name)) (childWords p)))
+      {q : Tried} (d : slot ≡ slotAt p (placeOf (rest 0 (take (r .«name_end») s) (r .name)) (childWords p)) → ChildAt k p t next at (rest 0 (take (r .«name_end») s) (r .name)) (r .end) (nodesAt s (r .inside)) q) where
+    at-child : (c w : List ℕ) → Holder k p t c w → walked (slotsAt p) (childVerdict c w (typeAt t)) (nodesAt s at) next (flagsAt p f g) e ≡
+        childOf q (λ n. walked (slotsAt p) (childVerdict c w (typeAt t)) (nodesAt s (r .next)) n (marked (slotsAt p) (rest 0 (take (r .«name_end») s) (r .name)) (flagsAt p f g)) e)
+    at-child c w o = walked-element (slotsAt p) (childVerdict c w (typeAt t)) next (flagsAt p f g) e (node-element m h) ∙ d y .is c w o _
+
+    pub turn-good : {n : ℕ} {f′ g′ : Bool} → q ≡ Good n → f′ ≡ (eqb slot 1 or f) → g′ ≡ (eqb slot 2 or g) → Turns k p t s e at next f g (Goes (r .next) n f′ g′)
+    turn-good {n} z a b = record {
+      is = λ c w o. at-child c w o ∙ rw (z, flags-more p (rest 0 (take (r .«name_end») s) (r .name)) f g y, ← a, ← b);
+      onward = (element-onward m h .0, m .next-within);
+    }
+
+    pub turn-stops : {j : Judged} → q ≡ Stops j → Turns k p t s e at next f g (Ends j)
+    turn-stops z = record { is = λ c w o. at-child c w o ∙ rw z; onward = tt }
+
+pub name-inside : {s : List ℕ} {at : ℕ} {r : Node} → NodeAt s at r → r .«name_end» ≤ length s
+name-inside m = m .name-within
+
+pub content-inside : {s : List ℕ} {at : ℕ} {r : Node} → NodeAt s at r → r .inside ≤ length s
+content-inside m = m .inside-within
+
+-- the same of a head
+pub head-name : {s : List ℕ} {at : ℕ} {r : Head} → HeadAt s at r → r .«name_end» ≤ length s
+head-name m = m .name-within
+
+pub head-content : {s : List ℕ} {at : ℕ} {r : Head} → HeadAt s at r → r .inside ≤ length s
+head-content m = m .inside-within
+
+pub ruleset turning = (turn-none, turn-referred, turn-literal, turn-good, turn-stops, name-inside, content-inside, needs)
+
+-- ---- the walk
+
+pub record Walking (k p t : ℕ) (s : List ℕ) (from e at next : ℕ) (f g : Bool) : Type 0 where
+  pub is : (c w : List ℕ) → Holder k p t c w → sequence (propertySlots w) (childVerdict c w (typeAt t)) (nodesAt s from) 0 [] e ≡
+      walked (slotsAt p) (childVerdict c w (typeAt t)) (nodesAt s at) next (flagsAt p f g) e
+
+pub walking-start : (k p t : ℕ) (s : List ℕ) (from e : ℕ) → Walking k p t s from e from 0 false false
+walking-start k p t s from e = record {
+  is = λ c w o. rw (slots-place w (o .property)) (sequence-walked (slotsAt p) (childVerdict c w (typeAt t)) (nodesAt s from) 0 [] e ∙ rw (flags-start p));
+}
+
+module _ {k p t : ℕ} {s : List ℕ} {from e at next : ℕ} {f g : Bool} (m : Walking k p t s from e at next f g) {x : Next} (d : Turns k p t s e at next f g x) where
+  pub walking-on : {at′ n : ℕ} {f′ g′ : Bool} → x ≡ Goes at′ n f′ g′ → Walking k p t s from e at′ n f′ g′
+  walking-on z = record { is = λ c w o. m .is c w o ∙ d .is c w o ∙ rw z }
+
+  pub walking-ends : {j : Judged} → x ≡ Ends j → (c w : List ℕ) → Holder k p t c w → judgedAs j ≡ sequence (propertySlots w) (childVerdict c w (typeAt t)) (nodesAt s from) 0 [] e
+  walking-ends z c w o = sym (m .is c w o ∙ d .is c w o ∙ rw z)
+
+  pub walking-less : {at′ n : ℕ} {f′ g′ : Bool} → x ≡ Goes at′ n f′ g′ → length s - at′ < length s - at
+  walking-less {at′} {n} {f′} {g′} z = let o : (at < at′) × (at′ ≤ length s) = subst (Onward s at) z (d .onward) in omega (arith, o .0, o .1)
+
+pub ruleset walking = (walking-start, walking-on, walking-ends, walking-less, needs)

@@ -1,0 +1,315 @@
+// The children of a property, by numbers. See specs/Children.antt.
+use crate::After;
+use crate::Next;
+use crate::Tried;
+use names::find_word;
+use octets::is_space;
+use read_xml_nodes::Judged;
+use read_xml_nodes::NodeKind;
+use read_xml_nodes::next_node;
+use read_xml_nodes::unexpected;
+use read_xml_parameters::parameters_verdict;
+use read_xml_value::value_verdict;
+use refusals::FRAME;
+use schema::is_listed;
+use schema::property;
+ghost use mathlib.Core.Path.{_≡_};
+ghost use mathlib.Core.List.{List, []};
+ghost use Prim.Native.Nat.{ℕ, _≤_};
+ghost use lib.Dec.{eqb, ltb};
+ghost use lib.ListN.{length, take};
+ghost use Rattle.octets.specs.Pick.{pick, _and_, _or_};
+ghost use Rattle.octets.specs.Class.{isSpace};
+ghost use Rattle.calendar.specs.Refusal.{FRAME, fine, refuse};
+ghost use Rattle.source.specs.Source.{rest};
+ghost use Rattle.names.specs.Table.{placeOf};
+ghost use Rattle.schema.specs.Numbers.{propertyAt, typeAt};
+ghost use Rattle.xcal.specs.Layout.{sequence};
+ghost use Rattle.xcal.specs.PropertyNodes.{propertySlots, childVerdict};
+ghost use Rattle.read_xml_value.specs.Sequencing.{isShort};
+ghost use Rattle.xml.specs.NodesAt.{nodesAt};
+ghost use Rattle.read_xml_nodes.specs.Judging.{judgedAs};
+ghost use Rattle.read_xml_nodes.specs.declared.Judged.the-variants.{Refused};
+ghost use Rattle.read_xml.specs.Children.{childWords, slotAt, afterAt, flagsAt, hasTwo};
+ghost use Rattle.read_xml.specs.Turning.{afterOf, Holder, ChildAt, Turns};
+ghost use Rattle.read_xml.specs.declared.Next.the-variants.{Goes, Ends};
+
+// The number of a child's name, from the cursor on.
+fn child_word(p: usize, s: &[u8], at: usize) -> usize
+    ensures { λ r. ⌜ r ≡ placeOf (rest 0 (now (s .entry)) at) (childWords p) ⌝ }
+{
+    if p == property::GEO {
+        return find_word(true, 0, s, at, b"parameters\nlatitude\nlongitude\n");
+    }
+    if p == property::REQUEST_STATUS {
+        return find_word(true, 0, s, at, b"parameters\ncode\ndescription\ndata\n");
+    }
+    find_word(
+        true,
+        0,
+        s,
+        at,
+        b"parameters\nbinary\nboolean\ncal-address\ndate\ndate-time\nduration\nfloat\ninteger\nperiod\nrecur\ntext\ntime\nuri\nutc-offset\nunknown\n",
+    )
+}
+
+// A number below a bound, else 4.
+fn below(i: usize, n: usize) -> usize
+    ensures { λ r. ⌜ r ≡ pick (ltb i n) i 4 ⌝ }
+{
+    if i < n {
+        return i;
+    }
+    4
+}
+
+// The slot of the child of the number `i`, 4 where it has none.
+fn slot_number(p: usize, i: usize) -> usize
+    ensures { λ r. ⌜ r ≡ slotAt p i ⌝ }
+{
+    if p == property::GEO {
+        return below(i, 3);
+    }
+    if p == property::REQUEST_STATUS {
+        return below(i, 4);
+    }
+    if i == 0 {
+        return 0;
+    }
+    if i < 16 {
+        return 1;
+    }
+    4
+}
+
+// The slot of the child whose name stands from `name` to `name_end`.
+pub fn child_slot(p: usize, s: &[u8], name: usize, name_end: usize) -> usize
+    requires { ⌜ «name_end» ≤ length (now s) ⌝ }
+    ensures { λ r. ⌜ r ≡ slotAt p (placeOf (rest 0 (take «name_end» (now (s .entry))) name) (childWords p)) ⌝ }
+{
+    let i = child_word(p, &s[..name_end], name);
+    slot_number(p, i)
+}
+
+// The values of a listed property may stand several times.
+fn several(p: usize, slot: usize) -> bool
+    ensures { λ r. ⌜ r ≡ (eqb slot 1 and (propertyAt p .listed)) ⌝ }
+{
+    if slot == 1 {
+        return is_listed(p);
+    }
+    false
+}
+
+// The slot after a child of a slot, where slots before `next` have passed.
+fn child_after(p: usize, slot: usize, next: usize) -> After
+    ensures { λ r. ⌜ afterOf r ≡ afterAt (propertyAt p .listed) slot next ⌝ }
+{
+    if slot < 4 {
+        if slot < next {
+            return After::Nowhere;
+        }
+        let many = several(p, slot);
+        if many {
+            return After::Slot(slot);
+        }
+        return After::Slot(slot + 1);
+    }
+    After::Nowhere
+}
+
+// What stands in a child of a slot.
+fn child_inside(
+    k: usize,
+    p: usize,
+    t: usize,
+    slot: usize,
+    s: &[u8],
+    place: usize,
+    name: usize,
+    name_end: usize,
+    inside: usize,
+    end: usize,
+) -> Judged
+    requires { ⌜ (length (now s) ≤ 65535) × (inside ≤ length (now s)) ⌝ }
+    ensures { λ r. ⌜
+        ((c w : List ℕ) →
+        Holder k p t c w →
+        slot ≡ slotAt p (placeOf (rest 0 (take «name_end» (now (s .entry))) name) (childWords p)) →
+        judgedAs r
+        ≡ childVerdict c w (typeAt t) place (rest 0 (take «name_end» (now (s .entry))) name) end
+        (nodesAt (now (s .entry)) inside)) ⌝ }
+{
+    if slot == 0 {
+        return parameters_verdict(p, t, s, inside);
+    }
+    value_verdict(k, p, t, s, place, name, name_end, inside, end)
+}
+
+// The child of a slot at `place`, where slots before `next` have passed.
+fn child(
+    k: usize,
+    p: usize,
+    t: usize,
+    slot: usize,
+    next: usize,
+    s: &[u8],
+    place: usize,
+    name: usize,
+    name_end: usize,
+    inside: usize,
+    end: usize,
+) -> Tried
+    requires { ⌜ (length (now s) ≤ 65535) × (inside ≤ length (now s)) ⌝ }
+    ensures { λ r. ⌜
+        (slot ≡ slotAt p (placeOf (rest 0 (take «name_end» (now (s .entry))) name) (childWords p)) →
+        ChildAt k p t next place (rest 0 (take «name_end» (now (s .entry))) name) end (nodesAt (now (s .entry)) inside)
+        r) ⌝ }
+{
+    let a = child_after(p, slot, next);
+    match a {
+        After::Slot(m) => {
+            let j = child_inside(k, p, t, slot, s, place, name, name_end, inside, end);
+            match j {
+                Judged::Fine => Tried::Good(m),
+                Judged::Refused(n, q) => Tried::Stops(Judged::Refused(n, q)),
+            }
+        }
+        After::Nowhere => {
+            let j = unexpected(s, place, name, name_end);
+            Tried::Stops(j)
+        }
+    }
+}
+
+// A slot is filled, by a child of the slot `slot`.
+fn fills(slot: usize, which: usize, filled: bool) -> bool
+    ensures { λ r. ⌜ r ≡ (eqb slot which or filled) ⌝ }
+{
+    if slot == which {
+        return true;
+    }
+    filled
+}
+
+// GEO and REQUEST-STATUS have two children that must stand.
+fn has_two(p: usize) -> bool
+    ensures { λ r. ⌜ r ≡ hasTwo p ⌝ }
+{
+    if p == property::GEO {
+        return true;
+    }
+    p == property::REQUEST_STATUS
+}
+
+// At the end tag at `e`, by the slots that are filled.
+fn at_end(p: usize, first: bool, second: bool, e: usize) -> Judged
+    ensures { λ r. ⌜ judgedAs r ≡ pick (isShort (flagsAt p first second)) (refuse FRAME e) fine ⌝ }
+{
+    if first {
+        let two = has_two(p);
+        if two {
+            if second {
+                return Judged::Fine;
+            }
+            return Judged::Refused(FRAME, e);
+        }
+        return Judged::Fine;
+    }
+    Judged::Refused(FRAME, e)
+}
+
+// A byte between the children: white space, or not.
+fn between(unit: usize, at: usize, next: usize, slot: usize, first: bool, second: bool) -> Next
+    ensures { λ r. ⌜ r ≡ pick (isSpace unit) (Goes next slot first second) (Ends (Refused 6 at)) ⌝ }
+{
+    let space = is_space(unit);
+    if space {
+        return Next::Goes(next, slot, first, second);
+    }
+    let j = Judged::Refused(FRAME, at);
+    Next::Ends(j)
+}
+
+// One node of the content, at `at`.
+fn turn(
+    k: usize,
+    p: usize,
+    t: usize,
+    s: &[u8],
+    at: usize,
+    next: usize,
+    first: bool,
+    second: bool,
+    e: usize,
+) -> Next
+    requires { ⌜ length (now s) ≤ 65535 ⌝ }
+    ensures { λ r. ⌜ Turns k p t (now (s .entry)) e at next first second r ⌝ }
+{
+    let n = next_node(s, at);
+    let kind = n.kind;
+    match kind {
+        NodeKind::None => {
+            let j = at_end(p, first, second, e);
+            Next::Ends(j)
+        }
+        NodeKind::Element => {
+            let slot = child_slot(p, s, n.name, n.name_end);
+            let r = child(
+                k,
+                p,
+                t,
+                slot,
+                next,
+                s,
+                at,
+                n.name,
+                n.name_end,
+                n.inside,
+                n.end,
+            );
+            match r {
+                Tried::Good(m) => {
+                    let f = fills(slot, 1, first);
+                    let g = fills(slot, 2, second);
+                    Next::Goes(n.next, m, f, g)
+                }
+                Tried::Stops(j) => Next::Ends(j),
+            }
+        }
+        NodeKind::Literal => between(n.unit, at, n.next, next, first, second),
+        NodeKind::Referred => {
+            let j = Judged::Refused(FRAME, at);
+            Next::Ends(j)
+        }
+    }
+}
+
+// The children of the property of the number `p`, whose values have the type `t`, in the component of the number `k`. Its content begins at `inside`, its end tag is at `e`.
+pub fn children_verdict(k: usize, p: usize, t: usize, s: &[u8], inside: usize, e: usize) -> Judged
+    requires { ⌜ length (now s) ≤ 65535 ⌝ }
+    ensures { λ r. ⌜
+        ((c w : List ℕ) →
+        Holder k p t c w →
+        judgedAs r
+        ≡ sequence (propertySlots w) (childVerdict c w (typeAt t)) (nodesAt (now (s .entry)) inside) 0 [] e) ⌝ }
+{
+    let mut at = inside;
+    let mut next = 0;
+    let mut first = false;
+    let mut second = false;
+    loop {
+        let r = turn(k, p, t, s, at, next, first, second, e);
+        match r {
+            Next::Goes(d, m, f, g) => {
+                at = d;
+                next = m;
+                first = f;
+                second = g;
+            }
+            Next::Ends(j) => {
+                return j;
+            }
+        }
+    }
+}

@@ -1,0 +1,183 @@
+// A property's element, and the children of `properties`. See crate xcal, specs/PropertyNodes.antt.
+use crate::children::child_slot;
+use crate::children::children_verdict;
+use names::is_word;
+use octets::is_space;
+use read_text_line::is_carried_name;
+use read_xml_nodes::Judged;
+use read_xml_nodes::NodeKind;
+use read_xml_nodes::has_capital;
+use read_xml_nodes::next_node;
+use read_xml_parameters::has_encoding;
+use read_xml_value::type_of_nodes;
+use refusals::FRAME;
+use refusals::NAME;
+use refusals::PARAMETER;
+use schema::may_stand;
+use schema::property;
+use schema::property_number;
+use schema::value_type;
+ghost use mathlib.Core.Path.{_≡_};
+ghost use mathlib.Core.List.{List};
+ghost use Prim.Native.Nat.{ℕ, _≤_};
+ghost use lib.ListN.{length, take};
+ghost use Rattle.source.specs.Source.{rest};
+ghost use Rattle.names.specs.Table.{placeOf};
+ghost use Rattle.schema.specs.Properties.{propertyNames};
+ghost use Rattle.xcal.specs.PropertyNodes.{badName, parametersIn};
+ghost use Rattle.xml.specs.NodesAt.{nodesAt};
+ghost use Rattle.read_xml.specs.Properties.{LacksAt, OffAt, PropertyAt, ListedAt};
+
+// Where the content begins of the `parameters` of the property of the number `p` that stands before its value; the end of the bytes where it has none.
+fn parameters_at(p: usize, s: &[u8], inside: usize) -> usize
+    ensures { λ r. ⌜
+        ((w : List ℕ) →
+        p ≡ placeOf w propertyNames →
+        nodesAt (now (s .entry)) r ≡ parametersIn w (nodesAt (now (s .entry)) inside)) ⌝ }
+{
+    let mut at = inside;
+    loop {
+        let n = next_node(s, at);
+        let kind = n.kind;
+        match kind {
+            NodeKind::None => {
+                return s.len();
+            }
+            NodeKind::Element => {
+                let slot = child_slot(p, s, n.name, n.name_end);
+                if slot == 0 {
+                    return n.inside;
+                }
+                if slot < 4 {
+                    return s.len();
+                }
+                at = n.next;
+            }
+            NodeKind::Literal => {
+                at = n.next;
+            }
+            NodeKind::Referred => {
+                at = n.next;
+            }
+        }
+    }
+}
+
+// Its value has the type BINARY, and it has no ENCODING.
+fn lacks_encoding(p: usize, t: usize, s: &[u8], inside: usize) -> bool
+    ensures { λ r. ⌜ LacksAt p t (nodesAt (now (s .entry)) inside) r ⌝ }
+{
+    if t == value_type::BINARY {
+        let q = parameters_at(p, s, inside);
+        let has = has_encoding(s, q);
+        if has {
+            return false;
+        }
+        return true;
+    }
+    false
+}
+
+// A name that no property element has.
+fn bad_name(s: &[u8], name: usize, name_end: usize) -> bool
+    requires { ⌜ «name_end» ≤ length (now s) ⌝ }
+    ensures { λ r. ⌜ r ≡ badName (rest 0 (take «name_end» (now (s .entry))) name) ⌝ }
+{
+    let capital = has_capital(s, name, name_end);
+    if capital {
+        return true;
+    }
+    let carried = is_carried_name(0, &s[..name_end], name);
+    if carried {
+        let begin = is_word(0, &s[..name_end], name, b"begin");
+        if begin {
+            return true;
+        }
+        return is_word(0, &s[..name_end], name, b"end");
+    }
+    true
+}
+
+// The property of the number `p` is known, and may not stand in the component of the number `k`.
+fn is_misplaced(k: usize, p: usize) -> bool
+    ensures { λ r. ⌜ OffAt k p r ⌝ }
+{
+    if p < property::KNOWN {
+        let may = may_stand(k, p);
+        if may {
+            return false;
+        }
+        return true;
+    }
+    false
+}
+
+// A property in the component of the number `k`: its start tag is at `place`, its name stands from `name` to `name_end`, its content begins at `inside`, its end tag is at `end`.
+pub fn property_verdict(
+    k: usize,
+    s: &[u8],
+    place: usize,
+    name: usize,
+    name_end: usize,
+    inside: usize,
+    end: usize,
+) -> Judged
+    requires { ⌜ (length (now s) ≤ 65535) × («name_end» ≤ length (now s)) ⌝ }
+    ensures { λ r. ⌜
+        PropertyAt k place (rest 0 (take «name_end» (now (s .entry))) name) end (nodesAt (now (s .entry)) inside) r ⌝ }
+{
+    let bad = bad_name(s, name, name_end);
+    if bad {
+        return Judged::Refused(NAME, place);
+    }
+    let p = property_number(0, &s[..name_end], name);
+    let off = is_misplaced(k, p);
+    if off {
+        return Judged::Refused(FRAME, place);
+    }
+    let t = type_of_nodes(p, s, inside);
+    let lacks = lacks_encoding(p, t, s, inside);
+    if lacks {
+        return Judged::Refused(PARAMETER, place);
+    }
+    children_verdict(k, p, t, s, inside, end)
+}
+
+// The children of the `properties` of a component of the number `k`.
+pub fn properties_verdict(k: usize, s: &[u8], inside: usize) -> Judged
+    requires { ⌜ length (now s) ≤ 65535 ⌝ }
+    ensures { λ r. ⌜ ListedAt k (now (s .entry)) inside r ⌝ }
+{
+    let mut at = inside;
+    loop {
+        let n = next_node(s, at);
+        let kind = n.kind;
+        match kind {
+            NodeKind::None => {
+                return Judged::Fine;
+            }
+            NodeKind::Element => {
+                let j = property_verdict(k, s, at, n.name, n.name_end, n.inside, n.end);
+                match j {
+                    Judged::Fine => {
+                        at = n.next;
+                    }
+                    Judged::Refused(x, y) => {
+                        return Judged::Refused(x, y);
+                    }
+                }
+            }
+            NodeKind::Literal => {
+                let space = is_space(n.unit);
+                if space {
+                    at = n.next;
+                } else {
+                    return Judged::Refused(FRAME, at);
+                }
+            }
+            NodeKind::Referred => {
+                return Judged::Refused(FRAME, at);
+            }
+        }
+    }
+}

@@ -1,0 +1,116 @@
+// A whole component, the calendars of a document, and its root. See crate xcal, specs/ComponentNodes.antt.
+use crate::Part;
+use crate::component::behind;
+use crate::component::head;
+use crate::counting::is_complete;
+use crate::subcomponents::components_verdict;
+use names::is_word;
+use octets::is_space;
+use read_xml_nodes::Judged;
+use read_xml_nodes::NodeKind;
+use read_xml_nodes::next_node;
+use read_xml_nodes::unexpected;
+use refusals::FRAME;
+use schema::component;
+ghost use mathlib.Core.Path.{_≡_};
+ghost use Prim.Native.Nat.{_≤_};
+ghost use lib.ListN.{length, take};
+ghost use Rattle.octets.specs.Ascii.{ascii};
+ghost use Rattle.octets.specs.Words.{same};
+ghost use Rattle.source.specs.Source.{rest};
+ghost use Rattle.read_xml.specs.Roots.{ComponentAt, StreamAt, RootAt};
+
+// The component of the number `k` whose content begins at `inside`, and whose end tag is at `end`.
+fn component_verdict(k: usize, s: &[u8], inside: usize, end: usize) -> Judged
+    requires { ⌜ length (now s) ≤ 65535 ⌝ }
+    ensures { λ r. ⌜ ComponentAt k (now (s .entry)) inside end r ⌝ }
+{
+    let counts = is_complete(k, s, inside);
+    let h = head(k, counts, s, inside, end);
+    match h {
+        Part::Ends(j) => j,
+        Part::Opens(q, x, after, had) => {
+            let r = components_verdict(s, q, k, x);
+            match r {
+                Judged::Fine => behind(k, counts, had, s, after, end),
+                Judged::Refused(f, y) => Judged::Refused(f, y),
+            }
+        }
+    }
+}
+
+// The name is `vcalendar`.
+fn is_calendar(s: &[u8], name: usize, name_end: usize) -> bool
+    requires { ⌜ «name_end» ≤ length (now s) ⌝ }
+    ensures { λ r. ⌜ r ≡ same (rest 0 (take «name_end» (now (s .entry))) name) (ascii "vcalendar") ⌝ }
+{
+    is_word(0, &s[..name_end], name, b"vcalendar")
+}
+
+// The children of `icalendar`, whose content begins at `inside`, and whose end tag is at `e`.
+fn stream_verdict(s: &[u8], inside: usize, e: usize) -> Judged
+    requires { ⌜ length (now s) ≤ 65535 ⌝ }
+    ensures { λ r. ⌜ StreamAt (now (s .entry)) inside e r ⌝ }
+{
+    let mut at = inside;
+    let mut any = false;
+    loop {
+        let n = next_node(s, at);
+        let kind = n.kind;
+        match kind {
+            NodeKind::None => {
+                if any {
+                    return Judged::Fine;
+                }
+                return Judged::Refused(FRAME, e);
+            }
+            NodeKind::Element => {
+                let calendar = is_calendar(s, n.name, n.name_end);
+                if calendar {
+                    let j = component_verdict(component::VCALENDAR, s, n.inside, n.end);
+                    match j {
+                        Judged::Fine => {
+                            any = true;
+                            at = n.next;
+                        }
+                        Judged::Refused(x, y) => {
+                            return Judged::Refused(x, y);
+                        }
+                    }
+                } else {
+                    return unexpected(s, at, n.name, n.name_end);
+                }
+            }
+            NodeKind::Literal => {
+                let space = is_space(n.unit);
+                if space {
+                    at = n.next;
+                } else {
+                    return Judged::Refused(FRAME, at);
+                }
+            }
+            NodeKind::Referred => {
+                return Judged::Refused(FRAME, at);
+            }
+        }
+    }
+}
+
+// The root: its start tag is at `place`, its name stands from `name` to `name_end`, its content begins at `inside`, its end tag is at `end`.
+pub fn root_verdict(
+    s: &[u8],
+    place: usize,
+    name: usize,
+    name_end: usize,
+    inside: usize,
+    end: usize,
+) -> Judged
+    requires { ⌜ (length (now s) ≤ 65535) × («name_end» ≤ length (now s)) ⌝ }
+    ensures { λ r. ⌜ RootAt (now (s .entry)) place (rest 0 (take «name_end» (now (s .entry))) name) inside end r ⌝ }
+{
+    let root = is_word(0, &s[..name_end], name, b"icalendar");
+    if root {
+        return stream_verdict(s, inside, end);
+    }
+    unexpected(s, place, name, name_end)
+}

@@ -1,0 +1,120 @@
+// The children of `components`. See specs/Subcomponents.antt.
+use crate::Numbered;
+use crate::Part;
+use crate::Sub;
+use crate::component::behind;
+use crate::component::end_components;
+use crate::component::head;
+use crate::counting::is_complete;
+use octets::is_space;
+use read_xml_nodes::Judged;
+use read_xml_nodes::NodeKind;
+use read_xml_nodes::has_capital;
+use read_xml_nodes::next_node;
+use read_xml_nodes::unexpected;
+use refusals::FRAME;
+use schema::component_number;
+use schema::may_begin;
+ghost use Prim.Native.Nat.{_≤_};
+ghost use lib.ListN.{length, take};
+ghost use Rattle.source.specs.Source.{rest};
+ghost use Rattle.read_xml.specs.Subcomponents.{NumberedAt, InnerAt, SubAt, CompsAt};
+
+// The number of the component of a name, where it may stand in the component of the number `k`.
+fn sub_number(k: usize, s: &[u8], name: usize, name_end: usize) -> Numbered
+    requires { ⌜ «name_end» ≤ length (now s) ⌝ }
+    ensures { λ r. ⌜ NumberedAt k (rest 0 (take «name_end» (now (s .entry))) name) r ⌝ }
+{
+    let capital = has_capital(s, name, name_end);
+    if capital {
+        return Numbered::Other;
+    }
+    let n = component_number(0, &s[..name_end], name);
+    let may = may_begin(k, n);
+    if may {
+        return Numbered::Number(n);
+    }
+    Numbered::Other
+}
+
+// The component of the number `n`: its content begins at `inside`, its end tag is at `end`, and `next` is the place behind it.
+fn sub_component(n: usize, s: &[u8], inside: usize, end: usize, next: usize) -> Sub
+    requires { ⌜ length (now s) ≤ 65535 ⌝ }
+    ensures { λ r. ⌜ InnerAt n (now (s .entry)) inside end next r ⌝ }
+{
+    let counts = is_complete(n, s, inside);
+    let h = head(n, counts, s, inside, end);
+    match h {
+        Part::Ends(j) => match j {
+            Judged::Fine => Sub::Past(next, true),
+            Judged::Refused(x, y) => Sub::Done(Judged::Refused(x, y)),
+        },
+        Part::Opens(q, x, after, had) => Sub::Deep(n, counts, had, q, x, after, end, next),
+    }
+}
+
+// One node of the `components` of a component of the number `k`, at `at`.
+fn sub_at(k: usize, s: &[u8], at: usize, any: bool, e: usize) -> Sub
+    requires { ⌜ length (now s) ≤ 65535 ⌝ }
+    ensures { λ r. ⌜ SubAt k (now (s .entry)) e at any r ⌝ }
+{
+    let n = next_node(s, at);
+    let kind = n.kind;
+    match kind {
+        NodeKind::None => {
+            let j = end_components(k, any, e);
+            Sub::Done(j)
+        }
+        NodeKind::Element => {
+            let t = sub_number(k, s, n.name, n.name_end);
+            match t {
+                Numbered::Number(m) => sub_component(m, s, n.inside, n.end, n.next),
+                Numbered::Other => {
+                    let j = unexpected(s, at, n.name, n.name_end);
+                    Sub::Done(j)
+                }
+            }
+        }
+        NodeKind::Literal => {
+            let space = is_space(n.unit);
+            if space {
+                return Sub::Past(n.next, any);
+            }
+            let j = Judged::Refused(FRAME, at);
+            Sub::Done(j)
+        }
+        NodeKind::Referred => {
+            let j = Judged::Refused(FRAME, at);
+            Sub::Done(j)
+        }
+    }
+}
+
+// The children of the `components` of a component of the number `k`, whose content begins at `inside`, and whose end tag is at `e`.
+pub fn components_verdict(s: &[u8], inside: usize, k: usize, e: usize) -> Judged
+    requires { ⌜ length (now s) ≤ 65535 ⌝ }
+    ensures { λ r. ⌜ CompsAt k (now (s .entry)) inside e r ⌝ }
+{
+    let mut at = inside;
+    let mut any = false;
+    loop {
+        let t = sub_at(k, s, at, any, e);
+        match t {
+            Sub::Done(j) => return j,
+            Sub::Past(d, a) => {
+                any = a;
+                at = d;
+            }
+            Sub::Deep(n, counts, had, q, x, after, z, d) => match components_verdict(s, q, n, x) {
+                Judged::Fine => match behind(n, counts, had, s, after, z) {
+                    Judged::Fine => {
+                        any = true;
+                        at = d;
+                    }
+                    Judged::Refused(f, p) => return Judged::Refused(f, p),
+                },
+                Judged::Refused(f, p) => return Judged::Refused(f, p),
+            },
+        }
+    }
+}

@@ -1,0 +1,15 @@
+-- The content of an element, node by node.
+--     Plain        bytes that are characters of their own
+--     Closing      the end tag of an open element
+--     HeadFound    the head of the node at a place, without the end of an element
+--     NodeFound    the node at a place
+--     RootFound    the root of a document
+--     Judging      what readers find, as a verdict
+--     laws         laws of these, and what proofs need
+pub mod Plain
+pub mod Closing
+pub mod HeadFound
+pub mod NodeFound
+pub mod RootFound
+pub mod Judging
+pub mod laws

@@ -1,0 +1,22 @@
+-- What a parameter must be, by the numbers of the property, of the type of its value, and of the parameter.
+--     encodedBy              with a value of type BINARY, ENCODING is BASE64
+--     soundBy                permitted, with good values, and encoded so
+use mathlib.Core.Bool.{Bool, not}
+use Prim.Native.Nat.{ℕ}
+use lib.Dec.{eqb}
+use Rattle.octets.specs.Ascii.{ascii}
+use Rattle.octets.specs.Pick.{_and_, _or_}
+use Rattle.schema.specs.Columns.{permitsAt}
+use Rattle.xml.specs.Nodes.{Nodes}
+use Rattle.read_xml_parameters.specs.Rows.{rowAt}
+use Rattle.read_xml_parameters.specs.Several.{goodBy, firstIs}
+
+-- ---- ENCODING, the parameter of the number 6, and BINARY, the type of the number 0
+
+unfoldable pub encodedBy : ℕ → ℕ → Nodes → Bool
+encodedBy q t kids = not (eqb q 6 and eqb t 0) or firstIs (ascii "BASE64") kids
+
+-- ---- all of it
+
+unfoldable pub soundBy : ℕ → ℕ → ℕ → Nodes → Bool
+soundBy p t q kids = permitsAt p t q and goodBy (rowAt q) kids and encodedBy q t kids

@@ -1,0 +1,113 @@
+-- Laws of what specs/Values.antt defines.
+--     typing, valuing     the rules of the code
+use mathlib.Core.Path.{_≡_, sym, subst, _∙_}
+use mathlib.Core.Bool.{Bool, true, false, false≢true}
+use mathlib.Core.List.{List}
+use mathlib.Core.Option.{Option, none, some}
+use Prim.Native.Nat.{ℕ, _≤_}
+use lib.Dec.{eqb}
+use borrow.Author.Needs.{needs}
+use borrow.Author.Tests.{eq-eqb, ne-eqb}
+use Rattle.octets.specs.Pick.{pick, _and_}
+use Rattle.octets.specs.laws.Pick.{branching-joined}
+use Rattle.octets.specs.Reading.{isRead}
+use Rattle.names.specs.Table.{placeOf}
+use Rattle.calendar.specs.Calendar.{xcal, ValueType, FLOAT, float}
+use Rattle.calendar.specs.Refusal.{VALUE, Verdict, refuse}
+use Rattle.schema.specs.Types.{sameType}
+use Rattle.schema.specs.Components.{componentNames}
+use Rattle.schema.specs.Properties.{propertyNames}
+use Rattle.schema.specs.Numbers.{typeAt}
+use Rattle.schema.specs.Columns.{permitsType}
+use Rattle.schema.specs.laws.Columns.{permits-type-place}
+use Rattle.schema.specs.Sets.{isWordOf}
+use Rattle.schema.specs.laws.Sets.{words-place, geo-place, request-status-place}
+use Rattle.schema.specs.laws.Places.{type-back}
+use Rattle.numbers.specs.Float.{readFloat}
+use Rattle.values.specs.ReadValue.{readValue}
+use Rattle.values.specs.laws.ValueAt.{mapped}
+use Rattle.xml.specs.Nodes.{Nodes, charactersOf}
+use Rattle.xcal.specs.Layout.{leaf}
+use Rattle.xcal.specs.ValueNodes.{readWordOf, typedVerdict, asTyped, valueVerdict, elementType}
+use Rattle.read_xml_value.specs.Leaves.{leafBy}
+use Rattle.read_xml_nodes.specs.Judging.{judgedAs}
+use Rattle.read_xml_nodes.specs.laws.Judging.{is-value}
+use Rattle.read_xml_value.specs.ElementTypes.{TypeNamed}
+use Rattle.read_xml_value.specs.Values.{typedAt}
+use Rattle.read_xml_value.specs.declared.Named.{Named}
+use Rattle.read_xml_value.specs.declared.Named.the-variants.{«Type» as Typed, Bad}
+use Rattle.read_xml_nodes.specs.declared.Judged.the-variants.{Refused}
+
+-- ---- of names
+
+typed-place : (c w : List ℕ) (u place e : ℕ) (kids : Nodes) → u ≤ 14 →
+    typedVerdict c w (typeAt u) place e kids ≡ typedAt (placeOf c componentNames) (placeOf w propertyNames) u place e kids
+unfolding typedVerdict sameType
+typed-place c w u place e kids h = rw (type-back u h, words-place c w)
+
+module _ (c w : List ℕ) (place : ℕ) (n : List ℕ) (e : ℕ) (kids : Nodes) where
+  geo-as : (t : ValueType) → placeOf w propertyNames ≡ 9 → valueVerdict c w t place n e kids ≡ leaf (λ l. isRead (readFloat l)) place kids
+  unfolding valueVerdict pick
+  geo-as t h = rw (geo-place w, eq-eqb (placeOf w propertyNames) 9 h)
+
+  module _ (g : placeOf w propertyNames ≡ 9 → ⊥) where
+    status-as : (t : ValueType) → placeOf w propertyNames ≡ 45 → valueVerdict c w t place n e kids ≡ leafBy true place kids
+    unfolding valueVerdict pick
+    status-as t h = rw (geo-place w, ne-eqb (placeOf w propertyNames) 9 g, request-status-place w, eq-eqb (placeOf w propertyNames) 45 h)
+
+    other-as : (t : ValueType) → (placeOf w propertyNames ≡ 45 → ⊥) → valueVerdict c w t place n e kids ≡ asTyped (elementType n) c w t place e kids
+    unfolding valueVerdict pick
+    other-as t h = rw (geo-place w, ne-eqb (placeOf w propertyNames) 9 g, request-status-place w, ne-eqb (placeOf w propertyNames) 45 h)
+
+typed-as : (c w : List ℕ) (place e : ℕ) (kids : Nodes) (u t : ℕ) → u ≤ 14 → t ≤ 14 → asTyped (some (typeAt u)) c w (typeAt t) place e kids ≡
+    pick (permitsType (placeOf w propertyNames) u and eqb u t) (typedAt (placeOf c componentNames) (placeOf w propertyNames) u place e kids) (refuse VALUE place)
+unfolding sameType
+typed-as c w place e kids u t h l = rw (permits-type-place w (typeAt u), type-back u h, type-back t l, typed-place c w u place e kids h)
+
+-- ---- for code
+
+module _ (o : Option (List (List ℕ))) (t : ValueType) (place : ℕ) (kids : Nodes) {a : Bool} (e : a ≡ isRead o) {v : Verdict} where
+  pub typed-word : a ≡ true → v ≡ leaf (λ l. isWordOf o l) place kids → v ≡ leaf (readWordOf o t) place kids
+  unfolding isRead
+  typed-word h q = go o (sym e ∙ h) q
+    where
+      go : (o : Option (List (List ℕ))) → isRead o ≡ true → v ≡ leaf (λ l. isWordOf o l) place kids → v ≡ leaf (readWordOf o t) place kids
+      go none k q = absurd (false≢true k)
+      go (some ws) k q = q
+
+  pub typed-other : a ≡ false → v ≡ leaf (λ l. isRead (readValue xcal t l)) place kids → v ≡ leaf (readWordOf o t) place kids
+  unfolding isRead
+  typed-other h q = go o (sym e ∙ h)
+    where
+      go : (o : Option (List (List ℕ))) → isRead o ≡ false → v ≡ leaf (readWordOf o t) place kids
+      go none k = q
+      go (some ws) k = absurd (false≢true (sym k))
+
+module _ {k p : ℕ} (t place : ℕ) (n : List ℕ) (e : ℕ) (kids : Nodes) where
+  pub value-geo : {v : Verdict} → p ≡ 9 → v ≡ leaf (λ l. isRead (readValue xcal FLOAT l)) place kids →
+      (c w : List ℕ) → k ≡ placeOf c componentNames → p ≡ placeOf w propertyNames → t ≤ 14 → v ≡ valueVerdict c w (typeAt t) place n e kids
+  unfolding readValue
+  value-geo h q c w x y l = q ∙ rw (geo-as c w place n e kids (typeAt t) (sym y ∙ h), mapped float (readFloat (charactersOf kids)))
+
+  module _ (g : p ≡ 9 → ⊥) where
+    pub value-status : {v : Verdict} → p ≡ 45 → v ≡ leafBy true place kids →
+        (c w : List ℕ) → k ≡ placeOf c componentNames → p ≡ placeOf w propertyNames → t ≤ 14 → v ≡ valueVerdict c w (typeAt t) place n e kids
+    value-status h q c w x y l = q ∙ sym (status-as c w place n e kids (λ z. g (y ∙ z)) (typeAt t) (sym y ∙ h))
+
+    module _ (h : p ≡ 45 → ⊥) {m : Named} (d : TypeNamed n m) where
+      pub value-typed : {v : Verdict} {u : ℕ} → m ≡ Typed u → v ≡ pick (permitsType p u and eqb u t) (typedAt k p u place e kids) (refuse VALUE place) →
+          (c w : List ℕ) → k ≡ placeOf c componentNames → p ≡ placeOf w propertyNames → t ≤ 14 → v ≡ valueVerdict c w (typeAt t) place n e kids
+      value-typed {v} {u} z q c w x y l =
+          let f : TypeNamed n (Typed u) = subst (TypeNamed n) z d in
+          q ∙ rw (x, y) (sym (other-as c w place n e kids (λ i. g (y ∙ i)) (typeAt t) (λ i. h (y ∙ i)) ∙ rw (f .is) (typed-as c w place e kids u t (f .small) l)))
+
+      pub value-bad : m ≡ Bad → (c w : List ℕ) → k ≡ placeOf c componentNames → p ≡ placeOf w propertyNames → t ≤ 14 → judgedAs (Refused 8 place) ≡ valueVerdict c w (typeAt t) place n e kids
+      value-bad z c w x y l =
+          let f : TypeNamed n Bad = subst (TypeNamed n) z d in
+          sym (other-as c w place n e kids (λ i. g (y ∙ i)) (typeAt t) (λ i. h (y ∙ i)) ∙ rw (f .is) (sym (is-value place)))
+
+pub ruleset typing = (typed-word, typed-other, needs)
+
+pub ruleset verdicts = (is-value, branching-joined)
+
+pub ruleset valuing = (value-geo, value-status, value-typed, value-bad, needs)

@@ -1,0 +1,23 @@
+-- Laws. The schema as tables: what may stand where, how often, with which parameters and types.
+--     Types       the value types by name
+--     Rows        laws of these tables
+--     Closed      laws of closed sets
+--     Tallies     laws of counting
+--     Numbers     names by their numbers, and the rows of numbers
+--     Cells       tables that a definition fills
+--     Places      the number of the name of a number
+--     Columns     what the tables say, by numbers
+--     Sets        closed sets, by numbers
+--     Arrays      the tallies of a component in an array
+--     Completing  counts over that array
+pub mod Types
+pub mod Rows
+pub mod Closed
+pub mod Tallies
+pub mod Numbers
+pub mod Cells
+pub mod Places
+pub mod Columns
+pub mod Sets
+pub mod Arrays
+pub mod Completing

@@ -1,0 +1,25 @@
+-- iCalendar text (RFC 5545).
+--     Parameters          the parameters of a content line, typed
+--     Values              the values of a property, by its type
+--     Statement           the property that a content line states
+--     Nesting             which lines are refused: one pass with the open components
+--     LineKind            what a line is in an open component
+--     Tree                the components that the lines state
+--     ReadText            the answer for a text
+--     WriteText           the canonical text of a calendar
+--     LineLaws            the bytes of a property's line are read back
+--     ValidCalendar       a calendar that a text can state
+--     Computing           opens all of these, for examples that compute
+--     laws                laws of these, and what proofs need
+pub mod Parameters
+pub mod Values
+pub mod Statement
+pub mod Nesting
+pub mod LineKind
+pub mod Tree
+pub mod ReadText
+pub mod WriteText
+pub mod LineLaws
+pub mod ValidCalendar
+pub mod Computing
+pub mod laws

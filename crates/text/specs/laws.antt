@@ -1,0 +1,41 @@
+-- Laws. iCalendar text (RFC 5545).
+--     LineKind            what a line is in an open component
+--     ParameterLaws       parameters are read back
+--     ValuesLaws          the values of a property are read back
+--     AcceptedValues      what is read is values of the property
+--     PropertyLaws        the line of a property states it
+--     AcceptedProperty    what is read is a property
+--     LineLaws            the bytes of a property's line are read back
+--     Pieces              a text in pieces
+--     AcceptedLine        what is read can be written as a line
+--     ValidCalendar       a calendar that a text can state
+--     TreeBack            the lines of a calendar state it
+--     Turned              the properties of a component, the last first
+--     NestingBack         the lines of a calendar are not refused
+--     EscapedCharacters   the characters of values as they are written
+--     WrittenLine         the bytes of a calendar's lines
+--     TextBack            the text of a calendar is read back as that calendar
+--     GoodPieces          the pieces of a text are well formed
+--     AcceptedCharacters  the characters of what a line states
+--     AcceptedTree        what lines state that are not refused is a calendar of the schema
+--     AcceptedText        what an accepted text states is one
+pub mod LineKind
+pub mod ParameterLaws
+pub mod ValuesLaws
+pub mod AcceptedValues
+pub mod PropertyLaws
+pub mod AcceptedProperty
+pub mod LineLaws
+pub mod Pieces
+pub mod AcceptedLine
+pub mod ValidCalendar
+pub mod TreeBack
+pub mod Turned
+pub mod NestingBack
+pub mod EscapedCharacters
+pub mod WrittenLine
+pub mod TextBack
+pub mod GoodPieces
+pub mod AcceptedCharacters
+pub mod AcceptedTree
+pub mod AcceptedText

@@ -1,0 +1,209 @@
+-- What lines state that are not refused is a calendar that a text can state, also where a VTIMEZONE mixes properties and subcomponents.
+--     Frames st es d    what the entries that are left make of the open components st is valid, where the first of these is d further out
+--     tree-accepted     what accepted lines state is valid;   tree-some: and not nothing
+use mathlib.Core.Path.{_≡_, refl, _∙_}
+use mathlib.Core.Bool.{Bool, true, false, not}
+use mathlib.Core.List.{List, [], _∷_, map}
+use mathlib.Core.Option.{Option, none, some}
+use Prim.{tt}
+use Prim.Native.Nat.{ℕ, suc}
+use native.Mathlib.Omega.{arith}
+use Rattle.octets.specs.Ascii.{ascii}
+use Rattle.octets.specs.Pick.{pick, _or_}
+use Rattle.octets.specs.laws.Pick.{and-yes, and-both, or-left, or-right, or-false}
+use Rattle.octets.specs.Class.{upper}
+use Rattle.octets.specs.Words.{same, isOneOf, isEmpty}
+use Rattle.octets.specs.Lists.{every}
+use Rattle.octets.specs.laws.Lists.{every-both}
+use Rattle.calendar.specs.Calendar.{Property, Components}
+use Rattle.calendar.specs.Refusal.{Refusal, Verdict, fine}
+use Rattle.calendar.specs.laws.Refusal.{refused-not}
+use Rattle.schema.specs.Components.{subcomponentsOf, mayStand}
+use Rattle.schema.specs.Properties.{isKnownProperty}
+use Rattle.schema.specs.Counts.{complete}
+use Rattle.utf8.specs.Utf8.{firstBad, wellFormed}
+use Rattle.utf8.specs.laws.Utf8.{well-formed-good}
+use Rattle.folding.specs.Lines.{Line, whole, loose}
+use Rattle.read_text_line.specs.ContentLine.{RawParameter, ContentLine, isContentLine, contentLine}
+use Rattle.read_text_line.specs.Names.{isCarriedName}
+use Rattle.read_text_line.specs.laws.Names.{carried-name-upper}
+use Rattle.read_text_line.specs.Write.{writeContentLine}
+use Rattle.read_text_line.specs.laws.Accepted.{content-line-accepted, content-line-write-back}
+use Rattle.text.specs.Statement.{propertyOf, propertyFault}
+use Rattle.text.specs.Nesting.{Open, Move, on, stop, opened, mayBegin, beginIn, begins, ends, mayHold, told, states, namesCarried, moveBy, moveOf, move, onward, ended, nesting}
+use Rattle.text.specs.Tree.{Entry, begin, end, property, entryBy, entryOf, ownOf, innerOf, calendarOf}
+use Rattle.text.specs.laws.AcceptedLine.{line-accepted, line-property}
+use Rattle.text.specs.laws.AcceptedCharacters.{property-good}
+use Rattle.text.specs.laws.Turned.{turned, complete-turned-back}
+use Rattle.text.specs.ValidCalendar.{isStated, hasComponents, ValidIn, Valid, atTop}
+
+-- ---- a property
+
+property-stated : (k : List ℕ) (l : ContentLine) → isContentLine l ≡ true → firstBad (writeContentLine l) ≡ none → namesCarried l ≡ true →
+    same (upper (l .name)) (ascii "BEGIN") ≡ false → same (upper (l .name)) (ascii "END") ≡ false → (not (isKnownProperty (upper (l .name))) or mayStand k (upper (l .name))) ≡ true →
+    propertyFault k l ≡ none → isStated k (propertyOf k l) ≡ true
+unfolding isStated namesCarried propertyOf
+property-stated k l q g c b e m h =
+    let n = and-both (isCarriedName (l .name)) _ c in
+    let d = property-good k l q g (n .1) h in
+    and-yes _ _ (line-property k l q h)
+    (and-yes _ _ (line-accepted k l q h)
+    (and-yes _ _ (carried-name-upper (l .name) ∙ n .0)
+    (and-yes _ _ (rw b) (and-yes _ _ (rw e) (and-yes _ _ m (and-yes _ _ (d .0) (d .1)))))))
+
+-- ---- open components
+
+-- a component that is open, with the properties and subcomponents that are still to come
+record Body (f : Open) (ps : List Property) (c : Components) : Type 0 where
+  own : every (isStated (f .name)) ps ≡ true
+  inside : ValidIn (subcomponentsOf (f .name)) c
+  counts : complete (f .name) (turned ps (f .seen)) (f .inner or hasComponents c) ≡ true
+
+abbrev Frames : List Open → List Entry → ℕ → Type 0
+Frames [] es d = ValidIn atTop (innerOf es d)
+Frames (f ∷ st) es d = Body f (ownOf (f .name) es d) (innerOf es d) × Frames st es (suc d)
+
+frames-begin : (st : List Open) (k : List ℕ) (es : List Entry) (d : ℕ) → Frames st es (suc (suc d)) → Frames st (begin k ∷ es) (suc d)
+unfolding ownOf innerOf
+frames-begin [] k es d h = h
+frames-begin (f ∷ st) k es d h = (h .0, frames-begin st k es (suc d) (h .1))
+
+frames-end : (st : List Open) (es : List Entry) (d : ℕ) → Frames st es d → Frames st (end ∷ es) (suc d)
+unfolding ownOf innerOf
+frames-end [] es d h = h
+frames-end (f ∷ st) es d h = (h .0, frames-end st es (suc d) (h .1))
+
+frames-property : (st : List Open) (l : ContentLine) (es : List Entry) (d : ℕ) → Frames st es (suc d) → Frames st (property l ∷ es) (suc d)
+unfolding ownOf innerOf
+frames-property [] l es d h = h
+frames-property (f ∷ st) l es d h = (h .0, frames-property st l es (suc d) (h .1))
+
+-- ---- a line that is not refused
+
+stop-on : {X : Type 0} {r : Refusal} {u : List Open} → stop r ≡ on u → X
+stop-on e = let z : _≡_ {A = ℕ} 0 1 = cc in absurd (omega arith)
+
+begun : (a b : Bool) (r q : Refusal) (v u : List Open) → pick a (pick b (on v) (stop r)) (stop q) ≡ on u → (a ≡ true) × (v ≡ u)
+unfolding pick
+begun true true r q v u h = (refl, cc)
+begun true false r q v u h = stop-on h
+begun false b r q v u h = stop-on h
+
+-- the component that begins
+inner-valid : (k : List ℕ) (ps : List Property) (c : Components) → Body (opened k) ps c → complete k ps (hasComponents c) ≡ true
+unfolding _or_
+inner-valid k ps c b = complete-turned-back k ps (hasComponents c) (b .counts)
+
+begin-in : (k : List ℕ) (st : List Open) (es : List Entry) → mayBegin k st ≡ true → Frames (beginIn k st) es 0 → Frames st (begin k ∷ es) 0
+unfolding ownOf innerOf
+begin-in k [] es m h = (unfold isOneOf in or-left _ _ m, h .0 .own, inner-valid k _ _ (h .0), h .0 .inside, h .1)
+begin-in k (f ∷ st) es m h =
+    (record { own = h .1 .0 .own; inside = (m, h .0 .own, inner-valid k _ _ (h .0), h .0 .inside, h .1 .0 .inside); counts = rw (or-right (f .inner) true refl) (later (h .1 .0)) }, frames-begin st k es 0 (h .1 .1))
+  where
+    later : Body (record { name = f .name; seen = f .seen; inner = true }) (ownOf (f .name) es 1) (innerOf es 1) → complete (f .name) (turned (ownOf (f .name) es 1) (f .seen)) true ≡ true
+    later b = unfold _or_ in b .counts
+
+begin-step : (k : List ℕ) (ps : List RawParameter) (st u : List Open) (es : List Entry) → begins k ps st ≡ on u → Frames u es 0 → Frames st (begin k ∷ es) 0
+unfolding begins
+begin-step k ps st u es m h = let e = begun (mayBegin k st) (isEmpty ps) _ _ (beginIn k st) u m in begin-in k st es (e .0) (rw (← (e .1)) at h)
+
+closed : (a b c : Bool) (r q o : Refusal) (v u : List Open) → pick a (pick b (pick c (on v) (stop o)) (stop r)) (stop q) ≡ on u → (c ≡ true) × (v ≡ u)
+unfolding pick
+closed true true true r q o v u h = (refl, cc)
+closed true true false r q o v u h = stop-on h
+closed true false c r q o v u h = stop-on h
+closed false b c r q o v u h = stop-on h
+
+end-step : (k : List ℕ) (ps : List RawParameter) (st u : List Open) (es : List Entry) → ends k ps st ≡ on u → Frames u es 0 → Frames st (end ∷ es) 0
+unfolding ends ownOf innerOf turned every
+end-step k ps [] u es m h = stop-on m
+end-step k ps (f ∷ st) u es m h =
+    let e = closed (same k (f .name)) (isEmpty ps) (complete (f .name) (f .seen) (f .inner)) _ _ _ st u m in
+    (record { own = refl; inside = tt; counts = rw (or-false (f .inner)) (e .0) }, frames-end st es 0 (rw (← (e .1)) at h))
+
+held : (a : Bool) (o : Option Refusal) (q : Refusal) (v u : List Open) → pick a (told o (on v)) (stop q) ≡ on u → (a ≡ true) × (o ≡ none) × (v ≡ u)
+unfolding pick
+held true none q v u h = (refl, refl, cc)
+held true (some r) q v u h = stop-on h
+held false o q v u h = stop-on h
+
+property-step : (l : ContentLine) (st u : List Open) (es : List Entry) → isContentLine l ≡ true → firstBad (writeContentLine l) ≡ none → namesCarried l ≡ true →
+    same (upper (l .name)) (ascii "BEGIN") ≡ false → same (upper (l .name)) (ascii "END") ≡ false → states l st ≡ on u → Frames u es 0 → Frames st (property l ∷ es) 0
+unfolding states ownOf innerOf turned every
+property-step l [] u es q g c b e m h = stop-on m
+property-step l (f ∷ st) u es q g c b e m h =
+    let a = held (mayHold (upper (l .name)) f) (propertyFault (f .name) l) _ (record { name = f .name; seen = propertyOf (f .name) l ∷ f .seen; inner = f .inner } ∷ st) u m in
+    let d : Frames (record { name = f .name; seen = propertyOf (f .name) l ∷ f .seen; inner = f .inner } ∷ st) es 0 = rw (← (a .2)) at h in (
+      record {
+        own = and-yes _ _ (property-stated (f .name) l q g c b e (and-both _ _ (a .0) .0) (a .1)) (d .0 .own);
+        inside = d .0 .inside;
+        counts = d .0 .counts;
+      },
+      frames-property st l es 0 (d .1),
+    )
+
+-- ---- one line
+
+line-step : (s : List ℕ) (st u : List Open) (es : List Entry) → firstBad s ≡ none → move s st ≡ on u → Frames u es 0 → Frames st (entryBy (contentLine s) ∷ es) 0
+unfolding moveOf moveBy entryBy pick
+line-step s st u es g m h = go (contentLine s) refl m
+  where
+    by : (l : ContentLine) → contentLine s ≡ some l → (c b e : Bool) → namesCarried l ≡ c → same (upper (l .name)) (ascii "BEGIN") ≡ b → same (upper (l .name)) (ascii "END") ≡ e →
+        pick c (pick b (begins (upper (l .value)) (l .parameters) st) (pick e (ends (upper (l .value)) (l .parameters) st) (states l st))) (stop Refusal.NAME) ≡ on u →
+        Frames st (pick b (begin (upper (l .value))) (pick e end (property l)) ∷ es) 0
+    by l i false b e c₁ b₁ e₁ k = stop-on k
+    by l i true true e c₁ b₁ e₁ k = begin-step (upper (l .value)) (l .parameters) st u es k h
+    by l i true false true c₁ b₁ e₁ k = end-step (upper (l .value)) (l .parameters) st u es k h
+    by l i true false false c₁ b₁ e₁ k =
+        property-step l st u es (content-line-accepted s l i) (rw (content-line-write-back s l i) g) c₁ b₁ e₁ k h
+
+    go : (o : Option ContentLine) → contentLine s ≡ o → moveOf o st ≡ on u → Frames st (entryBy o ∷ es) 0
+    go none i k = stop-on k
+    go (some l) i k = by l i (namesCarried l) (same (upper (l .name)) (ascii "BEGIN")) (same (upper (l .name)) (ascii "END")) refl refl refl k
+
+-- ---- all lines
+
+unfoldable pub isGoodOne : Line → Bool
+isGoodOne (whole p s) = wellFormed s
+isGoodOne (loose p) = false
+
+moved-on : (m : Move) (p : ℕ) (f : List Open → Verdict) → onward m p f ≡ fine → (u : List Open) × (m ≡ on u) × (f u ≡ fine)
+unfolding onward
+moved-on (on u) p f h = (u, refl, h)
+moved-on (stop r) p f h = refused-not _ _ h
+
+all-frames : (ls : List Line) (e : ℕ) (st : List Open) → every isGoodOne ls ≡ true → nesting e ls st ≡ fine → Frames st (map entryOf ls) 0
+unfolding nesting ended entryOf innerOf isGoodOne
+all-frames [] e [] g h = tt
+all-frames [] e (f ∷ st) g h = refused-not _ _ h
+all-frames (loose p ∷ ls) e st g h = refused-not _ _ h
+all-frames (whole p s ∷ ls) e st g h =
+    let a = every-both isGoodOne (whole p s) ls g in
+    let m = moved-on (move s st) p (nesting e ls) h in
+    line-step s st (m .0) (map entryOf ls) (well-formed-good s (a .0)) (m .1) (all-frames ls e (m .0) (a .1) (m .2))
+
+pub tree-accepted : (ls : List Line) (e : ℕ) → every isGoodOne ls ≡ true → nesting e ls [] ≡ fine → Valid (calendarOf ls)
+unfolding calendarOf
+tree-accepted ls e g h = all-frames ls e [] g h
+
+-- ---- the first line begins a component
+
+first-begins : (s : List ℕ) (u : List Open) (es : List Entry) → move s [] ≡ on u → hasComponents (innerOf (entryBy (contentLine s) ∷ es) 0) ≡ true
+unfolding moveOf moveBy entryBy pick innerOf ends states
+first-begins s u es m = go (contentLine s) m
+  where
+    by : (l : ContentLine) (c b e : Bool) → pick c (pick b (begins (upper (l .value)) (l .parameters) []) (pick e (ends (upper (l .value)) (l .parameters) []) (states l []))) (stop Refusal.NAME) ≡ on u →
+        hasComponents (innerOf (pick b (begin (upper (l .value))) (pick e end (property l)) ∷ es) 0) ≡ true
+    by l false b e k = stop-on k
+    by l true true e k = refl
+    by l true false true k = stop-on k
+    by l true false false k = stop-on k
+
+    go : (o : Option ContentLine) → moveOf o [] ≡ on u → hasComponents (innerOf (entryBy o ∷ es) 0) ≡ true
+    go none k = stop-on k
+    go (some l) k = by l (namesCarried l) (same (upper (l .name)) (ascii "BEGIN")) (same (upper (l .name)) (ascii "END")) k
+
+pub tree-some : (l : Line) (ls : List Line) (e : ℕ) → nesting e (l ∷ ls) [] ≡ fine → hasComponents (calendarOf (l ∷ ls)) ≡ true
+unfolding nesting calendarOf entryOf
+tree-some (loose p) ls e h = refused-not _ _ h
+tree-some (whole p s) ls e h = let m = moved-on (move s []) p (nesting e ls) h in first-begins s (m .0) (map entryOf ls) (m .1)

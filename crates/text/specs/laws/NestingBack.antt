@@ -1,0 +1,176 @@
+-- The verdict on the lines of a calendar: none of them is refused.
+--     nesting-back     the verdict on the lines of a calendar is fine, wherever they stand
+use mathlib.Core.Path.{_≡_, refl, _∙_}
+use mathlib.Core.Bool.{Bool, true, false}
+use mathlib.Core.List.{List, [], _∷_, map}
+use Prim.Native.Nat.{ℕ, _+_}
+use lib.ListN.{length}
+use Rattle.octets.specs.Ascii.{ascii}
+use Rattle.octets.specs.Pick.{pick, _and_, _or_}
+use Rattle.octets.specs.laws.Pick.{and-yes, and-both}
+use Rattle.octets.specs.Scan.{allOf}
+use Rattle.octets.specs.Class.{isVisible, upper}
+use Rattle.octets.specs.Words.{same, isOneOf}
+use Rattle.octets.specs.laws.Words.{same-self}
+use Rattle.octets.specs.Lists.{every}
+use Rattle.octets.specs.laws.Lists.{every-both}
+use Rattle.octets.specs.Computing.{octets-compute}
+use Rattle.calendar.specs.Calendar.{Parameter, Property, Components, noMore, component}
+use Rattle.calendar.specs.Refusal.{fine}
+use Rattle.schema.specs.Types.{sameType}
+use Rattle.schema.specs.Components.{subcomponentsOf}
+use Rattle.schema.specs.Properties.{defaultType}
+use Rattle.schema.specs.Counts.{complete}
+use Rattle.values.specs.WriteValue.{typeOfAll}
+use Rattle.folding.specs.Text.{wholeLines}
+use Rattle.read_text_line.specs.Names.{startsOffName, isCarriedName}
+use Rattle.read_text_line.specs.Carried.{carriesName}
+use Rattle.text.specs.Nesting.{Open, on, opened, mayBegin, beginIn, begins, ends, states, namesCarried, moveBy, moveOf, move, onward, ended, nesting}
+use Rattle.text.specs.WriteText.{rawOf, valueParameter, withValue, contentLineOf}
+use Rattle.text.specs.laws.PropertyLaws.{property-read-back, property-no-fault}
+use Rattle.text.specs.laws.Turned.{turned, complete-turned}
+use Rattle.text.specs.ValidCalendar.{isGoodParameter, isStated, hasComponents, ValidIn, Valid, atTop}
+use Rattle.text.specs.laws.ValidCalendar.{Stated, stated, inside-plain, top-plain, plain-name}
+use Rattle.text.specs.laws.TreeBack.{beginOf, endOf, lineOf, propertiesBefore, linesBefore, linesOf, framing, begin-line, end-line, property-line}
+
+-- ---- an open component
+
+abbrev frame : List ℕ → List Property → Bool → Open
+frame k seen inner = record { name = k; seen = seen; inner = inner }
+
+-- ---- one line
+
+begin-carried : (k : List ℕ) → namesCarried (framing (ascii "BEGIN") k) ≡ true
+unfolding namesCarried isCarriedName startsOffName octets-compute
+begin-carried k = refl
+
+end-carried : (k : List ℕ) → namesCarried (framing (ascii "END") k) ≡ true
+unfolding namesCarried isCarriedName startsOffName octets-compute
+end-carried k = refl
+
+begin-by : (k : List ℕ) (st : List Open) → moveBy (framing (ascii "BEGIN") k) st ≡ begins (upper k) [] st
+unfolding moveBy octets-compute
+begin-by k st = rw (begin-carried k)
+
+end-by : (k : List ℕ) (st : List Open) → moveBy (framing (ascii "END") k) st ≡ ends (upper k) [] st
+unfolding moveBy octets-compute
+end-by k st = rw (end-carried k)
+
+begin-move : (k : List ℕ) (st : List Open) → upper k ≡ k → allOf isVisible k ≡ true → mayBegin k st ≡ true → move (beginOf k) st ≡ on (beginIn k st)
+unfolding moveOf begins pick
+begin-move k st u h m = rw (begin-line k h) (begin-by k st ∙ rw (u, m))
+
+end-move : (k : List ℕ) (seen : List Property) (inner : Bool) (st : List Open) → upper k ≡ k → allOf isVisible k ≡ true → complete k seen inner ≡ true → move (endOf k) (frame k seen inner ∷ st) ≡ on st
+unfolding moveOf ends pick
+end-move k seen inner st u h m = rw (end-line k h) (end-by k (frame k seen inner ∷ st) ∙ rw (u, same-self k, m))
+
+-- the names of a property's line are carried
+value-carried : isCarriedName (ascii "VALUE") ≡ true
+unfolding isCarriedName startsOffName octets-compute
+value-carried = refl
+
+raw-carried : (ps : List Parameter) → every isGoodParameter ps ≡ true → every carriesName (map rawOf ps) ≡ true
+unfolding every
+raw-carried [] h = refl
+raw-carried (p ∷ ps) h = let a = every-both isGoodParameter p ps h in and-yes _ _ (and-both _ _ (a .0) .0) (raw-carried ps (a .1))
+
+parameters-carried : (n : List ℕ) (p : Property) → every isGoodParameter (p .parameters) ≡ true → every carriesName (withValue n (typeOfAll (p .values)) (map rawOf (p .parameters))) ≡ true
+unfolding withValue pick every
+parameters-carried n p h = go (sameType (typeOfAll (p .values)) (defaultType n))
+  where
+    go : (b : Bool) → every carriesName (pick b (map rawOf (p .parameters)) (valueParameter (typeOfAll (p .values)) ∷ map rawOf (p .parameters))) ≡ true
+    go true = raw-carried (p .parameters) h
+    go false = and-yes _ _ value-carried (raw-carried (p .parameters) h)
+
+property-carried : (k : List ℕ) (p : Property) → Stated k p → namesCarried (contentLineOf p) ≡ true
+unfolding namesCarried contentLineOf
+property-carried k p s = and-yes _ _ (s .carried) (parameters-carried (p .name) p (s .parameters))
+
+line-name : (k : List ℕ) (p : Property) → Stated k p → upper (contentLineOf p .name) ≡ p .name
+unfolding contentLineOf
+line-name k p s = s .capitals
+
+property-states : (k : List ℕ) (p : Property) → Stated k p → (seen : List Property) (st : List Open) → states (contentLineOf p) (frame k seen false ∷ st) ≡ on (frame k (p ∷ seen) false ∷ st)
+unfolding states pick _and_ _or_
+property-states k p s seen st = rw (property-no-fault k p (s .valid), property-read-back k p (s .valid), line-name k p s, s .stands)
+
+property-move : (k : List ℕ) (p : Property) → isStated k p ≡ true → (seen : List Property) (st : List Open) → move (lineOf p) (frame k seen false ∷ st) ≡ on (frame k (p ∷ seen) false ∷ st)
+unfolding moveOf moveBy pick
+property-move k p h seen st =
+    let s = stated k p h in
+    rw (property-line k p s) (rw (property-carried k p s, line-name k p s, s .begins, s .ends) (property-states k p s seen st))
+
+-- ---- all lines
+
+-- whether a subcomponent has come after components that follow such a flag
+unfoldable flagAfter : Components → Bool → Bool
+flagAfter noMore b = b
+flagAfter (component k ps inner next) b = flagAfter next true
+
+flag-true : (c : Components) → flagAfter c true ≡ true
+unfolding flagAfter
+flag-true noMore = refl
+flag-true (component k ps inner next) = flag-true next
+
+flag-has : (c : Components) → flagAfter c false ≡ hasComponents c
+unfolding flagAfter
+flag-has noMore = refl
+flag-has (component k ps inner next) = flag-true next
+
+module _ (e : ℕ) where
+  -- the check of lines from any place on, with these components open, ends well
+  abbrev Ok : List (List ℕ) → List Open → Type 0
+  Ok r st = (p : ℕ) → nesting e (wholeLines p r) st ≡ fine
+
+  ok-line : (l : List ℕ) (r : List (List ℕ)) (st u : List Open) → move l st ≡ on u → Ok r u → Ok (l ∷ r) st
+  unfolding nesting wholeLines onward
+  ok-line l r st u m h p = rw m (h (p + length l + 2))
+
+  ok-properties : (k : List ℕ) (ps : List Property) → every (isStated k) ps ≡ true → (seen : List Property) (st : List Open) (r : List (List ℕ)) →
+      Ok r (frame k (turned ps seen) false ∷ st) → Ok (propertiesBefore ps r) (frame k seen false ∷ st)
+  unfolding turned propertiesBefore
+  ok-properties k [] h seen st r o = o
+  ok-properties k (p ∷ ps) h seen st r o =
+      let a = every-both (isStated k) p ps h in
+      ok-line (lineOf p) (propertiesBefore ps r) (frame k seen false ∷ st) (frame k (p ∷ seen) false ∷ st) (property-move k p (a .0) seen st) (ok-properties k ps (a .1) (p ∷ seen) st r o)
+
+  ok-components : (c : Components) (j : List ℕ) → ValidIn (subcomponentsOf j) c → (seen : List Property) (b : Bool) (st : List Open) (r : List (List ℕ)) →
+      Ok r (frame j seen (flagAfter c b) ∷ st) → Ok (linesBefore c r) (frame j seen b ∷ st)
+  unfolding flagAfter linesBefore
+  ok-components noMore j v seen b st r o = o
+  ok-components (component k ps inner next) j v seen b st r o =
+      let n = plain-name (subcomponentsOf j) k (inside-plain j) (v .0) in
+      let st₁ : List Open = frame j seen true ∷ st in
+      let x : List (List ℕ) = endOf k ∷ linesBefore next r in
+      let done : complete k (turned ps []) (flagAfter inner false) ≡ true = rw (flag-has inner) (complete-turned k ps (hasComponents inner) (v .2)) in
+      let z : Ok x (frame k (turned ps []) (flagAfter inner false) ∷ st₁) =
+      ok-line (endOf k) (linesBefore next r) (frame k (turned ps []) (flagAfter inner false) ∷ st₁) st₁ (end-move k (turned ps []) (flagAfter inner false) st₁ (n .0) (n .1) done) (ok-components next j (v .4) seen true st r o) in
+      ok-line (beginOf k) (propertiesBefore ps (linesBefore inner x)) (frame j seen b ∷ st) (opened k ∷ st₁) (begin-move k (frame j seen b ∷ st) (n .0) (n .1) (v .0))
+      (ok-properties k ps (v .1) [] st₁ (linesBefore inner x) (ok-components inner k (v .3) (turned ps []) false st₁ x z))
+
+  top-may : (k : List ℕ) → isOneOf k atTop ≡ true → same k (ascii "VCALENDAR") ≡ true
+  unfolding isOneOf _or_
+  top-may k h = go (same k (ascii "VCALENDAR")) h
+    where
+      go : (b : Bool) → (b or false) ≡ true → b ≡ true
+      go true k = k
+      go false k = k
+
+  ok-tops : (c : Components) → Valid c → (r : List (List ℕ)) → Ok r [] → Ok (linesBefore c r) []
+  unfolding linesBefore
+  ok-tops noMore v r o = o
+  ok-tops (component k ps inner next) v r o =
+      let n = plain-name atTop k top-plain (v .0) in
+      let x : List (List ℕ) = endOf k ∷ linesBefore next r in
+      let done : complete k (turned ps []) (flagAfter inner false) ≡ true = rw (flag-has inner) (complete-turned k ps (hasComponents inner) (v .2)) in
+      let z : Ok x (frame k (turned ps []) (flagAfter inner false) ∷ []) =
+      ok-line (endOf k) (linesBefore next r) (frame k (turned ps []) (flagAfter inner false) ∷ []) [] (end-move k (turned ps []) (flagAfter inner false) [] (n .0) (n .1) done) (ok-tops next (v .4) r o) in
+      ok-line (beginOf k) (propertiesBefore ps (linesBefore inner x)) [] (opened k ∷ []) (begin-move k [] (n .0) (n .1) (top-may k (v .0)))
+      (ok-properties k ps (v .1) [] [] (linesBefore inner x) (ok-components inner k (v .3) (turned ps []) false [] x z))
+
+  ok-end : Ok [] []
+  unfolding wholeLines nesting ended
+  ok-end p = refl
+
+  pub nesting-back : (c : Components) (p : ℕ) → Valid c → nesting e (wholeLines p (linesOf c)) [] ≡ fine
+  nesting-back c p v = ok-tops c v [] ok-end p

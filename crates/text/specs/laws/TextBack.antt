@@ -1,0 +1,134 @@
+-- The canonical text of a calendar is read back as that calendar.
+--     text-written    the canonical text is the lines of the calendar, each folded
+--     text-back       it is accepted, and states the calendar, where it is not over the limit and the work room is long enough
+use mathlib.Core.Path.{_≡_, refl, sym, ap, _∙_}
+use mathlib.Core.Bool.{true, false, not, false≢true}
+use mathlib.Core.List.{List, [], _∷_}
+use mathlib.Core.Option.{none}
+use Prim.Native.Nat.{ℕ, _≤_}
+use lib.ListN.{length}
+use borrow.Author.Tests.{le-leb, not-true}
+use Rattle.octets.specs.Pick.{pick, _and_, _or_}
+use Rattle.octets.specs.laws.Pick.{pick-no, and-yes, and-both}
+use Rattle.octets.specs.Append.{_⊕_, joined}
+use Rattle.octets.specs.laws.Append.{append-empty, append-none, append-regroup}
+use Rattle.octets.specs.Words.{holds, noneHolds}
+use Rattle.octets.specs.Lists.{every}
+use Rattle.octets.specs.laws.Lists.{every-both}
+use Rattle.calendar.specs.Calendar.{Property, Components, noMore, component}
+use Rattle.calendar.specs.Refusal.{fine, _otherwise_, accepted, limit}
+use Rattle.schema.specs.Components.{subcomponentsOf}
+use Rattle.utf8.specs.Utf8.{badFrom, firstBad}
+use Rattle.utf8.specs.laws.Utf8.{well-formed-good, good-append, ascii-first}
+use Rattle.folding.specs.Unfold.{crlf, blankAt, unfolded}
+use Rattle.folding.specs.Lines.{Line, lines}
+use Rattle.folding.specs.Text.{foldedText, noneBlank, wholeLines}
+use Rattle.folding.specs.laws.Text.{ended, plainText, text-unfolded, text-lines}
+use Rattle.text.specs.Nesting.{nesting}
+use Rattle.text.specs.ReadText.{linesVerdict, keptVerdict, placed, textVerdict, readCalendar}
+use Rattle.text.specs.WriteText.{propertyLine, propertyLines, beginLine, endLine, writeCalendar}
+use Rattle.text.specs.ValidCalendar.{isStated, hasComponents, ValidIn, Valid, atTop}
+use Rattle.text.specs.laws.ValidCalendar.{isPlain, inside-plain, top-plain, plain-name}
+use Rattle.text.specs.laws.TreeBack.{endOf, propertiesBefore, linesBefore, linesOf, tree-back}
+use Rattle.text.specs.laws.NestingBack.{nesting-back}
+use Rattle.text.specs.laws.WrittenLine.{isGoodLine, begin-good, end-good, property-good}
+
+-- ---- the lines, each folded
+
+properties-written : (ps : List Property) (r : List (List ℕ)) → propertyLines ps ⊕ foldedText r ≡ foldedText (propertiesBefore ps r)
+unfolding propertyLines propertiesBefore joined
+properties-written [] r = append-empty (foldedText r)
+properties-written (p ∷ ps) r = append-regroup (propertyLine p) (propertyLines ps) (foldedText r) ∙ ap (λ (s : List ℕ). propertyLine p ⊕ s) (properties-written ps r)
+
+-- five parts in a row, and what follows
+regrouped : (a b c d e r : List ℕ) → (a ⊕ b ⊕ c ⊕ d ⊕ e) ⊕ r ≡ a ⊕ b ⊕ c ⊕ d ⊕ e ⊕ r
+regrouped a b c d e r = rw (append-regroup, append-regroup, append-regroup, append-regroup)
+
+components-written : (c : Components) (r : List (List ℕ)) → writeCalendar c ⊕ foldedText r ≡ foldedText (linesBefore c r)
+unfolding writeCalendar linesBefore joined
+components-written noMore r = append-empty (foldedText r)
+components-written (component k ps inner next) r =
+    regrouped (beginLine k) (propertyLines ps) (writeCalendar inner) (endLine k) (writeCalendar next) (foldedText r)
+    ∙ ap (λ (s : List ℕ). beginLine k ⊕ propertyLines ps ⊕ writeCalendar inner ⊕ endLine k ⊕ s) (components-written next r)
+    ∙ ap (λ (s : List ℕ). beginLine k ⊕ propertyLines ps ⊕ s) (components-written inner (endOf k ∷ linesBefore next r))
+    ∙ ap (λ (s : List ℕ). beginLine k ⊕ s) (properties-written ps (linesBefore inner (endOf k ∷ linesBefore next r)))
+
+pub text-written : (c : Components) → writeCalendar c ≡ foldedText (linesOf c)
+unfolding joined
+text-written c = sym (append-none (writeCalendar c)) ∙ components-written c []
+
+-- ---- the lines are good
+
+good-properties : (k : List ℕ) (ps : List Property) (r : List (List ℕ)) → every (isStated k) ps ≡ true → every isGoodLine r ≡ true → every isGoodLine (propertiesBefore ps r) ≡ true
+unfolding propertiesBefore every
+good-properties k [] r h g = g
+good-properties k (p ∷ ps) r h g = let a = every-both (isStated k) p ps h in and-yes _ _ (property-good k p (a .0)) (good-properties k ps r (a .1) g)
+
+good-components : (c : Components) (ks : List (List ℕ)) → every isPlain ks ≡ true → ValidIn ks c → (r : List (List ℕ)) → every isGoodLine r ≡ true → every isGoodLine (linesBefore c r) ≡ true
+unfolding linesBefore every
+good-components noMore ks a v r g = g
+good-components (component k ps inner next) ks a v r g =
+    let n = plain-name ks k a (v .0) in
+    and-yes _ _ (begin-good k (n .1))
+    (good-properties k ps _ (v .1) (good-components inner (subcomponentsOf k) (inside-plain k) (v .3) _ (and-yes _ _ (end-good k (n .1)) (good-components next ks a (v .4) r g))))
+
+-- what good lines are
+record Good (s : List ℕ) : Type 0 where
+  return : holds 13 s ≡ false
+  blank : blankAt s ≡ false
+  good : firstBad s ≡ none
+
+good-line : (s : List ℕ) → isGoodLine s ≡ true → Good s
+unfolding isGoodLine
+good-line s h =
+    let a = and-both (not (holds 13 s)) _ h in
+    let b = and-both (not (blankAt s)) _ (a .1) in
+    record { return = not-true _ (a .0); blank = not-true _ (b .0); good = well-formed-good s (b .1) }
+
+lines-no-return : (ls : List (List ℕ)) → every isGoodLine ls ≡ true → noneHolds 13 ls ≡ true
+unfolding noneHolds
+lines-no-return [] h = refl
+lines-no-return (l ∷ ls) h = let a = every-both isGoodLine l ls h in pick-no _ _ _ (good-line l (a .0) .return) ∙ lines-no-return ls (a .1)
+
+lines-no-blank : (ls : List (List ℕ)) → every isGoodLine ls ≡ true → noneBlank ls ≡ true
+unfolding noneBlank
+lines-no-blank [] h = refl
+lines-no-blank (l ∷ ls) h = let a = every-both isGoodLine l ls h in pick-no _ _ _ (good-line l (a .0) .blank) ∙ lines-no-blank ls (a .1)
+
+break-good : firstBad crlf ≡ none
+unfolding badFrom pick _and_ _or_
+break-good = ascii-first 13 0 (10 ∷ []) refl ∙ ascii-first 10 1 [] refl
+
+lines-good : (ls : List (List ℕ)) → every isGoodLine ls ≡ true → firstBad (plainText ls) ≡ none
+unfolding joined badFrom
+lines-good [] h = refl
+lines-good (l ∷ ls) h =
+    let a = every-both isGoodLine l ls h in
+    good-append (ended l) (plainText ls) (good-append l crlf (good-line l (a .0) .good) break-good) (lines-good ls (a .1))
+
+-- ---- the text
+
+not-empty : (c : Components) (e p : ℕ) → hasComponents c ≡ true → linesVerdict e (wholeLines p (linesOf c)) ≡ nesting e (wholeLines p (linesOf c)) []
+unfolding linesVerdict wholeLines linesBefore
+not-empty noMore e p h = absurd (false≢true h)
+not-empty (component k ps inner next) e p h = refl
+
+kept-fine : (u : List ℕ) (ls : List Line) → firstBad u ≡ none → lines u ≡ ls → linesVerdict (length u) ls ≡ fine → keptVerdict u ≡ fine
+unfolding keptVerdict _otherwise_
+kept-fine u ls b l h = rw (b, l) h
+
+verdict-fine : (s u : List ℕ) (room : ℕ) → length s ≤ limit → length s ≤ room → unfolded s ≡ u → keptVerdict u ≡ fine → textVerdict s room ≡ fine
+unfolding textVerdict placed pick
+verdict-fine s u room l r e h = rw (le-leb _ _ l, le-leb _ _ r, e, h)
+
+pub text-back : (c : Components) (room : ℕ) → Valid c → hasComponents c ≡ true → length (writeCalendar c) ≤ limit → length (writeCalendar c) ≤ room →
+    readCalendar (writeCalendar c) room ≡ accepted c
+unfolding readCalendar every
+text-back c room v n l r =
+    let g : every isGoodLine (linesOf c) ≡ true = good-components c atTop top-plain v [] refl in
+    let nr = lines-no-return (linesOf c) g in
+    let u : unfolded (writeCalendar c) ≡ plainText (linesOf c) = ap unfolded (text-written c) ∙ text-unfolded (linesOf c) nr (lines-no-blank (linesOf c) g) in
+    let w : lines (plainText (linesOf c)) ≡ wholeLines 0 (linesOf c) = text-lines (linesOf c) 0 nr in
+    let f : linesVerdict (length (plainText (linesOf c))) (wholeLines 0 (linesOf c)) ≡ fine = not-empty c _ 0 n ∙ nesting-back _ c 0 v in
+    let t : textVerdict (writeCalendar c) room ≡ fine = verdict-fine (writeCalendar c) (plainText (linesOf c)) room l r u (kept-fine (plainText (linesOf c)) (wholeLines 0 (linesOf c)) (lines-good (linesOf c) g) w f) in
+    rw (t, u, w, tree-back c 0 v)

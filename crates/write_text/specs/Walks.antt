@@ -1,0 +1,14 @@
+-- What is written of the elements of properties and of components, one by one.
+--     headText                        what stands before the components inside a component
+use mathlib.Core.List.{List}
+use Prim.Native.Nat.{ℕ}
+use Rattle.octets.specs.Ascii.{ascii}
+use Rattle.octets.specs.Append.{_⊕_}
+use Rattle.octets.specs.Class.{upper}
+use Rattle.text.specs.WriteText.{propertyLines, beginLine}
+use Rattle.xml.specs.Nodes.{Nodes}
+use Rattle.xcal.specs.PropertyNodes.{readProperties}
+use Rattle.xcal.specs.ComponentNodes.{insideOf}
+
+unfoldable pub headText : List ℕ → Nodes → List ℕ
+headText m kids = beginLine (upper m) ⊕ propertyLines (readProperties (insideOf (ascii "properties") kids))

@@ -1,0 +1,94 @@
+-- Laws of what specs/Content.antt defines.
+--     parameters-put, values-put, line-put    from what was put
+use mathlib.Core.Path.{_≡_, refl, sym, ap, subst, _∙_}
+use mathlib.Core.Bool.{Bool, true, false}
+use mathlib.Core.List.{List, [], _∷_, map}
+use Prim.Native.Nat.{ℕ, _≤_}
+use native.Mathlib.Omega.{arith}
+use lib.ListN.{length}
+use borrow.Author.Tests.{ne-eqb, ltb-false}
+use Rattle.octets.specs.Ascii.{ascii}
+use Rattle.octets.specs.Pick.{pick}
+use Rattle.octets.specs.Append.{_⊕_, joined}
+use Rattle.octets.specs.laws.Append.{append-empty, append-none}
+use Rattle.octets.specs.Class.{upper}
+use Rattle.octets.specs.Words.{isOneOf, joinedBy, eachAfter}
+use Rattle.octets.specs.Computing.{octets-compute}
+use Rattle.calendar.specs.Calendar.{ValueType, Value}
+use Rattle.sink.specs.Sink.{Put}
+use Rattle.sink.specs.laws.Sink.{_▷_}
+use Rattle.names.specs.Table.{placeOf}
+use Rattle.names.specs.laws.Table.{one-of-place}
+use Rattle.names.specs.laws.Places.{placed}
+use Rattle.schema.specs.Types.{typeName, sameType}
+use Rattle.schema.specs.Properties.{propertyNames, defaultType}
+use Rattle.schema.specs.Numbers.{typeAt, propertyName}
+use Rattle.values.specs.WriteValue.{writeValues, typeOfAll}
+use Rattle.read_text_line.specs.ContentLine.{RawParameter}
+use Rattle.read_text_line.specs.Write.{writeParamValue, writeParameter, writeContentLine}
+use Rattle.text.specs.WriteText.{rawOf, valueParameter, withValue, contentLineOf}
+use Rattle.xml.specs.Nodes.{Nodes}
+use Rattle.xcal.specs.ValueNodes.{readValueNodes}
+use Rattle.xcal.specs.ParameterNodes.{readParameterNodes}
+use Rattle.xcal.specs.PropertyNodes.{parametersIn}
+use Rattle.xml.specs.NodesAt.{nodesAt}
+use Rattle.write_text.specs.Parameters.{ParametersAt}
+use Rattle.write_text.specs.laws.Parameters.{geo-at, status-at}
+use Rattle.write_text.specs.Typing.{valueAt}
+use Rattle.write_text.specs.laws.Typing.{valueOf, value-at}
+use Rattle.write_text.specs.Content.{lineText, parametersText}
+
+abbrev writtenParameters : List ℕ → Nodes → List ℕ
+writtenParameters w kids = joined (map writeParameter (map rawOf (readParameterNodes (parametersIn w kids))))
+
+-- ---- laws
+
+value-written : (t : ValueType) → writeParameter (valueParameter t) ≡ ascii ";VALUE=" ⊕ typeName t
+unfolding writeParameter writeParamValue joinedBy eachAfter pick _⊕_
+value-written t = ap (λ (l : List ℕ). ascii ";VALUE=" ⊕ l) (append-none (typeName t))
+
+-- of a property's name only its number matters to its values
+no-name : (w : List ℕ) (kids : Nodes) → isOneOf w propertyNames ≡ false → readValueNodes [] kids ≡ readValueNodes w kids
+unfolding readValueNodes octets-compute
+no-name w kids h =
+    let l : length propertyNames ≤ placeOf w propertyNames = ltb-false (placeOf w propertyNames) (length propertyNames) (sym (one-of-place w propertyNames) ∙ h) in
+    rw (geo-at w refl, status-at w refl, ne-eqb (placeOf w propertyNames) 9 (λ q. omega (arith, l)), ne-eqb (placeOf w propertyNames) 45 (λ q. omega (arith, l)))
+
+values-named : (w : List ℕ) (kids : Nodes) {p : ℕ} → p ≡ placeOf w propertyNames → readValueNodes (propertyName p) kids ≡ readValueNodes w kids
+unfolding pick
+values-named w kids e = rw (e, placed w propertyNames) (go (isOneOf w propertyNames) refl)
+  where
+    go : (t : Bool) → isOneOf w propertyNames ≡ t → readValueNodes (pick t w []) kids ≡ readValueNodes w kids
+    go true h = refl
+    go false h = no-name w kids h
+
+with-value : (w : List ℕ) (t : ValueType) (ps : List RawParameter) → joined (map writeParameter (withValue w t ps)) ≡ valueOf w t ⊕ joined (map writeParameter ps)
+unfolding withValue pick joined
+with-value w t ps = go (sameType t (defaultType w))
+  where
+    go : (b : Bool) → joined (map writeParameter (pick b ps (valueParameter t ∷ ps))) ≡ pick b [] (ascii ";VALUE=" ⊕ typeName t) ⊕ joined (map writeParameter ps)
+    go true = sym (append-empty _)
+    go false = ap (λ (l : List ℕ). l ⊕ joined (map writeParameter ps)) (value-written t)
+
+module _ (s : List ℕ) {p : ℕ} (inside : ℕ) where
+  pub parameters-put : {d e f : List ℕ} {o a r t q : ℕ} →
+      (typeAt t ≡ typeOfAll (readValueNodes (propertyName p) (nodesAt s inside))) × (t ≤ 14) → ParametersAt p s inside q →
+      Put d e o a (valueAt p t) → Put e f a r (joined (map writeParameter (map rawOf (readParameterNodes (nodesAt s q))))) →
+      (w : List ℕ) → p ≡ placeOf w propertyNames → Put d f o r (parametersText w (nodesAt s inside))
+  unfolding parametersText
+  parameters-put {d} {f = f} {o} {r = r} {t} {q} y i u v w e =
+      subst (Put d f o r)
+      (rw (value-at w t e (y .1), y .0, values-named w (nodesAt s inside) e, ← (i .is w e)) (sym (with-value w (typeOfAll (readValueNodes w (nodesAt s inside))) (map rawOf (readParameterNodes (parametersIn w (nodesAt s inside)))))))
+      (u ▷ v)
+
+  pub values-put : {d e f : List ℕ} {o a r : ℕ} → Put d e o a (ascii ":") → Put e f a r (writeValues (readValueNodes (propertyName p) (nodesAt s inside))) →
+      (w : List ℕ) → p ≡ placeOf w propertyNames → Put d f o r (58 ∷ writeValues (readValueNodes w (nodesAt s inside)))
+  unfolding _⊕_
+  values-put {e = e} {f} {a = a} {r} u v w q = u ▷ subst (λ (vs : List Value). Put e f a r (writeValues vs)) (values-named w (nodesAt s inside) q) v
+
+  pub line-put : {d e f g : List ℕ} {o a b r : ℕ} (m : List ℕ) → p ≡ placeOf (upper m) propertyNames → Put d e o a (upper m) →
+      ((w : List ℕ) → p ≡ placeOf w propertyNames → Put e f a b (parametersText w (nodesAt s inside))) →
+      ((w : List ℕ) → p ≡ placeOf w propertyNames → Put f g b r (58 ∷ writeValues (readValueNodes w (nodesAt s inside)))) →
+      Put d g o r (lineText m (nodesAt s inside))
+  unfolding lineText parametersText writeContentLine contentLineOf
+  line-put m e u v w = u ▷ v (upper m) e ▷ w (upper m) e

@@ -1,0 +1,50 @@
+-- Laws of what specs/Typing.antt defines.
+--     value-at    it is what the names have
+--     type-unnamed   a type that has no name of its own
+use mathlib.Core.Path.{_≡_, sym, ap, subst, _∙_}
+use mathlib.Core.Bool.{Bool}
+use mathlib.Core.List.{List, []}
+use Prim.Native.Nat.{ℕ, _*_, _^_, _≤_, _<_}
+use lib.Dec.{eqb}
+use lib.ListN.{length, List·getD-eq-default}
+use borrow.Author.Tests.{eq-eqb, ne-eqb}
+use Rattle.octets.specs.Ascii.{ascii}
+use Rattle.octets.specs.Pick.{pick}
+use Rattle.octets.specs.Append.{_⊕_}
+use Rattle.calendar.specs.Calendar.{ValueType, UNKNOWN}
+use Rattle.sink.specs.Sink.{Put}
+use Rattle.sink.specs.laws.Sink.{put-none, put-yes, put-no, _▷_}
+use Rattle.names.specs.Table.{placeOf}
+use Rattle.schema.specs.Types.{typeName, valueTypes, typePlace, sameType}
+use Rattle.schema.specs.Properties.{PropertyRow, propertyNames, defaultType}
+use Rattle.schema.specs.Numbers.{typeAt, propertyAt}
+use Rattle.schema.specs.laws.Numbers.{property-place}
+use Rattle.schema.specs.laws.Places.{type-back}
+use Rattle.write_text.specs.Typing.{valueAt}
+
+abbrev pub valueOf : List ℕ → ValueType → List ℕ
+valueOf w t = pick (sameType t (defaultType w)) [] (ascii ";VALUE=" ⊕ typeName t)
+
+-- ---- by numbers
+
+same-at : (w : List ℕ) {p : ℕ} (t : ℕ) → p ≡ placeOf w propertyNames → t ≤ 14 → eqb t (typePlace (propertyAt p .default)) ≡ sameType (typeAt t) (defaultType w)
+unfolding sameType
+same-at w t e h =
+    ap (λ (r : PropertyRow). eqb t (typePlace (r .default))) (ap propertyAt e ∙ sym (property-place w)) ∙ ap (λ (k : ℕ). eqb k (typePlace (defaultType w))) (sym (type-back t h))
+
+pub value-at : (w : List ℕ) {p : ℕ} (t : ℕ) → p ≡ placeOf w propertyNames → t ≤ 14 → valueAt p t ≡ valueOf w (typeAt t)
+value-at w t e h = ap (λ (b : Bool). pick b [] (ascii ";VALUE=" ⊕ typeName (typeAt t))) (same-at w t e h)
+
+-- ---- a type that has no name of its own
+
+pub type-unnamed : {d e : List ℕ} {o r : ℕ} (t : ℕ) → 14 ≤ t → Put d e o r (ascii "UNKNOWN") → Put d e o r (typeName (typeAt t))
+type-unnamed {d} {e} {o} {r} t h w = subst (Put d e o r) (ap typeName (sym (List·getD-eq-default valueTypes UNKNOWN h))) w
+
+-- ---- VALUE
+
+module _ {x : List ℕ} (p t : ℕ) {d : ℕ} (q : d ≡ typePlace (propertyAt p .default)) where
+  pub value-default : (o : ℕ) → t ≡ d → length x * 1 < 2 ^ 63 → Put x x o o (valueAt p t)
+  value-default o h l = put-yes _ _ _ (eq-eqb t _ (h ∙ q)) (put-none x o l)
+
+  pub value-other : {y z : List ℕ} {o a r : ℕ} → (t ≡ d → ⊥) → Put x y o a (ascii ";VALUE=") → Put y z a r (typeName (typeAt t)) → Put x z o r (valueAt p t)
+  value-other h u v = put-no _ _ _ (ne-eqb t _ (λ e. h (e ∙ sym q))) (u ▷ v)

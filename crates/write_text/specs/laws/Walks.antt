@@ -1,0 +1,168 @@
+-- Laws of what specs/Walks.antt defines.
+--     propertiesText, calendarText    of the elements from a node on
+--     Walking                         the invariant of a walk that writes: what is left to write from the node at hand on;   `search owns`, `search inners`
+use mathlib.Core.Path.{_≡_, refl, sym, ap, subst, _∙_}
+use mathlib.Core.List.{List, []}
+use Prim.Native.Nat.{ℕ, _-_, _*_, _^_, _≤_, _<_}
+use native.Mathlib.Omega.{arith}
+use lib.ListN.{length}
+use borrow.Author.Needs.{needs}
+use Rattle.octets.specs.Ascii.{ascii}
+use Rattle.octets.specs.Append.{_⊕_}
+use Rattle.octets.specs.laws.Append.{append-is, append-regroup}
+use Rattle.octets.specs.Class.{upper}
+use Rattle.sink.specs.Sink.{Put, Todo}
+use Rattle.sink.specs.laws.Sink.{put-length, _▷_, todo-all, todo-step, todo-done}
+use Rattle.folding.specs.Fold.{foldedLine}
+use Rattle.text.specs.WriteText.{propertyLines, beginLine, endLine, writeCalendar}
+use Rattle.xml.specs.Nodes.{Nodes, noNodes, element, literal, referred}
+use Rattle.xcal.specs.PropertyNodes.{readProperties}
+use Rattle.xcal.specs.ComponentNodes.{insideOf, readComponents}
+use Rattle.xcal.specs.laws.ComponentsAccepted.{inner-components}
+use Rattle.xml.specs.NodesAt.{nodesAt}
+use Rattle.read_xml_nodes.specs.NodeFound.{NodeAt}
+use Rattle.read_xml_nodes.specs.laws.NodeFound.{node-none, node-element, node-literal, node-referred, element-less, inside-less, literal-less, referred-less}
+use Rattle.read_xml_nodes.specs.declared.Node.{Node}
+use Rattle.read_xml_nodes.specs.declared.NodeKind.the-variants.{None, Element, Literal, Referred}
+use Rattle.write_text.specs.Children.{InsideAt, nameIn}
+use Rattle.write_text.specs.Content.{lineText}
+use Rattle.write_text.specs.laws.Fitting.{line-fits}
+use Rattle.write_text.specs.Walks.{headText}
+
+unfoldable pub propertiesText : Nodes → List ℕ
+propertiesText ns = propertyLines (readProperties ns)
+
+unfoldable pub calendarText : Nodes → List ℕ
+calendarText ns = writeCalendar (readComponents ns)
+
+-- ---- the components inside
+
+-- a component's lines, in three parts, and those of the next ones
+component-parts : (p : ℕ) (m : List ℕ) (x : ℕ) (kids more : Nodes) →
+    calendarText (element p m x kids more)
+    ≡ (headText m kids ⊕ calendarText (insideOf (ascii "components") kids) ⊕ endLine (upper m)) ⊕ calendarText more
+unfolding calendarText headText readComponents writeCalendar
+component-parts p m x kids more = rw (inner-components kids) (sym (regroup (beginLine (upper m)) _ _ (endLine (upper m)) (writeCalendar (readComponents more))))
+  where
+    regroup : (a b c d f : List ℕ) → ((a ⊕ b) ⊕ c ⊕ d) ⊕ f ≡ a ⊕ b ⊕ c ⊕ d ⊕ f
+    regroup a b c d f = rw (append-regroup (a ⊕ b) (c ⊕ d) f, append-regroup a b ((c ⊕ d) ⊕ f), append-regroup c d f)
+
+property-parts : (p : ℕ) (m : List ℕ) (x : ℕ) (kids more : Nodes) → propertiesText (element p m x kids more) ≡ foldedLine (lineText m kids) ⊕ propertiesText more
+unfolding propertiesText readProperties propertyLines lineText
+property-parts p m x kids more = refl
+
+-- what was put before the components inside
+pub head-put : {s : List ℕ} {i from : ℕ} {d e f : List ℕ} {o a r : ℕ} (m : List ℕ) → InsideAt (ascii "properties") s i from →
+    Put d e o a (foldedLine (ascii "BEGIN:" ⊕ upper m)) → Put e f a r (propertyLines (readProperties (nodesAt s from))) → Put d f o r (headText m (nodesAt s i))
+unfolding headText
+head-put {e = e} {f} {a = a} {r} m i u v = u ▷ subst (λ (ns : Nodes). Put e f a r (propertyLines (readProperties ns))) (sym (i .is)) v
+
+-- ---- a walk that writes
+
+pub data Walk : Type 0 where
+  own : Walk
+  inner : Walk
+
+abbrev pub textOf : Walk → Nodes → List ℕ
+textOf own ns = propertiesText ns
+textOf inner ns = calendarText ns
+
+-- it began at the node at `from` with d, o and the room k, and has come with e, p and the room l to the node at `at`
+pub record Walking (w : Walk) (s : List ℕ) (from : ℕ) (d : List ℕ) (o : ℕ) (k : List ℕ) (e : List ℕ) (p : ℕ) (l : List ℕ) (at : ℕ) : Type 0 where
+  pub onward : length s - at ≤ length s - from
+  pub todo : Todo d o (textOf w (nodesAt s from)) e p (textOf w (nodesAt s at))
+  pub kept : length e ≡ length d
+  pub room : length l ≡ length k
+
+pub walk-start : (w : Walk) (s : List ℕ) (from : ℕ) (d : List ℕ) (o : ℕ) (k : List ℕ) → length d * 1 < 2 ^ 63 → Walking w s from d o k d o k from
+walk-start w s from d o k h = record { onward = omega arith; todo = todo-all d o (textOf w (nodesAt s from)) h; kept = refl; room = refl }
+
+text-none : (w : Walk) → textOf w noNodes ≡ []
+unfolding propertiesText readProperties propertyLines calendarText readComponents writeCalendar
+text-none own = refl
+text-none inner = refl
+
+text-literal : (w : Walk) (p b : ℕ) (more : Nodes) → textOf w (literal p b more) ≡ textOf w more
+unfolding propertiesText readProperties calendarText readComponents
+text-literal own p b more = refl
+text-literal inner p b more = refl
+
+text-referred : (w : Walk) (p : ℕ) (bs : List ℕ) (more : Nodes) → textOf w (referred p bs more) ≡ textOf w more
+unfolding propertiesText readProperties calendarText readComponents
+text-referred own p bs more = refl
+text-referred inner p bs more = refl
+
+module _ {w : Walk} {s : List ℕ} {from : ℕ} {d : List ℕ} {o : ℕ} {k e : List ℕ} {p : ℕ} {l : List ℕ} {at : ℕ} (m : Walking w s from d o k e p l at) where
+  pub walk-length : length e ≡ length d
+  walk-length = m .kept
+
+  pub walk-room : length l ≡ length k
+  walk-room = m .room
+
+  module _ {r : Node} (n : NodeAt s at r) where
+    skip : (ns : Nodes) (next : ℕ) → length s - next < length s - at → nodesAt s at ≡ ns → textOf w ns ≡ textOf w (nodesAt s next) → Walking w s from d o k e p l next
+    skip ns next h i q = record {
+      onward = omega (arith, m .onward);
+      todo = subst (λ (bs : List ℕ). Todo d o (textOf w (nodesAt s from)) e p bs) (ap (textOf w) i ∙ q) (m .todo);
+      kept = m .kept;
+      room = m .room;
+    }
+
+    pub walk-literal : r .kind ≡ Literal → Walking w s from d o k e p l (r .next)
+    walk-literal q = skip _ (r .next) (literal-less n q) (node-literal n q) (text-literal w _ _ _)
+
+    pub walk-referred : r .kind ≡ Referred → Walking w s from d o k e p l (r .next)
+    walk-referred q = skip _ (r .next) (referred-less n q) (node-referred n q) (text-referred w _ _ _)
+
+    -- the element at hand gives the bytes bs, which were put
+    walk-put : (ns : Nodes) (bs : List ℕ) {f : List ℕ} {a : ℕ} {j : List ℕ} → r .kind ≡ Element → nodesAt s at ≡ ns → textOf w ns ≡ bs ⊕ textOf w (nodesAt s (r .next)) →
+        Put e f p a bs → length j ≡ length l → Walking w s from d o k f a j (r .next)
+    walk-put ns bs q i g b c = record {
+      onward = omega (arith, m .onward, element-less n q);
+      todo = todo-step (m .todo) b (ap (textOf w) i ∙ g ∙ append-is bs _);
+      kept = put-length b ∙ m .kept;
+      room = c ∙ m .room;
+    }
+
+    walk-end : r .kind ≡ None → Put d e o p (textOf w (nodesAt s from))
+    walk-end q = todo-done (m .todo) (ap (textOf w) (node-none n q) ∙ text-none w)
+
+-- ---- the properties
+
+module _ {s : List ℕ} {from : ℕ} {d : List ℕ} {o : ℕ} {k e : List ℕ} {p : ℕ} {l : List ℕ} {at : ℕ} (m : Walking own s from d o k e p l at) {r : Node} (n : NodeAt s at r) where
+  pub own-end : r .kind ≡ None → Put d e o p (propertyLines (readProperties (nodesAt s from)))
+  unfolding propertiesText
+  own-end q = walk-end m n q
+
+  pub own-fits : r .kind ≡ Element → length s ≤ 65535 → length k ≡ 262144 →
+      length (lineText (nameIn s (r .name) (r .«name_end»)) (nodesAt s (r .inside))) ≤ length l
+  own-fits q h z = omega (arith, line-fits n q h, m .room)
+
+  pub own-put : {f : List ℕ} {a : ℕ} {j : List ℕ} → r .kind ≡ Element →
+      Put e f p a (foldedLine (lineText (nameIn s (r .name) (r .«name_end»)) (nodesAt s (r .inside)))) → length j ≡ length l → Walking own s from d o k f a j (r .next)
+  own-put q b c = walk-put m n _ _ q (node-element n q) (property-parts _ _ _ _ _) b c
+
+pub ruleset owns = (walk-start, walk-length, walk-room, walk-literal, walk-referred, own-end, own-fits, own-put, element-less, literal-less, referred-less, needs)
+
+-- ---- the components
+
+module _ {s : List ℕ} {from : ℕ} {d : List ℕ} {o : ℕ} {k e : List ℕ} {p : ℕ} {l : List ℕ} {at : ℕ} (m : Walking inner s from d o k e p l at) {r : Node} (n : NodeAt s at r) where
+  pub inner-end : r .kind ≡ None → Put d e o p (writeCalendar (readComponents (nodesAt s from)))
+  unfolding calendarText
+  inner-end q = walk-end m n q
+
+  -- the components inside stand further on
+  pub inner-less : {i : ℕ} {v : List ℕ} → r .kind ≡ Element → InsideAt v s (r .inside) i → length s - i < length s - from
+  inner-less q i = omega (arith, m .onward, inside-less n q, i .onward)
+
+  -- a component whose three parts were put
+  pub inner-put : {f g h : List ℕ} {a b c i : ℕ} {j : List ℕ} → r .kind ≡ Element → InsideAt (ascii "components") s (r .inside) i →
+      Put e f p a (headText (nameIn s (r .name) (r .«name_end»)) (nodesAt s (r .inside))) →
+      Put f g a b (writeCalendar (readComponents (nodesAt s i))) →
+      Put g h b c (endLine (upper (nameIn s (r .name) (r .«name_end»)))) →
+      length j ≡ length l → Walking inner s from d o k h c j (r .next)
+  unfolding calendarText
+  inner-put {f} {g} {h} {a} {b} {c} {i} q y u v t z =
+      walk-put m n _ _ q (node-element n q) (component-parts _ _ _ _ _) (u ▷ subst (λ (ns : Nodes). Put f g a b (writeCalendar (readComponents ns))) (sym (y .is)) v ▷ t) z
+
+pub ruleset inners = (walk-start, walk-length, walk-room, walk-literal, walk-referred, inner-end, inner-less, inner-put, element-less, literal-less, referred-less, needs)

@@ -1,0 +1,110 @@
+// Components as lines: BEGIN, the properties, the components inside, END. See specs/Walks.antt.
+use crate::children::inside_of;
+use crate::properties::put_properties;
+use folding::folded::put_folded;
+use names::put_upper;
+use read_xml_nodes::NodeKind;
+use read_xml_nodes::next_node;
+use sink::put_all;
+ghost use mathlib.Core.Path.{_≡_};
+ghost use Prim.Native.Nat.{_+_, _≤_};
+ghost use lib.ListN.{length};
+ghost use Rattle.octets.specs.Ascii.{ascii};
+ghost use Rattle.octets.specs.Append.{_⊕_};
+ghost use Rattle.octets.specs.Class.{upper};
+ghost use Rattle.sink.specs.Sink.{Put};
+ghost use Rattle.folding.specs.Fold.{foldedLine};
+ghost use Rattle.text.specs.WriteText.{endLine, writeCalendar};
+ghost use Rattle.xcal.specs.ComponentNodes.{readComponents};
+ghost use Rattle.xml.specs.NodesAt.{nodesAt};
+ghost use Rattle.write_text.specs.Children.{InsideAt, nameIn};
+ghost use Rattle.write_text.specs.Walks.{headText};
+
+// The line of `word` and the name from `name` to `end` in capitals.
+fn put_name_line(
+    out: &mut [u8],
+    o: usize,
+    line: &mut [u8],
+    word: &[u8],
+    s: &[u8],
+    name: usize,
+    end: usize,
+) -> usize
+    requires { ⌜ (end ≤ length (now s)) × (length (now word) + length (now s) ≤ length (now line)) ⌝ }
+    ensures { λ r. ⌜
+        Put (now (out .entry)) (now (out .exit)) o r
+        (foldedLine (now (word .entry) ⊕ upper (nameIn (now (s .entry)) name end))) ⌝ }
+{
+    let a = put_all(line, 0, word);
+    let n = put_upper(line, a, 0, &s[..end], name);
+    put_folded(out, o, &line[..n])
+}
+
+// What stands before the components inside: BEGIN and the properties.
+fn put_head(
+    out: &mut [u8],
+    o: usize,
+    line: &mut [u8],
+    s: &[u8],
+    name: usize,
+    end: usize,
+    inside: usize,
+) -> usize
+    requires { ⌜ (length (now s) ≤ 65535) × (length (now line) ≡ 262144) × (end ≤ length (now s)) ⌝ }
+    ensures { λ r. ⌜
+        Put (now (out .entry)) (now (out .exit)) o r
+        (headText (nameIn (now (s .entry)) name end) (nodesAt (now (s .entry)) inside)) ⌝ }
+{
+    let a = put_name_line(out, o, line, b"BEGIN:", s, name, end);
+    let from = inside_of(s, inside, b"properties");
+    put_properties(out, a, line, s, from)
+}
+
+// What stands behind them: END.
+fn put_tail(out: &mut [u8], o: usize, line: &mut [u8], s: &[u8], name: usize, end: usize) -> usize
+    requires { ⌜ (length (now s) ≤ 65535) × (length (now line) ≡ 262144) × (end ≤ length (now s)) ⌝ }
+    ensures { λ r. ⌜
+        Put (now (out .entry)) (now (out .exit)) o r (endLine (upper (nameIn (now (s .entry)) name end))) ⌝ }
+{
+    put_name_line(out, o, line, b"END:", s, name, end)
+}
+
+// Where the components inside begin.
+fn components_inside(s: &[u8], inside: usize) -> usize
+    ensures { λ r. ⌜ InsideAt (ascii "components") (now (s .entry)) inside r ⌝ }
+{
+    inside_of(s, inside, b"components")
+}
+
+// The lines of the components whose elements stand from `from` on. `line` is the room for a line.
+pub fn put_calendar(out: &mut [u8], o: usize, line: &mut [u8], s: &[u8], from: usize) -> usize
+    requires { ⌜ (length (now s) ≤ 65535) × (length (now line) ≡ 262144) ⌝ }
+    ensures { λ r. ⌜
+        Put (now (out .entry)) (now (out .exit)) o r
+        (writeCalendar (readComponents (nodesAt (now (s .entry)) from))) ⌝ }
+{
+    let mut p = o;
+    let mut at = from;
+    loop {
+        let n = next_node(s, at);
+        let kind = n.kind;
+        match kind {
+            NodeKind::None => {
+                return p;
+            }
+            NodeKind::Element => {
+                let a = put_head(out, p, line, s, n.name, n.name_end, n.inside);
+                let inner = components_inside(s, n.inside);
+                let b = put_calendar(out, a, line, s, inner);
+                p = put_tail(out, b, line, s, n.name, n.name_end);
+                at = n.next;
+            }
+            NodeKind::Literal => {
+                at = n.next;
+            }
+            NodeKind::Referred => {
+                at = n.next;
+            }
+        }
+    }
+}

@@ -1,0 +1,68 @@
+// The content line of a property's element: its name in capitals, VALUE, its parameters, a colon, its values. See specs/Content.antt.
+use crate::children::parameters_inside;
+use crate::types::put_value_parameter;
+use names::put_upper;
+use read_xml_parameters::put_parameters;
+use schema::property_number;
+use sink::put_all;
+use write_text_values::put_values;
+use write_text_values::type_of_values;
+ghost use mathlib.Core.Path.{_≡_};
+ghost use mathlib.Core.List.{List, _∷_};
+ghost use Prim.Native.Nat.{ℕ, _≤_};
+ghost use lib.ListN.{length};
+ghost use Rattle.sink.specs.Sink.{Put};
+ghost use Rattle.names.specs.Table.{placeOf};
+ghost use Rattle.schema.specs.Properties.{propertyNames};
+ghost use Rattle.values.specs.WriteValue.{writeValues};
+ghost use Rattle.xcal.specs.ValueNodes.{readValueNodes};
+ghost use Rattle.xml.specs.NodesAt.{nodesAt};
+ghost use Rattle.write_text.specs.Children.{nameIn};
+ghost use Rattle.write_text.specs.Content.{parametersText, lineText};
+
+// VALUE and the parameters of the property of the number `p` whose content begins at `inside`.
+fn put_all_parameters(out: &mut [u8], o: usize, p: usize, s: &[u8], inside: usize) -> usize
+    requires { ⌜ (length (now s) ≤ 65535) × (inside ≤ length (now s)) ⌝ }
+    ensures { λ r. ⌜
+        ((w : List ℕ) →
+        p ≡ placeOf w propertyNames →
+        Put (now (out .entry)) (now (out .exit)) o r (parametersText w (nodesAt (now (s .entry)) inside))) ⌝ }
+{
+    let t = type_of_values(p, s, inside);
+    let q = parameters_inside(p, s, inside);
+    let a = put_value_parameter(out, o, p, t);
+    put_parameters(out, a, s, q)
+}
+
+// A colon and the values.
+fn put_all_values(out: &mut [u8], o: usize, p: usize, s: &[u8], inside: usize) -> usize
+    requires { ⌜ (length (now s) ≤ 65535) × (inside ≤ length (now s)) ⌝ }
+    ensures { λ r. ⌜
+        ((w : List ℕ) →
+        p ≡ placeOf w propertyNames →
+        Put (now (out .entry)) (now (out .exit)) o r
+        (58 ∷ writeValues (readValueNodes w (nodesAt (now (s .entry)) inside)))) ⌝ }
+{
+    let a = put_all(out, o, b":");
+    put_values(out, a, p, s, inside)
+}
+
+// The content line of the property whose name is from `name` to `name_end` and whose content begins at `inside`.
+pub fn put_content_line(
+    out: &mut [u8],
+    o: usize,
+    s: &[u8],
+    name: usize,
+    name_end: usize,
+    inside: usize,
+) -> usize
+    requires { ⌜ (length (now s) ≤ 65535) × («name_end» ≤ length (now s)) × (inside ≤ length (now s)) ⌝ }
+    ensures { λ r. ⌜
+        Put (now (out .entry)) (now (out .exit)) o r
+        (lineText (nameIn (now (s .entry)) name «name_end») (nodesAt (now (s .entry)) inside)) ⌝ }
+{
+    let p = property_number(0, &s[..name_end], name);
+    let a = put_upper(out, o, 0, &s[..name_end], name);
+    let b = put_all_parameters(out, a, p, s, inside);
+    put_all_values(out, b, p, s, inside)
+}

@@ -1,0 +1,11 @@
+// The canonical text of a document's components: the elements of properties as content lines, folded. Definitions are in crates text and xcal, laws in specs/laws/.
+mod children;
+mod components;
+mod content;
+mod properties;
+mod types;
+
+pub use children::inside_of;
+pub use children::parameters_inside;
+pub use components::put_calendar;
+pub use properties::put_properties;

@@ -1,0 +1,179 @@
+-- A walk over the lines of a component that writes: what holds before each line, and what each line does to it.
+--     Walk, walkXml    what is written: a component's own properties, or its subcomponents
+--     Walking          the invariant: what is left to write from the line at hand on, and that the component ends where it did
+--     owns, inners     the rules of the two walks, for `search`
+use mathlib.Core.Path.{_≡_, refl, sym, ap, subst, _∙_}
+use mathlib.Core.Bool.{true}
+use mathlib.Core.List.{List, []}
+use Prim.Native.Nat.{ℕ, _*_, _^_, _≤_, _<_}
+use native.Mathlib.Omega.{arith}
+use lib.ListN.{length, take}
+use borrow.Author.Needs.{needs}
+use Rattle.octets.specs.Append.{_⊕_}
+use Rattle.octets.specs.laws.Append.{append-is}
+use Rattle.octets.specs.Class.{upper}
+use Rattle.octets.specs.Reading.{orNothing}
+use Rattle.sink.specs.Sink.{Put, Todo}
+use Rattle.sink.specs.laws.Sink.{put-none, put-length, _▷_, todo-all, todo-step, todo-done}
+use Rattle.source.specs.Source.{rest}
+use Rattle.read_text_line.specs.Ready.{Ready}
+use Rattle.calendar.specs.Calendar.{Components}
+use Rattle.schema.specs.Numbers.{componentName}
+use Rattle.text.specs.Statement.{propertyOf}
+use Rattle.text.specs.Tree.{Entry, begin, end, property, nothing}
+use Rattle.xcal.specs.WriteXml.{propertyXml, componentsXml}
+use Rattle.write_xml_property.specs.Property.{partsXml}
+use Rattle.write_xml_property.specs.laws.Property.{property-xml}
+use Rattle.write_xml.specs.declared.components.Reached.{Reached}
+use Rattle.write_xml.specs.declared.entry.Found.{Found}
+use Rattle.write_xml.specs.declared.entry.Kind.the-variants.{Begin, End, Property, Nothing}
+use Rattle.write_xml.specs.declared.properties.Walked.{Walked}
+use Rattle.write_xml.specs.Entries.{entriesAt, First, FoundAt}
+use Rattle.write_xml.specs.laws.Entries.{by-kind, entries-past}
+use Rattle.write_xml.specs.Walks.{ownXml, innerXml, behind}
+use Rattle.write_xml.specs.laws.Walks.{behind-none, behind-begin, behind-close, behind-aside, behind-deeper, own-none, own-begin, own-close, own-property, own-pass, inner-none, inner-empty, inner-close, inner-aside}
+use Rattle.write_xml.specs.Bounds.{Aside, BoundAt}
+use Rattle.write_xml.specs.laws.Bounds.{bound-kind}
+use Rattle.write_xml.specs.Places.{Passed, ComponentsPut, PropertiesPut}
+use Rattle.write_xml.specs.Parts.{headXml, tailXml}
+use Rattle.write_xml.specs.laws.Parts.{component-parts}
+
+pub data Walk : Type 0 where
+  own : ℕ → Walk
+  inner : Walk
+
+abbrev pub walkXml : Walk → List Entry → List ℕ
+walkXml (own k) es = ownXml (componentName k) es
+walkXml inner es = innerXml es
+
+-- it began at the line at `from` with d and o, and has come with e and p to the line at `at`
+pub record Walking (w : Walk) (mode : ℕ) (s : List ℕ) (from : ℕ) (d : List ℕ) (o : ℕ) (e : List ℕ) (p at : ℕ) : Type 0 where
+  pub low : from ≤ at
+  pub ready : Ready mode s at
+  pub todo : Todo d o (walkXml w (entriesAt mode s from)) e p (walkXml w (entriesAt mode s at))
+  pub over : behind (entriesAt mode s at) 0 ≡ behind (entriesAt mode s from) 0
+  pub kept : length e ≡ length d
+
+pub walk-start : (w : Walk) (mode : ℕ) (s : List ℕ) (from : ℕ) (d : List ℕ) (o : ℕ) → length d * 1 < 2 ^ 63 → Ready mode s from → Walking w mode s from d o d o from
+walk-start w mode s from d o h r = record { low = omega arith; ready = r; todo = todo-all d o (walkXml w (entriesAt mode s from)) h; over = refl; kept = refl }
+
+-- no line, no bytes
+walk-none : (w : Walk) → walkXml w [] ≡ []
+walk-none (own k) = own-none (componentName k)
+walk-none inner = inner-none
+
+-- behind a component that is passed
+behind-passed : (at : ℕ) {mode : ℕ} {s : List ℕ} {next n : ℕ} (v : List ℕ) → First mode s at (begin v) next → Passed mode s next n → behind (entriesAt mode s n) 0 ≡ behind (entriesAt mode s at) 0
+behind-passed at {mode} {s} {next} v i p = rw (p .rest) (sym (ap (λ (es : List Entry). behind es 0) i ∙ behind-begin (entriesAt mode s next) v 0 ∙ behind-deeper (entriesAt mode s next) 0))
+
+module _ {w : Walk} {mode : ℕ} {s : List ℕ} {from : ℕ} {d : List ℕ} {o : ℕ} {e : List ℕ} {p at : ℕ} (m : Walking w mode s from d o e p at) where
+  -- what is at hand gives the bytes bs, which were put, or none; and it goes on at `next`
+  walk-put : (next : ℕ) (bs : List ℕ) {f : List ℕ} {p′ : ℕ} → at < next → Ready mode s next → walkXml w (entriesAt mode s at) ≡ bs ⊕ walkXml w (entriesAt mode s next) →
+      behind (entriesAt mode s next) 0 ≡ behind (entriesAt mode s at) 0 → Put e f p p′ bs → Walking w mode s from d o f p′ next
+  walk-put next bs h y q z b = record {
+    low = omega (arith, m .low);
+    ready = y;
+    todo = todo-step (m .todo) b (q ∙ append-is bs _);
+    over = z ∙ m .over;
+    kept = put-length b ∙ m .kept;
+  }
+
+  walk-skip : (next : ℕ) → at < next → Ready mode s next → walkXml w (entriesAt mode s at) ≡ walkXml w (entriesAt mode s next) → behind (entriesAt mode s next) 0 ≡ behind (entriesAt mode s at) 0 → Walking w mode s from d o e p next
+  walk-skip next h y q z = record {
+    low = omega (arith, m .low);
+    ready = y;
+    todo = subst (λ (bs : List ℕ). Todo d o (walkXml w (entriesAt mode s from)) e p bs) q (m .todo);
+    over = z ∙ m .over;
+    kept = m .kept;
+  }
+
+  -- the line at hand gives nothing more, or there is none
+  walk-stop : (es : List Entry) → entriesAt mode s at ≡ es → walkXml w es ≡ [] → Put d e o p (walkXml w (entriesAt mode s from))
+  walk-stop es i q = todo-done (m .todo) (ap (walkXml w) i ∙ q)
+
+  walk-end : length s ≤ at → Put d e o p (walkXml w (entriesAt mode s from))
+  walk-end h = walk-stop [] (entries-past mode s at (m .ready .cut) h) (walk-none w)
+
+  -- it comes to the end of the text, or of the component
+  pub walk-passed : length s ≤ at → Passed mode s from at
+  walk-passed h = record { onward = m .low; ready = m .ready; rest = entries-past mode s at (m .ready .cut) h ∙ sym (behind-none 0) ∙ ap (λ (es : List Entry). behind es 0) (sym (entries-past mode s at (m .ready .cut) h)) ∙ m .over }
+
+  pub walk-closed : (next : ℕ) → at < next → Ready mode s next → First mode s at end next → Passed mode s from next
+  walk-closed next h y i = record { onward = omega (arith, m .low); ready = y; rest = sym (behind-close _ 0 refl) ∙ ap (λ (es : List Entry). behind es 0) (sym i) ∙ m .over }
+
+  pub walk-length : length e ≡ length d
+  walk-length = m .kept
+
+-- ---- the properties
+
+module _ {k mode : ℕ} {s : List ℕ} {from : ℕ} {d : List ℕ} {o : ℕ} {e : List ℕ} {p at : ℕ} (m : Walking (own k) mode s from d o e p at) where
+  pub own-end : length s ≤ at → Put d e o p (ownXml (componentName k) (entriesAt mode s from))
+  own-end h = walk-end m h
+
+  module _ {r : Found} (f : FoundAt mode s at r) where
+    pub own-at-begin : {n : ℕ} → r .kind ≡ Begin → Passed mode s (r .next) n → Walking (own k) mode s from d o e p n
+    own-at-begin {n} q z =
+        let i = by-kind f Begin q in
+        walk-skip m n (omega (arith, f .onward, z .onward)) (z .ready) (ap (ownXml (componentName k)) i ∙ own-begin (componentName k) _ _ ∙ ap (ownXml (componentName k)) (sym (z .rest))) (behind-passed at _ i z)
+
+    pub own-over : r .kind ≡ End → Put d e o p (ownXml (componentName k) (entriesAt mode s from))
+    own-over q = walk-stop m _ (by-kind f End q) (own-close (componentName k) _)
+
+    pub own-at-property : {g : List ℕ} {p′ : ℕ} → r .kind ≡ Property → Put e g p p′ (partsXml k mode (take (r .end) s) at (r .name) (r .value)) → Walking (own k) mode s from d o g p′ (r .next)
+    own-at-property {g} {p′} q b =
+        let i = by-kind f Property q in
+        walk-put m (r .next) (propertyXml (propertyOf (componentName k) (i .line))) (f .onward) (f .ready) (ap (ownXml (componentName k)) (i .first) ∙ own-property (componentName k) _ (i .line))
+        (sym (ap (λ (es : List Entry). behind es 0) (i .first) ∙ behind-aside _ (property (i .line)) 0 refl))
+        (subst (Put e g p p′) (sym (property-xml (f .ready .cut) (i .parts) k) ∙ ap (orNothing (λ l. propertyXml (propertyOf (componentName k) l))) (i .is)) b)
+
+    pub own-at-nothing : r .kind ≡ Nothing → Walking (own k) mode s from d o e p (r .next)
+    own-at-nothing q =
+        let i = by-kind f Nothing q in
+        walk-skip m (r .next) (f .onward) (f .ready) (ap (ownXml (componentName k)) i ∙ own-pass (componentName k) _) (sym (ap (λ (es : List Entry). behind es 0) i ∙ behind-aside _ nothing 0 refl))
+
+-- for the calls
+pub walk-ready : {w : Walk} {mode : ℕ} {s : List ℕ} {from : ℕ} {d : List ℕ} {o : ℕ} {e : List ℕ} {p at : ℕ} → Walking w mode s from d o e p at → Ready mode s at
+walk-ready m = m .ready
+
+pub ruleset owns = (walk-start, walk-ready, walk-length, own-end, own-at-begin, own-over, own-at-property, own-at-nothing, needs)
+
+-- ---- the subcomponents
+
+module _ {mode : ℕ} {s : List ℕ} {from : ℕ} {d : List ℕ} {o : ℕ} {e : List ℕ} {p at : ℕ} (m : Walking inner mode s from d o e p at) where
+  pub inner-end : length s ≤ at → ComponentsPut d e o mode s from (record { to = p; next = at })
+  inner-end h = record { put = walk-end m h; passed = walk-passed m h }
+
+  module _ {r : Found} (f : BoundAt mode s at r) where
+    pub inner-over : r .kind ≡ End → ComponentsPut d e o mode s from (record { to = p; next = r .next })
+    inner-over q = record { put = walk-stop m _ (bound-kind f End q) (inner-close _); passed = walk-closed m (r .next) (f .onward) (f .ready) (bound-kind f End q) }
+
+    -- a component whose parts were put
+    module _ {w : Walked} {g h i : List ℕ} (q : r .kind ≡ Begin) (u : PropertiesPut e g p (headXml (upper (rest mode (take (r .end) s) (r .value))) (w .bare) (entriesAt mode s (r .next))) mode s (r .next) w) where
+      component : {b p′ n : ℕ} → Put g h (w .to) b (innerXml (entriesAt mode s (r .next))) → Put h i b p′ (tailXml (upper (rest mode (take (r .end) s) (r .value))) (w .bare)) →
+          Passed mode s (r .next) n → Walking inner mode s from d o i p′ n
+      component {n = n} v t z =
+          let j = bound-kind f Begin q in
+          walk-put m n _ (omega (arith, f .onward, z .onward)) (z .ready) (ap innerXml j ∙ component-parts _ _ ∙ rw (z .rest, u .ahead .empty)) (behind-passed at _ j z) (u .put ▷ v ▷ t)
+
+      pub inner-at-component : {p′ : ℕ} {b : Reached} → ComponentsPut g h (w .to) mode s (w .inner) b →
+          Put h i (b .to) p′ (tailXml (upper (rest mode (take (r .end) s) (r .value))) (w .bare)) → Walking inner mode s from d o i p′ (b .next)
+      inner-at-component {b = b} v t =
+          component (subst (λ (c : Components). Put g h (w .to) (b .to) (componentsXml c)) (u .ahead .components) (v .put)) t (record { onward = omega (arith, u .ahead .onward, v .passed .onward); ready = v .passed .ready; rest = v .passed .rest ∙ u .ahead .rest })
+
+    pub inner-at-bare : {w : Walked} {g i : List ℕ} {p′ : ℕ} → r .kind ≡ Begin →
+        PropertiesPut e g p (headXml (upper (rest mode (take (r .end) s) (r .value))) (w .bare) (entriesAt mode s (r .next))) mode s (r .next) w → w .bare ≡ true →
+        Put g i (w .to) p′ (tailXml (upper (rest mode (take (r .end) s) (r .value))) (w .bare)) → Walking inner mode s from d o i p′ (w .next)
+    inner-at-bare q u h t =
+        component q u (rw (inner-empty _ (sym (u .ahead .empty) ∙ h)) (put-none _ _ (t .sized))) t (u .ahead .passed h)
+
+    inner-aside-at : Aside mode s at (r .next) → Walking inner mode s from d o e p (r .next)
+    inner-aside-at i =
+        walk-skip m (r .next) (f .onward) (f .ready) (ap innerXml (i .first) ∙ inner-aside _ (i .entry) (i .aside)) (sym (ap (λ (es : List Entry). behind es 0) (i .first) ∙ behind-aside _ (i .entry) 0 (i .aside)))
+
+    pub inner-at-property : r .kind ≡ Property → Walking inner mode s from d o e p (r .next)
+    inner-at-property q = inner-aside-at (bound-kind f Property q)
+
+    pub inner-at-nothing : r .kind ≡ Nothing → Walking inner mode s from d o e p (r .next)
+    inner-at-nothing q = inner-aside-at (bound-kind f Nothing q)
+
+pub ruleset inners = (walk-start, walk-ready, walk-length, inner-end, inner-at-component, inner-at-bare, inner-over, inner-at-property, inner-at-nothing, needs)

@@ -1,0 +1,20 @@
+-- `write_xml::parts::put_head` meets its contract.
+use borrow.Author.Needs.{needs}
+use lib.Seq.{length-take-le}
+use Rattle.write_xml.specs.laws.Parts.{head-put}
+use Rattle.write_xml.proofs.parts.put_head.Statement.{statement}
+use Rattle.write_xml.proofs.parts.put_head.Tie as tie
+
+pub put-head-spec : {M : Type 1} → statement M
+put-head-spec = tie.close (tie.spec
+    (λ c. search (length-take-le, needs))  -- slice-aggregate-component-number
+    (λ c κs. search needs)  -- component-number-requires
+    (λ c. search (length-take-le, needs))  -- slice-aggregate-put-name-start
+    (λ c κs. search needs)  -- put-name-start-requires
+    (λ c κs. search needs)  -- put-properties-element-requires
+    (λ c. search (length-take-le, needs))  -- slice-aggregate-has-components
+    (λ c κs. search needs)  -- has-components-requires
+    (λ c κs. search needs)  -- put-components-start-requires
+    (λ c. search needs)  -- same-length
+    (λ c. search (head-put, needs))  -- returns
+    )

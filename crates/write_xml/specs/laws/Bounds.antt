@@ -1,0 +1,127 @@
+-- Laws of what specs/Bounds.antt defines.
+--     content-aside    a line with another first byte is neither
+--     bound-kind    what was found, by its kind;   found-bound, loose-aside, whole-aside: its answers
+use mathlib.Core.Path.{_≡_, refl, sym, ap, subst, _∙_}
+use mathlib.Core.Bool.{Bool, true, false}
+use mathlib.Core.List.{List, [], _∷_, map}
+use mathlib.Core.Option.{Option, none, some}
+use Prim.Native.Nat.{ℕ, zero, suc, _-_, _<_}
+use native.Mathlib.Omega.{arith}
+use lib.Dec.{eqb}
+use lib.ListN.{length, take}
+use borrow.Author.Tests.{ne-eqb, eqb-false}
+use Rattle.octets.specs.Ascii.{ascii}
+use Rattle.octets.specs.Pick.{pick}
+use Rattle.octets.specs.laws.Pick.{pick-either, within-range, and-no-left, or-neither}
+use Rattle.octets.specs.Append.{_⊕_}
+use Rattle.octets.specs.Scan.{spanLen}
+use Rattle.octets.specs.Class.{isSmall, isNameChar, upperByte, upper}
+use Rattle.octets.specs.Words.{same}
+use Rattle.octets.specs.Runs.{runOf}
+use Rattle.octets.specs.laws.Runs.{byte-case}
+use Rattle.octets.specs.Many.{All, ok, no}
+use Rattle.source.specs.Source.{rest, spell, Reads}
+use Rattle.source.specs.declared.Step.{Step}
+use Rattle.read_text_line.specs.LineEnd.{LineEnds, EndsLine}
+use Rattle.read_text_line.specs.laws.LineEnd.{line-first}
+use Rattle.read_text_line.specs.Ready.{Ready}
+use Rattle.read_text_line.specs.laws.Ready.{line-next, line-low, line-end-inside}
+use Rattle.read_text_line.specs.declared.Ending.the-variants.{Loose}
+use Rattle.read_text_line.specs.ContentLine.{ContentLine, RawParameter, withValue, contentLine}
+use Rattle.text.specs.Tree.{property, nothing, entryBy, entryOf}
+use Rattle.write_xml.specs.declared.entry.Found.{Found}
+use Rattle.write_xml.specs.declared.entry.Kind.{Kind}
+use Rattle.write_xml.specs.declared.entry.Kind.the-variants.{Begin, End, Property, Nothing}
+use Rattle.write_xml.specs.Entries.{entriesAt, FoundBy, FoundAt}
+use Rattle.write_xml.specs.laws.Entries.{found-loose}
+use Rattle.write_xml.specs.Walks.{isAside}
+use Rattle.write_xml.specs.Bounds.{opensBound, opens, BoundBy, BoundAt}
+
+-- what was found, of the kind that it has
+pub bound-kind : {mode : ℕ} {s : List ℕ} {at : ℕ} {r : Found} → BoundAt mode s at r → (k : Kind) → r .kind ≡ k → BoundBy k mode s at (r .value) (r .end) (r .next)
+bound-kind {mode} {s} {at} {r} f k q = subst (λ (x : Kind). BoundBy x mode s at (r .value) (r .end) (r .next)) q (f .found)
+
+-- ---- a line that is read whole
+
+found-by : (k : Kind) (mode : ℕ) (s : List ℕ) (at n v e next : ℕ) → FoundBy k mode s at n v e next → BoundBy k mode s at v e next
+found-by Begin mode s at n v e next h = h
+found-by End mode s at n v e next h = h
+found-by Property mode s at n v e next h = record { entry = property (h .line); aside = refl; first = h .first }
+found-by Nothing mode s at n v e next h = record { entry = nothing; aside = refl; first = h }
+
+pub found-bound : {mode : ℕ} {s : List ℕ} {at : ℕ} {r : Found} → FoundAt mode s at r → BoundAt mode s at r
+found-bound {mode} {s} {at} {r} f = record { onward = f .onward; ready = f .ready; ends = f .ends; found = found-by (r .kind) mode s at (r .name) (r .value) (r .end) (r .next) (f .found) }
+
+-- ---- a line by its first byte
+
+opens-front : (a b : List ℕ) → opens (a ⊕ b) ≡ false → opens a ≡ false
+unfolding _⊕_
+opens-front [] b h = refl
+opens-front (x ∷ a) b h = h
+
+opens-take : (k : ℕ) (l : List ℕ) → opens l ≡ false → opens (take k l) ≡ false
+opens-take zero l h = refl
+opens-take (suc k) [] h = refl
+opens-take (suc k) (b ∷ l) h = h
+
+upper-apart : (b : ℕ) → opensBound b ≡ false → (eqb (upperByte b) 66 ≡ false) × (eqb (upperByte b) 69 ≡ false)
+unfolding pick
+upper-apart b h =
+    let p = or-neither (eqb b 66) _ h in
+    let q = or-neither (eqb b 98) _ (p .1) in
+    let r = or-neither (eqb b 69) (eqb b 101) (q .1) in
+    go (isSmall b) refl (p .0) (eqb-false b 98 (q .0)) (r .0) (eqb-false b 101 (r .1))
+  where
+    go : (t : Bool) → isSmall b ≡ t → eqb b 66 ≡ false → (b ≡ 98 → ⊥) → eqb b 69 ≡ false → (b ≡ 101 → ⊥) →
+        (eqb (pick t (b - 32) b) 66 ≡ false) × (eqb (pick t (b - 32) b) 69 ≡ false)
+    go true e p q r s = let w = within-range 97 122 b e in (ne-eqb (b - 32) 66 (λ z. q (omega arith)), ne-eqb (b - 32) 69 (λ z. s (omega arith)))
+    go false e p q r s = (p, r)
+
+name-apart : (n : List ℕ) → opens n ≡ false → (same (upper n) (ascii "BEGIN") ≡ false) × (same (upper n) (ascii "END") ≡ false)
+unfolding same upper
+name-apart [] h = (refl, refl)
+name-apart (b ∷ n) h = let p = upper-apart b h in (and-no-left _ _ (p .0), and-no-left _ _ (p .1))
+
+module _ (n : List ℕ) (h : (same (upper n) (ascii "BEGIN") ≡ false) × (same (upper n) (ascii "END") ≡ false)) where
+  named-aside : (l : ContentLine) → l .name ≡ n → isAside (entryBy (some l)) ≡ true
+  unfolding entryBy pick
+  named-aside l q = rw (q, h .0, h .1)
+
+  valued-aside : (ps : All RawParameter) → isAside (entryBy (withValue ps n)) ≡ true
+  unfolding entryBy withValue
+  valued-aside (no r) = refl
+  valued-aside (ok ps r) =
+      byte-case (λ (o : Option ContentLine). isAside (entryBy o) ≡ true) 58 r _ none
+      (λ v e. pick-either (λ (o : Option ContentLine). isAside (entryBy o) ≡ true) _ _ none (named-aside _ refl) refl) refl
+
+content-aside : (l : List ℕ) → opens l ≡ false → isAside (entryBy (contentLine l)) ≡ true
+unfolding contentLine entryBy runOf
+content-aside l h = pick-either (λ (o : Option ContentLine). isAside (entryBy o) ≡ true) _ none _ refl (valued-aside (runOf isNameChar l) (name-apart _ (opens-take (spanLen isNameChar l) l h)) _)
+
+-- ---- for code
+
+-- by the byte that was found there
+pub opens-not : {mode : ℕ} {s : List ℕ} {at : ℕ} {n : Step} {t : Bool} → Reads mode s at n → t ≡ opensBound (n .u) → t ≡ false → opens (rest mode s at) ≡ false
+unfolding spell
+opens-not {mode} {s} {at} {n} p q h = rw (p .is) (go (eqb (n .u) 256))
+  where
+    go : (b : Bool) → opens (pick b [] (n .u ∷ rest mode s (n .next))) ≡ false
+    go true = unfold pick in refl
+    go false = unfold pick in sym q ∙ h
+
+module _ {mode : ℕ} {s : List ℕ} {at : ℕ} (r : Ready mode s at) where
+  pub loose-aside : at < length s → EndsLine mode s at Loose → BoundAt mode s at (record { kind = Nothing; name = at; value = at; end = at; next = length s })
+  loose-aside h f = found-bound (found-loose r at at h f)
+
+  pub whole-aside : {e next : ℕ} → LineEnds mode s at e next → opens (rest mode s at) ≡ false → BoundAt mode s at (record { kind = Nothing; name = e; value = e; end = e; next = next })
+  unfolding entriesAt entryOf
+  whole-aside {e} {next} f q = record {
+    onward = line-low r f;
+    ready = line-next r f;
+    ends = line-end-inside r f;
+    found = record {
+      entry = entryBy (contentLine (rest mode (take e s) at));
+      aside = content-aside _ (opens-front (rest mode (take e s) at) _ (sym (ap opens (f .is (r .cut))) ∙ q));
+      first = ap (map entryOf) (line-first (r .cut) (r .to) f);
+    };
+  }

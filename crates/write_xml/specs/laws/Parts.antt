@@ -1,0 +1,62 @@
+-- Laws of what specs/Parts.antt defines.
+--     component-parts          the element is made of these
+--     head-put, tail-put       for code
+use mathlib.Core.Path.{_≡_, refl, sym, ap, _∙_}
+use mathlib.Core.Bool.{Bool, true, false}
+use mathlib.Core.List.{List, [], _∷_}
+use Prim.Native.Nat.{ℕ}
+use Rattle.octets.specs.Ascii.{ascii}
+use Rattle.octets.specs.Pick.{pick}
+use Rattle.octets.specs.Append.{_⊕_}
+use Rattle.octets.specs.laws.Append.{append-empty, append-regroup}
+use Rattle.octets.specs.Class.{lower}
+use Rattle.octets.specs.Words.{same}
+use Rattle.names.specs.Table.{placeOf}
+use Rattle.schema.specs.Components.{componentNames}
+use Rattle.schema.specs.Numbers.{componentName}
+use Rattle.sink.specs.Sink.{Put}
+use Rattle.sink.specs.laws.Sink.{_▷_}
+use Rattle.calendar.specs.Calendar.{Components, noMore, component}
+use Rattle.xml.specs.Escape.{startTag, endTag, elementOf}
+use Rattle.text.specs.Tree.{Entry, begin, innerOf}
+use Rattle.xcal.specs.WriteXml.{isNoMore, propertiesXml, componentsElement, componentsXml}
+use Rattle.write_xml.specs.declared.properties.Walked.{Walked}
+use Rattle.write_xml.specs.Entries.{entriesAt}
+use Rattle.write_xml.specs.Walks.{ownXml, innerXml, behind}
+use Rattle.write_xml.specs.laws.Walks.{inner-deeper, own-place}
+use Rattle.write_xml.specs.Places.{PropertiesPut}
+use Rattle.write_xml.specs.Parts.{hasComponents, headXml, tailXml}
+
+-- `components` by its tags and what stands between them
+element-parts : (n : List ℕ) (c : Components) → componentsElement n (isNoMore c) (componentsXml c) ≡
+    pick (hasComponents n (isNoMore c)) (startTag (ascii "components")) [] ⊕ componentsXml c ⊕ pick (hasComponents n (isNoMore c)) (endTag (ascii "components")) []
+unfolding componentsElement componentsXml pick
+element-parts n c = go (same n (ascii "VCALENDAR")) c
+  where
+    go : (t : Bool) (c : Components) → pick t (elementOf (ascii "components") (componentsXml c)) (pick (isNoMore c) [] (elementOf (ascii "components") (componentsXml c))) ≡
+        pick (pick t true (pick (isNoMore c) false true)) (startTag (ascii "components")) [] ⊕ componentsXml c ⊕ pick (pick t true (pick (isNoMore c) false true)) (endTag (ascii "components")) []
+    go true c = refl
+    go false noMore = sym (append-empty ([] ⊕ []) ∙ append-empty [])
+    go false (component n ps inner next) = refl
+
+regroup : (a b c x d e f : List ℕ) → (a ⊕ (b ⊕ (c ⊕ x ⊕ d)) ⊕ e) ⊕ f ≡ ((a ⊕ b ⊕ c) ⊕ x ⊕ (d ⊕ e)) ⊕ f
+regroup a b c x d e f = simp append-regroup
+
+pub component-parts : (n : List ℕ) (es : List Entry) → innerXml (begin n ∷ es) ≡ (headXml n (isNoMore (innerOf es 0)) es ⊕ innerXml es ⊕ tailXml n (isNoMore (innerOf es 0))) ⊕ innerXml (behind es 0)
+unfolding innerOf componentsXml
+component-parts n es = rw (element-parts n (innerOf es 0), inner-deeper es 0) (regroup (startTag (lower n)) (elementOf (ascii "properties") (ownXml n es)) _ _ _ _ _)
+
+-- ---- for code
+
+pub head-put : (n : List ℕ) (mode : ℕ) (s : List ℕ) {from : ℕ} {w : Walked} {there : Bool} {d e f g : List ℕ} {o a r : ℕ} (k : ℕ) → k ≡ placeOf n componentNames → Put d e o a (startTag (lower n)) →
+    PropertiesPut e f a (elementOf (ascii "properties") (ownXml (componentName k) (entriesAt mode s from))) mode s from w → there ≡ hasComponents n (w .bare) →
+    Put f g (w .to) r (pick there (startTag (ascii "components")) []) →
+    PropertiesPut d g o (headXml n (w .bare) (entriesAt mode s from)) mode s from (record { to = r; inner = w .inner; bare = w .bare; next = w .next })
+head-put n mode s {from} k q u v h z =
+    let es : List Entry = entriesAt mode s from in
+    let q′ : ownXml (componentName k) es ≡ ownXml n es = ap (λ (k : ℕ). ownXml (componentName k) es) q ∙ ap propertiesXml (own-place n es 0) in
+    record { put = u ▷ (rw q′ at v .put) ▷ (rw h at z); ahead = v .ahead }
+
+pub tail-put : (n : List ℕ) (empty : Bool) {there : Bool} {d e f : List ℕ} {o a r : ℕ} → there ≡ hasComponents n empty →
+    Put d e o a (pick there (endTag (ascii "components")) []) → Put e f a r (endTag (lower n)) → Put d f o r (tailXml n empty)
+tail-put n empty h u v = (rw h at u) ▷ v

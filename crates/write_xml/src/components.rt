@@ -1,0 +1,52 @@
+// The components of a text, or of a component. See specs/Walks.antt.
+use crate::bound::bound_at;
+use crate::entry::Kind;
+use crate::parts::put_head;
+use crate::parts::put_tail;
+ghost use Rattle.read_text_line.specs.Ready.{Ready};
+ghost use Rattle.write_xml.specs.Places.{ComponentsPut};
+
+// How far a walk has come: the index in the sink, and the cursor in the text, behind the END that ended it or at the text's end.
+pub struct Reached {
+    pub to: usize,
+    pub next: usize,
+}
+
+// The components that the lines from `from` on begin, up to the end of the one that they stand in.
+pub fn put_components(out: &mut [u8], o: usize, mode: usize, s: &[u8], from: usize) -> Reached
+    requires { ⌜ Ready mode (now s) from ⌝ }
+    ensures { λ r. ⌜ ComponentsPut (now (out .entry)) (now (out .exit)) o mode (now (s .entry)) from r ⌝ }
+{
+    let mut p = o;
+    let mut at = from;
+    while at < s.len() {
+        let f = bound_at(mode, s, at);
+        let kind = f.kind;
+        match kind {
+            Kind::Begin => {
+                let h = put_head(out, p, mode, s, f.value, f.end, f.next);
+                if h.bare {
+                    p = put_tail(out, h.to, mode, &s[..f.end], f.value, h.bare);
+                    at = h.next;
+                } else {
+                    let b = put_components(out, h.to, mode, s, h.inner);
+                    p = put_tail(out, b.to, mode, &s[..f.end], f.value, h.bare);
+                    at = b.next;
+                }
+            }
+            Kind::End => {
+                return Reached {
+                    to: p,
+                    next: f.next,
+                };
+            }
+            Kind::Property => {
+                at = f.next;
+            }
+            Kind::Nothing => {
+                at = f.next;
+            }
+        }
+    }
+    Reached { to: p, next: at }
+}

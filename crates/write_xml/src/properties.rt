@@ -1,0 +1,145 @@
+// The properties of a component. See specs/Walks.antt.
+use crate::entry::Kind;
+use crate::entry::entry_at;
+use crate::passing::pass_component;
+use tags::put_end_tag;
+use tags::put_start_tag;
+use write_xml_property::put_property;
+ghost use Rattle.octets.specs.Ascii.{ascii};
+ghost use Rattle.read_text_line.specs.Ready.{Ready};
+ghost use Rattle.sink.specs.Sink.{Put};
+ghost use Rattle.xml.specs.Escape.{elementOf};
+ghost use Rattle.schema.specs.Numbers.{componentName};
+ghost use Rattle.write_xml.specs.Entries.{entriesAt};
+ghost use Rattle.write_xml.specs.Walks.{ownXml};
+ghost use Rattle.write_xml.specs.Places.{PropertiesPut, LeadingPut};
+
+// What a walk over a component's properties came to: the index in the sink; the cursor of the first subcomponent, or of what ends the component; whether there is
+// no subcomponent; and if there is none, the cursor behind the component's END.
+pub struct Walked {
+    pub to: usize,
+    pub inner: usize,
+    pub bare: bool,
+    pub next: usize,
+}
+
+// The properties of the component of the number `k` whose lines begin at `from`, up to its first subcomponent.
+fn put_leading(out: &mut [u8], o: usize, k: usize, mode: usize, s: &[u8], from: usize) -> Walked
+    requires { ⌜ Ready mode (now s) from ⌝ }
+    ensures { λ r. ⌜ LeadingPut (now (out .entry)) (now (out .exit)) o k mode (now (s .entry)) from r ⌝ }
+{
+    let mut p = o;
+    let mut at = from;
+    while at < s.len() {
+        let f = entry_at(mode, s, at);
+        let kind = f.kind;
+        match kind {
+            Kind::Begin => {
+                return Walked {
+                    to: p,
+                    inner: at,
+                    bare: false,
+                    next: at,
+                };
+            }
+            Kind::End => {
+                return Walked {
+                    to: p,
+                    inner: at,
+                    bare: true,
+                    next: f.next,
+                };
+            }
+            Kind::Property => {
+                p = put_property(out, p, k, mode, &s[..f.end], at, f.name, f.value);
+                at = f.next;
+            }
+            Kind::Nothing => {
+                at = f.next;
+            }
+        }
+    }
+    Walked {
+        to: p,
+        inner: at,
+        bare: true,
+        next: at,
+    }
+}
+
+// Those from `from` on, between and behind its subcomponents too.
+fn put_following(out: &mut [u8], o: usize, k: usize, mode: usize, s: &[u8], from: usize) -> usize
+    requires { ⌜ Ready mode (now s) from ⌝ }
+    ensures { λ r. ⌜
+        Put (now (out .entry)) (now (out .exit)) o r
+        (ownXml (componentName k) (entriesAt mode (now (s .entry)) from)) ⌝ }
+{
+    let mut p = o;
+    let mut at = from;
+    while at < s.len() {
+        let f = entry_at(mode, s, at);
+        let kind = f.kind;
+        match kind {
+            Kind::Begin => {
+                at = pass_component(mode, s, f.next);
+            }
+            Kind::End => {
+                return p;
+            }
+            Kind::Property => {
+                p = put_property(out, p, k, mode, &s[..f.end], at, f.name, f.value);
+                at = f.next;
+            }
+            Kind::Nothing => {
+                at = f.next;
+            }
+        }
+    }
+    p
+}
+
+// All of them: those before the first subcomponent, and the rest where there is one.
+fn put_properties(out: &mut [u8], o: usize, k: usize, mode: usize, s: &[u8], from: usize) -> Walked
+    requires { ⌜ Ready mode (now s) from ⌝ }
+    ensures { λ r. ⌜
+        PropertiesPut (now (out .entry)) (now (out .exit)) o
+        (ownXml (componentName k) (entriesAt mode (now (s .entry)) from)) mode (now (s .entry)) from r ⌝ }
+{
+    let a = put_leading(out, o, k, mode, s, from);
+    if a.bare {
+        return a;
+    }
+    let b = put_following(out, a.to, k, mode, s, a.inner);
+    Walked {
+        to: b,
+        inner: a.inner,
+        bare: a.bare,
+        next: a.next,
+    }
+}
+
+// The same, as the element `properties`.
+pub fn put_properties_element(
+    out: &mut [u8],
+    o: usize,
+    k: usize,
+    mode: usize,
+    s: &[u8],
+    from: usize,
+) -> Walked
+    requires { ⌜ Ready mode (now s) from ⌝ }
+    ensures { λ r. ⌜
+        PropertiesPut (now (out .entry)) (now (out .exit)) o
+        (elementOf (ascii "properties") (ownXml (componentName k) (entriesAt mode (now (s .entry)) from))) mode
+        (now (s .entry)) from r ⌝ }
+{
+    let a = put_start_tag(out, o, b"properties");
+    let b = put_properties(out, a, k, mode, s, from);
+    let c = put_end_tag(out, b.to, b"properties");
+    Walked {
+        to: c,
+        inner: b.inner,
+        bare: b.bare,
+        next: b.next,
+    }
+}

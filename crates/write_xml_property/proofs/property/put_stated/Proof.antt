@@ -1,0 +1,22 @@
+-- `write_xml_property::put_stated` meets its contract.
+use lib.Seq.{length-take-le}
+use borrow.Author.Needs.{needs}
+use Rattle.write_xml_property.specs.laws.Property.{put-typed, put-untyped}
+use Rattle.sink.specs.laws.Sink.{writing}
+use Rattle.write_xml_property.proofs.property.put_stated.Statement.{statement}
+use Rattle.write_xml_property.proofs.property.put_stated.Tie as tie
+
+pub put-stated-spec : {M : Type 1} → statement M
+put-stated-spec = tie.close (tie.spec
+    (λ c. search (length-take-le, needs))  -- slice-aggregate-property-number
+    (λ c κs. search writing)  -- property-number-requires
+    (λ c κs. search writing)  -- stated-type-requires
+    (λ c. search writing)  -- enum-known-t
+    (λ c. search writing)  -- enum-told
+    (λ c κs. search writing)  -- put-values-requires
+    (λ c. search writing)  -- same-length
+    (λ c. search (put-untyped, writing))  -- returns
+    (λ c κs. search writing)  -- put-values-requires-2
+    (λ c. search writing)  -- same-length-2
+    (λ c. search (put-typed, writing))  -- returns-2
+    )

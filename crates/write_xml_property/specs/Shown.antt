@@ -1,0 +1,28 @@
+-- The values of a property of iCalendar text written as elements of XML, by numbers: of the component, the property, the type.
+--     singleXml, shownXml    what is written where the values can be read
+use mathlib.Core.List.{List}
+use Prim.Native.Nat.{ℕ}
+use lib.Dec.{eqb}
+use Rattle.octets.specs.Pick.{pick}
+use Rattle.octets.specs.Class.{upper}
+use Rattle.octets.specs.Reading.{isRead, orNothing}
+use Rattle.calendar.specs.Calendar.{ical, text}
+use Rattle.schema.specs.Numbers.{typeAt, propertyAt}
+use Rattle.schema.specs.Sets.{wordsAt}
+use Rattle.numbers.specs.Geo.{readGeo}
+use Rattle.texts.specs.RequestStatus.{readRequestStatus}
+use Rattle.texts.specs.StatusXml.{statusXml}
+use Rattle.values.specs.ReadValue.{readValue}
+use Rattle.xcal.specs.WriteXml.{valueXml}
+use Rattle.write_xml_property.specs.Pieces.{listedXml}
+
+-- a word of a closed set in capitals, or a value of the type t
+abbrev pub singleXml : ℕ → ℕ → ℕ → List ℕ → List ℕ
+singleXml k p t l = pick (isRead (wordsAt k p)) (valueXml (text (upper l))) (orNothing valueXml (readValue ical (typeAt t) l))
+
+-- 9 is GEO, 45 is REQUEST-STATUS
+abbrev pub shownXml : ℕ → ℕ → ℕ → List ℕ → List ℕ
+shownXml k p t l =
+    pick (eqb p 9) (orNothing valueXml (readGeo l))
+    (pick (eqb p 45) (orNothing statusXml (readRequestStatus l))
+    (pick (propertyAt p .listed) (listedXml t l) (singleXml k p t l)))

@@ -1,0 +1,75 @@
+-- Laws of what specs/Property.antt defines.
+--     property-xml    what is written of the line;   name-inside: where its name ends
+use mathlib.Core.Path.{_≡_, refl, sym, ap, _∙_}
+use mathlib.Core.Bool.{true}
+use mathlib.Core.List.{List, []}
+use mathlib.Core.Option.{none}
+use Prim.Native.Nat.{ℕ, _≤_}
+use native.Mathlib.Omega.{arith}
+use native.Mathlib.Decide.{decLe}
+use lib.ListN.{length}
+use Rattle.octets.specs.Pick.{pick}
+use Rattle.octets.specs.Class.{isNameChar, upper}
+use Rattle.octets.specs.laws.Letters.{lower-any-case}
+use Rattle.octets.specs.Runs.{runOf}
+use Rattle.octets.specs.Scan.{spanLen}
+use Rattle.octets.specs.Reading.{readOr, orNothing}
+use Rattle.octets.specs.laws.Reading.{none-some}
+use Rattle.names.specs.Table.{placeOf}
+use Rattle.calendar.specs.Calendar.{TEXT}
+use Rattle.sink.specs.Sink.{Put}
+use Rattle.source.specs.Source.{rest, cuts}
+use Rattle.source.specs.laws.Facts.{rest-past}
+use Rattle.schema.specs.Properties.{propertyNames}
+use Rattle.schema.specs.Numbers.{typeAt, componentName, propertyName}
+use Rattle.read_text_line.specs.ContentLine.{contentLine}
+use Rattle.read_text_line.specs.laws.Params.{name-chars}
+use Rattle.read_text_line.specs.Line.{LineAt}
+use Rattle.read_text_line.specs.declared.LineRead.the-variants.{Line}
+use Rattle.text.specs.Values.{readValues}
+use Rattle.text.specs.Statement.{propertyOf}
+use Rattle.xcal.specs.WriteXml.{valuesXml, propertyXml}
+use Rattle.write_xml_property.specs.laws.Placed.{values-named}
+use Rattle.write_xml_property.specs.Property.{nameIn, statedXml, partsXml}
+use Rattle.read_text_parameters.specs.Stating.{StatedAt}
+use Rattle.read_text_parameters.specs.declared.TypeRead.{TypeRead}
+use Rattle.read_text_parameters.specs.declared.TypeRead.the-variants.{«Type» as Typed, Bad as NoType}
+
+no-line : contentLine [] ≡ none
+unfolding contentLine runOf spanLen pick
+no-line = refl
+
+module _ {m : ℕ} {s : List ℕ} {c e v : ℕ} (y : cuts m ≡ true) (a : LineAt m s c (Line e v)) where
+  pub name-inside : e ≤ length s
+  name-inside = go (decLe c (length s))
+    where
+      go : Dec (c ≤ length s) → e ≤ length s
+      go (yes h) = a .parts .name .plain y h
+      go (no h) =
+          let l : length s ≤ c = omega arith in
+          let z : rest m s c ≡ [] = rest-past m s c y l in
+          none-some (sym (ap contentLine z ∙ no-line) ∙ a .is)
+
+  pub property-xml : (k : ℕ) → orNothing (λ l. propertyXml (propertyOf (componentName k) l)) (contentLine (rest m s c)) ≡ partsXml k m s c e v
+  unfolding propertyXml propertyOf
+  property-xml k =
+      ap (orNothing (λ l. propertyXml (propertyOf (componentName k) l))) (a .is)
+      ∙ rw (name-chars y (a .parts .name), lower-any-case (runOf isNameChar (rest m s c)))
+
+-- ---- for the code
+
+-- the values, by the number of the line's name and by the type that was found
+module _ {d f : List ℕ} {at o : ℕ} (k : ℕ) {p m : ℕ} {s : List ℕ} (c : ℕ) {e : ℕ} (v : ℕ) {r : TypeRead} (h : p ≡ placeOf (upper (nameIn m s c e)) propertyNames) (a : StatedAt p m s e r) where
+  pub put-typed : (t : ℕ) → r ≡ Typed t → Put d f at o (valuesXml (readOr [] (readValues (componentName k) (propertyName p) (typeAt t) (rest m s v)))) →
+      Put d f at o (statedXml k m s c e v)
+  unfolding readOr
+  put-typed t z w =
+      let b : StatedAt p m s e (Typed t) = rw z at a in
+      rw (b .is (upper (nameIn m s c e)) h, ← (values-named (componentName k) (upper (nameIn m s c e)) p (typeAt t) (rest m s v) h)) w
+
+  pub put-untyped : r ≡ NoType → Put d f at o (valuesXml (readOr [] (readValues (componentName k) (propertyName p) (typeAt 10) (rest m s v)))) →
+      Put d f at o (statedXml k m s c e v)
+  unfolding readOr
+  put-untyped z w =
+      let b : StatedAt p m s e NoType = rw z at a in
+      rw (b .is (upper (nameIn m s c e)) h, ← (values-named (componentName k) (upper (nameIn m s c e)) p TEXT (rest m s v) h)) w

@@ -1,0 +1,130 @@
+// The values of a property in text, written as their elements. See specs/Shown.antt.
+use crate::geo::put_geo;
+use crate::list::put_list;
+use read_text_property::ValuesRead;
+use read_text_property::read_values;
+use schema::component;
+use schema::has_words;
+use schema::is_listed;
+use schema::property;
+use schema::value_type;
+use texts::put_request_status_xml;
+use write_xml_value::put_value_element;
+use write_xml_value::put_word_element;
+ghost use mathlib.Core.Path.{_≡_};
+ghost use mathlib.Core.Bool.{true};
+ghost use mathlib.Core.List.{[]};
+ghost use Prim.Native.Nat.{_≤_};
+ghost use Rattle.octets.specs.Reading.{readOr};
+ghost use Rattle.names.specs.Table.{placeOf};
+ghost use Rattle.sink.specs.Sink.{Put};
+ghost use Rattle.source.specs.Source.{rest, cuts};
+ghost use Rattle.schema.specs.Components.{componentNames};
+ghost use Rattle.schema.specs.Properties.{propertyNames};
+ghost use Rattle.schema.specs.Numbers.{typeAt, componentName, propertyName};
+ghost use Rattle.text.specs.Values.{readValues};
+ghost use Rattle.xcal.specs.WriteXml.{valuesXml};
+ghost use Rattle.write_xml_property.specs.Shown.{singleXml, shownXml};
+
+// One value: a word of a closed set in capitals, or a value of the type `t`.
+fn put_single(
+    out: &mut [u8],
+    o: usize,
+    k: usize,
+    p: usize,
+    t: usize,
+    mode: usize,
+    s: &[u8],
+    at: usize,
+) -> usize
+    requires { ⌜ cuts mode ≡ true ⌝ }
+    ensures { λ r. ⌜ Put (now (out .entry)) (now (out .exit)) o r (singleXml k p t (rest mode (now (s .entry)) at)) ⌝ }
+{
+    let chosen = has_words(k, p);
+    if chosen {
+        return put_word_element(out, o, mode, s, at);
+    }
+    put_value_element(out, o, t, mode, s, at)
+}
+
+// The values of the property `p` in the component `k`, where they can be read.
+fn put_shown(
+    out: &mut [u8],
+    o: usize,
+    k: usize,
+    p: usize,
+    t: usize,
+    mode: usize,
+    s: &[u8],
+    at: usize,
+) -> usize
+    requires { ⌜ cuts mode ≡ true ⌝ }
+    ensures { λ r. ⌜ Put (now (out .entry)) (now (out .exit)) o r (shownXml k p t (rest mode (now (s .entry)) at)) ⌝ }
+{
+    if p == property::GEO {
+        return put_geo(out, o, mode, s, at);
+    }
+    if p == property::REQUEST_STATUS {
+        return put_request_status_xml(out, o, mode, s, at);
+    }
+    let listed = is_listed(p);
+    if listed {
+        return put_list(out, o, t, mode, s, at);
+    }
+    put_single(out, o, k, p, t, mode, s, at)
+}
+
+// A component's number, KNOWN for all that are not recognised.
+fn component_place(k: usize) -> usize
+    ensures { λ r. ⌜ r ≡ placeOf (componentName k) componentNames ⌝ }
+{
+    if k < component::KNOWN {
+        return k;
+    }
+    component::KNOWN
+}
+
+// A property's number, KNOWN for all that are not recognised.
+fn property_place(p: usize) -> usize
+    ensures { λ r. ⌜ r ≡ placeOf (propertyName p) propertyNames ⌝ }
+{
+    if p < property::KNOWN {
+        return p;
+    }
+    property::KNOWN
+}
+
+// A type's number, UNKNOWN for all that are none of the fourteen.
+fn type_place(t: usize) -> usize
+    ensures { λ r. ⌜ (typeAt r ≡ typeAt t) × (r ≤ 14) ⌝ }
+{
+    if t < value_type::KNOWN {
+        return t;
+    }
+    value_type::UNKNOWN
+}
+
+// The values that stand from the cursor on; nothing where they are none of the property.
+pub fn put_values(
+    out: &mut [u8],
+    o: usize,
+    k: usize,
+    p: usize,
+    t: usize,
+    mode: usize,
+    s: &[u8],
+    at: usize,
+) -> usize
+    requires { ⌜ cuts mode ≡ true ⌝ }
+    ensures { λ r. ⌜
+        Put (now (out .entry)) (now (out .exit)) o r (valuesXml
+        (readOr [] (readValues (componentName k) (propertyName p) (typeAt t) (rest mode (now (s .entry)) at)))) ⌝ }
+{
+    let a = component_place(k);
+    let b = property_place(p);
+    let u = type_place(t);
+    let ValuesRead::Good(n) = read_values(a, b, u, mode, s, at) else {
+        return o;
+    };
+    put_shown(out, o, a, b, u, mode, s, at)
+}

@@ -1,0 +1,87 @@
+// Tags of a rule's parts and of types, by number. See specs/Tags.antt.
+use recur::part;
+use schema::value_type;
+use sink::put_all;
+ghost use mathlib.Core.List.{[]};
+ghost use lib.ListN.{getD};
+ghost use Rattle.octets.specs.Class.{lower};
+ghost use Rattle.sink.specs.Sink.{Put};
+ghost use Rattle.xml.specs.Escape.{startTag, endTag};
+ghost use Rattle.recur.specs.Parts.{partNames};
+ghost use Rattle.write_xml_value.specs.Tags.{typeLabel};
+
+fn put_part_name(out: &mut [u8], o: usize, p: usize) -> usize
+    ensures { λ r. ⌜ Put (now (out .entry)) (now (out .exit)) o r (lower (getD partNames p [])) ⌝ }
+{
+    match p {
+        part::FREQ => put_all(out, o, b"freq"),
+        part::UNTIL => put_all(out, o, b"until"),
+        part::COUNT => put_all(out, o, b"count"),
+        part::INTERVAL => put_all(out, o, b"interval"),
+        part::BYSECOND => put_all(out, o, b"bysecond"),
+        part::BYMINUTE => put_all(out, o, b"byminute"),
+        part::BYHOUR => put_all(out, o, b"byhour"),
+        part::BYDAY => put_all(out, o, b"byday"),
+        part::BYMONTHDAY => put_all(out, o, b"bymonthday"),
+        part::BYYEARDAY => put_all(out, o, b"byyearday"),
+        part::BYWEEKNO => put_all(out, o, b"byweekno"),
+        part::BYMONTH => put_all(out, o, b"bymonth"),
+        part::BYSETPOS => put_all(out, o, b"bysetpos"),
+        part::WKST => put_all(out, o, b"wkst"),
+        _ => put_all(out, o, b""),
+    }
+}
+
+fn put_type_name(out: &mut [u8], o: usize, t: usize) -> usize
+    ensures { λ r. ⌜ Put (now (out .entry)) (now (out .exit)) o r (typeLabel t) ⌝ }
+{
+    match t {
+        value_type::BINARY => put_all(out, o, b"binary"),
+        value_type::BOOLEAN => put_all(out, o, b"boolean"),
+        value_type::CAL_ADDRESS => put_all(out, o, b"cal-address"),
+        value_type::DATE => put_all(out, o, b"date"),
+        value_type::DATE_TIME => put_all(out, o, b"date-time"),
+        value_type::DURATION => put_all(out, o, b"duration"),
+        value_type::FLOAT => put_all(out, o, b"float"),
+        value_type::INTEGER => put_all(out, o, b"integer"),
+        value_type::PERIOD => put_all(out, o, b"period"),
+        value_type::RECUR => put_all(out, o, b"recur"),
+        value_type::TEXT => put_all(out, o, b"text"),
+        value_type::TIME => put_all(out, o, b"time"),
+        value_type::URI => put_all(out, o, b"uri"),
+        value_type::UTC_OFFSET => put_all(out, o, b"utc-offset"),
+        _ => put_all(out, o, b"unknown"),
+    }
+}
+
+pub fn put_part_start(out: &mut [u8], o: usize, p: usize) -> usize
+    ensures { λ r. ⌜ Put (now (out .entry)) (now (out .exit)) o r (startTag (lower (getD partNames p []))) ⌝ }
+{
+    let a = put_all(out, o, b"<");
+    let b = put_part_name(out, a, p);
+    put_all(out, b, b">")
+}
+
+pub fn put_part_end(out: &mut [u8], o: usize, p: usize) -> usize
+    ensures { λ r. ⌜ Put (now (out .entry)) (now (out .exit)) o r (endTag (lower (getD partNames p []))) ⌝ }
+{
+    let a = put_all(out, o, b"</");
+    let b = put_part_name(out, a, p);
+    put_all(out, b, b">")
+}
+
+pub fn put_type_start(out: &mut [u8], o: usize, t: usize) -> usize
+    ensures { λ r. ⌜ Put (now (out .entry)) (now (out .exit)) o r (startTag (typeLabel t)) ⌝ }
+{
+    let a = put_all(out, o, b"<");
+    let b = put_type_name(out, a, t);
+    put_all(out, b, b">")
+}
+
+pub fn put_type_end(out: &mut [u8], o: usize, t: usize) -> usize
+    ensures { λ r. ⌜ Put (now (out .entry)) (now (out .exit)) o r (endTag (typeLabel t)) ⌝ }
+{
+    let a = put_all(out, o, b"</");
+    let b = put_type_name(out, a, t);
+    put_all(out, b, b">")
+}

@@ -1,0 +1,50 @@
+// A text as it stands, and a word in capitals, each as an element `text`. See specs/laws/Words.antt.
+use octets::unit::END;
+use octets::upper_unit;
+use source::unit;
+use tags::put_end_tag;
+use tags::put_escaped;
+use tags::put_escaped_byte;
+use tags::put_start_tag;
+ghost use Rattle.octets.specs.Class.{upper};
+ghost use Rattle.calendar.specs.Calendar.{text};
+ghost use Rattle.sink.specs.Sink.{Put};
+ghost use Rattle.source.specs.Source.{rest};
+ghost use Rattle.xml.specs.Escape.{escaped};
+ghost use Rattle.xcal.specs.WriteXml.{valueXml};
+
+// What stands from the cursor `at` to the end.
+pub fn put_raw_element(out: &mut [u8], o: usize, mode: usize, s: &[u8], at: usize) -> usize
+    ensures { λ r. ⌜ Put (now (out .entry)) (now (out .exit)) o r (valueXml (text (rest mode (now (s .entry)) at))) ⌝ }
+{
+    let p = put_start_tag(out, o, b"text");
+    let q = put_escaped(out, p, mode, s, at);
+    put_end_tag(out, q, b"text")
+}
+
+fn put_capitals(out: &mut [u8], o: usize, mode: usize, s: &[u8], at: usize) -> usize
+    ensures { λ r. ⌜ Put (now (out .entry)) (now (out .exit)) o r (escaped (upper (rest mode (now (s .entry)) at))) ⌝ }
+{
+    let mut p = o;
+    let mut c = at;
+    loop {
+        let t = unit(mode, s, c);
+        let u = t.u;
+        if u == END {
+            return p;
+        }
+        let v = upper_unit(u);
+        p = put_escaped_byte(out, p, v as u8);
+        c = t.next;
+    }
+}
+
+// The same in capitals.
+pub fn put_word_element(out: &mut [u8], o: usize, mode: usize, s: &[u8], at: usize) -> usize
+    ensures { λ r. ⌜
+        Put (now (out .entry)) (now (out .exit)) o r (valueXml (text (upper (rest mode (now (s .entry)) at)))) ⌝ }
+{
+    let p = put_start_tag(out, o, b"text");
+    let q = put_capitals(out, p, mode, s, at);
+    put_end_tag(out, q, b"text")
+}

@@ -1,0 +1,64 @@
+-- A value of a type, or a word of a closed set, in XML.
+--     plain-value     a value of another type than PERIOD and RECUR is character data
+--     chosen-typed    what is chosen has the type asked for
+--     chosen-read     its characters are read back, as a value of the type or as a word
+--     chosen-word     and pass the test of a property's value
+use mathlib.Core.Path.{_≡_, refl, sym}
+use mathlib.Core.Bool.{true, false, false≢true}
+use mathlib.Core.List.{List}
+use mathlib.Core.Option.{Option, none, some}
+use Prim.Native.Nat.{ℕ}
+use Rattle.octets.specs.Pick.{_and_}
+use Rattle.octets.specs.laws.Pick.{pick-yes, and-both}
+use Rattle.octets.specs.Words.{isOneOf}
+use Rattle.octets.specs.Reading.{isRead}
+use Rattle.calendar.specs.Calendar.{ValueType, PERIOD, RECUR, TEXT, Value, text, textIn, typeOf}
+use Rattle.schema.specs.Types.{sameType}
+use Rattle.schema.specs.laws.Types.{same-type-true}
+use Rattle.values.specs.WriteValue.{characters as dataOf}
+use Rattle.values.specs.ReadBack.{isValue, isTyped}
+use Rattle.values.specs.laws.ReadBack.{isCharacterData, characters-read-back}
+use Rattle.values.specs.Valid.{isWordIn, isChosen}
+use Rattle.values.specs.laws.Valid.{text-in}
+use Rattle.xcal.specs.Contents.{plainInside, inside}
+use Rattle.xcal.specs.ValueNodes.{readWordOf}
+use Rattle.xcal.specs.ParameterNodes.{readWordIn}
+use Rattle.xcal.specs.laws.ValuesBack.{by-spelling}
+
+pub plain-value : (v : Value) → isTyped v ≡ true → sameType (typeOf v) PERIOD ≡ false → sameType (typeOf v) RECUR ≡ false → (isCharacterData v ≡ true) × (inside v ≡ plainInside v)
+unfolding sameType
+plain-value v t a b =
+    by-spelling (λ v. sameType (typeOf v) PERIOD ≡ false → sameType (typeOf v) RECUR ≡ false → (isCharacterData v ≡ true) × (inside v ≡ plainInside v))
+    (λ v c e p r a b. (c, e))
+    (λ s e a b. absurd (false≢true (sym a))) (λ s d a b. absurd (false≢true (sym a))) (λ ps a b. absurd (false≢true (sym b))) v t a b
+
+-- a word is a TEXT
+word-text : (words : List (List ℕ)) (v : Value) → isWordIn words (textIn v) ≡ true → (s : List ℕ) × (v ≡ text s) × (isOneOf s words ≡ true)
+word-text words v h = go (textIn v) refl h
+  where
+    go : (o : Option (List ℕ)) → textIn v ≡ o → isWordIn words o ≡ true → (s : List ℕ) × (v ≡ text s) × (isOneOf s words ≡ true)
+    go none e k = absurd (false≢true k)
+    go (some s) e k = (s, text-in v s e, k)
+
+-- a closed set is one of TEXT
+abbrev pub OfText : Option (List (List ℕ)) → ValueType → Type 0
+OfText o t = (words : List (List ℕ)) → o ≡ some words → t ≡ TEXT
+
+pub chosen-typed : (o : Option (List (List ℕ))) (t : ValueType) (v : Value) → OfText o t → isChosen o t v ≡ true → (typeOf v ≡ t) × (isTyped v ≡ true) × (isValue v ≡ true)
+chosen-typed none t v f h =
+    let p = and-both (sameType (typeOf v) t) (isTyped v and isValue v) h in
+    let q = and-both (isTyped v) (isValue v) (p .1) in
+    (same-type-true (typeOf v) t (p .0), q .0, q .1)
+chosen-typed (some words) t v f h =
+    let w = word-text words v h in
+    rw (w .1) (sym (f words refl), refl, refl)
+
+pub chosen-read : (o : Option (List (List ℕ))) (t : ValueType) (v : Value) → OfText o t → isChosen o t v ≡ true → isCharacterData v ≡ true → readWordIn o t (dataOf v) ≡ some v
+unfolding dataOf
+chosen-read none t v f h c = let k = chosen-typed none t v f h in rw (← (k .0)) (characters-read-back v c (k .2))
+chosen-read (some words) t v f h c = let w = word-text words v h in rw (w .1) (pick-yes (isOneOf (w .0) words) _ _ (w .2))
+
+pub chosen-word : (o : Option (List (List ℕ))) (t : ValueType) (v : Value) → OfText o t → isChosen o t v ≡ true → isCharacterData v ≡ true → readWordOf o t (dataOf v) ≡ true
+unfolding isRead dataOf
+chosen-word none t v f h c = rw (chosen-read none t v f h c)
+chosen-word (some words) t v f h c = let w = word-text words v h in rw (w .1) (w .2)

@@ -1,0 +1,142 @@
+-- Components that are written to XML are not refused (RFC 6321, sections 3.2 and 3.3).
+--     components-fine      the verdict on the children of `components`
+--     stream-fine          the verdict on the children of the root
+use mathlib.Core.Path.{_≡_, refl, sym}
+use mathlib.Core.Bool.{Bool, true, false, not, false≢true}
+use mathlib.Core.List.{List, [], _∷_}
+use Prim.Native.Nat.{ℕ}
+use Rattle.octets.specs.Ascii.{ascii}
+use Rattle.octets.specs.Pick.{pick, _and_, _or_}
+use Rattle.octets.specs.laws.Pick.{and-both, or-left, or-right, or-cases}
+use Rattle.octets.specs.Class.{lower}
+use Rattle.octets.specs.Words.{same, isOneOf, isEmpty}
+use Rattle.octets.specs.laws.Words.{same-true}
+use Rattle.octets.specs.Lists.{every}
+use Rattle.octets.specs.Computing.{octets-compute}
+use Rattle.calendar.specs.Calendar.{Property, Components, noMore, component}
+use Rattle.calendar.specs.Refusal.{FRAME, fine, refuse, _otherwise_}
+use Rattle.schema.specs.Components.{subcomponentsOf}
+use Rattle.schema.specs.Computing.{schema-compute}
+use Rattle.xml.specs.Nodes.{noNodes, hasElement}
+use Rattle.xml.specs.Content.{Content, placed}
+use Rattle.xcal.specs.WriteXml.{isNoMore}
+use Rattle.xcal.specs.laws.ElementNames.{no-capital}
+use Rattle.xcal.specs.Contents.{componentsPart, componentInside, calendarContent}
+use Rattle.xcal.specs.PropertyNodes.{readProperties}
+use Rattle.xcal.specs.ComponentNodes.{insideOf, isComplete, endOfComponent, endOfComponents, componentVerdict, componentsVerdict, streamVerdict}
+use Rattle.xcal.specs.PropertiesBack.{isCarriedProperty}
+use Rattle.xcal.specs.laws.PropertiesBack.{properties-back, properties-fine}
+use Rattle.xcal.specs.ComponentsBack.{isCarriedComponent, areCarried, isCalendar, areAllCalendars}
+use Rattle.xcal.specs.laws.ComponentsBack.{carried-name, by-part, has-components}
+
+-- ---- counts
+
+-- whether there is a subcomponent
+has-sub : (n : List ℕ) (ps : List Property) (inner : Components) (q : ℕ) → hasElement (insideOf (ascii "components") (placed (componentInside n ps (isNoMore inner) (calendarContent inner)) q noNodes)) ≡ not (isNoMore inner)
+unfolding octets-compute placed insideOf hasElement
+has-sub n ps inner q =
+    by-part (λ d. (r : ℕ) → hasElement (insideOf (ascii "components") (placed d r noNodes)) ≡ not (isNoMore inner)) n (isNoMore inner) (calendarContent inner)
+    (λ h r. has-components inner _) (λ h e r. rw e) _
+
+properties-first : (n : List ℕ) (ps : List Property) (empty : Bool) (c : Content) → every (isCarriedProperty n) ps ≡ true → (q : ℕ) →
+    readProperties (insideOf (ascii "properties") (placed (componentInside n ps empty c) q noNodes)) ≡ ps
+unfolding octets-compute placed insideOf
+properties-first n ps empty c h q = properties-back n ps h _
+
+complete-in : (n : List ℕ) (ps : List Property) (inner : Components) → isCarriedComponent n ps inner ≡ true → (q : ℕ) →
+    isComplete n (placed (componentInside n ps (isNoMore inner) (calendarContent inner)) q noNodes) ≡ true
+complete-in n ps inner h q =
+    let a = and-both (every (isCarriedProperty n) ps) _ h in
+    rw (has-sub n ps inner q, properties-first n ps (isNoMore inner) (calendarContent inner) (a .0) q) (a .1)
+
+-- ---- the children of a component
+
+-- a component that has `components` may have some
+has-subcomponents : (n : List ℕ) (inner : Components) → (isCalendar n or not (isNoMore inner)) ≡ true → areCarried n inner ≡ true → isEmpty (subcomponentsOf n) ≡ false
+unfolding schema-compute areCarried
+has-subcomponents n inner h c = or-cases (isCalendar n) _ h (λ e. rw (same-true n (ascii "VCALENDAR") e)) (other inner c)
+  where
+    some-word : (m : List ℕ) (ws : List (List ℕ)) → isOneOf m ws ≡ true → isEmpty ws ≡ false
+    some-word m [] e = absurd (false≢true e)
+    some-word m (w ∷ ws) e = refl
+
+    other : (i : Components) → areCarried n i ≡ true → not (isNoMore i) ≡ true → isEmpty (subcomponentsOf n) ≡ false
+    other noMore c e = absurd (false≢true e)
+    other (component m ps i next) c e = some-word m (subcomponentsOf n) (and-both (isOneOf m (subcomponentsOf n)) _ c .0)
+
+end-fine : (n : List ℕ) (e : ℕ) → endOfComponent n true (record { properties = true; components = true }) e ≡ fine
+unfolding endOfComponent pick _and_ _or_
+end-fine n e = go (isCalendar n)
+  where
+    go : (t : Bool) → pick (t and false) (refuse FRAME e) fine ≡ fine
+    go true = refl
+    go false = refl
+
+-- after `properties`
+part-fine : (n : List ℕ) (inner : Components) → areCarried n inner ≡ true →
+    ((x q : ℕ) → (isCalendar n or not (isNoMore inner)) ≡ true → componentsVerdict (placed (calendarContent inner) q noNodes) n false x ≡ fine) →
+    (e q : ℕ) → componentVerdict (placed (componentsPart n (isNoMore inner) (calendarContent inner)) q noNodes) n true (record { properties = true; components = false }) e ≡ fine
+unfolding octets-compute placed componentVerdict endOfComponent _otherwise_
+part-fine n inner c ih e q =
+    by-part (λ d. (r : ℕ) → componentVerdict (placed d r noNodes) n true (record { properties = true; components = false }) e ≡ fine) n (isNoMore inner) (calendarContent inner)
+    (λ h r. rw (has-subcomponents n inner h c, ih _ _ h) (end-fine n e))
+    (λ h k r. rw h)
+    q
+
+inside-fine : (n : List ℕ) (ps : List Property) (inner : Components) → isCarriedComponent n ps inner ≡ true → areCarried n inner ≡ true →
+    ((x q : ℕ) → (isCalendar n or not (isNoMore inner)) ≡ true → componentsVerdict (placed (calendarContent inner) q noNodes) n false x ≡ fine) →
+    (e q : ℕ) → componentVerdict (placed (componentInside n ps (isNoMore inner) (calendarContent inner)) q noNodes) n true (record { properties = false; components = false }) e ≡ fine
+unfolding octets-compute placed componentVerdict _otherwise_
+inside-fine n ps inner h c ih e q = rw (properties-fine n ps (and-both (every (isCarriedProperty n) ps) _ h .0)) (part-fine n inner c ih e _)
+
+-- ---- components
+
+no-components : (k : List ℕ) (any : Bool) (x : ℕ) → (isCalendar k or any) ≡ true → endOfComponents k any x ≡ fine
+unfolding endOfComponents pick _or_
+no-components k true x h = refl
+no-components k false x h = or-cases (isCalendar k) false h (λ e. rw e) (λ e. absurd (false≢true e))
+
+or-last : (a b : Bool) → (a or b or false) ≡ true → (a or b) ≡ true
+unfolding _or_
+or-last true b e = refl
+or-last false true e = refl
+or-last false false e = e
+
+or-middle : (a b : Bool) → (a or b) ≡ true → (a or false or b) ≡ true
+unfolding _or_
+or-middle true b e = refl
+or-middle false b e = e
+
+pub components-fine : (c : Components) (k : List ℕ) (any : Bool) (x q : ℕ) → areCarried k c ≡ true → (isCalendar k or any or not (isNoMore c)) ≡ true →
+    componentsVerdict (placed (calendarContent c) q noNodes) k any x ≡ fine
+unfolding calendarContent placed componentsVerdict areCarried pick _and_ _otherwise_
+components-fine noMore k any x q h o = no-components k any x (or-last (isCalendar k) any o)
+components-fine (component n ps inner next) k any x q h o =
+    let a = and-both (isOneOf n (subcomponentsOf k)) _ h in
+    let b = and-both (isCarriedComponent n ps inner) _ (a .1) in
+    let d = and-both (areCarried n inner) _ (b .1) in
+    rw (
+      no-capital n,
+      carried-name k n (a .0),
+      a .0,
+      complete-in n ps inner (b .0),
+      inside-fine n ps inner (b .0) (d .0) (λ y r z. components-fine inner n false y r (d .0) (or-middle _ _ z)),
+    )
+    (components-fine next k true x _ (d .1) (or-right _ _ (or-left _ _ refl)))
+
+-- ---- the root
+
+calendar-element : (n : List ℕ) → isCalendar n ≡ true → same (lower n) (ascii "vcalendar") ≡ true
+unfolding octets-compute
+calendar-element n h = rw (same-true n (ascii "VCALENDAR") h)
+
+pub stream-fine : (c : Components) (any : Bool) (x q : ℕ) → areAllCalendars c ≡ true → (any or not (isNoMore c)) ≡ true → streamVerdict (placed (calendarContent c) q noNodes) any x ≡ fine
+unfolding calendarContent placed streamVerdict areAllCalendars pick _otherwise_
+stream-fine noMore any x q h o = or-cases any false o (λ e. rw e) (λ e. absurd (false≢true e))
+stream-fine (component n ps inner next) any x q h o =
+    let a = and-both (isCalendar n) _ h in
+    let b = and-both (isCarriedComponent n ps inner) _ (a .1) in
+    let d = and-both (areCarried n inner) _ (b .1) in
+    let z : ascii "VCALENDAR" ≡ n = sym (same-true n (ascii "VCALENDAR") (a .0)) in
+    rw (calendar-element n (a .0), z, complete-in n ps inner (b .0), inside-fine n ps inner (b .0) (d .0) (λ y r w. components-fine inner n false y r (d .0) (or-middle _ _ w)))
+    (stream-fine next true x _ (d .1) (or-left _ _ refl))

@@ -1,0 +1,3 @@
+-- Laws. xCal to canonical iCalendar text.
+--     Steps  laws of the steps of the code
+pub mod Steps
