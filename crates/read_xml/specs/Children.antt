@@ -1,4 +1,5 @@
 -- The children of a property, by the property's number p and the child's number: 9 is GEO, 45 is REQUEST-STATUS.
+--     nameOf                    the name of an element
 --     childWords p              the names of the children
 --     slotsAt                   their slots;   slotAt p i: the slot of the child of the number i, 4 where it has none
 --     afterAt                   the slot after a child
@@ -8,11 +9,17 @@ use mathlib.Core.List.{List, [], _∷_}
 use mathlib.Core.Option.{Option, none, some}
 use Prim.Native.Nat.{ℕ, _+_}
 use lib.Dec.{eqb, ltb}
+use lib.ListN.{take}
 use Rattle.octets.specs.Ascii.{ascii}
 use Rattle.octets.specs.Pick.{pick, _and_, _or_}
+use Rattle.source.specs.Source.{rest}
 use Rattle.schema.specs.Numbers.{propertyAt, typeWords}
 use Rattle.xcal.specs.Layout.{Slot}
 use Rattle.xcal.specs.ValueNodes.{may, must, typeElements}
+use Rattle.read_xml_nodes.specs.declared.Node.{Node}
+
+abbrev pub nameOf : List ℕ → Node → List ℕ
+nameOf s n = rest 0 (take (n .«name_end») s) (n .name)
 
 -- ---- their names and slots
 

@@ -1,31 +1,57 @@
 -- The children of a component: up to its `components`, and behind it.
---     HeadAt       the contract of `head`: the verdict, or the `components` that is to be judged
+--     EndAt        the contract of `end_of`: its tallies are compared at its end tag
+--     WhichAt      the contract of `which_child`
+--     MetAt        the contract of `child_at`: what stands next in a component before its `components`
+--     HeadAt       the contract of `head`: the verdict, or the `components` that is to be judged, and what is kept of its properties
 --     BehindAt     the contract of `behind`
 use Prim.{Unit}
 use mathlib.Core.Path.{_≡_}
-use mathlib.Core.Bool.{Bool, true, false}
+use mathlib.Core.Bool.{Bool, true, false, not}
 use mathlib.Core.List.{List}
 use Prim.Native.Nat.{ℕ, _-_, _<_}
 use lib.Dec.{eqb}
 use lib.ListN.{length}
-use Rattle.octets.specs.Pick.{_or_}
+use Rattle.octets.specs.Ascii.{ascii}
+use Rattle.octets.specs.Pick.{_and_, _or_}
+use Rattle.octets.specs.Words.{same}
 use Rattle.names.specs.Table.{placeOf}
 use Rattle.calendar.specs.Refusal.{Verdict, _otherwise_}
 use Rattle.schema.specs.Components.{componentNames}
-use Rattle.xcal.specs.ComponentNodes.{Come, endOfComponent, endOfComponents, componentVerdict, componentsVerdict}
+use Rattle.schema.specs.Completing.{completeAt}
+use Rattle.xml.specs.Nodes.{noNodes}
+use Rattle.xcal.specs.PropertyNodes.{propertiesVerdict, readProperties}
+use Rattle.xcal.specs.ComponentNodes.{insideOf, isComplete, Come, endOfComponent, endOfComponents, componentVerdict, componentsVerdict}
 use Rattle.xml.specs.NodesAt.{nodesAt}
 use Rattle.read_xml_nodes.specs.Judging.{judgedAs}
 use Rattle.read_xml_nodes.specs.declared.Judged.{Judged}
+use Rattle.read_xml.specs.Counting.{Counted}
+use Rattle.read_xml.specs.declared.Kept.{Kept}
+use Rattle.read_xml.specs.declared.Which.{Which}
+use Rattle.read_xml.specs.declared.Which.the-variants.{Properties, Components, Other}
+use Rattle.read_xml.specs.declared.Met.{Met}
+use Rattle.read_xml.specs.declared.Met.the-variants.{End, Past, Properties as HasProperties, Components as HasComponents, Stops}
 use Rattle.read_xml.specs.declared.Part.{Part}
 use Rattle.read_xml.specs.declared.Part.the-variants.{Ends, Opens}
+use Rattle.read_xml.specs.declared.Begun.{Begun}
 
--- ---- end tags
+-- ---- its two children
 
+abbrev pub partName : Bool → List ℕ
+partName true = ascii "properties"
+partName false = ascii "components"
+
+-- what has come of them
 abbrev pub come : Bool → Bool → Come
 come p c = record { properties = p; components = c }
 
-pub record EndAt (k : ℕ) (counts : Bool) (had came : Bool) (e : ℕ) (r : Judged) : Type 0 where
-  pub is : (c : List ℕ) → k ≡ placeOf c componentNames → endOfComponent c counts (come had came) e ≡ judgedAs r
+-- ---- end tags
+
+-- what is kept is complete; inner says whether the component holds another
+abbrev pub completeBy : ℕ → Kept → Bool → Bool
+completeBy k t inner = completeAt k (t .counts) (t .action) inner
+
+pub record EndAt (k : ℕ) (t : Kept) (had came inner : Bool) (e : ℕ) (r : Judged) : Type 0 where
+  pub is : (c : List ℕ) → k ≡ placeOf c componentNames → (counts : Bool) → (had ≡ true → counts ≡ completeBy k t inner) → endOfComponent c counts (come had came) e ≡ judgedAs r
 
 pub record EndsAt (k : ℕ) (any : Bool) (e : ℕ) (r : Judged) : Type 0 where
   pub is : (c : List ℕ) → k ≡ placeOf c componentNames → endOfComponents c any e ≡ judgedAs r
@@ -35,22 +61,59 @@ pub record EndsAt (k : ℕ) (any : Bool) (e : ℕ) (r : Judged) : Type 0 where
 abbrev pub hasSubs : ℕ → Bool
 hasSubs k = eqb k 0 or eqb k 1 or eqb k 2 or eqb k 5
 
+-- ---- which child an element is
+
+abbrev pub WhichIs : Bool → Bool → Which → Type 0
+WhichIs p c Properties = p ≡ true
+WhichIs p c Components = (p ≡ false) × (c ≡ true)
+WhichIs p c Other = (p ≡ false) × (c ≡ false)
+
+pub record WhichAt (k : ℕ) (had : Bool) (m : List ℕ) (r : Which) : Type 0 where
+  pub is : WhichIs (same m (ascii "properties") and not had) (same m (ascii "components") and hasSubs k) r
+
+-- ---- what stands next before `components`
+
+-- the verdict on what stands from there on
+abbrev pub metOf : List ℕ → Bool → Bool → List ℕ → ℕ → Met → Verdict
+metOf c counts had s e End = endOfComponent c counts (come had false) e
+metOf c counts had s e (Past d) = componentVerdict (nodesAt s d) c counts (come had false) e
+metOf c counts had s e (HasProperties q d) = propertiesVerdict c (nodesAt s q) otherwise componentVerdict (nodesAt s d) c counts (come true false) e
+metOf c counts had s e (HasComponents q x d) = componentsVerdict (nodesAt s q) c false x otherwise componentVerdict (nodesAt s d) c counts (come had true) e
+metOf c counts had s e (Stops j) = judgedAs j
+
+-- what is left is shorter; and the first child of a name, where it is known or left
+abbrev pub MetFits : Bool → List ℕ → ℕ → Met → Type 0
+MetFits had s at End = insideOf (ascii "components") (nodesAt s at) ≡ noNodes
+MetFits had s at (Past d) = (length s - d < length s - at) × ((n : List ℕ) → insideOf n (nodesAt s at) ≡ insideOf n (nodesAt s d))
+MetFits had s at (HasProperties q d) =
+    (length s - d < length s - at) × (had ≡ false) × (insideOf (ascii "properties") (nodesAt s at) ≡ nodesAt s q) × (insideOf (ascii "components") (nodesAt s at) ≡ insideOf (ascii "components") (nodesAt s d))
+MetFits had s at (HasComponents q x d) = (length s - q < length s - at) × (insideOf (ascii "components") (nodesAt s at) ≡ nodesAt s q)
+MetFits had s at (Stops j) = Unit {0}
+
+pub record MetAt (k : ℕ) (had : Bool) (s : List ℕ) (at : ℕ) (r : Met) : Type 0 where
+  pub is : (c : List ℕ) → k ≡ placeOf c componentNames → (counts : Bool) (e : ℕ) → componentVerdict (nodesAt s at) c counts (come had false) e ≡ metOf c counts had s e r
+  pub fits : MetFits had s at r
+
 -- ---- up to `components`
 
 abbrev pub partOf : List ℕ → Bool → List ℕ → ℕ → Part → Verdict
 partOf c counts s e (Ends j) = judgedAs j
 partOf c counts s e (Opens q x next had) = componentsVerdict (nodesAt s q) c false x otherwise componentVerdict (nodesAt s next) c counts (come had true) e
 
--- `components` stands deeper
-abbrev pub Deeper : List ℕ → ℕ → Part → Type 0
-Deeper s from (Ends j) = Unit {0}
-Deeper s from (Opens q x next had) = length s - q < length s - from
+-- `components` stands deeper, and is the first; the properties are those of the first `properties`
+abbrev pub PartFits : List ℕ → ℕ → Kept → Part → Type 0
+PartFits s from t (Ends j) = Unit {0}
+PartFits s from t (Opens q x next had) =
+    (length s - q < length s - from)
+    × (insideOf (ascii "components") (nodesAt s from) ≡ nodesAt s q)
+    × (had ≡ true → Counted (readProperties (insideOf (ascii "properties") (nodesAt s from))) t)
 
-pub record HeadAt (k : ℕ) (counts : Bool) (s : List ℕ) (from e : ℕ) (r : Part) : Type 0 where
-  pub is : (c : List ℕ) → k ≡ placeOf c componentNames → componentVerdict (nodesAt s from) c counts (come false false) e ≡ partOf c counts s e r
-  pub deeper : Deeper s from r
+pub record HeadAt (k : ℕ) (s : List ℕ) (from e : ℕ) (r : Begun) : Type 0 where
+  pub is : (c : List ℕ) → k ≡ placeOf c componentNames →
+      componentVerdict (nodesAt s from) c (isComplete c (nodesAt s from)) (come false false) e ≡ partOf c (isComplete c (nodesAt s from)) s e (r .part)
+  pub fits : PartFits s from (r .kept) (r .part)
 
 -- ---- behind `components`
 
-pub record BehindAt (k : ℕ) (counts had : Bool) (s : List ℕ) (from e : ℕ) (r : Judged) : Type 0 where
-  pub is : (c : List ℕ) → k ≡ placeOf c componentNames → componentVerdict (nodesAt s from) c counts (come had true) e ≡ judgedAs r
+pub record BehindAt (k : ℕ) (t : Kept) (had inner : Bool) (s : List ℕ) (from e : ℕ) (r : Judged) : Type 0 where
+  pub is : (c : List ℕ) → k ≡ placeOf c componentNames → (counts : Bool) → (had ≡ true → counts ≡ completeBy k t inner) → componentVerdict (nodesAt s from) c counts (come had true) e ≡ judgedAs r

@@ -1,30 +1,33 @@
--- The counts of a component, from its children.
---     partName      the two children of a component
+-- What is kept of the properties of a component while they are read.
+--     Counted       the tallies of properties, and the number of the word of the first ACTION
+--     actionAfter   that number behind one property more
+--     CountsOn      the contract of `count`: one property more
 use mathlib.Core.Path.{_≡_}
-use mathlib.Core.Bool.{Bool, true, false}
-use mathlib.Core.List.{List}
+use mathlib.Core.List.{List, [], _∷_}
 use Prim.Native.Nat.{ℕ}
-use Rattle.octets.specs.Ascii.{ascii}
+use lib.Dec.{eqb}
+use lib.ListN.{getD}
+use Rattle.octets.specs.Pick.{pick}
+use Rattle.octets.specs.Append.{_⊕_}
+use Rattle.octets.specs.Class.{upper}
 use Rattle.names.specs.Table.{placeOf}
-use Rattle.schema.specs.Components.{componentNames}
-use Rattle.schema.specs.Counts.{actionOf}
+use Rattle.calendar.specs.Calendar.{Property}
+use Rattle.schema.specs.Properties.{propertyNames}
+use Rattle.schema.specs.Counts.{firstText, actionOf}
+use Rattle.schema.specs.Arrays.{tallies}
 use Rattle.schema.specs.Completing.{actionNumber}
 use Rattle.xml.specs.Nodes.{Nodes}
-use Rattle.xcal.specs.PropertyNodes.{readProperties}
-use Rattle.xcal.specs.ComponentNodes.{isComplete}
+use Rattle.xcal.specs.ValueNodes.{typedValues}
+use Rattle.xcal.specs.PropertyNodes.{propertyIn}
+use Rattle.read_xml.specs.declared.Kept.{Kept}
 
--- ---- the children of a component
+pub record Counted (ps : List Property) (t : Kept) : Type 0 where
+  pub tallied : t .counts ≡ tallies ps
+  pub acting : t .action ≡ actionNumber (actionOf ps)
 
-abbrev pub partName : Bool → List ℕ
-partName true = ascii "properties"
-partName false = ascii "components"
+-- 38 is ACTION
+abbrev pub actionAfter : ℕ → Kept → Nodes → ℕ
+actionAfter p t kids = pick (eqb p 38) (pick (eqb (getD (t .counts) 38 0) 0) (actionNumber (firstText (typedValues kids))) (t .action)) (t .action)
 
--- ---- the word of the first ACTION
-
-abbrev pub actionIn : Nodes → ℕ
-actionIn kids = actionNumber (actionOf (readProperties kids))
-
--- ---- the test
-
-pub record CompleteAt (k : ℕ) (kids : Nodes) (r : Bool) : Type 0 where
-  pub is : (c : List ℕ) → k ≡ placeOf c componentNames → r ≡ isComplete c kids
+pub record CountsOn (p : ℕ) (kids : Nodes) (t r : Kept) : Type 0 where
+  pub is : (ps : List Property) (m : List ℕ) → p ≡ placeOf (upper m) propertyNames → Counted ps t → Counted (ps ⊕ (propertyIn m kids ∷ [])) r

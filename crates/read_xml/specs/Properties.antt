@@ -1,5 +1,6 @@
 -- A property's element, and the children of `properties`.
 --     PropertyAt   the contract of `property_verdict`
+--     ListedAt     the contract of `properties_verdict`: the verdict, and what is kept of them
 use mathlib.Core.Path.{_≡_}
 use mathlib.Core.Bool.{Bool, not}
 use mathlib.Core.List.{List}
@@ -11,10 +12,15 @@ use Rattle.schema.specs.Properties.{propertyNames, isKnownProperty}
 use Rattle.schema.specs.Numbers.{typeAt}
 use Rattle.xml.specs.Nodes.{Nodes}
 use Rattle.xcal.specs.ValueNodes.{typeOfNodes}
-use Rattle.xcal.specs.PropertyNodes.{lacksEncoding, propertyVerdict, propertiesVerdict}
+use Rattle.xcal.specs.PropertyNodes.{lacksEncoding, propertyVerdict, propertiesVerdict, readProperties}
 use Rattle.xml.specs.NodesAt.{nodesAt}
 use Rattle.read_xml_nodes.specs.Judging.{judgedAs}
+use Rattle.read_xml_nodes.specs.declared.Node.{Node}
 use Rattle.read_xml_nodes.specs.declared.Judged.{Judged}
+use Rattle.read_xml_nodes.specs.declared.Judged.the-variants.{Fine}
+use Rattle.read_xml.specs.Children.{nameOf}
+use Rattle.read_xml.specs.Counting.{Counted}
+use Rattle.read_xml.specs.declared.Listed.{Listed}
 
 -- ---- a value of type BINARY with no ENCODING
 
@@ -28,10 +34,11 @@ pub record OffAt (k p : ℕ) (r : Bool) : Type 0 where
 
 -- ---- the element
 
-pub record PropertyAt (k place : ℕ) (m : List ℕ) (end : ℕ) (kids : Nodes) (r : Judged) : Type 0 where
-  pub is : (c : List ℕ) → k ≡ placeOf c componentNames → propertyVerdict c place m end kids ≡ judgedAs r
+pub record PropertyAt (k : ℕ) (s : List ℕ) (at : ℕ) (n : Node) (r : Judged) : Type 0 where
+  pub is : (c : List ℕ) → k ≡ placeOf c componentNames → propertyVerdict c at (nameOf s n) (n .end) (nodesAt s (n .inside)) ≡ judgedAs r
 
 -- ---- the children of `properties`
 
-pub record ListedAt (k : ℕ) (s : List ℕ) (from : ℕ) (r : Judged) : Type 0 where
-  pub is : (c : List ℕ) → k ≡ placeOf c componentNames → propertiesVerdict c (nodesAt s from) ≡ judgedAs r
+pub record ListedAt (k : ℕ) (s : List ℕ) (from : ℕ) (r : Listed) : Type 0 where
+  pub is : (c : List ℕ) → k ≡ placeOf c componentNames → propertiesVerdict c (nodesAt s from) ≡ judgedAs (r .judged)
+  pub counted : r .judged ≡ Fine → Counted (readProperties (nodesAt s from)) (r .kept)

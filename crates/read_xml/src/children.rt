@@ -5,6 +5,7 @@ use crate::Tried;
 use names::find_word;
 use octets::is_space;
 use read_xml_nodes::Judged;
+use read_xml_nodes::Node;
 use read_xml_nodes::NodeKind;
 use read_xml_nodes::next_node;
 use read_xml_nodes::unexpected;
@@ -30,7 +31,7 @@ ghost use Rattle.read_xml_value.specs.Sequencing.{isShort};
 ghost use Rattle.xml.specs.NodesAt.{nodesAt};
 ghost use Rattle.read_xml_nodes.specs.Judging.{judgedAs};
 ghost use Rattle.read_xml_nodes.specs.declared.Judged.the-variants.{Refused};
-ghost use Rattle.read_xml.specs.Children.{childWords, slotAt, afterAt, flagsAt, hasTwo};
+ghost use Rattle.read_xml.specs.Children.{nameOf, childWords, slotAt, afterAt, flagsAt, hasTwo};
 ghost use Rattle.read_xml.specs.Turning.{afterOf, Holder, ChildAt, Turns};
 ghost use Rattle.read_xml.specs.declared.Next.the-variants.{Goes, Ends};
 
@@ -118,35 +119,23 @@ fn child_after(p: usize, slot: usize, next: usize) -> After
     After::Nowhere
 }
 
-// What stands in a child of a slot.
-fn child_inside(
-    k: usize,
-    p: usize,
-    t: usize,
-    slot: usize,
-    s: &[u8],
-    place: usize,
-    name: usize,
-    name_end: usize,
-    inside: usize,
-    end: usize,
-) -> Judged
-    requires { ⌜ (length (now s) ≤ 65535) × (inside ≤ length (now s)) ⌝ }
+// What stands in a child of a slot: its element is `n`, at `at`.
+fn child_inside(k: usize, p: usize, t: usize, slot: usize, s: &[u8], at: usize, n: Node) -> Judged
+    requires { ⌜ (length (now s) ≤ 65535) × (n .inside ≤ length (now s)) ⌝ }
     ensures { λ r. ⌜
         ((c w : List ℕ) →
         Holder k p t c w →
-        slot ≡ slotAt p (placeOf (rest 0 (take «name_end» (now (s .entry))) name) (childWords p)) →
+        slot ≡ slotAt p (placeOf (nameOf (now (s .entry)) n) (childWords p)) →
         judgedAs r
-        ≡ childVerdict c w (typeAt t) place (rest 0 (take «name_end» (now (s .entry))) name) end
-        (nodesAt (now (s .entry)) inside)) ⌝ }
+        ≡ childVerdict c w (typeAt t) at (nameOf (now (s .entry)) n) (n .end) (nodesAt (now (s .entry)) (n .inside))) ⌝ }
 {
     if slot == 0 {
-        return parameters_verdict(p, t, s, inside);
+        return parameters_verdict(p, t, s, n.inside);
     }
-    value_verdict(k, p, t, s, place, name, name_end, inside, end)
+    value_verdict(k, p, t, s, at, n.name, n.name_end, n.inside, n.end)
 }
 
-// The child of a slot at `place`, where slots before `next` have passed.
+// The child of a slot, where slots before `next` have passed: its element is `n`, at `at`.
 fn child(
     k: usize,
     p: usize,
@@ -154,29 +143,25 @@ fn child(
     slot: usize,
     next: usize,
     s: &[u8],
-    place: usize,
-    name: usize,
-    name_end: usize,
-    inside: usize,
-    end: usize,
+    at: usize,
+    n: Node,
 ) -> Tried
-    requires { ⌜ (length (now s) ≤ 65535) × (inside ≤ length (now s)) ⌝ }
+    requires { ⌜ (length (now s) ≤ 65535) × (n .inside ≤ length (now s)) ⌝ }
     ensures { λ r. ⌜
-        (slot ≡ slotAt p (placeOf (rest 0 (take «name_end» (now (s .entry))) name) (childWords p)) →
-        ChildAt k p t next place (rest 0 (take «name_end» (now (s .entry))) name) end (nodesAt (now (s .entry)) inside)
-        r) ⌝ }
+        (slot ≡ slotAt p (placeOf (nameOf (now (s .entry)) n) (childWords p)) →
+        ChildAt k p t next at (nameOf (now (s .entry)) n) (n .end) (nodesAt (now (s .entry)) (n .inside)) r) ⌝ }
 {
     let a = child_after(p, slot, next);
     match a {
         After::Slot(m) => {
-            let j = child_inside(k, p, t, slot, s, place, name, name_end, inside, end);
+            let j = child_inside(k, p, t, slot, s, at, n);
             match j {
                 Judged::Fine => Tried::Good(m),
-                Judged::Refused(n, q) => Tried::Stops(Judged::Refused(n, q)),
+                Judged::Refused(x, q) => Tried::Stops(Judged::Refused(x, q)),
             }
         }
         After::Nowhere => {
-            let j = unexpected(s, place, name, name_end);
+            let j = unexpected(s, at, n.name, n.name_end);
             Tried::Stops(j)
         }
     }
@@ -255,19 +240,7 @@ fn turn(
         }
         NodeKind::Element => {
             let slot = child_slot(p, s, n.name, n.name_end);
-            let r = child(
-                k,
-                p,
-                t,
-                slot,
-                next,
-                s,
-                at,
-                n.name,
-                n.name_end,
-                n.inside,
-                n.end,
-            );
+            let r = child(k, p, t, slot, next, s, at, n);
             match r {
                 Tried::Good(m) => {
                     let f = fills(slot, 1, first);

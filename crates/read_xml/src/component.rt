@@ -1,38 +1,58 @@
 // The children of a component, up to its `components` and behind it. See specs/Components.antt.
+use crate::Begun;
+use crate::Kept;
+use crate::Met;
 use crate::Part;
-use crate::counting::is_part;
+use crate::Which;
+use crate::counting::none_counted;
 use crate::properties::properties_verdict;
+use names::is_word;
 use octets::is_space;
 use read_xml_nodes::Judged;
+use read_xml_nodes::Node;
 use read_xml_nodes::NodeKind;
 use read_xml_nodes::next_node;
 use read_xml_nodes::unexpected;
 use refusals::COUNT;
 use refusals::FRAME;
+use schema::complete_counts;
 use schema::component;
 ghost use mathlib.Core.Path.{_≡_};
 ghost use Prim.Native.Nat.{_≤_};
-ghost use lib.ListN.{length};
-ghost use Rattle.read_xml.specs.Components.{EndAt, EndsAt, hasSubs, HeadAt, BehindAt};
+ghost use lib.ListN.{length, take};
+ghost use Rattle.octets.specs.Pick.{pick};
+ghost use Rattle.octets.specs.Words.{same};
+ghost use Rattle.source.specs.Source.{rest};
+ghost use Rattle.calendar.specs.Refusal.{COUNT, fine, refuse};
+ghost use Rattle.schema.specs.Completing.{completeAt};
+ghost use Rattle.read_xml_nodes.specs.Judging.{judgedAs};
+ghost use Rattle.read_xml.specs.Children.{nameOf};
+ghost use Rattle.read_xml.specs.Components.{partName, EndAt, EndsAt, hasSubs, WhichAt, MetAt, HeadAt, BehindAt};
 
-// At the end tag of the component of the number `k`: whether its counts are good, and `properties` and `components` have come.
-fn end_of(k: usize, counts: bool, had: bool, came: bool, e: usize) -> Judged
-    ensures { λ r. ⌜ EndAt k counts had came e r ⌝ }
+// At the end tag of the component of the number `k`, whose children are all there: its tallies are compared, and it holds a component or not.
+fn end_counts(k: usize, kept: Kept, inner: bool, e: usize) -> Judged
+    ensures { λ r. ⌜ pick (completeAt k (kept .counts) (kept .action) inner) fine (refuse COUNT e) ≡ judgedAs r ⌝ }
+{
+    let counts = kept.counts;
+    let complete = complete_counts(k, counts, kept.action, inner);
+    if complete {
+        return Judged::Fine;
+    }
+    Judged::Refused(COUNT, e)
+}
+
+// At the end tag of the component of the number `k`: whether `properties` and `components` have come, and `components` holds a component.
+fn end_of(k: usize, kept: Kept, had: bool, came: bool, inner: bool, e: usize) -> Judged
+    ensures { λ r. ⌜ EndAt k kept had came inner e r ⌝ }
 {
     if had {
         if k == component::VCALENDAR {
             if came {
-                if counts {
-                    return Judged::Fine;
-                }
-                return Judged::Refused(COUNT, e);
+                return end_counts(k, kept, inner, e);
             }
             return Judged::Refused(FRAME, e);
         }
-        if counts {
-            return Judged::Fine;
-        }
-        return Judged::Refused(COUNT, e);
+        return end_counts(k, kept, inner, e);
     }
     Judged::Refused(FRAME, e)
 }
@@ -69,73 +89,133 @@ fn has_subs(k: usize) -> bool
     k == component::VTIMEZONE
 }
 
-// The component of the number `k`, with good counts or not, up to its `components`, or to its end tag at `e`.
-pub fn head(k: usize, counts: bool, s: &[u8], inside: usize, e: usize) -> Part
+// The name is `properties`, or else `components`.
+fn is_part(properties: bool, s: &[u8], name: usize, name_end: usize) -> bool
+    requires { ⌜ «name_end» ≤ length (now s) ⌝ }
+    ensures { λ r. ⌜ r ≡ same (rest 0 (take «name_end» (now (s .entry))) name) (partName properties) ⌝ }
+{
+    if properties {
+        return is_word(0, &s[..name_end], name, b"properties");
+    }
+    is_word(0, &s[..name_end], name, b"components")
+}
+
+// Which child of the component of the number `k` the element `n` is, before its `components`; `properties` has come or not.
+fn which_child(k: usize, had: bool, s: &[u8], n: Node) -> Which
+    requires { ⌜ n .«name_end» ≤ length (now s) ⌝ }
+    ensures { λ r. ⌜ WhichAt k had (nameOf (now (s .entry)) n) r ⌝ }
+{
+    let properties = is_part(true, s, n.name, n.name_end);
+    if properties {
+        if had {
+            return Which::Other;
+        }
+        return Which::Properties;
+    }
+    let components = is_part(false, s, n.name, n.name_end);
+    if components {
+        let subs = has_subs(k);
+        if subs {
+            return Which::Components;
+        }
+        return Which::Other;
+    }
+    Which::Other
+}
+
+// What stands at `at` in the component of the number `k`, before its `components`; `properties` has come or not.
+fn child_at(k: usize, had: bool, s: &[u8], at: usize) -> Met
+    ensures { λ r. ⌜ MetAt k had (now (s .entry)) at r ⌝ }
+{
+    let n = next_node(s, at);
+    let kind = n.kind;
+    match kind {
+        NodeKind::None => Met::End,
+        NodeKind::Element => {
+            let which = which_child(k, had, s, n);
+            match which {
+                Which::Properties => Met::Properties(n.inside, n.next),
+                Which::Components => Met::Components(n.inside, n.end, n.next),
+                Which::Other => {
+                    let j = unexpected(s, at, n.name, n.name_end);
+                    Met::Stops(j)
+                }
+            }
+        }
+        NodeKind::Literal => {
+            let space = is_space(n.unit);
+            if space {
+                return Met::Past(n.next);
+            }
+            let j = Judged::Refused(FRAME, at);
+            Met::Stops(j)
+        }
+        NodeKind::Referred => {
+            let j = Judged::Refused(FRAME, at);
+            Met::Stops(j)
+        }
+    }
+}
+
+// The component of the number `k`, up to its `components`, or to its end tag at `e`.
+pub fn head(k: usize, s: &[u8], inside: usize, e: usize) -> Begun
     requires { ⌜ length (now s) ≤ 65535 ⌝ }
-    ensures { λ r. ⌜ HeadAt k counts (now (s .entry)) inside e r ⌝ }
+    ensures { λ r. ⌜ HeadAt k (now (s .entry)) inside e r ⌝ }
 {
     let mut at = inside;
     let mut had = false;
+    let mut kept = none_counted();
     loop {
-        let n = next_node(s, at);
-        let kind = n.kind;
-        match kind {
-            NodeKind::None => {
-                let j = end_of(k, counts, had, false, e);
-                return Part::Ends(j);
+        let m = child_at(k, had, s, at);
+        match m {
+            Met::End => {
+                let j = end_of(k, kept, had, false, false, e);
+                let part = Part::Ends(j);
+                return Begun { part, kept };
             }
-            NodeKind::Element => {
-                let properties = is_part(true, s, n.name, n.name_end);
-                if properties {
-                    if had {
-                        let j = unexpected(s, at, n.name, n.name_end);
-                        return Part::Ends(j);
+            Met::Past(d) => {
+                at = d;
+            }
+            Met::Properties(q, d) => {
+                let l = properties_verdict(k, s, q);
+                let j = l.judged;
+                match j {
+                    Judged::Fine => {
+                        let all = l.kept;
+                        kept = all;
+                        had = true;
+                        at = d;
                     }
-                    let j = properties_verdict(k, s, n.inside);
-                    match j {
-                        Judged::Fine => {
-                            had = true;
-                            at = n.next;
-                        }
-                        Judged::Refused(x, y) => {
-                            let v = Judged::Refused(x, y);
-                            return Part::Ends(v);
-                        }
+                    Judged::Refused(x, y) => {
+                        let v = Judged::Refused(x, y);
+                        let part = Part::Ends(v);
+                        return Begun { part, kept };
                     }
-                } else {
-                    let components = is_part(false, s, n.name, n.name_end);
-                    if components {
-                        let subs = has_subs(k);
-                        if subs {
-                            return Part::Opens(n.inside, n.end, n.next, had);
-                        }
-                        let j = unexpected(s, at, n.name, n.name_end);
-                        return Part::Ends(j);
-                    }
-                    let j = unexpected(s, at, n.name, n.name_end);
-                    return Part::Ends(j);
                 }
             }
-            NodeKind::Literal => {
-                let space = is_space(n.unit);
-                if space {
-                    at = n.next;
-                } else {
-                    let v = Judged::Refused(FRAME, at);
-                    return Part::Ends(v);
-                }
+            Met::Components(q, x, d) => {
+                let part = Part::Opens(q, x, d, had);
+                return Begun { part, kept };
             }
-            NodeKind::Referred => {
-                let v = Judged::Refused(FRAME, at);
-                return Part::Ends(v);
+            Met::Stops(j) => {
+                let part = Part::Ends(j);
+                return Begun { part, kept };
             }
         }
     }
 }
 
-// The component's children behind its `components`, up to its end tag at `e`.
-pub fn behind(k: usize, counts: bool, had: bool, s: &[u8], from: usize, e: usize) -> Judged
-    ensures { λ r. ⌜ BehindAt k counts had (now (s .entry)) from e r ⌝ }
+// The component's children behind its `components`, which holds a component or not, up to its end tag at `e`.
+pub fn behind(
+    k: usize,
+    kept: Kept,
+    had: bool,
+    inner: bool,
+    s: &[u8],
+    from: usize,
+    e: usize,
+) -> Judged
+    ensures { λ r. ⌜ BehindAt k kept had inner (now (s .entry)) from e r ⌝ }
 {
     let mut at = from;
     loop {
@@ -143,7 +223,7 @@ pub fn behind(k: usize, counts: bool, had: bool, s: &[u8], from: usize, e: usize
         let kind = n.kind;
         match kind {
             NodeKind::None => {
-                return end_of(k, counts, had, true, e);
+                return end_of(k, kept, had, true, inner, e);
             }
             NodeKind::Element => {
                 return unexpected(s, at, n.name, n.name_end);

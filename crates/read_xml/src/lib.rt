@@ -10,7 +10,6 @@ mod root;
 mod subcomponents;
 mod word;
 
-pub use properties::property_verdict;
 pub use root::root_verdict;
 
 // The slot after a child, or that it has no place.
@@ -31,10 +30,45 @@ pub enum Next {
     Ends(Judged),
 }
 
+// What is kept of the properties of a component up to its end tag: how often each known one has come, and the number of the word of the first ACTION.
+pub struct Kept {
+    pub counts: [u8; 46],
+    pub action: usize,
+}
+
+// The verdict on the children of `properties`; where it is fine, what is kept of them.
+pub struct Listed {
+    pub judged: Judged,
+    pub kept: Kept,
+}
+
+// Which of a component's two children an element is, where it may stand; or another element.
+pub enum Which {
+    Properties,
+    Components,
+    Other,
+}
+
+// What stands next in a component before its `components`: nothing; white space, and the place behind it; `properties`: where its content begins, and the place behind it;
+// `components`: where its content begins, the place of its end tag, and the place behind it; or the refusal.
+pub enum Met {
+    End,
+    Past(usize),
+    Properties(usize, usize),
+    Components(usize, usize, usize),
+    Stops(Judged),
+}
+
 // The verdict on a component; or its `components`: where its content begins, the place of its end tag, the place behind it, and whether `properties` came before it.
 pub enum Part {
     Ends(Judged),
     Opens(usize, usize, usize, bool),
+}
+
+// A component up to its `components`, and what is kept of its properties.
+pub struct Begun {
+    pub part: Part,
+    pub kept: Kept,
 }
 
 // The number of a component that may stand where it does; or another element.
@@ -43,10 +77,15 @@ pub enum Numbered {
     Other,
 }
 
-// The verdict; or where the children of `components` go on, and whether a component has come; or a component with `components` of its own: its number, whether its counts are good,
-// whether it has `properties`; where the content of its `components` begins, the end tag and the place behind it; its own end tag, and the place behind it.
+// The verdict on the rest of `components`; or white space, and the place behind it; or a component: its number, where its content begins, the place of its end tag, and the place behind it.
 pub enum Sub {
     Done(Judged),
-    Past(usize, bool),
-    Deep(usize, bool, bool, usize, usize, usize, usize, usize),
+    Past(usize),
+    Begins(usize, usize, usize, usize),
+}
+
+// `components` is fine, and whether it holds a component; or the number of a refusal and its place.
+pub enum Held {
+    Holds(bool),
+    Fails(u8, usize),
 }

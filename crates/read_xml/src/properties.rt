@@ -1,10 +1,14 @@
 // A property's element, and the children of `properties`. See crate xcal, specs/PropertyNodes.antt.
+use crate::Listed;
 use crate::children::child_slot;
 use crate::children::children_verdict;
+use crate::counting::count;
+use crate::counting::none_counted;
 use names::is_word;
 use octets::is_space;
 use read_text_line::is_carried_name;
 use read_xml_nodes::Judged;
+use read_xml_nodes::Node;
 use read_xml_nodes::NodeKind;
 use read_xml_nodes::has_capital;
 use read_xml_nodes::next_node;
@@ -21,11 +25,13 @@ ghost use mathlib.Core.Path.{_≡_};
 ghost use mathlib.Core.List.{List};
 ghost use Prim.Native.Nat.{ℕ, _≤_};
 ghost use lib.ListN.{length, take};
+ghost use Rattle.octets.specs.Class.{upper};
 ghost use Rattle.source.specs.Source.{rest};
 ghost use Rattle.names.specs.Table.{placeOf};
 ghost use Rattle.schema.specs.Properties.{propertyNames};
 ghost use Rattle.xcal.specs.PropertyNodes.{badName, parametersIn};
 ghost use Rattle.xml.specs.NodesAt.{nodesAt};
+ghost use Rattle.read_xml.specs.Children.{nameOf};
 ghost use Rattle.read_xml.specs.Properties.{LacksAt, OffAt, PropertyAt, ListedAt};
 
 // Where the content begins of the `parameters` of the property of the number `p` that stands before its value; the end of the bytes where it has none.
@@ -112,58 +118,64 @@ fn is_misplaced(k: usize, p: usize) -> bool
     false
 }
 
-// A property in the component of the number `k`: its start tag is at `place`, its name stands from `name` to `name_end`, its content begins at `inside`, its end tag is at `end`.
-pub fn property_verdict(
-    k: usize,
-    s: &[u8],
-    place: usize,
-    name: usize,
-    name_end: usize,
-    inside: usize,
-    end: usize,
-) -> Judged
-    requires { ⌜ (length (now s) ≤ 65535) × («name_end» ≤ length (now s)) ⌝ }
-    ensures { λ r. ⌜
-        PropertyAt k place (rest 0 (take «name_end» (now (s .entry))) name) end (nodesAt (now (s .entry)) inside) r ⌝ }
+// The number of the property whose element is `n`.
+fn property_at(s: &[u8], n: Node) -> usize
+    requires { ⌜ n .«name_end» ≤ length (now s) ⌝ }
+    ensures { λ r. ⌜ r ≡ placeOf (upper (nameOf (now (s .entry)) n)) propertyNames ⌝ }
 {
-    let bad = bad_name(s, name, name_end);
-    if bad {
-        return Judged::Refused(NAME, place);
-    }
-    let p = property_number(0, &s[..name_end], name);
-    let off = is_misplaced(k, p);
-    if off {
-        return Judged::Refused(FRAME, place);
-    }
-    let t = type_of_nodes(p, s, inside);
-    let lacks = lacks_encoding(p, t, s, inside);
-    if lacks {
-        return Judged::Refused(PARAMETER, place);
-    }
-    children_verdict(k, p, t, s, inside, end)
+    let name_end = n.name_end;
+    property_number(0, &s[..name_end], n.name)
 }
 
-// The children of the `properties` of a component of the number `k`.
-pub fn properties_verdict(k: usize, s: &[u8], inside: usize) -> Judged
+// The property of the number `p` in the component of the number `k`: its element is `n`, at `at`.
+fn property_verdict(k: usize, p: usize, s: &[u8], at: usize, n: Node) -> Judged
+    requires { ⌜ (length (now s) ≤ 65535) × (n .«name_end» ≤ length (now s)) ⌝ }
+    ensures { λ r. ⌜
+        (p ≡ placeOf (upper (nameOf (now (s .entry)) n)) propertyNames → PropertyAt k (now (s .entry)) at n r) ⌝ }
+{
+    let bad = bad_name(s, n.name, n.name_end);
+    if bad {
+        return Judged::Refused(NAME, at);
+    }
+    let off = is_misplaced(k, p);
+    if off {
+        return Judged::Refused(FRAME, at);
+    }
+    let t = type_of_nodes(p, s, n.inside);
+    let lacks = lacks_encoding(p, t, s, n.inside);
+    if lacks {
+        return Judged::Refused(PARAMETER, at);
+    }
+    children_verdict(k, p, t, s, n.inside, n.end)
+}
+
+// The children of the `properties` of a component of the number `k`, and what is kept of them.
+pub fn properties_verdict(k: usize, s: &[u8], inside: usize) -> Listed
     requires { ⌜ length (now s) ≤ 65535 ⌝ }
     ensures { λ r. ⌜ ListedAt k (now (s .entry)) inside r ⌝ }
 {
     let mut at = inside;
+    let mut kept = none_counted();
     loop {
         let n = next_node(s, at);
         let kind = n.kind;
         match kind {
             NodeKind::None => {
-                return Judged::Fine;
+                let judged = Judged::Fine;
+                return Listed { judged, kept };
             }
             NodeKind::Element => {
-                let j = property_verdict(k, s, at, n.name, n.name_end, n.inside, n.end);
+                let p = property_at(s, n);
+                let j = property_verdict(k, p, s, at, n);
                 match j {
                     Judged::Fine => {
+                        let more = count(kept, p, s, n.inside);
+                        kept = more;
                         at = n.next;
                     }
                     Judged::Refused(x, y) => {
-                        return Judged::Refused(x, y);
+                        let judged = Judged::Refused(x, y);
+                        return Listed { judged, kept };
                     }
                 }
             }
@@ -172,11 +184,13 @@ pub fn properties_verdict(k: usize, s: &[u8], inside: usize) -> Judged
                 if space {
                     at = n.next;
                 } else {
-                    return Judged::Refused(FRAME, at);
+                    let judged = Judged::Refused(FRAME, at);
+                    return Listed { judged, kept };
                 }
             }
             NodeKind::Referred => {
-                return Judged::Refused(FRAME, at);
+                let judged = Judged::Refused(FRAME, at);
+                return Listed { judged, kept };
             }
         }
     }

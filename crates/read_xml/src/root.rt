@@ -1,9 +1,5 @@
-// A whole component, the calendars of a document, and its root. See crate xcal, specs/ComponentNodes.antt.
-use crate::Part;
-use crate::component::behind;
-use crate::component::head;
-use crate::counting::is_complete;
-use crate::subcomponents::components_verdict;
+// The calendars of a document, and its root. See crate xcal, specs/ComponentNodes.antt.
+use crate::subcomponents::component_verdict;
 use names::is_word;
 use octets::is_space;
 use read_xml_nodes::Judged;
@@ -18,26 +14,7 @@ ghost use lib.ListN.{length, take};
 ghost use Rattle.octets.specs.Ascii.{ascii};
 ghost use Rattle.octets.specs.Words.{same};
 ghost use Rattle.source.specs.Source.{rest};
-ghost use Rattle.read_xml.specs.Roots.{ComponentAt, StreamAt, RootAt};
-
-// The component of the number `k` whose content begins at `inside`, and whose end tag is at `end`.
-fn component_verdict(k: usize, s: &[u8], inside: usize, end: usize) -> Judged
-    requires { ⌜ length (now s) ≤ 65535 ⌝ }
-    ensures { λ r. ⌜ ComponentAt k (now (s .entry)) inside end r ⌝ }
-{
-    let counts = is_complete(k, s, inside);
-    let h = head(k, counts, s, inside, end);
-    match h {
-        Part::Ends(j) => j,
-        Part::Opens(q, x, after, had) => {
-            let r = components_verdict(s, q, k, x);
-            match r {
-                Judged::Fine => behind(k, counts, had, s, after, end),
-                Judged::Refused(f, y) => Judged::Refused(f, y),
-            }
-        }
-    }
-}
+ghost use Rattle.read_xml.specs.Roots.{StreamAt, RootAt};
 
 // The name is `vcalendar`.
 fn is_calendar(s: &[u8], name: usize, name_end: usize) -> bool
@@ -67,7 +44,7 @@ fn stream_verdict(s: &[u8], inside: usize, e: usize) -> Judged
             NodeKind::Element => {
                 let calendar = is_calendar(s, n.name, n.name_end);
                 if calendar {
-                    let j = component_verdict(component::VCALENDAR, s, n.inside, n.end);
+                    let j = component_verdict(s, n.inside, component::VCALENDAR, n.end);
                     match j {
                         Judged::Fine => {
                             any = true;

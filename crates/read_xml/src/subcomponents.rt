@@ -1,11 +1,11 @@
-// The children of `components`. See specs/Subcomponents.antt.
+// A whole component, and the children of `components`. See specs/Subcomponents.antt.
+use crate::Held;
 use crate::Numbered;
 use crate::Part;
 use crate::Sub;
 use crate::component::behind;
 use crate::component::end_components;
 use crate::component::head;
-use crate::counting::is_complete;
 use octets::is_space;
 use read_xml_nodes::Judged;
 use read_xml_nodes::NodeKind;
@@ -18,7 +18,7 @@ use schema::may_begin;
 ghost use Prim.Native.Nat.{_≤_};
 ghost use lib.ListN.{length, take};
 ghost use Rattle.source.specs.Source.{rest};
-ghost use Rattle.read_xml.specs.Subcomponents.{NumberedAt, InnerAt, SubAt, CompsAt};
+ghost use Rattle.read_xml.specs.Subcomponents.{NumberedAt, SubAt, ComponentAt, CompsAt};
 
 // The number of the component of a name, where it may stand in the component of the number `k`.
 fn sub_number(k: usize, s: &[u8], name: usize, name_end: usize) -> Numbered
@@ -37,25 +37,8 @@ fn sub_number(k: usize, s: &[u8], name: usize, name_end: usize) -> Numbered
     Numbered::Other
 }
 
-// The component of the number `n`: its content begins at `inside`, its end tag is at `end`, and `next` is the place behind it.
-fn sub_component(n: usize, s: &[u8], inside: usize, end: usize, next: usize) -> Sub
-    requires { ⌜ length (now s) ≤ 65535 ⌝ }
-    ensures { λ r. ⌜ InnerAt n (now (s .entry)) inside end next r ⌝ }
-{
-    let counts = is_complete(n, s, inside);
-    let h = head(n, counts, s, inside, end);
-    match h {
-        Part::Ends(j) => match j {
-            Judged::Fine => Sub::Past(next, true),
-            Judged::Refused(x, y) => Sub::Done(Judged::Refused(x, y)),
-        },
-        Part::Opens(q, x, after, had) => Sub::Deep(n, counts, had, q, x, after, end, next),
-    }
-}
-
 // One node of the `components` of a component of the number `k`, at `at`.
 fn sub_at(k: usize, s: &[u8], at: usize, any: bool, e: usize) -> Sub
-    requires { ⌜ length (now s) ≤ 65535 ⌝ }
     ensures { λ r. ⌜ SubAt k (now (s .entry)) e at any r ⌝ }
 {
     let n = next_node(s, at);
@@ -68,7 +51,7 @@ fn sub_at(k: usize, s: &[u8], at: usize, any: bool, e: usize) -> Sub
         NodeKind::Element => {
             let t = sub_number(k, s, n.name, n.name_end);
             match t {
-                Numbered::Number(m) => sub_component(m, s, n.inside, n.end, n.next),
+                Numbered::Number(m) => Sub::Begins(m, n.inside, n.end, n.next),
                 Numbered::Other => {
                     let j = unexpected(s, at, n.name, n.name_end);
                     Sub::Done(j)
@@ -78,7 +61,7 @@ fn sub_at(k: usize, s: &[u8], at: usize, any: bool, e: usize) -> Sub
         NodeKind::Literal => {
             let space = is_space(n.unit);
             if space {
-                return Sub::Past(n.next, any);
+                return Sub::Past(n.next);
             }
             let j = Judged::Refused(FRAME, at);
             Sub::Done(j)
@@ -90,8 +73,30 @@ fn sub_at(k: usize, s: &[u8], at: usize, any: bool, e: usize) -> Sub
     }
 }
 
+// The component of the number `k` whose content begins at `inside`, and whose end tag is at `e`.
+pub fn component_verdict(s: &[u8], inside: usize, k: usize, e: usize) -> Judged
+    requires { ⌜ length (now s) ≤ 65535 ⌝ }
+    ensures { λ r. ⌜ ComponentAt k (now (s .entry)) inside e r ⌝ }
+{
+    let h = head(k, s, inside, e);
+    let part = h.part;
+    match part {
+        Part::Ends(j) => j,
+        Part::Opens(q, x, after, had) => {
+            let r = components_verdict(s, q, k, x);
+            match r {
+                Held::Holds(inner) => {
+                    let kept = h.kept;
+                    behind(k, kept, had, inner, s, after, e)
+                }
+                Held::Fails(f, y) => Judged::Refused(f, y),
+            }
+        }
+    }
+}
+
 // The children of the `components` of a component of the number `k`, whose content begins at `inside`, and whose end tag is at `e`.
-pub fn components_verdict(s: &[u8], inside: usize, k: usize, e: usize) -> Judged
+fn components_verdict(s: &[u8], inside: usize, k: usize, e: usize) -> Held
     requires { ⌜ length (now s) ≤ 65535 ⌝ }
     ensures { λ r. ⌜ CompsAt k (now (s .entry)) inside e r ⌝ }
 {
@@ -100,20 +105,19 @@ pub fn components_verdict(s: &[u8], inside: usize, k: usize, e: usize) -> Judged
     loop {
         let t = sub_at(k, s, at, any, e);
         match t {
-            Sub::Done(j) => return j,
-            Sub::Past(d, a) => {
-                any = a;
+            Sub::Done(j) => match j {
+                Judged::Fine => return Held::Holds(any),
+                Judged::Refused(f, p) => return Held::Fails(f, p),
+            },
+            Sub::Past(d) => {
                 at = d;
             }
-            Sub::Deep(n, counts, had, q, x, after, z, d) => match components_verdict(s, q, n, x) {
-                Judged::Fine => match behind(n, counts, had, s, after, z) {
-                    Judged::Fine => {
-                        any = true;
-                        at = d;
-                    }
-                    Judged::Refused(f, p) => return Judged::Refused(f, p),
-                },
-                Judged::Refused(f, p) => return Judged::Refused(f, p),
+            Sub::Begins(n, q, z, d) => match component_verdict(s, q, n, z) {
+                Judged::Fine => {
+                    any = true;
+                    at = d;
+                }
+                Judged::Refused(f, p) => return Held::Fails(f, p),
             },
         }
     }

@@ -14,9 +14,7 @@ use Rattle.text.specs.Nesting.{begins, ends, states, namesCarried, moveB
 use Rattle.text.specs.Tree.{entryBy, entryOf, ownOf, innerOf, calendarOf}
 use Rattle.text.specs.ReadText.{linesVerdict, keptVerdict, placed, textVerdict, readCalendar}
 use Rattle.text.specs.WriteText.{withValue, contentLineOf, propertyLines, writeCalendar}
-use Rattle.text.specs.LineLaws.{isLineProperty}
-use Rattle.text.specs.ValidCalendar.{isStated}
 
 unfoldable pub ical-compute : ℕ
-unfolding octets-compute _otherwise_ folding-compute utf8-compute schema-compute values-compute lines-compute readParamValue readParameter statedType ownParameters parametersGood readValues faultAs propertyOf begins ends states namesCarried moveBy moveOf onward ended nesting entryBy entryOf ownOf innerOf calendarOf linesVerdict keptVerdict placed textVerdict readCalendar withValue contentLineOf propertyLines writeCalendar isLineProperty isStated
+unfolding octets-compute _otherwise_ folding-compute utf8-compute schema-compute values-compute lines-compute readParamValue readParameter statedType ownParameters parametersGood readValues faultAs propertyOf begins ends states namesCarried moveBy moveOf onward ended nesting entryBy entryOf ownOf innerOf calendarOf linesVerdict keptVerdict placed textVerdict readCalendar withValue contentLineOf propertyLines writeCalendar
 ical-compute = 0

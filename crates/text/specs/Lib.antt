@@ -7,8 +7,6 @@
 --     Tree                the components that the lines state
 --     ReadText            the answer for a text
 --     WriteText           the canonical text of a calendar
---     LineLaws            the bytes of a property's line are read back
---     ValidCalendar       a calendar that a text can state
 --     Computing           opens all of these, for examples that compute
 --     laws                laws of these, and what proofs need
 pub mod Parameters
@@ -19,7 +17,5 @@ pub mod LineKind
 pub mod Tree
 pub mod ReadText
 pub mod WriteText
-pub mod LineLaws
-pub mod ValidCalendar
 pub mod Computing
 pub mod laws

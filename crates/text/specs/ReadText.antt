@@ -2,7 +2,6 @@
 --     textVerdict    refusals 1, 2 and 3 in this order, then the first faulty line
 --     readCalendar   the answer
 use mathlib.Core.List.{List, [], _∷_}
-use mathlib.Core.Option.{Option, none, some}
 use Prim.Native.Nat.{ℕ}
 use lib.Dec.{leb}
 use lib.ListN.{length}

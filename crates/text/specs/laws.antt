@@ -8,7 +8,6 @@
 --     LineLaws            the bytes of a property's line are read back
 --     Pieces              a text in pieces
 --     AcceptedLine        what is read can be written as a line
---     ValidCalendar       a calendar that a text can state
 --     TreeBack            the lines of a calendar state it
 --     Turned              the properties of a component, the last first
 --     NestingBack         the lines of a calendar are not refused
@@ -17,8 +16,8 @@
 --     TextBack            the text of a calendar is read back as that calendar
 --     GoodPieces          the pieces of a text are well formed
 --     AcceptedCharacters  the characters of what a line states
---     AcceptedTree        what lines state that are not refused is a calendar of the schema
---     AcceptedText        what an accepted text states is one
+--     AcceptedTree        what lines state that are not refused is a valid calendar
+--     AcceptedText        what an accepted text states is a valid calendar
 pub mod LineKind
 pub mod ParameterLaws
 pub mod ValuesLaws
@@ -28,7 +27,6 @@ pub mod AcceptedProperty
 pub mod LineLaws
 pub mod Pieces
 pub mod AcceptedLine
-pub mod ValidCalendar
 pub mod TreeBack
 pub mod Turned
 pub mod NestingBack

@@ -8,7 +8,7 @@ use mathlib.Core.List.{List}
 use Prim.Native.Nat.{ℕ, _≤_}
 use lib.ListN.{length}
 use Rattle.calendar.specs.Calendar.{Calendar}
-use Rattle.calendar.specs.Refusal.{accepted, limit}
+use Rattle.calendar.specs.Refusal.{limit}
 use Rattle.text.specs.ReadText.{readCalendar}
 use Rattle.text.specs.WriteText.{writeCalendar}
 use Rattle.text.specs.laws.TextBack.{text-back}
@@ -16,7 +16,6 @@ use Rattle.xcal.specs.WriteXml.{writeDocument}
 use Rattle.xcal.specs.ReadDocument.{readDocument}
 use Rattle.xcal.specs.laws.DocumentAccepted.{document-accepted}
 use Rattle.calls.specs.ToText.{toText}
-use Rattle.theorems.specs.laws.BridgeBack.{valid-stated}
 use Rattle.theorems.specs.Calls.{Call, isAccepted, xmlOf, States, TextCall, isTextAccepted, textOf, StatesXml}
 use Rattle.theorems.specs.laws.Calls.{written-read, states-accepted, accepted-same}
 use Rattle.theorems.specs.ThereAndBack.{within-too, there-and-back}
@@ -28,9 +27,7 @@ text-is t c h s =
     r .bytes ∙ ap writeCalendar (accepted-same (r .calendar) c (sym (r .states) ∙ s))
 
 text-states : (t : TextCall) (c : Calendar) (k : Call) → StatesXml t c → k .input ≡ writeCalendar c → length (writeCalendar c) ≤ limit → length (writeCalendar c) ≤ length (k .work) → States k c
-text-states t c k s i l w =
-    let v = valid-stated c (document-accepted (t .input) c s) in
-    ap (λ (x : List ℕ). readCalendar x (length (k .work))) i ∙ text-back c (length (k .work)) (v .0) (v .1) l w
+text-states t c k s i l w = ap (λ (x : List ℕ). readCalendar x (length (k .work))) i ∙ text-back c (length (k .work)) (document-accepted (t .input) c s) l w
 
 pub back-and-there : (t : TextCall) (c : Calendar) → isTextAccepted t ≡ true → StatesXml t c → length (textOf t) ≤ limit →
     (k : Call) → k .input ≡ textOf t → length (textOf t) ≤ length (k .work) → length (writeDocument c) ≤ length (k .output) →

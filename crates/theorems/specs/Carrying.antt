@@ -10,7 +10,6 @@ use mathlib.Core.List.{List, [], _∷_, map}
 use Prim.Native.Nat.{ℕ}
 use Rattle.octets.specs.Pick.{pick}
 use Rattle.octets.specs.Append.{_⊕_, joined}
-use Rattle.calendar.specs.Calendar.{Calendar}
 use Rattle.calendar.specs.Refusal.{accepted}
 use Rattle.xcal.specs.WriteXml.{writeDocument}
 use Rattle.theorems.specs.laws.Injective.{document-unique, document-same, document-whole, document-some}

@@ -19,7 +19,6 @@ use Rattle.xcal.specs.laws.DocumentBack.{document-back}
 use Rattle.calls.specs.Conversion.{result, converted}
 use Rattle.calls.specs.ToXml.{toXml}
 use Rattle.calls.specs.ToText.{toText}
-use Rattle.theorems.specs.laws.Bridge.{stated-valid}
 use Rattle.theorems.specs.Calls.{Call, isAccepted, xmlOf, States, TextCall, isTextAccepted, textOf}
 use Rattle.theorems.specs.laws.Calls.{result-given, given, states-one}
 
@@ -34,9 +33,8 @@ xml-is k c h s = let g = given k h in g .xml ∙ ap writeDocument (states-one k 
 document-text : (k : Call) (c : Calendar) (s : List ℕ) → States k c → s ≡ writeDocument c → length s ≤ limit → toText s ≡ result (writeCalendar c)
 unfolding toText
 document-text k c s t e l =
-    let v = accepted-valid (k .input) (length (k .work)) c t in
     ap (λ (x : List ℕ). converted writeCalendar (readDocument x)) e
-    ∙ ap (converted writeCalendar) (document-back c (stated-valid c (v .0) (v .1)) (within-too s (writeDocument c) limit e l))
+    ∙ ap (converted writeCalendar) (document-back c (accepted-valid (k .input) (length (k .work)) c t) (within-too s (writeDocument c) limit e l))
 
 text-document : (k : Call) (c : Calendar) (s : List ℕ) (room : ℕ) → States k c → s ≡ writeCalendar c → length s ≤ limit → length s ≤ room → toXml s room ≡ result (writeDocument c)
 unfolding toXml

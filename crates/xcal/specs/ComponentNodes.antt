@@ -3,14 +3,14 @@
 --     rootVerdict                           the verdict on the root element
 --     readComponents                        the components that elements state
 use mathlib.Core.Bool.{Bool, true, false, not}
-use mathlib.Core.List.{List, [], _∷_}
+use mathlib.Core.List.{List}
 use Prim.Native.Nat.{ℕ}
 use Rattle.octets.specs.Ascii.{ascii}
 use Rattle.octets.specs.Pick.{pick, _and_, _or_}
 use Rattle.octets.specs.Class.{upper, isSpace}
 use Rattle.octets.specs.Words.{same, isOneOf, isEmpty}
 use Rattle.calendar.specs.Calendar.{Components, noMore, component}
-use Rattle.calendar.specs.Refusal.{NAME, FRAME, COUNT, Verdict, fine, refuse, _otherwise_}
+use Rattle.calendar.specs.Refusal.{FRAME, COUNT, Verdict, fine, refuse, _otherwise_}
 use Rattle.schema.specs.Components.{subcomponentsOf}
 use Rattle.schema.specs.Counts.{complete}
 use Rattle.xml.specs.Nodes.{Nodes, noNodes, element, literal, referred, hasElement}

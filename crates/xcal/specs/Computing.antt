@@ -14,16 +14,7 @@ use Rattle.xcal.specs.PropertyNodes.{parametersIn, propertyVerdict, prop
 use Rattle.xcal.specs.ComponentNodes.{insideOf, endOfComponent, endOfComponents, componentVerdict, componentsVerdict, streamVerdict, rootVerdict, readComponents, readInner, readRoot}
 use Rattle.xcal.specs.ReadDocument.{documentVerdict, readDocument}
 use Rattle.xcal.specs.WriteXml.{itemsXml, partsXml, valueXml, valuesXml, parameterXml, parametersXml, propertyXml, propertiesXml, componentsElement, componentsXml, writeDocument}
-use Rattle.xcal.specs.Contents.{itemsBefore, partsBefore, inside, valueBefore, valuesBefore, parametersBefore, propertiesBefore, componentsPart, calendarContent}
-use Rattle.xcal.specs.ParametersBack.{isCarriedParameter}
-use Rattle.xcal.specs.PropertiesBack.{isCarriedProperty}
-use Rattle.xcal.specs.ComponentsBack.{areCarried, areAllCalendars}
-use Rattle.xcal.specs.SoundContent.{isClean, isSound}
-use Rattle.xcal.specs.Carried.{areClean, isValid}
-use Rattle.xcal.specs.Accepted.{allChildren, comes}
-use Rattle.xcal.specs.GoodNodes.{isGood}
-use Rattle.xcal.specs.GoodMarks.{isGoodMark, areGoodMarks}
 
 unfoldable pub xcal-compute : ℕ
-unfolding octets-compute _otherwise_ utf8-compute schema-compute lines-compute values-compute xml-compute hasCapital lacks sequence innerElement elementType firstType typeOfNodes periodInside recurInside typedVerdict valueVerdict childNamed itemsOf partsOf valueOf typedValues readValueNodes readParamNode readParamNodes hasEncoding parameterVerdict parametersVerdict readParameterNodes parametersIn propertyVerdict propertiesVerdict readProperties insideOf endOfComponent endOfComponents componentVerdict componentsVerdict streamVerdict rootVerdict readComponents readInner readRoot documentVerdict readDocument itemsXml partsXml valueXml valuesXml parameterXml parametersXml propertyXml propertiesXml componentsElement componentsXml writeDocument itemsBefore partsBefore inside valueBefore valuesBefore parametersBefore propertiesBefore componentsPart calendarContent isCarriedParameter isCarriedProperty areCarried areAllCalendars isClean isSound areClean isValid allChildren comes isGood isGoodMark areGoodMarks
+unfolding octets-compute _otherwise_ utf8-compute schema-compute lines-compute values-compute xml-compute hasCapital lacks sequence innerElement elementType firstType typeOfNodes periodInside recurInside typedVerdict valueVerdict childNamed itemsOf partsOf valueOf typedValues readValueNodes readParamNode readParamNodes hasEncoding parameterVerdict parametersVerdict readParameterNodes parametersIn propertyVerdict propertiesVerdict readProperties insideOf endOfComponent endOfComponents componentVerdict componentsVerdict streamVerdict rootVerdict readComponents readInner readRoot documentVerdict readDocument itemsXml partsXml valueXml valuesXml parameterXml parametersXml propertyXml propertiesXml componentsElement componentsXml writeDocument
 xcal-compute = 0

@@ -1,62 +1,16 @@
--- Calendars that can be carried to XML and back, and ones that cannot.
---     rota          a calendar with an event: each way in which values are spelled in XML
---     rota-valid, rota-back
---     variants      small changes to an event, and whether the calendar is still valid
+-- A calendar that is written as a document is read back from it.
+--     rota-back
 use mathlib.Core.Path.{_≡_, refl}
-use mathlib.Core.Bool.{true, false}
-use mathlib.Core.List.{List, [], _∷_, map}
-use mathlib.Core.Option.{none, some}
-use Prim.Native.Nat.{ℕ}
+use mathlib.Core.Bool.{true}
 use lib.ListN.{length}
 use lib.Dec.{leb}
 use borrow.Author.Tests.{leb-true}
-use Rattle.octets.specs.Ascii.{ascii}
-use Rattle.calendar.specs.Calendar.{moment, word, weekday, Value, binary, boolean, calAddress, date, dateTime, integer, periodStart, recur, text, uri, unknown, geo, requestStatus, Parameter, Property, Components, noMore, component}
 use Rattle.calendar.specs.Refusal.{accepted}
+use Rattle.validity.specs.Examples.{rota, rota-valid}
 use Rattle.xcal.specs.WriteXml.{writeDocument}
 use Rattle.xcal.specs.ReadDocument.{readDocument}
-use Rattle.xcal.specs.Carried.{isValid}
 use Rattle.xcal.specs.laws.DocumentBack.{document-back}
 use Rattle.xcal.specs.Computing.{xcal-compute}
-
-abbrev prop : List ℕ → List Value → Property
-prop n vs = record { name = n; parameters = []; values = vs }
-
-abbrev param : List ℕ → List Value → Parameter
-param n vs = record { name = n; values = vs }
-
-abbrev calendar : List Property → Components
-calendar ps =
-    component (ascii "VCALENDAR") (prop (ascii "PRODID") (text (ascii "p") ∷ []) ∷ prop (ascii "VERSION") (text (ascii "2.0") ∷ []) ∷ [])
-    (component (ascii "VEVENT")
-    (prop (ascii "DTSTAMP") (dateTime (ascii "20240504T080000Z") ∷ []) ∷ prop (ascii "DTSTART") (date (ascii "20240504") ∷ []) ∷ prop (ascii "UID") (text (ascii "u") ∷ []) ∷ ps)
-    noMore noMore)
-    noMore
-
-abbrev rota : Components
-rota = calendar (
-    prop (ascii "SUMMARY") (text (ascii "a < b & c\nd") ∷ [])
-    ∷ prop (ascii "CATEGORIES") (text (ascii "x") ∷ text (ascii "y,z") ∷ [])
-    ∷ prop (ascii "GEO") (geo (record { minus = false; before = ascii "37"; after = ascii "386" }) (record { minus = true; before = ascii "122"; after = [] }) ∷ [])
-    ∷ prop (ascii "REQUEST-STATUS") (requestStatus (ascii "2.0") (ascii "Done; all") (some []) ∷ [])
-    ∷ prop (ascii "RRULE") (recur (
-    record { part = ascii "FREQ"; items = word (ascii "MONTHLY") ∷ [] }
-    ∷ record { part = ascii "UNTIL"; items = moment (ascii "20301231") ∷ [] }
-    ∷ record { part = ascii "BYDAY"; items = weekday (some (record { negative = true; magnitude = 1 })) (ascii "SU") ∷ weekday none (ascii "FR") ∷ [] }
-    ∷ []) ∷ [])
-    ∷ prop (ascii "RDATE") (periodStart (ascii "20240504T080000") (ascii "PT1H") ∷ periodStart (ascii "20240505T080000Z") (ascii "-P1W") ∷ [])
-    ∷ record { name = ascii "ATTACH"; parameters = param (ascii "ENCODING") (text (ascii "BASE64") ∷ []) ∷ []; values = binary (ascii "AAAA") ∷ [] }
-    ∷ record {
-      name = ascii "ATTENDEE";
-      parameters = param (ascii "MEMBER") (calAddress (ascii "mailto:a@b.c") ∷ calAddress (ascii "mailto:d@e.f") ∷ []) ∷ param (ascii "RSVP") (boolean true ∷ []) ∷ param (ascii "X-P") (unknown (ascii "a;b") ∷ []) ∷ [];
-      values = calAddress (ascii "mailto:jo@b.c") ∷ [];
-    }
-    ∷ prop (ascii "X-GLASS") (integer (record { negative = true; magnitude = 5 }) ∷ [])
-    ∷ [])
-
-rota-valid : isValid rota ≡ true
-unfolding xcal-compute
-rota-valid = refl
 
 rota-short : leb (length (writeDocument rota)) 65535 ≡ true
 unfolding xcal-compute
@@ -64,23 +18,3 @@ rota-short = refl
 
 rota-back : readDocument (writeDocument rota) ≡ accepted rota
 rota-back = document-back rota rota-valid (leb-true _ _ rota-short)
-
--- one property more in the event
-abbrev variants : List Property
-variants =
-    prop (ascii "COMMENT") (text [] ∷ [])
-    ∷ prop (ascii "COMMENT") (text (ascii "a\rb") ∷ [])  -- CR
-    ∷ prop (ascii "COMMENT") (text (0xFF ∷ []) ∷ [])  -- no UTF-8
-    ∷ prop (ascii "COMMENT") (text (ascii "a") ∷ text (ascii "b") ∷ [])  -- two values
-    ∷ prop (ascii "COMMENT") (uri (ascii "a:b") ∷ [])  -- a type that is not permitted
-    ∷ prop (ascii "Comment") (text (ascii "a") ∷ [])  -- not in capitals
-    ∷ prop (ascii "XML-A") (text (ascii "a") ∷ [])  -- no name that is carried
-    ∷ prop (ascii "UID") (text (ascii "v") ∷ [])  -- twice
-    ∷ prop (ascii "CLASS") (text (ascii "SECRET") ∷ [])  -- no word of the closed set
-    ∷ prop (ascii "ATTACH") (binary (ascii "AAAA") ∷ [])  -- no ENCODING
-    ∷ record { name = ascii "X-A"; parameters = param (ascii "CN") (text (ascii "a\"b") ∷ []) ∷ []; values = text (ascii "a") ∷ [] }  -- a double quote in a parameter
-    ∷ []
-
-variants-valid : map (λ p. isValid (calendar (p ∷ []))) variants ≡ (true ∷ false ∷ false ∷ false ∷ false ∷ false ∷ false ∷ false ∷ false ∷ false ∷ false ∷ [])
-unfolding xcal-compute
-variants-valid = refl

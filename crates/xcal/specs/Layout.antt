@@ -4,16 +4,15 @@
 --     Slot         a place in the order: the names that may stand there, whether several may, whether one must
 --     sequence     the verdict on children by a list of slots, each child's inside judged by a test of its own
 --     leaf         the verdict on an element of character data
-use mathlib.Core.Bool.{Bool, true, false, not}
+use mathlib.Core.Bool.{Bool, false, not}
 use mathlib.Core.List.{List, [], _∷_}
 use mathlib.Core.Option.{Option, none, some}
-use Prim.Native.Nat.{ℕ, zero, suc, _+_}
+use Prim.Native.Nat.{ℕ, suc}
 use lib.Dec.{ltb}
-use Rattle.octets.specs.Ascii.{ascii}
 use Rattle.octets.specs.Pick.{pick, _and_, _or_}
 use Rattle.octets.specs.Class.{isCapital, isSpace}
-use Rattle.octets.specs.Words.{same, isOneOf}
-use Rattle.octets.specs.Lists.{every, anyOne}
+use Rattle.octets.specs.Words.{isOneOf}
+use Rattle.octets.specs.Lists.{anyOne}
 use Rattle.calendar.specs.Refusal.{NAME, FRAME, VALUE, Verdict, fine, refuse, _otherwise_}
 use Rattle.xml.specs.Nodes.{Nodes, noNodes, element, literal, referred, charactersOf}
 

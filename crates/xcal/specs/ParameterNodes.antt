@@ -12,8 +12,8 @@ use Rattle.octets.specs.Ascii.{ascii}
 use Rattle.octets.specs.Pick.{pick, _and_, _or_}
 use Rattle.octets.specs.Class.{upper, lower, isSpace}
 use Rattle.octets.specs.Words.{same, isOneOf, holds, isEmpty}
-use Rattle.octets.specs.Reading.{provided, andThen, consRead, isRead, readOr}
-use Rattle.calendar.specs.Calendar.{xcal, ValueType, BINARY, TEXT, Value, text, textIn, Parameter}
+use Rattle.octets.specs.Reading.{provided, andThen, consRead, readOr}
+use Rattle.calendar.specs.Calendar.{xcal, ValueType, BINARY, Value, text, textIn, Parameter}
 use Rattle.calendar.specs.Refusal.{NAME, FRAME, PARAMETER, Verdict, fine, refuse, _otherwise_}
 use Rattle.schema.specs.Types.{typeName, sameType}
 use Rattle.schema.specs.Properties.{permitsParameter}

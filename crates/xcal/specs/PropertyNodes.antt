@@ -9,8 +9,8 @@ use Prim.Native.Nat.{ℕ}
 use Rattle.octets.specs.Ascii.{ascii}
 use Rattle.octets.specs.Pick.{pick, _and_, _or_}
 use Rattle.octets.specs.Class.{upper, isSpace}
-use Rattle.octets.specs.Words.{same, isOneOf}
-use Rattle.calendar.specs.Calendar.{ValueType, BINARY, Parameter, Property}
+use Rattle.octets.specs.Words.{same}
+use Rattle.calendar.specs.Calendar.{ValueType, BINARY, Property}
 use Rattle.calendar.specs.Refusal.{NAME, FRAME, PARAMETER, Verdict, fine, refuse, _otherwise_}
 use Rattle.schema.specs.Types.{sameType}
 use Rattle.schema.specs.Components.{mayStand}

@@ -2,12 +2,11 @@
 --     documentVerdict   refusals 1, 3 and 11 over the whole document, then the first fault in it
 --     readDocument      the answer
 use mathlib.Core.List.{List}
-use mathlib.Core.Option.{Option, none, some}
 use Prim.Native.Nat.{ℕ}
 use lib.Dec.{leb}
 use lib.ListN.{length}
 use Rattle.octets.specs.Pick.{pick}
-use Rattle.calendar.specs.Refusal.{LENGTH, Verdict, fine, refuse, _otherwise_, Answer, answer, limit, characters}
+use Rattle.calendar.specs.Refusal.{LENGTH, Verdict, refuse, _otherwise_, Answer, answer, limit, characters}
 use Rattle.utf8.specs.Utf8.{firstBad}
 use Rattle.xml.specs.WellFormed.{xmlVerdict}
 use Rattle.xml.specs.Nodes.{documentNodes}

@@ -7,19 +7,18 @@ use mathlib.Core.List.{List, [], _∷_, map}
 use mathlib.Core.Option.{Option, none, some}
 use Prim.Native.Nat.{ℕ}
 use Rattle.octets.specs.Ascii.{ascii}
-use Rattle.octets.specs.Pick.{pick, _and_, _or_}
-use Rattle.octets.specs.Append.{_⊕_}
+use Rattle.octets.specs.Pick.{pick, _and_}
 use Rattle.octets.specs.Class.{upper, lower}
 use Rattle.octets.specs.Words.{same, isOneOf}
 use Rattle.octets.specs.Reading.{isRead, readOr}
-use Rattle.calendar.specs.Calendar.{Format, xcal, ValueType, TEXT, PERIOD, RECUR, UNKNOWN, Decimal, RuleItem, word, RulePart, Value, text, geo, requestStatus, periodExplicit, periodStart, recur}
+use Rattle.calendar.specs.Calendar.{xcal, ValueType, PERIOD, RECUR, UNKNOWN, Decimal, RuleItem, word, RulePart, Value, text, geo, requestStatus, periodExplicit, periodStart, recur}
 use Rattle.calendar.specs.Refusal.{VALUE, Verdict, refuse}
 use Rattle.schema.specs.Types.{typeName, valueTypes, typeNamed, sameType, isTypeOf}
 use Rattle.schema.specs.Properties.{permittedTypes, defaultType, isListedProperty, propertyWords}
 use Rattle.times.specs.DateTime.{readDateTime}
 use Rattle.times.specs.Duration.{readDuration}
 use Rattle.numbers.specs.Float.{readFloat}
-use Rattle.recur.specs.Parts.{partNames, isListPart}
+use Rattle.recur.specs.Parts.{partNames}
 use Rattle.recur.specs.Item.{readItem}
 use Rattle.values.specs.ReadValue.{readValue}
 use Rattle.values.specs.Valid.{hasOwnValues}

@@ -11,7 +11,7 @@ use Rattle.octets.specs.Pick.{pick}
 use Rattle.octets.specs.Append.{_⊕_}
 use Rattle.octets.specs.Class.{lower}
 use Rattle.octets.specs.Words.{same}
-use Rattle.calendar.specs.Calendar.{Format, xcal, RuleItem, RulePart, Value, binary, boolean, calAddress, date, dateTime, duration, float, integer, periodExplicit, periodStart, recur, text, time, uri, utcOffset, unknown, geo, requestStatus, typeOf, Parameter, Property, Components, noMore, component}
+use Rattle.calendar.specs.Calendar.{xcal, RuleItem, RulePart, Value, binary, boolean, calAddress, date, dateTime, duration, float, integer, periodExplicit, periodStart, recur, text, time, uri, utcOffset, unknown, geo, requestStatus, typeOf, Parameter, Property, Components, noMore, component}
 use Rattle.schema.specs.Types.{typeName}
 use Rattle.numbers.specs.Float.{writeFloat}
 use Rattle.times.specs.DateTime.{writeDateTime}

@@ -1,4 +1,5 @@
 -- Laws. xCal (RFC 6321).
+--     Contents            the content of a calendar's document, as a tree without places
 --     WrittenContents     that content, written, is the canonical XML
 --     ElementNames        names in capitals and the names of their elements
 --     LeavesBack          elements of character data
@@ -9,15 +10,16 @@
 --     PropertiesBack      the elements of properties
 --     ComponentsBack, ComponentsFine  the elements of components
 --     SoundContent, CleanValues, SoundValues  the bytes are well formed and within the profile
---     Carried             a valid calendar: one that can be carried to XML and back
+--     SoundCalendar       the same of a valid calendar
 --     DocumentBack        a valid calendar is read back from its document
 --     Accepted            what a verdict that is fine says of nodes
 --     PeriodAccepted, ItemsAccepted, RecurAccepted, ValuesAccepted  values
 --     ParametersAccepted, EncodingAccepted  parameters
 --     TypedAccepted, OwnAccepted, PropertiesAccepted  properties
 --     ComponentsAccepted  components
---     GoodMarks           the characters of a document's elements
+--     GoodNodes, GoodMarks  nodes of a document whose bytes are well formed; the characters of its elements
 --     DocumentAccepted    a calendar that is read from a document is valid
+pub mod Contents
 pub mod WrittenContents
 pub mod ElementNames
 pub mod LeavesBack
@@ -35,7 +37,7 @@ pub mod ComponentsFine
 pub mod SoundContent
 pub mod CleanValues
 pub mod SoundValues
-pub mod Carried
+pub mod SoundCalendar
 pub mod DocumentBack
 pub mod Accepted
 pub mod PeriodAccepted
@@ -48,5 +50,6 @@ pub mod TypedAccepted
 pub mod OwnAccepted
 pub mod PropertiesAccepted
 pub mod ComponentsAccepted
+pub mod GoodNodes
 pub mod GoodMarks
 pub mod DocumentAccepted

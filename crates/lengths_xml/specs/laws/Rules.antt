@@ -39,6 +39,7 @@ use Rattle.numbers.specs.Integer.{writeWhole}
 use Rattle.recur.specs.Parts.{ItemForm, wordOf, enddate, counting, unsigned, signed, weekdaynum, Part, partTable, partNames, partOf, isListPart, weekdays}
 use Rattle.recur.specs.Item.{whole, isNumeral, isShort, readWord, readCounting, readUnsigned, readSigned, readOrdinal, writeOrdinal, orOther, readEnddate, readForm, writeItem, readItem}
 use Rattle.recur.specs.Rule.{rulePart, isEquals, itemsOf, readPart, partNamed, withPart, inOrder, ruled, readRule}
+use Rattle.recur.specs.laws.RuleLaws.{names-once}
 use Rattle.xcal.specs.WriteXml.{textElement, itemsXml, partsXml}
 use Rattle.lengths_xml.specs.laws.Elements.{rate, text-element-length}
 use Rattle.lengths_xml.specs.laws.Pieces.{weight, cut-weight}
@@ -306,10 +307,6 @@ order-length ns h ps = omega (arith, order-chosen ns h ps, chosen-length (λ m. 
 
 -- ---- a rule
 
-distinct-names : distinct partNames ≡ true
-unfolding octets-compute
-distinct-names = refl
-
 some-length : (l : List (List ℕ)) → isEmpty l ≡ false → 1 ≤ length l
 some-length [] h = absurd (false≢true (sym h))
 some-length (p ∷ l) h = omega arith
@@ -319,4 +316,4 @@ rule-length s ps h =
     let q = andThen-some (readEach readPart (cutAt 59 s)) ruled ps h in
     let e = provided-some _ (inOrder partNames (q .0)) ps (q .2) in
     let some-part = some-length (cutAt 59 s) (cut-some 59 s) in
-    rw (← (e .1)) (omega (arith, order-length partNames distinct-names (q .0), parts-length (cutAt 59 s) (q .0) (q .1), some-part, cut-weight 59 s))
+    rw (← (e .1)) (omega (arith, order-length partNames names-once (q .0), parts-length (cutAt 59 s) (q .0) (q .1), some-part, cut-weight 59 s))

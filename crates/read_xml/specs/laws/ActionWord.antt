@@ -2,11 +2,11 @@
 --     other-word     a value of another type has no word
 --     Wording        the invariant of the walk to that child;   actions: the rules
 use mathlib.Core.Path.{_≡_, refl, sym, ap, subst, _∙_}
-use mathlib.Core.Bool.{Bool, true, false, false≢true}
+use mathlib.Core.Bool.{true, false, false≢true}
 use mathlib.Core.List.{List, []}
 use mathlib.Core.Option.{Option, none, some, Option·map}
-use Prim.Native.Nat.{ℕ, _≤_}
-use lib.ListN.{length, take}
+use Prim.Native.Nat.{ℕ}
+use lib.ListN.{take}
 use borrow.Author.Needs.{needs}
 use borrow.Author.Tests.{ne-eqb}
 use Rattle.octets.specs.Ascii.{ascii}
@@ -16,7 +16,7 @@ use Rattle.octets.specs.Computing.{octets-compute}
 use Rattle.source.specs.Source.{rest}
 use Rattle.names.specs.Table.{placeOf}
 use Rattle.calendar.specs.Calendar.{ValueType, BINARY, BOOLEAN, CAL-ADDRESS, DATE, DATE-TIME, DURATION, FLOAT, INTEGER, PERIOD, RECUR, TEXT, TIME, URI, UTC-OFFSET, UNKNOWN, xcal, Value, text, textIn, binary, boolean, calAddress, date, dateTime, duration, float, integer, time, uri, utcOffset, unknown}
-use Rattle.schema.specs.Types.{typePlace, sameType}
+use Rattle.schema.specs.Types.{sameType}
 use Rattle.schema.specs.Numbers.{typeAt}
 use Rattle.schema.specs.Counts.{firstText}
 use Rattle.schema.specs.Completing.{actionNames, actionNumber}
@@ -34,7 +34,7 @@ use Rattle.texts.specs.Binary.{readBinary}
 use Rattle.texts.specs.Unknown.{readUnknown}
 use Rattle.values.specs.ReadValue.{readValue}
 use Rattle.xml.specs.Nodes.{Nodes, charactersOf}
-use Rattle.xcal.specs.ValueNodes.{elementType, childNamed, periodOf, valueOf, typedValues}
+use Rattle.xcal.specs.ValueNodes.{childNamed, periodOf, valueOf, typedValues}
 use Rattle.xml.specs.NodesAt.{nodesAt}
 use Rattle.read_xml_nodes.specs.HeadFound.{HeadAt, NodeEnded}
 use Rattle.read_xml_nodes.specs.laws.HeadFound.{head-none, head-element, head-whole, head-literal, head-referred, head-less}

@@ -1,15 +1,19 @@
 -- Laws of what specs/Components.antt defines.
+--     complete-is  the tallies that are kept are those of the component
 --     ending       the rules of a component's end tag, and of that of `components`
---     Heading    the invariant of its walk;   heading: the rules
---     Following    the invariant of its walk;   following: the rules
+--     choosing     the rules of its two children
+--     meeting      the rules of what stands next before `components`
+--     Heading      the invariant of the walk up to `components`;   heading: the rules
+--     Following    the invariant of the walk behind it;   following: the rules
 use Prim.{tt}
-use mathlib.Core.Path.{_≡_, refl, sym, ap, _∙_}
-use mathlib.Core.Bool.{Bool, true, false, not}
+use mathlib.Core.Path.{_≡_, refl, sym, ap, subst, _∙_}
+use mathlib.Core.Bool.{Bool, true, false, not, false≢true}
 use mathlib.Core.List.{List}
-use Prim.Native.Nat.{ℕ, zero, suc, _-_, _≤_}
+use Prim.Native.Nat.{ℕ, zero, suc, _-_, _≤_, _<_}
 use native.Mathlib.Omega.{arith}
 use lib.Dec.{eqb}
-use lib.ListN.{length, take}
+use lib.ListN.{length}
+use lib.Seq.{length-take-le}
 use borrow.Author.Needs.{needs}
 use borrow.Author.Tests.{eq-eqb, ne-eqb}
 use Rattle.octets.specs.Ascii.{ascii}
@@ -18,7 +22,6 @@ use Rattle.octets.specs.Class.{isSpace}
 use Rattle.octets.specs.Words.{same, isEmpty}
 use Rattle.octets.specs.laws.Words.{same-true}
 use Rattle.octets.specs.Computing.{octets-compute}
-use Rattle.source.specs.Source.{rest}
 use Rattle.names.specs.Table.{placeOf}
 use Rattle.names.specs.laws.Places.{same-place}
 use Rattle.calendar.specs.Refusal.{FRAME, COUNT, Verdict, fine, refuse, _otherwise_}
@@ -26,21 +29,31 @@ use Rattle.schema.specs.Components.{ComponentRow, componentNames, subcomponents
 use Rattle.schema.specs.Numbers.{componentAt}
 use Rattle.schema.specs.laws.Numbers.{component-place}
 use Rattle.schema.specs.laws.Sets.{timezone-place}
-use Rattle.xml.specs.Nodes.{Nodes}
+use Rattle.schema.specs.laws.Completing.{complete-tallies}
+use Rattle.xml.specs.Nodes.{Nodes, hasElement}
 use Rattle.xcal.specs.Layout.{unexpected}
-use Rattle.xcal.specs.ComponentNodes.{endOfComponent, endOfComponents, componentVerdict}
+use Rattle.xcal.specs.PropertyNodes.{propertiesVerdict, readProperties}
+use Rattle.xcal.specs.ComponentNodes.{insideOf, isComplete, endOfComponent, endOfComponents, componentVerdict, componentsVerdict}
 use Rattle.xml.specs.NodesAt.{nodesAt}
 use Rattle.read_xml_nodes.specs.NodeFound.{NodeAt}
-use Rattle.read_xml_nodes.specs.laws.NodeFound.{node-none, node-element, node-literal, node-referred, element-less, inside-less, literal-less, referred-less}
+use Rattle.read_xml_nodes.specs.laws.NodeFound.{node-none, node-element, node-literal, node-referred, element-less, inside-less, literal-less}
 use Rattle.read_xml_nodes.specs.Judging.{judgedAs}
 use Rattle.read_xml_nodes.specs.laws.Judging.{is-frame, is-count}
 use Rattle.read_xml_nodes.specs.declared.Node.{Node}
 use Rattle.read_xml_nodes.specs.declared.NodeKind.the-variants.{None, Element, Literal, Referred}
 use Rattle.read_xml_nodes.specs.declared.Judged.{Judged}
 use Rattle.read_xml_nodes.specs.declared.Judged.the-variants.{Fine, Refused}
-use Rattle.read_xml.specs.laws.Turning.{name-inside, content-inside}
+use Rattle.read_xml.specs.Children.{nameOf}
+use Rattle.read_xml.specs.laws.Turning.{name-inside}
+use Rattle.read_xml.specs.Counting.{Counted}
 use Rattle.read_xml.specs.Properties.{ListedAt}
-use Rattle.read_xml.specs.Components.{come, EndAt, EndsAt, hasSubs, HeadAt, BehindAt}
+use Rattle.read_xml.specs.Components.{partName, come, completeBy, EndAt, EndsAt, hasSubs, WhichIs, WhichAt, metOf, MetAt, HeadAt, BehindAt}
+use Rattle.read_xml.specs.declared.Kept.{Kept}
+use Rattle.read_xml.specs.declared.Listed.{Listed}
+use Rattle.read_xml.specs.declared.Which.{Which}
+use Rattle.read_xml.specs.declared.Which.the-variants.{Properties, Components, Other}
+use Rattle.read_xml.specs.declared.Met.{Met}
+use Rattle.read_xml.specs.declared.Met.the-variants.{End, Past, Properties as HasProperties, Components as HasComponents, Stops}
 use Rattle.read_xml.specs.declared.Part.the-variants.{Ends, Opens}
 
 -- ---- end tags
@@ -49,35 +62,43 @@ calendar-place : (c : List ℕ) → same c (ascii "VCALENDAR") ≡ eqb (placeOf 
 unfolding octets-compute placeOf
 calendar-place c = same-place c (ascii "VCALENDAR") componentNames refl
 
-module _ (k e : ℕ) (counts had came : Bool) where
-  end-at : (c : List ℕ) → k ≡ placeOf c componentNames → endOfComponent c counts (come had came) e ≡ pick (not had or (eqb k 0 and not came)) (refuse FRAME e) (pick counts fine (refuse COUNT e))
-  unfolding endOfComponent
-  end-at c o = rw (calendar-place c, ← o)
+-- the tallies that are kept are those of the component
+pub complete-is : (c : List ℕ) {k : ℕ} → k ≡ placeOf c componentNames → (kids : Nodes) {t : Kept} {inner : Bool} →
+    Counted (readProperties (insideOf (ascii "properties") kids)) t → inner ≡ hasElement (insideOf (ascii "components") kids) → isComplete c kids ≡ completeBy k t inner
+complete-is c o kids i h =
+    sym (rw (i .tallied, i .acting, h, o) (complete-tallies c (readProperties (insideOf (ascii "properties") kids)) (hasElement (insideOf (ascii "components") kids))))
 
-  pub end-bare : had ≡ false → EndAt k counts had came e (Refused 6 e)
+pub counts-good : (k : ℕ) (t : Kept) (inner : Bool) (e : ℕ) {b : Bool} → b ≡ completeBy k t inner → b ≡ true → pick (completeBy k t inner) fine (refuse COUNT e) ≡ judgedAs Fine
+unfolding pick
+counts-good k t inner e f h = rw (← f, h)
+
+pub counts-bad : (k : ℕ) (t : Kept) (inner : Bool) (e : ℕ) {b : Bool} → b ≡ completeBy k t inner → b ≡ false → pick (completeBy k t inner) fine (refuse COUNT e) ≡ judgedAs (Refused 9 e)
+unfolding pick
+counts-bad k t inner e f h = rw (← f, h) (sym (is-count e))
+
+module _ (k : ℕ) (t : Kept) (inner : Bool) (e : ℕ) (had came : Bool) where
+  end-at : (c : List ℕ) → k ≡ placeOf c componentNames → (counts : Bool) →
+      endOfComponent c counts (come had came) e ≡ pick (not had or (eqb k 0 and not came)) (refuse FRAME e) (pick counts fine (refuse COUNT e))
+  unfolding endOfComponent
+  end-at c o counts = rw (calendar-place c, ← o)
+
+  pub end-bare : had ≡ false → EndAt k t had came inner e (Refused 6 e)
   unfolding pick _or_
-  end-bare h = record { is = λ c o. end-at c o ∙ rw h (sym (is-frame e)) }
+  end-bare h = record { is = λ c o counts g. end-at c o counts ∙ rw h (sym (is-frame e)) }
 
   module _ (h : had ≡ true) where
-    pub end-lacking : k ≡ 0 → came ≡ false → EndAt k counts had came e (Refused 6 e)
+    pub end-lacking : k ≡ 0 → came ≡ false → EndAt k t had came inner e (Refused 6 e)
     unfolding pick _or_ _and_
-    end-lacking z g = record { is = λ c o. end-at c o ∙ rw (h, eq-eqb k 0 z, g) (sym (is-frame e)) }
+    end-lacking z g = record { is = λ c o counts f. end-at c o counts ∙ rw (h, eq-eqb k 0 z, g) (sym (is-frame e)) }
 
-    pub end-calendar-good : k ≡ 0 → came ≡ true → counts ≡ true → EndAt k counts had came e Fine
-    unfolding pick _or_ _and_
-    end-calendar-good z g f = record { is = λ c o. end-at c o ∙ rw (h, eq-eqb k 0 z, g, f) }
+    module _ {j : Judged} (d : pick (completeBy k t inner) fine (refuse COUNT e) ≡ judgedAs j) where
+      pub end-calendar : k ≡ 0 → came ≡ true → EndAt k t had came inner e j
+      unfolding pick _or_ _and_
+      end-calendar z g = record { is = λ c o counts f. end-at c o counts ∙ rw (f h, h, eq-eqb k 0 z, g) d }
 
-    pub end-calendar-bad : k ≡ 0 → came ≡ true → counts ≡ false → EndAt k counts had came e (Refused 9 e)
-    unfolding pick _or_ _and_
-    end-calendar-bad z g f = record { is = λ c o. end-at c o ∙ rw (h, eq-eqb k 0 z, g, f) (sym (is-count e)) }
-
-    pub end-good : (k ≡ 0 → ⊥) → counts ≡ true → EndAt k counts had came e Fine
-    unfolding pick _or_ _and_
-    end-good z f = record { is = λ c o. end-at c o ∙ rw (h, ne-eqb k 0 z, f) }
-
-    pub end-bad : (k ≡ 0 → ⊥) → counts ≡ false → EndAt k counts had came e (Refused 9 e)
-    unfolding pick _or_ _and_
-    end-bad z f = record { is = λ c o. end-at c o ∙ rw (h, ne-eqb k 0 z, f) (sym (is-count e)) }
+      pub end-other : (k ≡ 0 → ⊥) → EndAt k t had came inner e j
+      unfolding pick _or_ _and_
+      end-other z = record { is = λ c o counts f. end-at c o counts ∙ rw (f h, h, ne-eqb k 0 z) d }
 
 module _ (k e : ℕ) (any : Bool) where
   ends-at : (c : List ℕ) → k ≡ placeOf c componentNames → endOfComponents c any e ≡ pick (any or eqb k 0 or eqb k 5) fine (refuse FRAME e)
@@ -101,7 +122,7 @@ module _ (k e : ℕ) (any : Bool) where
     unfolding pick _or_
     ends-empty y z = record { is = λ c o. ends-at c o ∙ rw (h, ne-eqb k 0 y, ne-eqb k 5 z) (sym (is-frame e)) }
 
-pub ruleset ending = (end-bare, end-lacking, end-calendar-good, end-calendar-bad, end-good, end-bad, ends-any, ends-calendar, ends-timezone, ends-empty, needs)
+pub ruleset ending = (counts-good, counts-bad, end-bare, end-lacking, end-calendar, end-other, ends-any, ends-calendar, ends-timezone, ends-empty, needs)
 
 -- ---- which components have subcomponents
 
@@ -123,76 +144,209 @@ subs-at (suc (suc (suc (suc (suc (suc (suc (suc (suc n))))))))) =
 subs-place : (c : List ℕ) {k : ℕ} → k ≡ placeOf c componentNames → not (isEmpty (subcomponentsOf c)) ≡ hasSubs k
 subs-place c {k} o = ap (λ (r : ComponentRow). not (isEmpty (r .subcomponents))) (component-place c ∙ ap componentAt (sym o)) ∙ subs-at k
 
--- ---- up to `components`
+-- ---- which child an element is
 
-pub record Heading (k : ℕ) (counts : Bool) (s : List ℕ) (from e at : ℕ) (had : Bool) : Type 0 where
-  pub is : (c : List ℕ) → k ≡ placeOf c componentNames → componentVerdict (nodesAt s from) c counts (come false false) e ≡ componentVerdict (nodesAt s at) c counts (come had false) e
-  pub low : length s - at ≤ length s - from
+module _ (m : List ℕ) {b r : Bool} where
+  pub part-properties : b ≡ true → r ≡ same m (ascii "properties") → r ≡ same m (partName b)
+  part-properties h e = rw h e
 
-pub head-start : (k : ℕ) (counts : Bool) (s : List ℕ) (from e : ℕ) → Heading k counts s from e from false
-head-start k counts s from e = record { is = λ c o. refl; low = omega arith }
+  pub part-components : b ≡ false → r ≡ same m (ascii "components") → r ≡ same m (partName b)
+  part-components h e = rw h e
 
-module _ {k : ℕ} {counts : Bool} {s : List ℕ} {from e at : ℕ} {had : Bool} {r : Node} (i : Heading k counts s from e at had) (n : NodeAt s at r) where
-  as-nodes : (c : List ℕ) → k ≡ placeOf c componentNames → {x : Nodes} → nodesAt s at ≡ x → componentVerdict (nodesAt s from) c counts (come false false) e ≡ componentVerdict x c counts (come had false) e
-  as-nodes c o h = i .is c o ∙ ap (λ (y : Nodes). componentVerdict y c counts (come had false) e) h
+pub ruleset parting = (part-properties, part-components, length-take-le, needs)
 
-  pub head-none : {j : Judged} → r .kind ≡ None → EndAt k counts had false e j → HeadAt k counts s from e (Ends j)
+-- no element is both
+properties-only : (m : List ℕ) → same m (ascii "properties") ≡ true → same m (ascii "components") ≡ false
+unfolding octets-compute
+properties-only m h = ap (λ (w : List ℕ). same w (ascii "components")) (same-true m (ascii "properties") h)
+
+module _ (k : ℕ) (m : List ℕ) {had b : Bool} (e : b ≡ same m (ascii "properties")) where
+  pub which-again : b ≡ true → had ≡ true → WhichAt k had m Other
+  unfolding _and_
+  which-again h g = record { is = (rw (← e, h, g), rw (properties-only m (sym e ∙ h))) }
+
+  pub which-properties : b ≡ true → had ≡ false → WhichAt k had m Properties
+  unfolding _and_
+  which-properties h g = record { is = rw (← e, h, g) }
+
+  module _ (h : b ≡ false) {d : Bool} (f : d ≡ same m (ascii "components")) where
+    pub which-other : d ≡ false → WhichAt k had m Other
+    unfolding _and_
+    which-other g = record { is = (rw (← e, h), rw (← f, g)) }
+
+    module _ (g : d ≡ true) {x : Bool} (y : x ≡ hasSubs k) where
+      pub which-components : x ≡ true → WhichAt k had m Components
+      unfolding _and_
+      which-components z = record { is = (rw (← e, h), rw (← f, g, ← y, z)) }
+
+      pub which-lone : x ≡ false → WhichAt k had m Other
+      unfolding _and_
+      which-lone z = record { is = (rw (← e, h), rw (← f, g, ← y, z)) }
+
+pub ruleset choosing = (which-again, which-properties, which-other, which-components, which-lone, needs)
+
+-- ---- what stands next before `components`
+
+-- before `components` only `properties` counts as come
+not-yet : (a d b g : Bool) (v w z : Verdict) → pick (a and (d and true)) v (pick (b and (true and g)) w z) ≡ pick (a and d) v (pick (b and g) w z)
+unfolding pick _and_
+not-yet true true b g v w z = refl
+not-yet true false true g v w z = refl
+not-yet true false false g v w z = refl
+not-yet false d true g v w z = refl
+not-yet false d false g v w z = refl
+
+first-of : (a b : Bool) → (a and b) ≡ true → a ≡ true
+unfolding _and_
+first-of true b h = refl
+first-of false b h = absurd (false≢true h)
+
+second-not : (a had : Bool) → (a and not had) ≡ true → had ≡ false
+unfolding _and_
+second-not true false h = refl
+second-not true true h = absurd (false≢true h)
+second-not false had h = absurd (false≢true h)
+
+module _ (k : ℕ) (had : Bool) {s : List ℕ} {at : ℕ} {r : Node} (n : NodeAt s at r) where
+  as-nodes : {x : Nodes} → nodesAt s at ≡ x → (c : List ℕ) (b : Bool) (e : ℕ) → componentVerdict (nodesAt s at) c b (come had false) e ≡ componentVerdict x c b (come had false) e
+  as-nodes h c b e = ap (λ (y : Nodes). componentVerdict y c b (come had false) e) h
+
+  pub met-end : r .kind ≡ None → MetAt k had s at End
+  unfolding componentVerdict insideOf
+  met-end q = record { is = λ c o. as-nodes (node-none n q) c; fits = ap (insideOf (ascii "components")) (node-none n q) }
+
+  pub met-referred : r .kind ≡ Referred → MetAt k had s at (Stops (Refused 6 at))
   unfolding componentVerdict
-  head-none q d = record { is = λ c o. as-nodes c o (node-none n q) ∙ d .is c o; deeper = tt }
-
-  pub head-referred : r .kind ≡ Referred → HeadAt k counts s from e (Ends (Refused 6 at))
-  unfolding componentVerdict
-  head-referred q = record { is = λ c o. as-nodes c o (node-referred n q) ∙ sym (is-frame at); deeper = tt }
+  met-referred q = record { is = λ c o b e. as-nodes (node-referred n q) c b e ∙ sym (is-frame at); fits = tt }
 
   module _ (q : r .kind ≡ Literal) {b : Bool} (f : b ≡ isSpace (r .unit)) where
-    pub head-space : b ≡ true → Heading k counts s from e (r .next) had
-    unfolding componentVerdict pick
-    head-space h = record { is = λ c o. as-nodes c o (node-literal n q) ∙ rw (← f, h); low = omega (arith, i .low, literal-less n q) }
+    pub met-space : b ≡ true → MetAt k had s at (Past (r .next))
+    unfolding componentVerdict insideOf pick
+    met-space h = record { is = λ c o b e. as-nodes (node-literal n q) c b e ∙ rw (← f, h); fits = (literal-less n q, λ m. ap (insideOf m) (node-literal n q)) }
 
-    pub head-text : b ≡ false → HeadAt k counts s from e (Ends (Refused 6 at))
+    pub met-text : b ≡ false → MetAt k had s at (Stops (Refused 6 at))
     unfolding componentVerdict pick
-    head-text h = record { is = λ c o. as-nodes c o (node-literal n q) ∙ rw (← f, h) (sym (is-frame at)); deeper = tt }
+    met-text h = record { is = λ c o b e. as-nodes (node-literal n q) c b e ∙ rw (← f, h) (sym (is-frame at)); fits = tt }
 
-  module _ (q : r .kind ≡ Element) {b : Bool} (f : b ≡ same (rest 0 (take (r .«name_end») s) (r .name)) (ascii "properties")) where
-    pub head-again : {j : Judged} → b ≡ true → had ≡ true → unexpected at (rest 0 (take (r .«name_end») s) (r .name)) ≡ judgedAs j → HeadAt k counts s from e (Ends j)
-    unfolding componentVerdict octets-compute
-    head-again h g u = record {
-      is = λ c o. as-nodes c o (node-element n q) ∙ rw (← f, h, g, ap (λ (m : List ℕ). same m (ascii "components")) (same-true (rest 0 (take (r .«name_end») s) (r .name)) (ascii "properties") (sym f ∙ h))) u;
-      deeper = tt;
+  module _ (q : r .kind ≡ Element) {x : Which} (y : WhichAt k had (nameOf s r) x) where
+    at-child : (c : List ℕ) → k ≡ placeOf c componentNames → (b : Bool) (e : ℕ) → componentVerdict (nodesAt s at) c b (come had false) e ≡
+        pick (same (nameOf s r) (ascii "properties") and not had)
+        (propertiesVerdict c (nodesAt s (r .inside)) otherwise componentVerdict (nodesAt s (r .next)) c b (come true false) e)
+        (pick (same (nameOf s r) (ascii "components") and hasSubs k)
+        (componentsVerdict (nodesAt s (r .inside)) c false (r .end) otherwise componentVerdict (nodesAt s (r .next)) c b (come had true) e)
+        (unexpected at (nameOf s r)))
+    unfolding componentVerdict
+    at-child c o b e =
+        as-nodes (node-element n q) c b e
+        ∙ not-yet (same (nameOf s r) (ascii "properties")) (not had) (same (nameOf s r) (ascii "components")) (not (isEmpty (subcomponentsOf c))) _ _ _
+        ∙ rw (subs-place c o)
+
+    which-is : {v : Which} → x ≡ v → WhichIs (same (nameOf s r) (ascii "properties") and not had) (same (nameOf s r) (ascii "components") and hasSubs k) v
+    which-is z = subst (WhichIs (same (nameOf s r) (ascii "properties") and not had) (same (nameOf s r) (ascii "components") and hasSubs k)) z (y .is)
+
+    pub met-other : {j : Judged} → x ≡ Other → unexpected at (nameOf s r) ≡ judgedAs j → MetAt k had s at (Stops j)
+    unfolding pick
+    met-other z u = record { is = λ c o b e. at-child c o b e ∙ rw (which-is z .0, which-is z .1) u; fits = tt }
+
+    pub met-components : x ≡ Components → MetAt k had s at (HasComponents (r .inside) (r .end) (r .next))
+    unfolding pick insideOf
+    met-components z = record {
+      is = λ c o b e. at-child c o b e ∙ rw (which-is z .0, which-is z .1);
+      fits = (inside-less n q, ap (insideOf (ascii "components")) (node-element n q) ∙ rw (first-of (same (nameOf s r) (ascii "components")) (hasSubs k) (which-is z .1)));
     }
 
-    module _ {j : Judged} (h : b ≡ true) (g : had ≡ false) (d : ListedAt k s (r .inside) j) where
-      pub head-good : j ≡ Fine → Heading k counts s from e (r .next) true
-      unfolding componentVerdict pick _and_ _otherwise_
-      head-good z = record { is = λ c o. as-nodes c o (node-element n q) ∙ rw (← f, h, g, d .is c o, z); low = omega (arith, i .low, element-less n q) }
+    pub met-properties : x ≡ Properties → MetAt k had s at (HasProperties (r .inside) (r .next))
+    unfolding pick insideOf
+    met-properties z =
+        let first : same (nameOf s r) (ascii "properties") ≡ true = first-of (same (nameOf s r) (ascii "properties")) (not had) (which-is z) in record {
+          is = λ c o b e. at-child c o b e ∙ rw (which-is z);
+          fits = (
+            element-less n q,
+            second-not (same (nameOf s r) (ascii "properties")) had (which-is z),
+            ap (insideOf (ascii "properties")) (node-element n q) ∙ rw first,
+            ap (insideOf (ascii "components")) (node-element n q) ∙ rw (properties-only (nameOf s r) first),
+          );
+        }
 
-      pub head-bad : {x y : ℕ} → j ≡ Refused x y → HeadAt k counts s from e (Ends (Refused x y))
-      unfolding componentVerdict pick _and_ _otherwise_
-      head-bad z = record { is = λ c o. as-nodes c o (node-element n q) ∙ rw (← f, h, g, d .is c o, z); deeper = tt }
+pub ruleset meeting = (met-end, met-referred, met-space, met-text, met-other, met-components, met-properties, name-inside, needs)
 
-    module _ (h : b ≡ false) {d : Bool} (g : d ≡ same (rest 0 (take (r .«name_end») s) (r .name)) (ascii "components")) where
-      pub head-other : {j : Judged} → d ≡ false → unexpected at (rest 0 (take (r .«name_end») s) (r .name)) ≡ judgedAs j → HeadAt k counts s from e (Ends j)
-      unfolding componentVerdict pick _and_
-      head-other z u = record { is = λ c o. as-nodes c o (node-element n q) ∙ rw (← f, h, ← g, z) u; deeper = tt }
+-- ---- up to `components`
 
-      module _ (z : d ≡ true) {x : Bool} (y : x ≡ hasSubs k) where
-        pub head-opens : x ≡ true → HeadAt k counts s from e (Opens (r .inside) (r .end) (r .next) had)
-        unfolding componentVerdict pick _and_
-        head-opens t = record { is = λ c o. as-nodes c o (node-element n q) ∙ rw (← f, h, ← g, z, subs-place c o, ← y, t); deeper = omega (arith, i .low, inside-less n q) }
+pub record Heading (k : ℕ) (s : List ℕ) (from e at : ℕ) (had : Bool) (t : Kept) : Type 0 where
+  pub is : (c : List ℕ) → k ≡ placeOf c componentNames → (b : Bool) → componentVerdict (nodesAt s from) c b (come false false) e ≡ componentVerdict (nodesAt s at) c b (come had false) e
+  pub low : length s - at ≤ length s - from
+  pub inner : insideOf (ascii "components") (nodesAt s from) ≡ insideOf (ascii "components") (nodesAt s at)
+  pub unread : had ≡ false → insideOf (ascii "properties") (nodesAt s from) ≡ insideOf (ascii "properties") (nodesAt s at)
+  pub counted : had ≡ true → Counted (readProperties (insideOf (ascii "properties") (nodesAt s from))) t
 
-        pub head-lone : {j : Judged} → x ≡ false → unexpected at (rest 0 (take (r .«name_end») s) (r .name)) ≡ judgedAs j → HeadAt k counts s from e (Ends j)
-        unfolding componentVerdict pick _and_
-        head-lone t u = record { is = λ c o. as-nodes c o (node-element n q) ∙ rw (← f, h, ← g, z, subs-place c o, ← y, t) u; deeper = tt }
+pub head-start : (k : ℕ) (s : List ℕ) (from e : ℕ) (t : Kept) → Heading k s from e from false t
+head-start k s from e t = record { is = λ c o b. refl; low = omega arith; inner = refl; unread = λ h. refl; counted = λ h. absurd (false≢true h) }
 
-pub ruleset heading = (head-start, head-none, head-referred, head-space, head-text, head-again, head-good, head-bad, head-other, head-opens, head-lone, name-inside, content-inside, element-less, literal-less, referred-less, needs)
+module _ {k : ℕ} {s : List ℕ} {from e at : ℕ} {had : Bool} {t : Kept} (i : Heading k s from e at had t) {x : Met} (y : MetAt k had s at x) where
+  met-is : {v : Met} → x ≡ v → MetAt k had s at v
+  met-is z = subst (MetAt k had s at) z y
+
+  as-met : {v : Met} → x ≡ v → (c : List ℕ) → k ≡ placeOf c componentNames → (b : Bool) → componentVerdict (nodesAt s from) c b (come false false) e ≡ metOf c b had s e v
+  as-met z c o b = i .is c o b ∙ met-is z .is c o b e
+
+  pub head-end : {j : Judged} → x ≡ End → EndAt k t had false false e j → HeadAt k s from e (record { part = Ends j; kept = t })
+  unfolding hasElement
+  head-end z d = record {
+    is = λ c o. as-met z c o (isComplete c (nodesAt s from))
+        ∙ d .is c o (isComplete c (nodesAt s from)) (λ h. complete-is c o (nodesAt s from) (i .counted h) (sym (ap hasElement (i .inner ∙ met-is z .fits))));
+    fits = tt;
+  }
+
+  pub head-stops : {j : Judged} → x ≡ Stops j → HeadAt k s from e (record { part = Ends j; kept = t })
+  head-stops z = record { is = λ c o. as-met z c o (isComplete c (nodesAt s from)); fits = tt }
+
+  pub head-opens : {q z d : ℕ} → x ≡ HasComponents q z d → HeadAt k s from e (record { part = Opens q z d had; kept = t })
+  head-opens z = record {
+    is = λ c o. as-met z c o (isComplete c (nodesAt s from));
+    fits = (omega (arith, i .low, met-is z .fits .0), i .inner ∙ met-is z .fits .1, i .counted);
+  }
+
+  module _ {d : ℕ} (z : x ≡ Past d) where
+    pub head-less : length s - d < length s - at
+    head-less = met-is z .fits .0
+
+    pub head-past : Heading k s from e d had t
+    head-past = record {
+      is = as-met z;
+      low = omega (arith, i .low, head-less);
+      inner = i .inner ∙ met-is z .fits .1 (ascii "components");
+      unread = λ g. i .unread g ∙ met-is z .fits .1 (ascii "properties");
+      counted = i .counted;
+    }
+
+  module _ {q d : ℕ} (z : x ≡ HasProperties q d) where
+    pub listed-less : length s - d < length s - at
+    listed-less = met-is z .fits .0
+
+    module _ {l : Listed} (g : ListedAt k s q l) where
+      pub head-good : l .judged ≡ Fine → Heading k s from e d true (l .kept)
+      unfolding _otherwise_
+      head-good h = record {
+        is = λ c o b. as-met z c o b ∙ rw (g .is c o, h);
+        low = omega (arith, i .low, listed-less);
+        inner = i .inner ∙ met-is z .fits .3;
+        unread = λ u. absurd (false≢true (sym u));
+        counted = λ u. rw (i .unread (met-is z .fits .1), met-is z .fits .2) (g .counted h);
+      }
+
+      pub head-bad : {a b : ℕ} → l .judged ≡ Refused a b → HeadAt k s from e (record { part = Ends (Refused a b); kept = t })
+      unfolding _otherwise_
+      head-bad h = record { is = λ c o. as-met z c o (isComplete c (nodesAt s from)) ∙ rw (g .is c o, h); fits = tt }
+
+pub ruleset heading = (head-start, head-end, head-stops, head-opens, head-less, head-past, listed-less, head-good, head-bad, needs)
 
 -- ---- behind `components`
 
-pub record Following (k : ℕ) (counts had : Bool) (s : List ℕ) (from e at : ℕ) : Type 0 where
-  pub is : (c : List ℕ) → componentVerdict (nodesAt s from) c counts (come had true) e ≡ componentVerdict (nodesAt s at) c counts (come had true) e
+pub record Following (s : List ℕ) (from e at : ℕ) (had : Bool) : Type 0 where
+  pub is : (c : List ℕ) (b : Bool) → componentVerdict (nodesAt s from) c b (come had true) e ≡ componentVerdict (nodesAt s at) c b (come had true) e
 
-pub follow-start : (k : ℕ) (counts had : Bool) (s : List ℕ) (from e : ℕ) → Following k counts had s from e from
-follow-start k counts had s from e = record { is = λ c. refl }
+pub follow-start : (s : List ℕ) (from e : ℕ) (had : Bool) → Following s from e from had
+follow-start s from e had = record { is = λ c b. refl }
 
 -- neither child may come behind `components`
 none-behind : (a b d g : Bool) (v w z : Verdict) → pick (a and (d and false)) v (pick (b and (false and g)) w z) ≡ z
@@ -204,31 +358,31 @@ none-behind true false false g v w z = refl
 none-behind false true d g v w z = refl
 none-behind false false d g v w z = refl
 
-module _ {k : ℕ} {counts had : Bool} {s : List ℕ} {from e at : ℕ} {r : Node} (i : Following k counts had s from e at) (n : NodeAt s at r) where
-  on-nodes : (c : List ℕ) {x : Nodes} → nodesAt s at ≡ x → componentVerdict (nodesAt s from) c counts (come had true) e ≡ componentVerdict x c counts (come had true) e
-  on-nodes c h = i .is c ∙ ap (λ (y : Nodes). componentVerdict y c counts (come had true) e) h
+module _ (k : ℕ) (t : Kept) (inner : Bool) {s : List ℕ} {from e at : ℕ} {had : Bool} {r : Node} (i : Following s from e at had) (n : NodeAt s at r) where
+  on-nodes : {x : Nodes} → nodesAt s at ≡ x → (c : List ℕ) (b : Bool) → componentVerdict (nodesAt s from) c b (come had true) e ≡ componentVerdict x c b (come had true) e
+  on-nodes h c b = i .is c b ∙ ap (λ (y : Nodes). componentVerdict y c b (come had true) e) h
 
-  pub follow-none : {j : Judged} → r .kind ≡ None → EndAt k counts had true e j → BehindAt k counts had s from e j
+  pub follow-none : {j : Judged} → r .kind ≡ None → EndAt k t had true inner e j → BehindAt k t had inner s from e j
   unfolding componentVerdict
-  follow-none q d = record { is = λ c o. on-nodes c (node-none n q) ∙ d .is c o }
+  follow-none q d = record { is = λ c o b g. on-nodes (node-none n q) c b ∙ d .is c o b g }
 
-  pub follow-referred : r .kind ≡ Referred → BehindAt k counts had s from e (Refused 6 at)
+  pub follow-referred : r .kind ≡ Referred → BehindAt k t had inner s from e (Refused 6 at)
   unfolding componentVerdict
-  follow-referred q = record { is = λ c o. on-nodes c (node-referred n q) ∙ sym (is-frame at) }
+  follow-referred q = record { is = λ c o b g. on-nodes (node-referred n q) c b ∙ sym (is-frame at) }
 
   module _ (q : r .kind ≡ Literal) {b : Bool} (f : b ≡ isSpace (r .unit)) where
-    pub follow-space : b ≡ true → Following k counts had s from e (r .next)
+    pub follow-text : b ≡ false → BehindAt k t had inner s from e (Refused 6 at)
     unfolding componentVerdict pick
-    follow-space h = record { is = λ c. on-nodes c (node-literal n q) ∙ rw (← f, h) }
+    follow-text h = record { is = λ c o b g. on-nodes (node-literal n q) c b ∙ rw (← f, h) (sym (is-frame at)) }
 
-    pub follow-text : b ≡ false → BehindAt k counts had s from e (Refused 6 at)
-    unfolding componentVerdict pick
-    follow-text h = record { is = λ c o. on-nodes c (node-literal n q) ∙ rw (← f, h) (sym (is-frame at)) }
-
-  pub follow-element : {j : Judged} → r .kind ≡ Element → unexpected at (rest 0 (take (r .«name_end») s) (r .name)) ≡ judgedAs j → BehindAt k counts had s from e j
+  pub follow-element : {j : Judged} → r .kind ≡ Element → unexpected at (nameOf s r) ≡ judgedAs j → BehindAt k t had inner s from e j
   unfolding componentVerdict
   follow-element q u = record {
-    is = λ c o. on-nodes c (node-element n q) ∙ none-behind (same (rest 0 (take (r .«name_end») s) (r .name)) (ascii "properties")) (same (rest 0 (take (r .«name_end») s) (r .name)) (ascii "components")) (not had) (not (isEmpty (subcomponentsOf c))) _ _ _ ∙ u;
+    is = λ c o b g. on-nodes (node-element n q) c b ∙ none-behind (same (nameOf s r) (ascii "properties")) (same (nameOf s r) (ascii "components")) (not had) (not (isEmpty (subcomponentsOf c))) _ _ _ ∙ u;
   }
+
+pub follow-space : {s : List ℕ} {from e at : ℕ} {had : Bool} {r : Node} → Following s from e at had → NodeAt s at r → r .kind ≡ Literal → {b : Bool} → b ≡ isSpace (r .unit) → b ≡ true → Following s from e (r .next) had
+unfolding componentVerdict pick
+follow-space {s} {from} {e} {at} {had} i n q f h = record { is = λ c b. i .is c b ∙ ap (λ (y : Nodes). componentVerdict y c b (come had true) e) (node-literal n q) ∙ rw (← f, h) }
 
 pub ruleset following = (follow-start, follow-none, follow-referred, follow-space, follow-text, follow-element, literal-less, needs)

@@ -3,7 +3,7 @@
 --     naming       the rules of the tests of a property's name and place
 --     Listing    the invariant of the walk over properties;   listing: the rules
 use mathlib.Core.Path.{_≡_, refl, sym, ap, _∙_}
-use mathlib.Core.Bool.{Bool, true, false, not}
+use mathlib.Core.Bool.{Bool, true, false, not, false≢true}
 use mathlib.Core.List.{List, [], _∷_}
 use mathlib.Core.Option.{none, some}
 use Prim.Native.Nat.{ℕ, suc, _≤_, _<_}
@@ -15,12 +15,14 @@ use borrow.Author.Needs.{needs}
 use borrow.Author.Tests.{eq-eqb, ne-eqb, lt-ltb, le-ltb}
 use Rattle.octets.specs.Ascii.{ascii}
 use Rattle.octets.specs.Pick.{pick, _and_, _or_}
+use Rattle.octets.specs.Append.{_⊕_}
+use Rattle.octets.specs.laws.Append.{append-empty, append-cons, append-none, append-regroup}
 use Rattle.octets.specs.Class.{upper, isSpace}
 use Rattle.octets.specs.Words.{same, isOneOf}
 use Rattle.source.specs.Source.{rest}
 use Rattle.names.specs.Table.{placeOf}
 use Rattle.names.specs.laws.Table.{one-of-place}
-use Rattle.calendar.specs.Calendar.{BINARY}
+use Rattle.calendar.specs.Calendar.{BINARY, Property}
 use Rattle.calendar.specs.Refusal.{_otherwise_}
 use Rattle.schema.specs.Types.{sameType}
 use Rattle.schema.specs.Components.{componentNames, mayStand}
@@ -33,7 +35,7 @@ use Rattle.xml.specs.Nodes.{Nodes, noNodes}
 use Rattle.xcal.specs.Layout.{Slot, slotOf, sequence, hasCapital}
 use Rattle.xcal.specs.ValueNodes.{valueSlots, typeOfNodes}
 use Rattle.xcal.specs.ParameterNodes.{hasEncoding}
-use Rattle.xcal.specs.PropertyNodes.{badName, propertySlots, stillBefore, parametersIn, childVerdict, propertyVerdict, propertiesVerdict}
+use Rattle.xcal.specs.PropertyNodes.{badName, propertySlots, stillBefore, parametersIn, childVerdict, propertyVerdict, propertiesVerdict, propertyIn, readProperties}
 use Rattle.xml.specs.NodesAt.{nodesAt}
 use Rattle.xml.specs.laws.NodesAt.{nodes-none}
 use Rattle.read_xml_nodes.specs.NodeFound.{NodeAt}
@@ -44,11 +46,13 @@ use Rattle.read_xml_nodes.specs.declared.Node.{Node}
 use Rattle.read_xml_nodes.specs.declared.NodeKind.the-variants.{None, Element, Literal, Referred}
 use Rattle.read_xml_nodes.specs.declared.Judged.{Judged}
 use Rattle.read_xml_nodes.specs.declared.Judged.the-variants.{Fine, Refused}
-use Rattle.read_xml.specs.Children.{childWords, slotAt}
+use Rattle.read_xml.specs.Children.{nameOf, childWords, slotAt}
 use Rattle.read_xml.specs.laws.Children.{slots-place, slotted, slot-at, parameters-at}
 use Rattle.read_xml.specs.Turning.{Holder}
 use Rattle.read_xml.specs.laws.Turning.{name-inside, content-inside}
+use Rattle.read_xml.specs.Counting.{Counted, CountsOn}
 use Rattle.read_xml.specs.Properties.{LacksAt, OffAt, PropertyAt, ListedAt}
+use Rattle.read_xml.specs.declared.Kept.{Kept}
 
 -- ---- the `parameters` of a property
 
@@ -196,62 +200,89 @@ pub ruleset standing = (off-unknown, off-may, off-not, needs)
 
 -- ---- the element
 
-module _ (k place : ℕ) (m : List ℕ) (end : ℕ) (kids : Nodes) {b : Bool} (e : b ≡ badName m) where
-  pub property-bad : b ≡ true → PropertyAt k place m end kids (Refused 5 place)
+module _ (k : ℕ) (s : List ℕ) (at : ℕ) (n : Node) {p : ℕ} {b : Bool} (e : b ≡ badName (nameOf s n)) where
+  pub property-bad : b ≡ true → p ≡ placeOf (upper (nameOf s n)) propertyNames → PropertyAt k s at n (Refused 5 at)
   unfolding propertyVerdict pick
-  property-bad h = record { is = λ c a. rw (← e, h) (sym (is-name place)) }
+  property-bad h o = record { is = λ c a. rw (← e, h) (sym (is-name at)) }
 
-  module _ (h : b ≡ false) {p : ℕ} (o : p ≡ placeOf (upper m) propertyNames) {d : Bool} (f : OffAt k p d) where
-    pub property-off : d ≡ true → PropertyAt k place m end kids (Refused 6 place)
+  module _ (h : b ≡ false) {d : Bool} (f : OffAt k p d) where
+    pub property-off : d ≡ true → p ≡ placeOf (upper (nameOf s n)) propertyNames → PropertyAt k s at n (Refused 6 at)
     unfolding propertyVerdict pick
-    property-off g = record { is = λ c a. rw (← e, h, ← (f .is c (upper m) a o), g) (sym (is-frame place)) }
+    property-off g o = record { is = λ c a. rw (← e, h, ← (f .is c (upper (nameOf s n)) a o), g) (sym (is-frame at)) }
 
-    module _ (g : d ≡ false) {t : ℕ} (y : ((w : List ℕ) → p ≡ placeOf w propertyNames → typeAt t ≡ typeOfNodes w kids) × (t ≤ 14)) {x : Bool} (i : LacksAt p t kids x) where
-      pub property-lacks : x ≡ true → PropertyAt k place m end kids (Refused 7 place)
+    module _ (g : d ≡ false) {t : ℕ} (y : ((w : List ℕ) → p ≡ placeOf w propertyNames → typeAt t ≡ typeOfNodes w (nodesAt s (n .inside))) × (t ≤ 14)) {x : Bool} (i : LacksAt p t (nodesAt s (n .inside)) x) where
+      pub property-lacks : x ≡ true → p ≡ placeOf (upper (nameOf s n)) propertyNames → PropertyAt k s at n (Refused 7 at)
       unfolding propertyVerdict pick
-      property-lacks j = record { is = λ c a. rw (← e, h, ← (f .is c (upper m) a o), g, ← (i .is (upper m) o (y .1) (y .0 (upper m) o)), j) (sym (is-parameter place)) }
+      property-lacks j o = record {
+        is = λ c a. rw (← e, h, ← (f .is c (upper (nameOf s n)) a o), g, ← (i .is (upper (nameOf s n)) o (y .1) (y .0 (upper (nameOf s n)) o)), j) (sym (is-parameter at));
+      }
 
-      pub property-children : {v : Judged} → x ≡ false → ((c w : List ℕ) → Holder k p t c w → judgedAs v ≡ sequence (propertySlots w) (childVerdict c w (typeAt t)) kids 0 [] end) → PropertyAt k place m end kids v
+      pub property-children : {v : Judged} → x ≡ false →
+          ((c w : List ℕ) → Holder k p t c w → judgedAs v ≡ sequence (propertySlots w) (childVerdict c w (typeAt t)) (nodesAt s (n .inside)) 0 [] (n .end)) →
+          p ≡ placeOf (upper (nameOf s n)) propertyNames → PropertyAt k s at n v
       unfolding propertyVerdict pick
-      property-children {v} j q = record {
-        is = λ c a. rw (← e, h, ← (f .is c (upper m) a o), g, ← (i .is (upper m) o (y .1) (y .0 (upper m) o)), j, ← (y .0 (upper m) o)) (sym (q c (upper m) (record { component = a; property = o; small = y .1 })));
+      property-children {v} j q o = record {
+        is = λ c a. rw (← e, h, ← (f .is c (upper (nameOf s n)) a o), g, ← (i .is (upper (nameOf s n)) o (y .1) (y .0 (upper (nameOf s n)) o)), j, ← (y .0 (upper (nameOf s n)) o))
+            (sym (q c (upper (nameOf s n)) (record { component = a; property = o; small = y .1 })));
       }
 
 pub ruleset propertying = (property-bad, property-off, property-lacks, property-children, length-take-le, needs)
 
 -- ---- the children of `properties`
 
-pub record Listing (k : ℕ) (s : List ℕ) (from at : ℕ) : Type 0 where
+pub not-fine : {x y : ℕ} → Refused x y ≡ Fine → ⊥
+not-fine h = let z : _≡_ {A = Bool} false true = cc in absurd (false≢true z)
+
+pub record Listing (k : ℕ) (s : List ℕ) (from at : ℕ) (t : Kept) : Type 0 where
   pub is : (c : List ℕ) → k ≡ placeOf c componentNames → propertiesVerdict c (nodesAt s from) ≡ propertiesVerdict c (nodesAt s at)
+  pub seen : List Property
+  pub counted : Counted seen t
+  pub agrees : readProperties (nodesAt s from) ≡ seen ⊕ readProperties (nodesAt s at)
 
-pub list-start : (k : ℕ) (s : List ℕ) (from : ℕ) → Listing k s from from
-list-start k s from = record { is = λ c a. refl }
+pub list-start : (k : ℕ) (s : List ℕ) (from : ℕ) {t : Kept} → Counted [] t → Listing k s from from t
+list-start k s from d = record { is = λ c a. refl; seen = []; counted = d; agrees = sym (append-empty (readProperties (nodesAt s from))) }
 
-module _ {k : ℕ} {s : List ℕ} {from at : ℕ} {r : Node} (i : Listing k s from at) (n : NodeAt s at r) where
-  pub list-none : r .kind ≡ None → ListedAt k s from Fine
+module _ {k : ℕ} {s : List ℕ} {from at : ℕ} {t : Kept} {r : Node} (i : Listing k s from at t) (n : NodeAt s at r) where
+  verdict-on : {x : Nodes} → nodesAt s at ≡ x → (c : List ℕ) → k ≡ placeOf c componentNames → propertiesVerdict c (nodesAt s from) ≡ propertiesVerdict c x
+  verdict-on h c a = i .is c a ∙ ap (propertiesVerdict c) h
+
+  read-on : {x : Nodes} → nodesAt s at ≡ x → readProperties (nodesAt s from) ≡ i .seen ⊕ readProperties x
+  read-on h = i .agrees ∙ ap (λ (y : Nodes). i .seen ⊕ readProperties y) h
+
+  pub list-none : r .kind ≡ None → ListedAt k s from (record { judged = Fine; kept = t })
+  unfolding propertiesVerdict readProperties
+  list-none q = record {
+    is = verdict-on (node-none n q);
+    counted = λ h. rw (read-on (node-none n q), append-none (i .seen)) (i .counted);
+  }
+
+  pub list-referred : r .kind ≡ Referred → ListedAt k s from (record { judged = Refused 6 at; kept = t })
   unfolding propertiesVerdict
-  list-none q = record { is = λ c a. i .is c a ∙ ap (propertiesVerdict c) (node-none n q) }
-
-  pub list-referred : r .kind ≡ Referred → ListedAt k s from (Refused 6 at)
-  unfolding propertiesVerdict
-  list-referred q = record { is = λ c a. i .is c a ∙ ap (propertiesVerdict c) (node-referred n q) ∙ sym (is-frame at) }
+  list-referred q = record { is = λ c a. verdict-on (node-referred n q) c a ∙ sym (is-frame at); counted = λ h. absurd (not-fine h) }
 
   module _ (q : r .kind ≡ Literal) {b : Bool} (e : b ≡ isSpace (r .unit)) where
-    pub list-space : b ≡ true → Listing k s from (r .next)
+    pub list-space : b ≡ true → Listing k s from (r .next) t
+    unfolding propertiesVerdict readProperties pick
+    list-space h = record { is = λ c a. verdict-on (node-literal n q) c a ∙ rw (← e, h); seen = i .seen; counted = i .counted; agrees = read-on (node-literal n q) }
+
+    pub list-text : b ≡ false → ListedAt k s from (record { judged = Refused 6 at; kept = t })
     unfolding propertiesVerdict pick
-    list-space h = record { is = λ c a. i .is c a ∙ ap (propertiesVerdict c) (node-literal n q) ∙ rw (← e, h) }
+    list-text h = record { is = λ c a. verdict-on (node-literal n q) c a ∙ rw (← e, h) (sym (is-frame at)); counted = λ h. absurd (not-fine h) }
 
-    pub list-text : b ≡ false → ListedAt k s from (Refused 6 at)
-    unfolding propertiesVerdict pick
-    list-text h = record { is = λ c a. i .is c a ∙ ap (propertiesVerdict c) (node-literal n q) ∙ rw (← e, h) (sym (is-frame at)) }
+  module _ (q : r .kind ≡ Element) {p : ℕ} (o : p ≡ placeOf (upper (nameOf s r)) propertyNames) {j : Judged} (d : p ≡ placeOf (upper (nameOf s r)) propertyNames → PropertyAt k s at r j) where
+    pub list-good : {u : Kept} → j ≡ Fine → CountsOn p (nodesAt s (r .inside)) t u → Listing k s from (r .next) u
+    unfolding propertiesVerdict readProperties _otherwise_
+    list-good h m =
+        let x : Property = propertyIn (nameOf s r) (nodesAt s (r .inside)) in
+        let later : List Property = readProperties (nodesAt s (r .next)) in record {
+          is = λ c a. verdict-on (node-element n q) c a ∙ rw (d o .is c a, h);
+          seen = i .seen ⊕ (x ∷ []);
+          counted = m .is (i .seen) (nameOf s r) o (i .counted);
+          agrees = read-on (node-element n q) ∙ sym (append-regroup (i .seen) (x ∷ []) later ∙ rw (append-cons x [] later, append-empty later));
+        }
 
-  module _ (q : r .kind ≡ Element) {j : Judged} (d : PropertyAt k at (rest 0 (take (r .«name_end») s) (r .name)) (r .end) (nodesAt s (r .inside)) j) where
-    pub list-good : j ≡ Fine → Listing k s from (r .next)
+    pub list-bad : {x y : ℕ} → j ≡ Refused x y → ListedAt k s from (record { judged = Refused x y; kept = t })
     unfolding propertiesVerdict _otherwise_
-    list-good h = record { is = λ c a. i .is c a ∙ ap (propertiesVerdict c) (node-element n q) ∙ rw (d .is c a, h) }
+    list-bad h = record { is = λ c a. verdict-on (node-element n q) c a ∙ rw (d o .is c a, h); counted = λ g. absurd (not-fine g) }
 
-    pub list-bad : {x y : ℕ} → j ≡ Refused x y → ListedAt k s from (Refused x y)
-    unfolding propertiesVerdict _otherwise_
-    list-bad h = record { is = λ c a. i .is c a ∙ ap (propertiesVerdict c) (node-element n q) ∙ rw (d .is c a, h) }
-
-pub ruleset listing = (list-start, list-none, list-referred, list-space, list-text, list-good, list-bad, name-inside, content-inside, element-less, literal-less, referred-less, needs)
+pub ruleset listing = (list-start, list-none, list-referred, list-space, list-text, list-good, list-bad, name-inside, content-inside, element-less, literal-less, referred-less, length-take-le, needs)

@@ -1,8 +1,7 @@
 -- Laws of what specs/Roots.antt defines.
---     wholes    the rules
 --     Streaming     the invariant of the walk over calendars;   streaming: the rules
 --     roots         the rules of the root
-use mathlib.Core.Path.{_≡_, refl, sym, ap, subst, _∙_}
+use mathlib.Core.Path.{_≡_, refl, sym, ap, _∙_}
 use mathlib.Core.Bool.{Bool, true, false}
 use mathlib.Core.List.{List}
 use Prim.Native.Nat.{ℕ}
@@ -31,32 +30,8 @@ use Rattle.read_xml_nodes.specs.declared.NodeKind.the-variants.{None, Element, 
 use Rattle.read_xml_nodes.specs.declared.Judged.{Judged}
 use Rattle.read_xml_nodes.specs.declared.Judged.the-variants.{Fine, Refused}
 use Rattle.read_xml.specs.laws.Turning.{name-inside}
-use Rattle.read_xml.specs.Counting.{CompleteAt}
-use Rattle.read_xml.specs.Components.{HeadAt, BehindAt}
-use Rattle.read_xml.specs.Subcomponents.{CompsAt}
-use Rattle.read_xml.specs.Roots.{ComponentAt, StreamAt, RootAt}
-use Rattle.read_xml.specs.declared.Part.{Part}
-use Rattle.read_xml.specs.declared.Part.the-variants.{Ends, Opens}
-
--- ---- a component
-
-module _ {k : ℕ} {s : List ℕ} {from end : ℕ} {counts : Bool} (t : CompleteAt k (nodesAt s from) counts) {p : Part} (h : HeadAt k counts s from end p) where
-  pub whole-ends : {j : Judged} → p ≡ Ends j → ComponentAt k s from end j
-  whole-ends e = record { is = λ c o. rw (← (t .is c o)) (subst (HeadAt k counts s from end) e h .is c o) }
-
-  module _ {q x after : ℕ} {had : Bool} (e : p ≡ Opens q x after had) {r : Judged} (d : CompsAt k s q x r) where
-    opened : HeadAt k counts s from end (Opens q x after had)
-    opened = subst (HeadAt k counts s from end) e h
-
-    pub whole-refused : {f y : ℕ} → r ≡ Refused f y → ComponentAt k s from end (Refused f y)
-    unfolding _otherwise_
-    whole-refused g = record { is = λ c o. rw (← (t .is c o)) (opened .is c o ∙ rw (d .is c o, g)) }
-
-    pub whole-behind : {v : Judged} → r ≡ Fine → BehindAt k counts had s after end v → ComponentAt k s from end v
-    unfolding _otherwise_
-    whole-behind g w = record { is = λ c o. rw (← (t .is c o)) (opened .is c o ∙ rw (d .is c o, g) (w .is c o)) }
-
-pub ruleset wholes = (whole-ends, whole-refused, whole-behind, needs)
+use Rattle.read_xml.specs.Subcomponents.{ComponentAt}
+use Rattle.read_xml.specs.Roots.{StreamAt, RootAt}
 
 -- ---- the children of `icalendar`
 

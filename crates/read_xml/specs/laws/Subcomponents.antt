@@ -1,25 +1,26 @@
 -- Laws of what specs/Subcomponents.antt defines.
---     Among    the invariant of its walk
+--     wholes   the rules of a component
+--     subs     the rules of a node of `components`
+--     Among    the invariant of the walk over `components`;   among: the rules
 use Prim.{tt}
 use mathlib.Core.Path.{_≡_, refl, sym, ap, subst, _∙_}
-use mathlib.Core.Bool.{Bool, true, false}
+use mathlib.Core.Bool.{Bool, true, false, false≢true}
 use mathlib.Core.List.{List, []}
 use Prim.Native.Nat.{ℕ, _-_, _≤_, _<_}
 use native.Mathlib.Omega.{arith}
-use lib.ListN.{length, take}
+use lib.ListN.{length}
 use lib.Seq.{length-take-le}
 use borrow.Author.Needs.{needs}
-use Rattle.octets.specs.Pick.{pick, _and_}
+use Rattle.octets.specs.Pick.{pick, _and_, _or_}
 use Rattle.octets.specs.Class.{upper, isSpace}
-use Rattle.source.specs.Source.{rest}
 use Rattle.names.specs.Table.{placeOf}
-use Rattle.calendar.specs.Refusal.{_otherwise_}
+use Rattle.calendar.specs.Refusal.{NAME, FRAME, fine, refuse, _otherwise_}
 use Rattle.schema.specs.Components.{componentNames}
 use Rattle.schema.specs.Columns.{mayBegin}
 use Rattle.schema.specs.laws.Columns.{begin-place}
-use Rattle.xml.specs.Nodes.{Nodes}
+use Rattle.xml.specs.Nodes.{Nodes, hasElement}
 use Rattle.xcal.specs.Layout.{hasCapital, unexpected}
-use Rattle.xcal.specs.ComponentNodes.{isComplete, componentVerdict, componentsVerdict}
+use Rattle.xcal.specs.ComponentNodes.{isComplete, componentsVerdict}
 use Rattle.xml.specs.NodesAt.{nodesAt}
 use Rattle.read_xml_nodes.specs.NodeFound.{NodeAt}
 use Rattle.read_xml_nodes.specs.laws.NodeFound.{node-none, node-element, node-literal, node-referred, element-less, inside-less, literal-less}
@@ -30,15 +31,19 @@ use Rattle.read_xml_nodes.specs.declared.NodeKind.the-variants.{None, Element, 
 use Rattle.read_xml_nodes.specs.declared.Judged.{Judged}
 use Rattle.read_xml_nodes.specs.declared.Judged.the-variants.{Fine, Refused}
 use Rattle.read_xml.specs.laws.Turning.{name-inside}
-use Rattle.read_xml.specs.Counting.{CompleteAt}
-use Rattle.read_xml.specs.Components.{come, EndsAt, HeadAt, BehindAt}
-use Rattle.read_xml.specs.Subcomponents.{NumberedAt, innerOf, InnerAt, SubAt, CompsAt}
-use Rattle.read_xml.specs.declared.Part.{Part}
+use Rattle.read_xml.specs.Children.{nameOf}
+use Rattle.read_xml.specs.laws.Properties.{not-fine}
+use Rattle.read_xml.specs.Components.{EndsAt, PartFits, HeadAt, BehindAt}
+use Rattle.read_xml.specs.laws.Components.{complete-is}
+use Rattle.read_xml.specs.Subcomponents.{NumberedAt, ComponentAt, SubAt, HeldIs, CompsAt}
+use Rattle.read_xml.specs.declared.Begun.{Begun}
 use Rattle.read_xml.specs.declared.Part.the-variants.{Ends, Opens}
 use Rattle.read_xml.specs.declared.Numbered.{Numbered}
 use Rattle.read_xml.specs.declared.Numbered.the-variants.{Number, Other}
 use Rattle.read_xml.specs.declared.Sub.{Sub}
-use Rattle.read_xml.specs.declared.Sub.the-variants.{Done, Past, Deep}
+use Rattle.read_xml.specs.declared.Sub.the-variants.{Done, Past, Begins}
+use Rattle.read_xml.specs.declared.Held.{Held}
+use Rattle.read_xml.specs.declared.Held.the-variants.{Holds, Fails}
 
 -- ---- the number of a component
 
@@ -60,126 +65,142 @@ pub ruleset numbering = (number-capital, number-may, number-not, length-take-le,
 
 -- ---- a component
 
-module _ (n : ℕ) {s : List ℕ} {from : ℕ} (end next : ℕ) {counts : Bool} (t : CompleteAt n (nodesAt s from) counts) {p : Part} (h : HeadAt n counts s from end p) where
-  module _ {j : Judged} (e : p ≡ Ends j) where
-    ended : (c : List ℕ) → n ≡ placeOf c componentNames → componentVerdict (nodesAt s from) c (isComplete c (nodesAt s from)) (come false false) end ≡ judgedAs j
-    ended c o = rw (← (t .is c o)) (subst (HeadAt n counts s from end) e h .is c o)
+module _ {k : ℕ} {s : List ℕ} {from e : ℕ} {b : Begun} (h : HeadAt k s from e b) where
+  pub whole-ends : {j : Judged} → b .part ≡ Ends j → ComponentAt k s from e j
+  whole-ends z = record { is = λ c o. h .is c o ∙ rw z }
 
-    pub inner-good : j ≡ Fine → InnerAt n s from end next (Past next true)
-    unfolding _otherwise_
-    inner-good f = record { is = λ c o v. rw (ended c o, f); fits = (refl, refl) }
+  module _ {q x after : ℕ} {had : Bool} (z : b .part ≡ Opens q x after had) where
+    opened : PartFits s from (b .kept) (Opens q x after had)
+    opened = subst (PartFits s from (b .kept)) z (h .fits)
 
-    pub inner-bad : {x y : ℕ} → j ≡ Refused x y → InnerAt n s from end next (Done (Refused x y))
-    unfolding _otherwise_
-    inner-bad f = record { is = λ c o v. rw (ended c o, f); fits = tt }
+    pub whole-falls : length s - q < length s - from
+    whole-falls = opened .0
 
-  pub inner-deep : {q x after : ℕ} {had : Bool} → p ≡ Opens q x after had → InnerAt n s from end next (Deep n counts had q x after end next)
-  inner-deep {q} {x} {after} {had} e =
-      let g : HeadAt n counts s from end (Opens q x after had) = subst (HeadAt n counts s from end) e h in record {
-        is = λ c o v. rw (← (t .is c o), g .is c o);
-        fits = (refl, refl, g .deeper);
+    module _ {r : Held} (d : CompsAt k s q x r) where
+      pub whole-fails : {f y : ℕ} → r ≡ Fails f y → ComponentAt k s from e (Refused f y)
+      unfolding _otherwise_
+      whole-fails g = record { is = λ c o. h .is c o ∙ rw (z, d .is c o, g) }
+
+      pub whole-behind : {inner : Bool} {v : Judged} → r ≡ Holds inner → BehindAt k (b .kept) had inner s after e v → ComponentAt k s from e v
+      unfolding _otherwise_
+      whole-behind g w = record {
+        is = λ c o. h .is c o ∙ rw (z, d .is c o, g)
+            (w .is c o (isComplete c (nodesAt s from)) (λ l. complete-is c o (nodesAt s from) (opened .2 l) (subst (HeldIs (hasElement (nodesAt s q))) g (d .held) ∙ sym (ap hasElement (opened .1)))));
       }
 
-pub ruleset inners = (inner-good, inner-bad, inner-deep, needs)
+pub ruleset wholes = (whole-ends, whole-fails, whole-behind, needs)
 
 -- ---- a node of `components`
+
+-- an element that has no place is refused
+not-unexpected : (p : ℕ) (m : List ℕ) {j : Judged} → unexpected p m ≡ judgedAs j → j ≡ Fine → ⊥
+unfolding pick
+not-unexpected p m {j} u h = go (hasCapital m) (rw h at u)
+  where
+    go : (b : Bool) → pick b (refuse NAME p) (refuse FRAME p) ≡ fine → ⊥
+    go true v = let z : _≡_ {A = Bool} false true = cc in absurd (false≢true z)
+    go false v = let z : _≡_ {A = Bool} false true = cc in absurd (false≢true z)
 
 module _ (k : ℕ) {s : List ℕ} (e : ℕ) {at : ℕ} (any : Bool) {r : Node} (n : NodeAt s at r) where
   with-nodes : (c : List ℕ) {x : Nodes} → nodesAt s at ≡ x → componentsVerdict (nodesAt s at) c any e ≡ componentsVerdict x c any e
   with-nodes c h = ap (λ (y : Nodes). componentsVerdict y c any e) h
 
   pub sub-none : {j : Judged} → r .kind ≡ None → EndsAt k any e j → SubAt k s e at any (Done j)
-  unfolding componentsVerdict
-  sub-none q d = record { inner = []; is = λ c o. with-nodes c (node-none n q) ∙ d .is c o; fits = tt }
+  unfolding componentsVerdict hasElement
+  sub-none q d = record { inner = []; is = λ c o. with-nodes c (node-none n q) ∙ d .is c o; fits = λ h. ap hasElement (node-none n q) }
 
   pub sub-referred : r .kind ≡ Referred → SubAt k s e at any (Done (Refused 6 at))
   unfolding componentsVerdict
-  sub-referred q = record { inner = []; is = λ c o. with-nodes c (node-referred n q) ∙ sym (is-frame at); fits = tt }
+  sub-referred q = record { inner = []; is = λ c o. with-nodes c (node-referred n q) ∙ sym (is-frame at); fits = λ h. absurd (not-fine h) }
 
   module _ (q : r .kind ≡ Literal) {b : Bool} (f : b ≡ isSpace (r .unit)) where
-    pub sub-space : b ≡ true → SubAt k s e at any (Past (r .next) any)
-    unfolding componentsVerdict pick
-    sub-space h = record { inner = []; is = λ c o. with-nodes c (node-literal n q) ∙ rw (← f, h); fits = literal-less n q }
+    pub sub-space : b ≡ true → SubAt k s e at any (Past (r .next))
+    unfolding componentsVerdict hasElement pick
+    sub-space h = record { inner = []; is = λ c o. with-nodes c (node-literal n q) ∙ rw (← f, h); fits = (literal-less n q, ap hasElement (node-literal n q)) }
 
     pub sub-text : b ≡ false → SubAt k s e at any (Done (Refused 6 at))
     unfolding componentsVerdict pick
-    sub-text h = record { inner = []; is = λ c o. with-nodes c (node-literal n q) ∙ rw (← f, h) (sym (is-frame at)); fits = tt }
+    sub-text h = record { inner = []; is = λ c o. with-nodes c (node-literal n q) ∙ rw (← f, h) (sym (is-frame at)); fits = λ h. absurd (not-fine h) }
 
-  module _ (q : r .kind ≡ Element) {t : Numbered} (d : NumberedAt k (rest 0 (take (r .«name_end») s) (r .name)) t) where
-    pub sub-other : {j : Judged} → t ≡ Other → unexpected at (rest 0 (take (r .«name_end») s) (r .name)) ≡ judgedAs j → SubAt k s e at any (Done j)
+  module _ (q : r .kind ≡ Element) {t : Numbered} (d : NumberedAt k (nameOf s r) t) where
+    pub sub-other : {j : Judged} → t ≡ Other → unexpected at (nameOf s r) ≡ judgedAs j → SubAt k s e at any (Done j)
     unfolding componentsVerdict pick
-    sub-other z u = record { inner = []; is = λ c o. with-nodes c (node-element n q) ∙ rw (d .is c o, z) u; fits = tt }
+    sub-other z u = record { inner = []; is = λ c o. with-nodes c (node-element n q) ∙ rw (d .is c o, z) u; fits = λ h. absurd (not-unexpected at (nameOf s r) u h) }
 
-    module _ {m : ℕ} (z : t ≡ Number m) where
-      numbered : m ≡ placeOf (upper (rest 0 (take (r .«name_end») s) (r .name))) componentNames
-      numbered = subst (NumberedAt k (rest 0 (take (r .«name_end») s) (r .name))) z d .number
+    pub sub-begins : {m : ℕ} → t ≡ Number m → SubAt k s e at any (Begins m (r .inside) (r .end) (r .next))
+    unfolding componentsVerdict hasElement pick
+    sub-begins {m} z = record {
+      inner = upper (nameOf s r);
+      is = λ c o. with-nodes c (node-element n q) ∙ rw (d .is c o, z);
+      fits = (subst (NumberedAt k (nameOf s r)) z d .number, inside-less n q, element-less n q, ap hasElement (node-element n q));
+    }
 
-      begun : {x : Sub} → InnerAt m s (r .inside) (r .end) (r .next) x → (c : List ℕ) → k ≡ placeOf c componentNames →
-          componentsVerdict (nodesAt s at) c any e ≡ innerOf (upper (rest 0 (take (r .«name_end») s) (r .name))) s (componentsVerdict (nodesAt s (r .next)) c true e) x
-      unfolding componentsVerdict pick
-      begun i c o = with-nodes c (node-element n q) ∙ rw (d .is c o, z) (i .is (upper (rest 0 (take (r .«name_end») s) (r .name))) numbered (componentsVerdict (nodesAt s (r .next)) c true e))
-
-      pub sub-inner : (x : Sub) → InnerAt m s (r .inside) (r .end) (r .next) x → SubAt k s e at any x
-      sub-inner (Done j) i = record { inner = []; is = λ c o. begun i c o; fits = tt }
-      sub-inner (Past p a) i = record {
-        inner = [];
-        is = λ c o. begun i c o ∙ rw (i .fits .0, i .fits .1);
-        fits = rw (i .fits .0) (element-less n q);
-      }
-      sub-inner (Deep p counts had y x after w f) i = record {
-        inner = upper (rest 0 (take (r .«name_end») s) (r .name));
-        is = λ c o. begun i c o ∙ rw (i .fits .1);
-        fits = (i .fits .0 ∙ numbered, omega (arith, i .fits .2, inside-less n q), rw (i .fits .1) (element-less n q));
-      }
-
-pub ruleset subs = (sub-none, sub-referred, sub-space, sub-text, sub-other, sub-inner, name-inside, needs)
+pub ruleset subs = (sub-none, sub-referred, sub-space, sub-text, sub-other, sub-begins, name-inside, needs)
 
 -- ---- the walk
 
 pub record Among (k : ℕ) (s : List ℕ) (from e at : ℕ) (any : Bool) : Type 0 where
   pub is : (c : List ℕ) → k ≡ placeOf c componentNames → componentsVerdict (nodesAt s from) c false e ≡ componentsVerdict (nodesAt s at) c any e
   pub low : length s - at ≤ length s - from
+  pub held : hasElement (nodesAt s from) ≡ (any or hasElement (nodesAt s at))
 
 pub among-start : (k : ℕ) (s : List ℕ) (from e : ℕ) → Among k s from e from false
-among-start k s from e = record { is = λ c o. refl; low = omega arith }
+unfolding _or_
+among-start k s from e = record { is = λ c o. refl; low = omega arith; held = refl }
+
+or-false : (a : Bool) → (a or false) ≡ a
+unfolding _or_
+or-false true = refl
+or-false false = refl
+
+or-true : (a b : Bool) → (a or true) ≡ (true or b)
+unfolding _or_
+or-true true b = refl
+or-true false b = refl
 
 module _ {k : ℕ} {s : List ℕ} {from e at : ℕ} {any : Bool} (m : Among k s from e at any) {t : Sub} (u : SubAt k s e at any t) where
-  pub among-done : {j : Judged} → t ≡ Done j → CompsAt k s from e j
-  among-done {j} y = let b : SubAt k s e at any (Done j) = subst (SubAt k s e at any) y u in record { is = λ c o. m .is c o ∙ b .is c o }
+  module _ {j : Judged} (y : t ≡ Done j) where
+    done : SubAt k s e at any (Done j)
+    done = subst (SubAt k s e at any) y u
 
-  module _ {d : ℕ} {a : Bool} (y : t ≡ Past d a) where
-    pub among-past : Among k s from e d a
-    among-past = let b : SubAt k s e at any (Past d a) = subst (SubAt k s e at any) y u in record { is = λ c o. m .is c o ∙ b .is c o; low = omega (arith, m .low, b .fits) }
+    pub among-fine : j ≡ Fine → CompsAt k s from e (Holds any)
+    among-fine h = record { is = λ c o. m .is c o ∙ done .is c o ∙ rw h; held = sym (m .held ∙ ap (λ (b : Bool). any or b) (done .fits h) ∙ or-false any) }
+
+    pub among-refused : {f p : ℕ} → j ≡ Refused f p → CompsAt k s from e (Fails f p)
+    among-refused h = record { is = λ c o. m .is c o ∙ done .is c o ∙ rw h; held = tt }
+
+  module _ {d : ℕ} (y : t ≡ Past d) where
+    past : SubAt k s e at any (Past d)
+    past = subst (SubAt k s e at any) y u
+
+    pub among-past : Among k s from e d any
+    among-past = record { is = λ c o. m .is c o ∙ past .is c o; low = omega (arith, m .low, past .fits .0); held = m .held ∙ ap (λ (b : Bool). any or b) (past .fits .1) }
 
     pub past-less : length s - d < length s - at
-    past-less = subst (SubAt k s e at any) y u .fits
+    past-less = past .fits .0
 
-  module _ {n : ℕ} {counts had : Bool} {q x after z d : ℕ} (y : t ≡ Deep n counts had q x after z d) where
-    deep : SubAt k s e at any (Deep n counts had q x after z d)
-    deep = subst (SubAt k s e at any) y u
+  module _ {n q z d : ℕ} (y : t ≡ Begins n q z d) where
+    begun : SubAt k s e at any (Begins n q z d)
+    begun = subst (SubAt k s e at any) y u
 
-    pub deep-falls : length s - q < length s - from
-    deep-falls = omega (arith, m .low, deep .fits .1)
+    pub begun-falls : length s - q < length s - from
+    begun-falls = omega (arith, m .low, begun .fits .1)
 
-    pub deep-less : length s - d < length s - at
-    deep-less = deep .fits .2
+    pub begun-less : length s - d < length s - at
+    begun-less = begun .fits .2
 
-    module _ {r : Judged} (h : CompsAt n s q x r) where
-      deep-comps : {v : Judged} → r ≡ v → componentsVerdict (nodesAt s q) (deep .inner) false x ≡ judgedAs v
-      deep-comps g = h .is (deep .inner) (deep .fits .0) ∙ ap judgedAs g
-
-      pub deep-refused : {f p : ℕ} → r ≡ Refused f p → CompsAt k s from e (Refused f p)
+    module _ {v : Judged} (w : ComponentAt n s q z v) where
+      pub among-bad : {f p : ℕ} → v ≡ Refused f p → CompsAt k s from e (Fails f p)
       unfolding _otherwise_
-      deep-refused g = record { is = λ c o. m .is c o ∙ deep .is c o ∙ rw (deep-comps g) }
+      among-bad l = record { is = λ c o. m .is c o ∙ begun .is c o ∙ rw (w .is (begun .inner) (begun .fits .0), l); held = tt }
 
-      module _ (g : r ≡ Fine) {v : Judged} (w : BehindAt n counts had s after z v) where
-        pub deep-behind : {f p : ℕ} → v ≡ Refused f p → CompsAt k s from e (Refused f p)
-        unfolding _otherwise_
-        deep-behind l = record { is = λ c o. m .is c o ∙ deep .is c o ∙ rw (deep-comps g, w .is (deep .inner) (deep .fits .0), l) }
-
-        pub among-deep : v ≡ Fine → Among k s from e d true
-        unfolding _otherwise_
-        among-deep l = record { is = λ c o. m .is c o ∙ deep .is c o ∙ rw (deep-comps g, w .is (deep .inner) (deep .fits .0), l); low = omega (arith, m .low, deep .fits .2) }
+      pub among-good : v ≡ Fine → Among k s from e d true
+      unfolding _otherwise_
+      among-good l = record {
+        is = λ c o. m .is c o ∙ begun .is c o ∙ rw (w .is (begun .inner) (begun .fits .0), l);
+        low = omega (arith, m .low, begun .fits .2);
+        held = m .held ∙ ap (λ (b : Bool). any or b) (begun .fits .3) ∙ or-true any (hasElement (nodesAt s d));
+      }
 
 -- a measure that is known
 pub falls-under : {a b t : ℕ} → a < b → t ≡ b → a < t
@@ -188,4 +209,4 @@ falls-under l e = omega arith
 pub falls-below : {a b t : ℕ} → a < b → b ≡ t → a < t
 falls-below l e = omega arith
 
-pub ruleset among = (among-start, among-done, among-past, past-less, deep-less, deep-refused, deep-behind, among-deep, needs)
+pub ruleset among = (among-start, among-fine, among-refused, among-past, past-less, begun-less, among-bad, among-good, needs)

@@ -202,9 +202,6 @@ pub content-inside : {s : List ℕ} {at : ℕ} {r : Node} → NodeAt s at r → 
 content-inside m = m .inside-within
 
 -- the same of a head
-pub head-name : {s : List ℕ} {at : ℕ} {r : Head} → HeadAt s at r → r .«name_end» ≤ length s
-head-name m = m .name-within
-
 pub head-content : {s : List ℕ} {at : ℕ} {r : Head} → HeadAt s at r → r .inside ≤ length s
 head-content m = m .inside-within
 

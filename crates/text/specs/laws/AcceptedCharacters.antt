@@ -45,14 +45,15 @@ use Rattle.read_text_line.specs.Names.{isCarriedName}
 use Rattle.read_text_line.specs.laws.Names.{carried-name-upper}
 use Rattle.read_text_line.specs.Write.{writeParamValue, writeParameter, writeContentLine}
 use Rattle.read_text_line.specs.Carried.{carriesName}
+use Rattle.validity.specs.ValidCalendar.{isPermitted}
+use Rattle.validity.specs.laws.ValidCalendar.{name-visible}
 use Rattle.text.specs.Parameters.{readWord, readParamValue, readParameter, ownParameters, readParameters}
 use Rattle.text.specs.Values.{oneValue, readListed, readChosen, readValues}
 use Rattle.text.specs.Statement.{propertyFault, propertyOf}
 use Rattle.text.specs.laws.AcceptedProperty.{parameter-read, no-fault}
 use Rattle.text.specs.laws.AcceptedLine.{alone-is, text-made, unknown-is, status-parts, own-every}
-use Rattle.text.specs.ValidCalendar.{isGoodValue, isGoodParameter}
 use Rattle.text.specs.laws.GoodPieces.{split-good, cut-good}
-use Rattle.text.specs.laws.WrittenLine.{name-visible, isGoodChars, comma-ascii}
+use Rattle.text.specs.laws.WrittenLine.{isGoodChars, comma-ascii}
 
 -- ---- the parts of a line
 
@@ -132,7 +133,7 @@ one-piece : (s : List ℕ) → firstBad s ≡ none → every wellFormed (s ∷ [
 unfolding every
 one-piece s h = and-yes _ _ (good-well-formed s h) refl
 
-nothing-good : (v : Value) → freeIn v ≡ [] → isGoodValue v ≡ true
+nothing-good : (v : Value) → freeIn v ≡ [] → isPermitted v ≡ true
 unfolding every
 nothing-good v e = rw e
 
@@ -141,11 +142,11 @@ text-read-good s x h e =
     let a = andThen-some (splitText 0 s) alone x e in
     rw (← (alone-is (a .0) x (a .2))) (split-good 0 s (a .0) h (a .1))
 
-typed-good : (t : ValueType) (s : List ℕ) (v : Value) → firstBad s ≡ none → readValue ical t s ≡ some v → isGoodValue v ≡ true
+typed-good : (t : ValueType) (s : List ℕ) (v : Value) → firstBad s ≡ none → readValue ical t s ≡ some v → isPermitted v ≡ true
 unfolding readValue
 typed-good t s v n h =
     let a = value-accepted ical t s v h in
-    free-or-shown (λ v. isTyped v ≡ true → typeOf v ≡ t → readValue ical t s ≡ some v → isGoodValue v ≡ true)
+    free-or-shown (λ v. isTyped v ≡ true → typeOf v ≡ t → readValue ical t s ≡ some v → isPermitted v ≡ true)
     (λ v e k y u h. nothing-good v e)
     (λ x y u h. text-read-good s x n (text-made (readText s) x (rw (← u) at h)))
     (λ x k y u h. rw (← (unknown-is t s x u h)) (one-piece s n))
@@ -157,39 +158,43 @@ word-shows : (b : ℕ) → isWordChar b ≡ true → isVisible b ≡ true
 unfolding _and_
 word-shows b h = or-cases (isNameChar b) (eqb b 46) h (name-char-visible b) (λ e. eqb-passes isVisible 46 b refl e)
 
-word-good : (s : List ℕ) → allOf isWordChar s ≡ true → isGoodValue (text s) ≡ true
+word-good : (s : List ℕ) → allOf isWordChar s ≡ true → isPermitted (text s) ≡ true
 word-good s h = one-piece s (visible-good s (all-weaker isWordChar isVisible word-shows s h))
 
 -- ---- parameters
 
-word-read-good : (n : List ℕ) (o : Option (List (List ℕ))) (t : ValueType) (s : List ℕ) (v : Value) → parameterWords n ≡ o → firstBad s ≡ none → readWord o t s ≡ some v → isGoodValue v ≡ true
+word-read-good : (n : List ℕ) (o : Option (List (List ℕ))) (t : ValueType) (s : List ℕ) (v : Value) → parameterWords n ≡ o → firstBad s ≡ none → readWord o t s ≡ some v → isPermitted v ≡ true
 unfolding pick
 word-read-good n none t s v e q h = go (sameType t TEXT) h
   where
-    go : (b : Bool) → pick b (some (text s)) (readValue ical t s) ≡ some v → isGoodValue v ≡ true
+    go : (b : Bool) → pick b (some (text s)) (readValue ical t s) ≡ some v → isPermitted v ≡ true
     go true k = let u : text s ≡ v = cc in rw (← u) (one-piece s q)
     go false k = typed-good t s v q k
 word-read-good n (some words) t s v e q h =
     let p = provided-some (isOneOf (upper s) words) (text (upper s)) v h in
     rw (← (p .1)) (word-good (upper s) (and-both _ _ (and-both _ _ (parameter-words-plain n words (upper s) e (p .0)) .1) .0))
 
-param-value-good : (n : List ℕ) (r : ParamValue) (v : Value) → isGoodChars r ≡ true → readParamValue n r ≡ some v → isGoodValue v ≡ true
+param-value-good : (n : List ℕ) (r : ParamValue) (v : Value) → isGoodChars r ≡ true → readParamValue n r ≡ some v → isPermitted v ≡ true
 unfolding readParamValue pick
 param-value-good n r v q h = go (not (r .quoted) and isQuotedParameter n) h
   where
-    go : (b : Bool) → pick b none (readWord (parameterWords n) (parameterType n) (r .chars)) ≡ some v → isGoodValue v ≡ true
+    go : (b : Bool) → pick b none (readWord (parameterWords n) (parameterType n) (r .chars)) ≡ some v → isPermitted v ≡ true
     go true k = none-some k
     go false k = word-read-good n (parameterWords n) (parameterType n) (r .chars) v refl (well-formed-good (r .chars) q) k
 
 abbrev isBoth : RawParameter → Bool
 isBoth r = carriesName r and isGoodRaw r
 
+-- what a line says of a parameter: its name is carried, and its characters are permitted
+abbrev pub isGoodParameter : Parameter → Bool
+isGoodParameter p = isCarriedName (p .name) and every isPermitted (p .values)
+
 parameter-good : (r : RawParameter) (p : Parameter) → isBoth r ≡ true → readParameter r ≡ some p → isGoodParameter p ≡ true
 parameter-good r p q h =
     let d = parameter-read r p h in
     let a = and-both (isCarriedName (r .name)) _ q in
     and-yes _ _ (rw (d .named) (carried-name-upper (r .name) ∙ a .0))
-    (each-accepted-of (readParamValue (upper (r .name))) isGoodValue isGoodChars (λ v x k e. param-value-good (upper (r .name)) v x k e) (r .values) (p .values) (a .1) (d .each))
+    (each-accepted-of (readParamValue (upper (r .name))) isPermitted isGoodChars (λ v x k e. param-value-good (upper (r .name)) v x k e) (r .values) (p .values) (a .1) (d .each))
 
 both-raw : (rs : List RawParameter) → every carriesName rs ≡ true → every isGoodRaw rs ≡ true → every isBoth rs ≡ true
 unfolding every
@@ -204,50 +209,50 @@ parameters-good rs ps q h = each-accepted-of readParameter isGoodParameter isBot
 
 -- ---- the values of a property
 
-one-good : (o : Option Value) (vs : List Value) → ((v : Value) → o ≡ some v → isGoodValue v ≡ true) → oneValue o ≡ some vs → every isGoodValue vs ≡ true
+one-good : (o : Option Value) (vs : List Value) → ((v : Value) → o ≡ some v → isPermitted v ≡ true) → oneValue o ≡ some vs → every isPermitted vs ≡ true
 unfolding every
 one-good none vs f h = none-some h
 one-good (some v) vs f h = let e : v ∷ [] ≡ vs = cc in rw (← e) (and-yes _ _ (f v refl) refl)
 
-geo-good : (s : List ℕ) (v : Value) → readGeo s ≡ some v → isGoodValue v ≡ true
+geo-good : (s : List ℕ) (v : Value) → readGeo s ≡ some v → isPermitted v ≡ true
 unfolding every
 geo-good s v h = rw (geo-accepted s v h .both)
 
-status-good : (s : List ℕ) (v : Value) → firstBad s ≡ none → readRequestStatus s ≡ some v → isGoodValue v ≡ true
+status-good : (s : List ℕ) (v : Value) → firstBad s ≡ none → readRequestStatus s ≡ some v → isPermitted v ≡ true
 status-good s v n h =
     let a = andThen-some (splitText 59 s) statusOf v h in
     rw (status-parts (a .0) v (a .2)) (split-good 59 s (a .0) n (a .1))
 
-texts-good : (ts : List (List ℕ)) → every wellFormed ts ≡ true → every isGoodValue (map text ts) ≡ true
+texts-good : (ts : List (List ℕ)) → every wellFormed ts ≡ true → every isPermitted (map text ts) ≡ true
 unfolding every
 texts-good [] h = refl
 texts-good (t ∷ ts) h = let e = every-both wellFormed t ts h in and-yes _ _ (and-yes _ _ (e .0) refl) (texts-good ts (e .1))
 
-listed-good : (t : ValueType) (s : List ℕ) (vs : List Value) → firstBad s ≡ none → readListed t s ≡ some vs → every isGoodValue vs ≡ true
+listed-good : (t : ValueType) (s : List ℕ) (vs : List Value) → firstBad s ≡ none → readListed t s ≡ some vs → every isPermitted vs ≡ true
 unfolding pick
 listed-good t s vs n h = go (sameType t TEXT) h
   where
-    texts : (o : Option (List (List ℕ))) → readTexts s ≡ o → Option·map (map text) o ≡ some vs → every isGoodValue vs ≡ true
+    texts : (o : Option (List (List ℕ))) → readTexts s ≡ o → Option·map (map text) o ≡ some vs → every isPermitted vs ≡ true
     texts none e k = none-some k
     texts (some ts) e k = let q : map text ts ≡ vs = cc in rw (← q) (texts-good ts (split-good 44 s ts n e))
 
-    go : (b : Bool) → pick b (Option·map (map text) (readTexts s)) (readEach (readValue ical t) (cutAt 44 s)) ≡ some vs → every isGoodValue vs ≡ true
+    go : (b : Bool) → pick b (Option·map (map text) (readTexts s)) (readEach (readValue ical t) (cutAt 44 s)) ≡ some vs → every isPermitted vs ≡ true
     go true k = texts (readTexts s) refl k
-    go false k = each-accepted-of (readValue ical t) isGoodValue wellFormed (λ r v w e. typed-good t r v (well-formed-good r w) e) (cutAt 44 s) vs (cut-good 44 s comma-ascii n) k
+    go false k = each-accepted-of (readValue ical t) isPermitted wellFormed (λ r v w e. typed-good t r v (well-formed-good r w) e) (cutAt 44 s) vs (cut-good 44 s comma-ascii n) k
 
-chosen-good : (k n : List ℕ) (o : Option (List (List ℕ))) (t : ValueType) (s : List ℕ) (v : Value) → propertyWords k n ≡ o → firstBad s ≡ none → readChosen o t s ≡ some v → isGoodValue v ≡ true
+chosen-good : (k n : List ℕ) (o : Option (List (List ℕ))) (t : ValueType) (s : List ℕ) (v : Value) → propertyWords k n ≡ o → firstBad s ≡ none → readChosen o t s ≡ some v → isPermitted v ≡ true
 chosen-good k n none t s v e c h = typed-good t s v c h
 chosen-good k n (some words) t s v e c h =
     let p = provided-some (isOneOf (upper s) words) (text (upper s)) v h in
     rw (← (p .1)) (word-good (upper s) (and-both _ _ (and-both _ _ (property-words-plain k n words (upper s) e (p .0)) .1) .0))
 
-values-good : (k n : List ℕ) (t : ValueType) (s : List ℕ) (vs : List Value) → firstBad s ≡ none → readValues k n t s ≡ some vs → every isGoodValue vs ≡ true
+values-good : (k n : List ℕ) (t : ValueType) (s : List ℕ) (vs : List Value) → firstBad s ≡ none → readValues k n t s ≡ some vs → every isPermitted vs ≡ true
 unfolding readValues pick
 values-good k n t s vs c h =
     go (isTypeOf t (permittedTypes n)) (same n (ascii "GEO")) (same n (ascii "REQUEST-STATUS")) (isListedProperty n) h
   where
     go : (b g r l : Bool) → pick b (pick g (oneValue (readGeo s)) (pick r (oneValue (readRequestStatus s)) (pick l (readListed t s) (oneValue (readChosen (propertyWords k n) t s))))) none ≡ some vs →
-        every isGoodValue vs ≡ true
+        every isPermitted vs ≡ true
     go false g r l h = none-some h
     go true true r l h = one-good (readGeo s) vs (geo-good s) h
     go true false true l h = one-good (readRequestStatus s) vs (λ v e. status-good s v c e) h
@@ -257,7 +262,7 @@ values-good k n t s vs c h =
 -- ---- the property
 
 pub property-good : (k : List ℕ) (l : ContentLine) → isContentLine l ≡ true → firstBad (writeContentLine l) ≡ none → every carriesName (l .parameters) ≡ true → propertyFault k l ≡ none →
-    (every isGoodParameter (propertyOf k l .parameters) ≡ true) × (every isGoodValue (propertyOf k l .values) ≡ true)
+    (every isGoodParameter (propertyOf k l .parameters) ≡ true) × (every isPermitted (propertyOf k l .values) ≡ true)
 unfolding propertyOf readOr
 property-good k l q g c h =
     let a = line-parts l q g in

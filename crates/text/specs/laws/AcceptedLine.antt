@@ -43,7 +43,6 @@ use Rattle.read_text_line.specs.laws.Names.{name-upper}
 use Rattle.text.specs.Parameters.{readWord, readParamValue, readParameter, isValueParameter, ownParameters, readParameters}
 use Rattle.text.specs.Values.{oneValue, readListed, readChosen, readValues}
 use Rattle.text.specs.Statement.{propertyFault, propertyOf}
-use Rattle.text.specs.LineLaws.{isLineParameter, isLineProperty}
 use Rattle.text.specs.laws.ParameterLaws.{hasValue}
 use Rattle.text.specs.laws.AcceptedProperty.{parameter-read, no-fault, property-accepted}
 use Rattle.text.specs.laws.Pieces.{split-without, cut-without}
@@ -143,6 +142,10 @@ param-value-free n r v q h = go (not (r .quoted) and isQuotedParameter n) h
     go true k = none-some k
     go false k = word-read-free n (parameterWords n) (parameterType n) (r .chars) v refl (value-qsafe r q) k
 
+-- what a line says of a parameter: its name is a name, and a line can have the free characters
+abbrev pub isLineParameter : Parameter → Bool
+isLineParameter p = isName (p .name) and every isParameterText (p .values)
+
 parameter-line : (r : RawParameter) (p : Parameter) → isRawParameter r ≡ true → readParameter r ≡ some p → isLineParameter p ≡ true
 unfolding isRawParameter
 parameter-line r p q h =
@@ -233,16 +236,18 @@ values-free k n t s vs c h =
 
 -- ---- the line
 
-pub line-accepted : (k : List ℕ) (l : ContentLine) → isContentLine l ≡ true → propertyFault k l ≡ none → isLineProperty (propertyOf k l) ≡ true
-unfolding isContentLine isLineProperty propertyOf readOr pick _or_
+pub line-accepted : (k : List ℕ) (l : ContentLine) → isContentLine l ≡ true → propertyFault k l ≡ none →
+    (isName (upper (l .name)) ≡ true) × (every isLineParameter (propertyOf k l .parameters) ≡ true) × (every isValueText (propertyOf k l .values) ≡ true)
+unfolding isContentLine propertyOf readOr pick _or_
 line-accepted k l q h =
     let a = and-both (isName (l .name)) _ q in
     let b = and-both (every isRawParameter (l .parameters)) _ (a .1) in
     let f = no-fault k l h in
-    rw (f .stated, f .parametersRead, f .valuesRead)
-    (and-yes _ _ (name-upper (l .name) (a .0))
-    (and-yes _ _ (parameters-line (l .parameters) (f .parameters) (b .0) (f .parametersRead))
-    (values-free k (upper (l .name)) (f .type) (l .value) (f .values) (all-without isValueChar 13 refl (l .value) (b .1)) (f .valuesRead))))
+    rw (f .stated, f .parametersRead, f .valuesRead) (
+      name-upper (l .name) (a .0),
+      parameters-line (l .parameters) (f .parameters) (b .0) (f .parametersRead),
+      values-free k (upper (l .name)) (f .type) (l .value) (f .values) (all-without isValueChar 13 refl (l .value) (b .1)) (f .valuesRead),
+    )
 
 -- every parameter of a content line has a value
 raw-has-value : (r : RawParameter) → isRawParameter r ≡ true → hasValue r ≡ true

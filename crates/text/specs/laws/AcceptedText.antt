@@ -1,5 +1,5 @@
--- What an accepted text states is a calendar that a text can state, so that its canonical text is read back.
---     accepted-valid     an accepted text states a valid calendar, and not nothing
+-- What an accepted text states is a valid calendar, so that its canonical text is read back.
+--     accepted-valid     an accepted text states a valid calendar
 --     accepted-back      its canonical text states the same, where it is not over the limit
 use mathlib.Core.Path.{_≡_, refl, ap, _∙_}
 use mathlib.Core.Bool.{Bool, true, false, false≢true}
@@ -22,13 +22,13 @@ use Rattle.utf8.specs.Utf8.{tailAt, firstBad}
 use Rattle.utf8.specs.laws.Utf8.{good-well-formed, good-split}
 use Rattle.folding.specs.Unfold.{crlf, unfolded}
 use Rattle.folding.specs.Lines.{Line, whole, loose, longer, lineStep, linesAfter, lines, noneLoose}
+use Rattle.validity.specs.ValidCalendar.{isValid}
 use Rattle.text.specs.Nesting.{Open, Move, move, onward, nesting}
 use Rattle.text.specs.Tree.{calendarOf}
 use Rattle.text.specs.ReadText.{linesVerdict, keptVerdict, placed, textVerdict, readCalendar}
 use Rattle.text.specs.WriteText.{writeCalendar}
 use Rattle.text.specs.laws.AcceptedCharacters.{after-byte}
 use Rattle.text.specs.laws.AcceptedTree.{isGoodOne, tree-accepted, tree-some}
-use Rattle.text.specs.ValidCalendar.{hasComponents, Valid}
 use Rattle.text.specs.laws.TextBack.{text-back}
 
 -- ---- a text is its lines
@@ -121,14 +121,14 @@ unfolding _otherwise_
 both-fine none w h = (refl, h)
 both-fine (some p) w h = refused-not _ _ h
 
-lines-valid : (ls : List Line) (e : ℕ) → (noneLoose ls ≡ true → every isGoodOne ls ≡ true) → linesVerdict e ls ≡ fine → Valid (calendarOf ls) × (hasComponents (calendarOf ls) ≡ true)
-unfolding linesVerdict
+lines-valid : (ls : List Line) (e : ℕ) → (noneLoose ls ≡ true → every isGoodOne ls ≡ true) → linesVerdict e ls ≡ fine → isValid (calendarOf ls) ≡ true
+unfolding linesVerdict isValid
 lines-valid [] e g h = refused-not _ _ h
-lines-valid (l ∷ ls) e g h = (tree-accepted (l ∷ ls) e (g (nesting-whole (l ∷ ls) e [] h)) h, tree-some l ls e h)
+lines-valid (l ∷ ls) e g h = and-yes _ _ (tree-some l ls e h) (tree-accepted (l ∷ ls) e (g (nesting-whole (l ∷ ls) e [] h)) h)
 
 -- ---- the text
 
-pub accepted-valid : (s : List ℕ) (room : ℕ) (c : Components) → readCalendar s room ≡ accepted c → Valid c × (hasComponents c ≡ true)
+pub accepted-valid : (s : List ℕ) (room : ℕ) (c : Components) → readCalendar s room ≡ accepted c → isValid c ≡ true
 unfolding readCalendar textVerdict keptVerdict
 accepted-valid s room c h =
     let a = answered (textVerdict s room) (calendarOf (lines (unfolded s))) c h in
@@ -138,4 +138,4 @@ accepted-valid s room c h =
 
 pub accepted-back : (s : List ℕ) (room : ℕ) (c : Components) → readCalendar s room ≡ accepted c → (again : ℕ) → length (writeCalendar c) ≤ limit → length (writeCalendar c) ≤ again →
     readCalendar (writeCalendar c) again ≡ accepted c
-accepted-back s room c h again l r = let v = accepted-valid s room c h in text-back c again (v .0) (v .1) l r
+accepted-back s room c h again l r = text-back c again (accepted-valid s room c h) l r

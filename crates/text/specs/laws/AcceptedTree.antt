@@ -1,21 +1,20 @@
--- What lines state that are not refused is a calendar that a text can state, also where a VTIMEZONE mixes properties and subcomponents.
+-- What lines state that are not refused is a valid calendar, also where a VTIMEZONE mixes properties and subcomponents.
 --     Frames st es d    what the entries that are left make of the open components st is valid, where the first of these is d further out
 --     tree-accepted     what accepted lines state is valid;   tree-some: and not nothing
 use mathlib.Core.Path.{_≡_, refl, _∙_}
 use mathlib.Core.Bool.{Bool, true, false, not}
 use mathlib.Core.List.{List, [], _∷_, map}
 use mathlib.Core.Option.{Option, none, some}
-use Prim.{tt}
 use Prim.Native.Nat.{ℕ, suc}
 use native.Mathlib.Omega.{arith}
 use Rattle.octets.specs.Ascii.{ascii}
-use Rattle.octets.specs.Pick.{pick, _or_}
+use Rattle.octets.specs.Pick.{pick, _and_, _or_}
 use Rattle.octets.specs.laws.Pick.{and-yes, and-both, or-left, or-right, or-false}
 use Rattle.octets.specs.Class.{upper}
 use Rattle.octets.specs.Words.{same, isOneOf, isEmpty}
 use Rattle.octets.specs.Lists.{every}
-use Rattle.octets.specs.laws.Lists.{every-both}
-use Rattle.calendar.specs.Calendar.{Property, Components}
+use Rattle.octets.specs.laws.Lists.{every-both, every-weaker, every-and}
+use Rattle.calendar.specs.Calendar.{Parameter, Property, Components}
 use Rattle.calendar.specs.Refusal.{Refusal, Verdict, fine}
 use Rattle.calendar.specs.laws.Refusal.{refused-not}
 use Rattle.schema.specs.Components.{subcomponentsOf, mayStand}
@@ -24,43 +23,63 @@ use Rattle.schema.specs.Counts.{complete}
 use Rattle.utf8.specs.Utf8.{firstBad, wellFormed}
 use Rattle.utf8.specs.laws.Utf8.{well-formed-good}
 use Rattle.folding.specs.Lines.{Line, whole, loose}
-use Rattle.read_text_line.specs.ContentLine.{RawParameter, ContentLine, isContentLine, contentLine}
+use Rattle.values.specs.Valid.{isParameter, areParameters, isProperty}
+use Rattle.read_text_line.specs.ContentLine.{RawParameter, ContentLine, isName, isContentLine, contentLine}
 use Rattle.read_text_line.specs.Names.{isCarriedName}
 use Rattle.read_text_line.specs.laws.Names.{carried-name-upper}
 use Rattle.read_text_line.specs.Write.{writeContentLine}
 use Rattle.read_text_line.specs.laws.Accepted.{content-line-accepted, content-line-write-back}
+use Rattle.validity.specs.ValidCalendar.{isValidParameter, isValidProperty, hasComponents, areValid, atTop}
+use Rattle.validity.specs.laws.ValidCalendar.{component-valid}
 use Rattle.text.specs.Statement.{propertyOf, propertyFault}
 use Rattle.text.specs.Nesting.{Open, Move, on, stop, opened, mayBegin, beginIn, begins, ends, mayHold, told, states, namesCarried, moveBy, moveOf, move, onward, ended, nesting}
 use Rattle.text.specs.Tree.{Entry, begin, end, property, entryBy, entryOf, ownOf, innerOf, calendarOf}
-use Rattle.text.specs.laws.AcceptedLine.{line-accepted, line-property}
-use Rattle.text.specs.laws.AcceptedCharacters.{property-good}
+use Rattle.text.specs.laws.AcceptedLine.{isLineParameter, line-accepted, line-property}
+use Rattle.text.specs.laws.AcceptedCharacters.{isGoodParameter, property-good}
 use Rattle.text.specs.laws.Turned.{turned, complete-turned-back}
-use Rattle.text.specs.ValidCalendar.{isStated, hasComponents, ValidIn, Valid, atTop}
 
 -- ---- a property
 
-property-stated : (k : List ℕ) (l : ContentLine) → isContentLine l ≡ true → firstBad (writeContentLine l) ≡ none → namesCarried l ≡ true →
+parameter-valid : (p : Parameter) → (isParameter p and (isLineParameter p and isGoodParameter p)) ≡ true → isValidParameter p ≡ true
+unfolding isValidParameter isParameter
+parameter-valid p h =
+    let a = and-both (isParameter p) _ h in
+    let b = and-both (isLineParameter p) (isGoodParameter p) (a .1) in
+    let c = and-both (isName (p .name)) _ (b .0) in
+    let d = and-both (isCarriedName (p .name)) _ (b .1) in
+    and-yes _ _ (and-yes _ _ (and-both _ _ (a .0) .0) (and-yes _ _ (c .0) (d .0))) (and-yes _ _ (a .0) (and-yes _ _ (c .1) (d .1)))
+
+parameters-valid : (ps : List Parameter) → every isParameter ps ≡ true → every isLineParameter ps ≡ true → every isGoodParameter ps ≡ true → every isValidParameter ps ≡ true
+parameters-valid ps h l g =
+    every-weaker _ isValidParameter parameter-valid ps (every-and isParameter (λ p. isLineParameter p and isGoodParameter p) ps h (every-and isLineParameter isGoodParameter ps l g))
+
+property-valid : (k : List ℕ) (l : ContentLine) → isContentLine l ≡ true → firstBad (writeContentLine l) ≡ none → namesCarried l ≡ true →
     same (upper (l .name)) (ascii "BEGIN") ≡ false → same (upper (l .name)) (ascii "END") ≡ false → (not (isKnownProperty (upper (l .name))) or mayStand k (upper (l .name))) ≡ true →
-    propertyFault k l ≡ none → isStated k (propertyOf k l) ≡ true
-unfolding isStated namesCarried propertyOf
-property-stated k l q g c b e m h =
+    propertyFault k l ≡ none → isValidProperty k (propertyOf k l) ≡ true
+unfolding isValidProperty isProperty areParameters namesCarried propertyOf
+property-valid k l q g c b e m h =
     let n = and-both (isCarriedName (l .name)) _ c in
+    let t = line-property k l q h in
+    let w = line-accepted k l q h in
     let d = property-good k l q g (n .1) h in
-    and-yes _ _ (line-property k l q h)
-    (and-yes _ _ (line-accepted k l q h)
-    (and-yes _ _ (carried-name-upper (l .name) ∙ n .0)
-    (and-yes _ _ (rw b) (and-yes _ _ (rw e) (and-yes _ _ m (and-yes _ _ (d .0) (d .1)))))))
+    let a = and-both _ _ t in
+    and-yes _ _ (and-yes _ _ (a .0) (and-yes _ _ (w .0) (carried-name-upper (l .name) ∙ n .0)))
+    (and-yes _ _ (rw b)
+    (and-yes _ _ (rw e)
+    (and-yes _ _ m
+    (and-yes _ _ t
+    (and-yes _ _ (parameters-valid (propertyOf k l .parameters) (and-both _ _ (and-both _ _ (a .1) .0) .0) (w .1) (d .0)) (and-yes _ _ (w .2) (d .1)))))))
 
 -- ---- open components
 
 -- a component that is open, with the properties and subcomponents that are still to come
 record Body (f : Open) (ps : List Property) (c : Components) : Type 0 where
-  own : every (isStated (f .name)) ps ≡ true
-  inside : ValidIn (subcomponentsOf (f .name)) c
+  own : every (isValidProperty (f .name)) ps ≡ true
+  inside : areValid (subcomponentsOf (f .name)) c ≡ true
   counts : complete (f .name) (turned ps (f .seen)) (f .inner or hasComponents c) ≡ true
 
 abbrev Frames : List Open → List Entry → ℕ → Type 0
-Frames [] es d = ValidIn atTop (innerOf es d)
+Frames [] es d = areValid atTop (innerOf es d) ≡ true
 Frames (f ∷ st) es d = Body f (ownOf (f .name) es d) (innerOf es d) × Frames st es (suc d)
 
 frames-begin : (st : List Open) (k : List ℕ) (es : List Entry) (d : ℕ) → Frames st es (suc (suc d)) → Frames st (begin k ∷ es) (suc d)
@@ -96,9 +115,15 @@ inner-valid k ps c b = complete-turned-back k ps (hasComponents c) (b .counts)
 
 begin-in : (k : List ℕ) (st : List Open) (es : List Entry) → mayBegin k st ≡ true → Frames (beginIn k st) es 0 → Frames st (begin k ∷ es) 0
 unfolding ownOf innerOf
-begin-in k [] es m h = (unfold isOneOf in or-left _ _ m, h .0 .own, inner-valid k _ _ (h .0), h .0 .inside, h .1)
-begin-in k (f ∷ st) es m h =
-    (record { own = h .1 .0 .own; inside = (m, h .0 .own, inner-valid k _ _ (h .0), h .0 .inside, h .1 .0 .inside); counts = rw (or-right (f .inner) true refl) (later (h .1 .0)) }, frames-begin st k es 0 (h .1 .1))
+begin-in k [] es m h = component-valid atTop k _ _ _ (record { named = unfold isOneOf in or-left _ _ m; properties = h .0 .own; counts = inner-valid k _ _ (h .0); inside = h .0 .inside; after = h .1 })
+begin-in k (f ∷ st) es m h = (
+  record {
+    own = h .1 .0 .own;
+    inside = component-valid (subcomponentsOf (f .name)) k _ _ _ (record { named = m; properties = h .0 .own; counts = inner-valid k _ _ (h .0); inside = h .0 .inside; after = h .1 .0 .inside });
+    counts = rw (or-right (f .inner) true refl) (later (h .1 .0));
+  },
+  frames-begin st k es 0 (h .1 .1),
+)
   where
     later : Body (record { name = f .name; seen = f .seen; inner = true }) (ownOf (f .name) es 1) (innerOf es 1) → complete (f .name) (turned (ownOf (f .name) es 1) (f .seen)) true ≡ true
     later b = unfold _or_ in b .counts
@@ -115,11 +140,11 @@ closed true false c r q o v u h = stop-on h
 closed false b c r q o v u h = stop-on h
 
 end-step : (k : List ℕ) (ps : List RawParameter) (st u : List Open) (es : List Entry) → ends k ps st ≡ on u → Frames u es 0 → Frames st (end ∷ es) 0
-unfolding ends ownOf innerOf turned every
+unfolding ends ownOf innerOf areValid turned every
 end-step k ps [] u es m h = stop-on m
 end-step k ps (f ∷ st) u es m h =
     let e = closed (same k (f .name)) (isEmpty ps) (complete (f .name) (f .seen) (f .inner)) _ _ _ st u m in
-    (record { own = refl; inside = tt; counts = rw (or-false (f .inner)) (e .0) }, frames-end st es 0 (rw (← (e .1)) at h))
+    (record { own = refl; inside = refl; counts = rw (or-false (f .inner)) (e .0) }, frames-end st es 0 (rw (← (e .1)) at h))
 
 held : (a : Bool) (o : Option Refusal) (q : Refusal) (v u : List Open) → pick a (told o (on v)) (stop q) ≡ on u → (a ≡ true) × (o ≡ none) × (v ≡ u)
 unfolding pick
@@ -135,7 +160,7 @@ property-step l (f ∷ st) u es q g c b e m h =
     let a = held (mayHold (upper (l .name)) f) (propertyFault (f .name) l) _ (record { name = f .name; seen = propertyOf (f .name) l ∷ f .seen; inner = f .inner } ∷ st) u m in
     let d : Frames (record { name = f .name; seen = propertyOf (f .name) l ∷ f .seen; inner = f .inner } ∷ st) es 0 = rw (← (a .2)) at h in (
       record {
-        own = and-yes _ _ (property-stated (f .name) l q g c b e (and-both _ _ (a .0) .0) (a .1)) (d .0 .own);
+        own = and-yes _ _ (property-valid (f .name) l q g c b e (and-both _ _ (a .0) .0) (a .1)) (d .0 .own);
         inside = d .0 .inside;
         counts = d .0 .counts;
       },
@@ -173,8 +198,8 @@ moved-on (on u) p f h = (u, refl, h)
 moved-on (stop r) p f h = refused-not _ _ h
 
 all-frames : (ls : List Line) (e : ℕ) (st : List Open) → every isGoodOne ls ≡ true → nesting e ls st ≡ fine → Frames st (map entryOf ls) 0
-unfolding nesting ended entryOf innerOf isGoodOne
-all-frames [] e [] g h = tt
+unfolding nesting ended entryOf innerOf areValid isGoodOne
+all-frames [] e [] g h = refl
 all-frames [] e (f ∷ st) g h = refused-not _ _ h
 all-frames (loose p ∷ ls) e st g h = refused-not _ _ h
 all-frames (whole p s ∷ ls) e st g h =
@@ -182,7 +207,7 @@ all-frames (whole p s ∷ ls) e st g h =
     let m = moved-on (move s st) p (nesting e ls) h in
     line-step s st (m .0) (map entryOf ls) (well-formed-good s (a .0)) (m .1) (all-frames ls e (m .0) (a .1) (m .2))
 
-pub tree-accepted : (ls : List Line) (e : ℕ) → every isGoodOne ls ≡ true → nesting e ls [] ≡ fine → Valid (calendarOf ls)
+pub tree-accepted : (ls : List Line) (e : ℕ) → every isGoodOne ls ≡ true → nesting e ls [] ≡ fine → areValid atTop (calendarOf ls) ≡ true
 unfolding calendarOf
 tree-accepted ls e g h = all-frames ls e [] g h
 

@@ -26,7 +26,7 @@ use Rattle.texts.specs.RequestStatus.{statusParts}
 use Rattle.values.specs.WriteValue.{writeValue}
 use Rattle.values.specs.ReadBack.{isValue}
 use Rattle.values.specs.laws.Characters.{free-or-shown}
-use Rattle.text.specs.ValidCalendar.{isGoodValue}
+use Rattle.validity.specs.ValidCalendar.{isPermitted}
 
 -- ---- escaped text
 
@@ -112,10 +112,10 @@ texts-good (p ∷ ps) h = let e = every-both wellFormed p ps h in and-yes _ _ (g
 
 -- ---- a value
 
-pub value-good : (v : Value) → isValue v ≡ true → isGoodValue v ≡ true → firstBad (writeValue v) ≡ none
+pub value-good : (v : Value) → isValue v ≡ true → isPermitted v ≡ true → firstBad (writeValue v) ≡ none
 unfolding writeValue pick _and_ _or_
 value-good v h g =
-    free-or-shown (λ v. isGoodValue v ≡ true → firstBad (writeValue v) ≡ none)
+    free-or-shown (λ v. isPermitted v ≡ true → firstBad (writeValue v) ≡ none)
     (λ v e k g. visible-good (writeValue v) k)
     (λ s g. text-good s (well-formed-good s (every-both wellFormed s [] g .0)))
     (λ s k g. well-formed-good s (every-both wellFormed s [] g .0))

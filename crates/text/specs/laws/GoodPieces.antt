@@ -1,7 +1,6 @@
 -- The pieces of a text, whether escaped or cut at a separator, are well formed where the text is: only whole characters of ASCII are taken away.
 --     split-good      of escaped text
 --     cut-good        of a text that is cut
---     good-shifted    where a text starts does not matter
 use mathlib.Core.Path.{_≡_, refl, sym, _∙_}
 use mathlib.Core.Bool.{Bool, true, false}
 use mathlib.Core.List.{List, [], _∷_}

@@ -1,9 +1,9 @@
--- Laws of what specs/LineLaws.antt defines.
+-- The content line of a valid property is one that the grammar has, so that its bytes are read back as that line.
 --     line-is-line, line-read-back
 use mathlib.Core.Path.{_≡_, refl, _∙_}
 use mathlib.Core.Bool.{Bool, true, false, false≢true}
 use mathlib.Core.List.{List, [], _∷_, map}
-use mathlib.Core.Option.{Option, none, some}
+use mathlib.Core.Option.{some}
 use Prim.Native.Nat.{ℕ}
 use Rattle.octets.specs.Pick.{pick, _and_, _or_}
 use Rattle.octets.specs.laws.Pick.{pick-no, pick-either, pick-case, and-yes, and-both, or-no, or-neither, eqb-swap}
@@ -12,32 +12,30 @@ use Rattle.octets.specs.Class.{isVisible}
 use Rattle.octets.specs.Words.{isEmpty, holds, noneHolds}
 use Rattle.octets.specs.laws.Words.{holds-split, none-split, all-without}
 use Rattle.octets.specs.Lists.{every}
-use Rattle.octets.specs.laws.Lists.{every-both, all-joined, every-and}
-use Rattle.octets.specs.Reading.{readOr}
+use Rattle.octets.specs.laws.Lists.{every-both, every-weaker, every-and, every-map, all-joined}
 use Rattle.octets.specs.Computing.{octets-compute}
-use Rattle.calendar.specs.Calendar.{ValueType, Value, binary, boolean, calAddress, date, dateTime, duration, float, integer, periodExplicit, periodStart, recur, text, time, uri, utcOffset, unknown, geo, requestStatus, typeOf, textIn, Parameter, Property}
-use Rattle.schema.specs.Types.{sameType, isTypeOf}
-use Rattle.schema.specs.laws.Types.{same-type-true, type-passes}
+use Rattle.calendar.specs.Calendar.{ValueType, Value, boolean, Parameter, Property}
+use Rattle.schema.specs.Types.{sameType}
+use Rattle.schema.specs.laws.Types.{type-passes}
 use Rattle.schema.specs.Parameters.{parameterType, parameterWords, isQuotedParameter}
 use Rattle.schema.specs.Properties.{defaultType}
 use Rattle.schema.specs.Computing.{schema-compute}
-use Rattle.schema.specs.laws.Rows.{parameterTypes, parameter-type}
 use Rattle.texts.specs.Uri.{isUri}
 use Rattle.texts.specs.laws.Uri.{uri-visible, uri-unquoted}
 use Rattle.texts.specs.Quoting.{needsQuotes}
 use Rattle.texts.specs.laws.Quoting.{plain-no-colon, plain-no-semicolon, plain-no-comma}
 use Rattle.values.specs.WriteValue.{writeValue, writeValues, typeOfAll}
-use Rattle.values.specs.ReadBack.{isValue, isTyped}
-use Rattle.values.specs.Valid.{isAmount, isWordIn, isChosen, isParameter, isPropertyValue, areValuesOf, areParameters, isProperty}
-use Rattle.values.specs.laws.Valid.{text-in, property-value-valid}
+use Rattle.values.specs.Valid.{isAmount, isChosen, isPropertyValue, areValuesOf}
+use Rattle.values.specs.laws.Valid.{property-value-valid}
 use Rattle.values.specs.Characters.{isParameterText, isValueText}
 use Rattle.values.specs.laws.Characters.{value-one-line, value-no-return}
 use Rattle.read_text_line.specs.ContentLine.{RawParameter, isValueChar, isQSafeChar, isName, isParamValue, isRawParameter, isContentLine, contentLine}
 use Rattle.read_text_line.specs.laws.Chars.{qsafe-safe}
 use Rattle.read_text_line.specs.Write.{writeContentLine}
 use Rattle.read_text_line.specs.laws.RoundTrip.{content-line-read-back}
+use Rattle.validity.specs.ValidCalendar.{isValidParameter}
+use Rattle.validity.specs.laws.ValidCalendar.{kept-parts, valid-parameter, parameter-value, ValidProperty}
 use Rattle.text.specs.WriteText.{paramChars, paramValueOf, rawOf, valueParameter, withValue, contentLineOf}
-use Rattle.text.specs.LineLaws.{isLineParameter, isLineProperty}
 
 -- ---- bytes
 
@@ -70,44 +68,19 @@ free-chars s h =
     let q = and-both (noneHolds 10 (s ∷ [])) _ (p .1) in
     qsafe-chars s (none-split 13 s [] (p .0) .0) (none-split 10 s [] (q .0) .0) (none-split 34 s [] (q .1) .0)
 
-typed-chars : (v : Value) → isTyped v ≡ true → isValue v ≡ true → isTypeOf (typeOf v) parameterTypes ≡ true → isParameterText v ≡ true → allOf isQSafeChar (paramChars v) ≡ true
-unfolding octets-compute isTypeOf sameType writeValue
-typed-chars (binary s) t h p f = absurd (false≢true p)
-typed-chars (boolean true) t h p f = refl
-typed-chars (boolean false) t h p f = refl
-typed-chars (calAddress s) t h p f = uri-chars s h
-typed-chars (date s) t h p f = absurd (false≢true p)
-typed-chars (dateTime s) t h p f = absurd (false≢true p)
-typed-chars (duration s) t h p f = absurd (false≢true p)
-typed-chars (float d) t h p f = absurd (false≢true p)
-typed-chars (integer w) t h p f = absurd (false≢true p)
-typed-chars (periodExplicit s e) t h p f = absurd (false≢true p)
-typed-chars (periodStart s d) t h p f = absurd (false≢true p)
-typed-chars (recur r) t h p f = absurd (false≢true p)
-typed-chars (text s) t h p f = free-chars s f
-typed-chars (time s) t h p f = absurd (false≢true p)
-typed-chars (uri s) t h p f = uri-chars s h
-typed-chars (utcOffset s) t h p f = absurd (false≢true p)
-typed-chars (unknown s) t h p f = free-chars s f
-typed-chars (geo la lo) t h p f = absurd (false≢true t)
-typed-chars (requestStatus c d x) t h p f = absurd (false≢true t)
-
-chosen-chars : (o : Option (List (List ℕ))) (t : ValueType) (v : Value) → isTypeOf t parameterTypes ≡ true → isChosen o t v ≡ true → isParameterText v ≡ true → allOf isQSafeChar (paramChars v) ≡ true
-unfolding readOr
-chosen-chars none t v p h f =
-    let a = and-both (sameType (typeOf v) t) _ h in
-    let b = and-both (isTyped v) (isValue v) (a .1) in
-    typed-chars v (b .0) (b .1) (rw (same-type-true (typeOf v) t (a .0)) p) f
-chosen-chars (some words) t v p h f = go (textIn v) refl h
+param-chars : (n : List ℕ) (v : Value) → isChosen (parameterWords n) (parameterType n) v ≡ true → isParameterText v ≡ true → allOf isQSafeChar (paramChars v) ≡ true
+unfolding octets-compute writeValue
+param-chars n v h f =
+    parameter-value (λ v. isParameterText v ≡ true → allOf isQSafeChar (paramChars v) ≡ true) truth (λ s u f. uri-chars s u) (λ s u f. uri-chars s u) free-chars free-chars n v h f
   where
-    go : (x : Option (List ℕ)) → textIn v ≡ x → isWordIn words x ≡ true → allOf isQSafeChar (readOr (writeValue v) x) ≡ true
-    go none e k = absurd (false≢true k)
-    go (some s) e k = free-chars s (rw (text-in v s e) at f)
+    truth : (b : Bool) → isParameterText (boolean b) ≡ true → allOf isQSafeChar (paramChars (boolean b)) ≡ true
+    truth true f = refl
+    truth false f = refl
 
 param-value-is : (n : List ℕ) (v : Value) → isChosen (parameterWords n) (parameterType n) v ≡ true → isParameterText v ≡ true → isParamValue (paramValueOf n v) ≡ true
 unfolding isParamValue
 param-value-is n v h f =
-    let c = chosen-chars (parameterWords n) (parameterType n) v (parameter-type n) h f in
+    let c = param-chars n v h f in
     pick-case (λ b. b ≡ true) (isQuotedParameter n or needsQuotes (paramChars v)) _ _ (λ e. c)
     (λ e. let q = or-neither (isQuotedParameter n) _ e .1 in qsafe-safe (paramChars v) c (plain-no-semicolon _ q) (plain-no-colon _ q) (plain-no-comma _ q))
 
@@ -126,20 +99,14 @@ some-written : {A B : Type 0} (f : A → B) (l : Bool) (vs : List A) → isAmoun
 some-written f l [] h = absurd (false≢true h)
 some-written f l (v ∷ vs) h = refl
 
-parameter-is : (p : Parameter) → isParameter p ≡ true → isLineParameter p ≡ true → isRawParameter (rawOf p) ≡ true
-unfolding isParameter isRawParameter
-parameter-is p h f =
-    let a = and-both _ _ (and-both _ _ (and-both _ _ h .1) .1) in
-    let b = and-both (isName (p .name)) _ f in
-    and-yes _ _ (b .0) (pick-no _ false _ (some-written (paramValueOf (p .name)) _ (p .values) (a .0)) ∙ param-values-are (p .name) (p .values) (a .1) (b .1))
+parameter-is : (p : Parameter) → isValidParameter p ≡ true → isRawParameter (rawOf p) ≡ true
+unfolding isRawParameter
+parameter-is p h =
+    let v = valid-parameter p h in
+    and-yes _ _ (kept-parts (p .name) (v .kept) .1) (pick-no _ false _ (some-written (paramValueOf (p .name)) _ (p .values) (v .amount)) ∙ param-values-are (p .name) (p .values) (v .chosen) (v .plain))
 
-parameters-are : (ps : List Parameter) → every isParameter ps ≡ true → every isLineParameter ps ≡ true → every isRawParameter (map rawOf ps) ≡ true
-unfolding every
-parameters-are [] h f = refl
-parameters-are (p ∷ ps) h f =
-    let a = every-both isParameter p ps h in
-    let b = every-both isLineParameter p ps f in
-    and-yes _ _ (parameter-is p (a .0) (b .0)) (parameters-are ps (a .1) (b .1))
+parameters-are : (ps : List Parameter) → every isValidParameter ps ≡ true → every isRawParameter (map rawOf ps) ≡ true
+parameters-are ps h = every-map isRawParameter rawOf ps ∙ every-weaker isValidParameter (λ p. isRawParameter (rawOf p)) parameter-is ps h
 
 value-is : (t : ValueType) → isRawParameter (valueParameter t) ≡ true
 unfolding octets-compute schema-compute isRawParameter isName isParamValue
@@ -164,15 +131,12 @@ values-written k n t vs h f =
 
 -- ---- the line
 
-pub line-is-line : (k : List ℕ) (p : Property) → isProperty k p ≡ true → isLineProperty p ≡ true → isContentLine (contentLineOf p) ≡ true
-unfolding isProperty areParameters areValuesOf isLineProperty isContentLine contentLineOf
-line-is-line k p h f =
-    let a = and-both _ _ (and-both _ _ h .1) in
-    let b = and-both (isName (p .name)) _ f in
-    let c = and-both (every isLineParameter (p .parameters)) _ (b .1) in
-    and-yes _ _ (b .0)
-    (and-yes _ _ (with-value-are (p .name) _ _ (parameters-are (p .parameters) (and-both _ _ (a .0) .0) (c .0)))
-    (values-written k (p .name) (typeOfAll (p .values)) (p .values) (and-both _ _ (and-both _ _ (a .1) .1) .1) (c .1)))
+pub line-is-line : (k : List ℕ) (p : Property) → ValidProperty k p → isContentLine (contentLineOf p) ≡ true
+unfolding areValuesOf isContentLine contentLineOf
+line-is-line k p s =
+    and-yes _ _ (kept-parts (p .name) (s .kept) .1)
+    (and-yes _ _ (with-value-are (p .name) _ _ (parameters-are (p .parameters) (s .parameters)))
+    (values-written k (p .name) (typeOfAll (p .values)) (p .values) (and-both _ _ (and-both _ _ (s .values) .1) .1) (s .plain)))
 
-pub line-read-back : (k : List ℕ) (p : Property) → isProperty k p ≡ true → isLineProperty p ≡ true → contentLine (writeContentLine (contentLineOf p)) ≡ some (contentLineOf p)
-line-read-back k p h f = content-line-read-back (contentLineOf p) (line-is-line k p h f)
+pub line-read-back : (k : List ℕ) (p : Property) → ValidProperty k p → contentLine (writeContentLine (contentLineOf p)) ≡ some (contentLineOf p)
+line-read-back k p s = content-line-read-back (contentLineOf p) (line-is-line k p s)

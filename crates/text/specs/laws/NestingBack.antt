@@ -7,10 +7,9 @@ use Prim.Native.Nat.{ℕ, _+_}
 use lib.ListN.{length}
 use Rattle.octets.specs.Ascii.{ascii}
 use Rattle.octets.specs.Pick.{pick, _and_, _or_}
-use Rattle.octets.specs.laws.Pick.{and-yes, and-both}
+use Rattle.octets.specs.laws.Pick.{and-yes}
 use Rattle.octets.specs.Scan.{allOf}
 use Rattle.octets.specs.Class.{isVisible, upper}
-use Rattle.octets.specs.Words.{same, isOneOf}
 use Rattle.octets.specs.laws.Words.{same-self}
 use Rattle.octets.specs.Lists.{every}
 use Rattle.octets.specs.laws.Lists.{every-both}
@@ -25,13 +24,13 @@ use Rattle.values.specs.WriteValue.{typeOfAll}
 use Rattle.folding.specs.Text.{wholeLines}
 use Rattle.read_text_line.specs.Names.{startsOffName, isCarriedName}
 use Rattle.read_text_line.specs.Carried.{carriesName}
+use Rattle.validity.specs.ValidCalendar.{isValidParameter, isValidProperty, hasComponents, areValid, atTop}
+use Rattle.validity.specs.laws.ValidCalendar.{kept-parts, inside-kept, top-kept, top-name, valid-parameter, ValidProperty, valid-property, valid-component}
 use Rattle.text.specs.Nesting.{Open, on, opened, mayBegin, beginIn, begins, ends, states, namesCarried, moveBy, moveOf, move, onward, ended, nesting}
 use Rattle.text.specs.WriteText.{rawOf, valueParameter, withValue, contentLineOf}
 use Rattle.text.specs.laws.PropertyLaws.{property-read-back, property-no-fault}
 use Rattle.text.specs.laws.Turned.{turned, complete-turned}
-use Rattle.text.specs.ValidCalendar.{isGoodParameter, isStated, hasComponents, ValidIn, Valid, atTop}
-use Rattle.text.specs.laws.ValidCalendar.{Stated, stated, inside-plain, top-plain, plain-name}
-use Rattle.text.specs.laws.TreeBack.{beginOf, endOf, lineOf, propertiesBefore, linesBefore, linesOf, framing, begin-line, end-line, property-line}
+use Rattle.text.specs.laws.TreeBack.{beginOf, endOf, lineOf, propertiesBefore, linesBefore, linesOf, framing, begin-line, end-line, property-line, component-name}
 
 -- ---- an open component
 
@@ -69,12 +68,12 @@ value-carried : isCarriedName (ascii "VALUE") ≡ true
 unfolding isCarriedName startsOffName octets-compute
 value-carried = refl
 
-raw-carried : (ps : List Parameter) → every isGoodParameter ps ≡ true → every carriesName (map rawOf ps) ≡ true
+raw-carried : (ps : List Parameter) → every isValidParameter ps ≡ true → every carriesName (map rawOf ps) ≡ true
 unfolding every
 raw-carried [] h = refl
-raw-carried (p ∷ ps) h = let a = every-both isGoodParameter p ps h in and-yes _ _ (and-both _ _ (a .0) .0) (raw-carried ps (a .1))
+raw-carried (p ∷ ps) h = let a = every-both isValidParameter p ps h in and-yes _ _ (kept-parts (p .name) (valid-parameter p (a .0) .kept) .2) (raw-carried ps (a .1))
 
-parameters-carried : (n : List ℕ) (p : Property) → every isGoodParameter (p .parameters) ≡ true → every carriesName (withValue n (typeOfAll (p .values)) (map rawOf (p .parameters))) ≡ true
+parameters-carried : (n : List ℕ) (p : Property) → every isValidParameter (p .parameters) ≡ true → every carriesName (withValue n (typeOfAll (p .values)) (map rawOf (p .parameters))) ≡ true
 unfolding withValue pick every
 parameters-carried n p h = go (sameType (typeOfAll (p .values)) (defaultType n))
   where
@@ -82,22 +81,22 @@ parameters-carried n p h = go (sameType (typeOfAll (p .values)) (defaultType n))
     go true = raw-carried (p .parameters) h
     go false = and-yes _ _ value-carried (raw-carried (p .parameters) h)
 
-property-carried : (k : List ℕ) (p : Property) → Stated k p → namesCarried (contentLineOf p) ≡ true
+property-carried : (k : List ℕ) (p : Property) → ValidProperty k p → namesCarried (contentLineOf p) ≡ true
 unfolding namesCarried contentLineOf
-property-carried k p s = and-yes _ _ (s .carried) (parameters-carried (p .name) p (s .parameters))
+property-carried k p s = and-yes _ _ (kept-parts (p .name) (s .kept) .2) (parameters-carried (p .name) p (s .parameters))
 
-line-name : (k : List ℕ) (p : Property) → Stated k p → upper (contentLineOf p .name) ≡ p .name
+line-name : (k : List ℕ) (p : Property) → ValidProperty k p → upper (contentLineOf p .name) ≡ p .name
 unfolding contentLineOf
-line-name k p s = s .capitals
+line-name k p s = kept-parts (p .name) (s .kept) .0
 
-property-states : (k : List ℕ) (p : Property) → Stated k p → (seen : List Property) (st : List Open) → states (contentLineOf p) (frame k seen false ∷ st) ≡ on (frame k (p ∷ seen) false ∷ st)
+property-states : (k : List ℕ) (p : Property) → ValidProperty k p → (seen : List Property) (st : List Open) → states (contentLineOf p) (frame k seen false ∷ st) ≡ on (frame k (p ∷ seen) false ∷ st)
 unfolding states pick _and_ _or_
-property-states k p s seen st = rw (property-no-fault k p (s .valid), property-read-back k p (s .valid), line-name k p s, s .stands)
+property-states k p s seen st = rw (property-no-fault k p (s .typed), property-read-back k p (s .typed), line-name k p s, s .stands)
 
-property-move : (k : List ℕ) (p : Property) → isStated k p ≡ true → (seen : List Property) (st : List Open) → move (lineOf p) (frame k seen false ∷ st) ≡ on (frame k (p ∷ seen) false ∷ st)
+property-move : (k : List ℕ) (p : Property) → isValidProperty k p ≡ true → (seen : List Property) (st : List Open) → move (lineOf p) (frame k seen false ∷ st) ≡ on (frame k (p ∷ seen) false ∷ st)
 unfolding moveOf moveBy pick
 property-move k p h seen st =
-    let s = stated k p h in
+    let s = valid-property k p h in
     rw (property-line k p s) (rw (property-carried k p s, line-name k p s, s .begins, s .ends) (property-states k p s seen st))
 
 -- ---- all lines
@@ -126,51 +125,45 @@ module _ (e : ℕ) where
   unfolding nesting wholeLines onward
   ok-line l r st u m h p = rw m (h (p + length l + 2))
 
-  ok-properties : (k : List ℕ) (ps : List Property) → every (isStated k) ps ≡ true → (seen : List Property) (st : List Open) (r : List (List ℕ)) →
+  ok-properties : (k : List ℕ) (ps : List Property) → every (isValidProperty k) ps ≡ true → (seen : List Property) (st : List Open) (r : List (List ℕ)) →
       Ok r (frame k (turned ps seen) false ∷ st) → Ok (propertiesBefore ps r) (frame k seen false ∷ st)
   unfolding turned propertiesBefore
   ok-properties k [] h seen st r o = o
   ok-properties k (p ∷ ps) h seen st r o =
-      let a = every-both (isStated k) p ps h in
+      let a = every-both (isValidProperty k) p ps h in
       ok-line (lineOf p) (propertiesBefore ps r) (frame k seen false ∷ st) (frame k (p ∷ seen) false ∷ st) (property-move k p (a .0) seen st) (ok-properties k ps (a .1) (p ∷ seen) st r o)
 
-  ok-components : (c : Components) (j : List ℕ) → ValidIn (subcomponentsOf j) c → (seen : List Property) (b : Bool) (st : List Open) (r : List (List ℕ)) →
+  ok-components : (c : Components) (j : List ℕ) → areValid (subcomponentsOf j) c ≡ true → (seen : List Property) (b : Bool) (st : List Open) (r : List (List ℕ)) →
       Ok r (frame j seen (flagAfter c b) ∷ st) → Ok (linesBefore c r) (frame j seen b ∷ st)
   unfolding flagAfter linesBefore
   ok-components noMore j v seen b st r o = o
-  ok-components (component k ps inner next) j v seen b st r o =
-      let n = plain-name (subcomponentsOf j) k (inside-plain j) (v .0) in
+  ok-components (component k ps inner next) j h seen b st r o =
+      let v = valid-component (subcomponentsOf j) k ps inner next h in
+      let n = component-name (subcomponentsOf j) k (inside-kept j) (v .named) in
       let st₁ : List Open = frame j seen true ∷ st in
       let x : List (List ℕ) = endOf k ∷ linesBefore next r in
-      let done : complete k (turned ps []) (flagAfter inner false) ≡ true = rw (flag-has inner) (complete-turned k ps (hasComponents inner) (v .2)) in
+      let done : complete k (turned ps []) (flagAfter inner false) ≡ true = rw (flag-has inner) (complete-turned k ps (hasComponents inner) (v .counts)) in
       let z : Ok x (frame k (turned ps []) (flagAfter inner false) ∷ st₁) =
-      ok-line (endOf k) (linesBefore next r) (frame k (turned ps []) (flagAfter inner false) ∷ st₁) st₁ (end-move k (turned ps []) (flagAfter inner false) st₁ (n .0) (n .1) done) (ok-components next j (v .4) seen true st r o) in
-      ok-line (beginOf k) (propertiesBefore ps (linesBefore inner x)) (frame j seen b ∷ st) (opened k ∷ st₁) (begin-move k (frame j seen b ∷ st) (n .0) (n .1) (v .0))
-      (ok-properties k ps (v .1) [] st₁ (linesBefore inner x) (ok-components inner k (v .3) (turned ps []) false st₁ x z))
+      ok-line (endOf k) (linesBefore next r) (frame k (turned ps []) (flagAfter inner false) ∷ st₁) st₁ (end-move k (turned ps []) (flagAfter inner false) st₁ (n .0) (n .1) done) (ok-components next j (v .after) seen true st r o) in
+      ok-line (beginOf k) (propertiesBefore ps (linesBefore inner x)) (frame j seen b ∷ st) (opened k ∷ st₁) (begin-move k (frame j seen b ∷ st) (n .0) (n .1) (v .named))
+      (ok-properties k ps (v .properties) [] st₁ (linesBefore inner x) (ok-components inner k (v .inside) (turned ps []) false st₁ x z))
 
-  top-may : (k : List ℕ) → isOneOf k atTop ≡ true → same k (ascii "VCALENDAR") ≡ true
-  unfolding isOneOf _or_
-  top-may k h = go (same k (ascii "VCALENDAR")) h
-    where
-      go : (b : Bool) → (b or false) ≡ true → b ≡ true
-      go true k = k
-      go false k = k
-
-  ok-tops : (c : Components) → Valid c → (r : List (List ℕ)) → Ok r [] → Ok (linesBefore c r) []
+  ok-tops : (c : Components) → areValid atTop c ≡ true → (r : List (List ℕ)) → Ok r [] → Ok (linesBefore c r) []
   unfolding linesBefore
   ok-tops noMore v r o = o
-  ok-tops (component k ps inner next) v r o =
-      let n = plain-name atTop k top-plain (v .0) in
+  ok-tops (component k ps inner next) h r o =
+      let v = valid-component atTop k ps inner next h in
+      let n = component-name atTop k top-kept (v .named) in
       let x : List (List ℕ) = endOf k ∷ linesBefore next r in
-      let done : complete k (turned ps []) (flagAfter inner false) ≡ true = rw (flag-has inner) (complete-turned k ps (hasComponents inner) (v .2)) in
+      let done : complete k (turned ps []) (flagAfter inner false) ≡ true = rw (flag-has inner) (complete-turned k ps (hasComponents inner) (v .counts)) in
       let z : Ok x (frame k (turned ps []) (flagAfter inner false) ∷ []) =
-      ok-line (endOf k) (linesBefore next r) (frame k (turned ps []) (flagAfter inner false) ∷ []) [] (end-move k (turned ps []) (flagAfter inner false) [] (n .0) (n .1) done) (ok-tops next (v .4) r o) in
-      ok-line (beginOf k) (propertiesBefore ps (linesBefore inner x)) [] (opened k ∷ []) (begin-move k [] (n .0) (n .1) (top-may k (v .0)))
-      (ok-properties k ps (v .1) [] [] (linesBefore inner x) (ok-components inner k (v .3) (turned ps []) false [] x z))
+      ok-line (endOf k) (linesBefore next r) (frame k (turned ps []) (flagAfter inner false) ∷ []) [] (end-move k (turned ps []) (flagAfter inner false) [] (n .0) (n .1) done) (ok-tops next (v .after) r o) in
+      ok-line (beginOf k) (propertiesBefore ps (linesBefore inner x)) [] (opened k ∷ []) (begin-move k [] (n .0) (n .1) (top-name k (v .named)))
+      (ok-properties k ps (v .properties) [] [] (linesBefore inner x) (ok-components inner k (v .inside) (turned ps []) false [] x z))
 
   ok-end : Ok [] []
   unfolding wholeLines nesting ended
   ok-end p = refl
 
-  pub nesting-back : (c : Components) (p : ℕ) → Valid c → nesting e (wholeLines p (linesOf c)) [] ≡ fine
+  pub nesting-back : (c : Components) (p : ℕ) → areValid atTop c ≡ true → nesting e (wholeLines p (linesOf c)) [] ≡ fine
   nesting-back c p v = ok-tops c v [] ok-end p

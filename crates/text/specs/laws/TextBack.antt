@@ -24,12 +24,12 @@ use Rattle.folding.specs.Unfold.{crlf, blankAt, unfolded}
 use Rattle.folding.specs.Lines.{Line, lines}
 use Rattle.folding.specs.Text.{foldedText, noneBlank, wholeLines}
 use Rattle.folding.specs.laws.Text.{ended, plainText, text-unfolded, text-lines}
+use Rattle.validity.specs.ValidCalendar.{isKeptName, isValidProperty, hasComponents, areValid, atTop, isValid}
+use Rattle.validity.specs.laws.ValidCalendar.{inside-kept, top-kept, valid-component, valid-parts}
 use Rattle.text.specs.Nesting.{nesting}
 use Rattle.text.specs.ReadText.{linesVerdict, keptVerdict, placed, textVerdict, readCalendar}
 use Rattle.text.specs.WriteText.{propertyLine, propertyLines, beginLine, endLine, writeCalendar}
-use Rattle.text.specs.ValidCalendar.{isStated, hasComponents, ValidIn, Valid, atTop}
-use Rattle.text.specs.laws.ValidCalendar.{isPlain, inside-plain, top-plain, plain-name}
-use Rattle.text.specs.laws.TreeBack.{endOf, propertiesBefore, linesBefore, linesOf, tree-back}
+use Rattle.text.specs.laws.TreeBack.{endOf, propertiesBefore, linesBefore, linesOf, component-name, tree-back}
 use Rattle.text.specs.laws.NestingBack.{nesting-back}
 use Rattle.text.specs.laws.WrittenLine.{isGoodLine, begin-good, end-good, property-good}
 
@@ -41,7 +41,7 @@ properties-written [] r = append-empty (foldedText r)
 properties-written (p ∷ ps) r = append-regroup (propertyLine p) (propertyLines ps) (foldedText r) ∙ ap (λ (s : List ℕ). propertyLine p ⊕ s) (properties-written ps r)
 
 -- five parts in a row, and what follows
-regrouped : (a b c d e r : List ℕ) → (a ⊕ b ⊕ c ⊕ d ⊕ e) ⊕ r ≡ a ⊕ b ⊕ c ⊕ d ⊕ e ⊕ r
+pub regrouped : (a b c d e r : List ℕ) → (a ⊕ b ⊕ c ⊕ d ⊕ e) ⊕ r ≡ a ⊕ b ⊕ c ⊕ d ⊕ e ⊕ r
 regrouped a b c d e r = rw (append-regroup, append-regroup, append-regroup, append-regroup)
 
 components-written : (c : Components) (r : List (List ℕ)) → writeCalendar c ⊕ foldedText r ≡ foldedText (linesBefore c r)
@@ -59,18 +59,19 @@ text-written c = sym (append-none (writeCalendar c)) ∙ components-written c []
 
 -- ---- the lines are good
 
-good-properties : (k : List ℕ) (ps : List Property) (r : List (List ℕ)) → every (isStated k) ps ≡ true → every isGoodLine r ≡ true → every isGoodLine (propertiesBefore ps r) ≡ true
+good-properties : (k : List ℕ) (ps : List Property) (r : List (List ℕ)) → every (isValidProperty k) ps ≡ true → every isGoodLine r ≡ true → every isGoodLine (propertiesBefore ps r) ≡ true
 unfolding propertiesBefore every
 good-properties k [] r h g = g
-good-properties k (p ∷ ps) r h g = let a = every-both (isStated k) p ps h in and-yes _ _ (property-good k p (a .0)) (good-properties k ps r (a .1) g)
+good-properties k (p ∷ ps) r h g = let a = every-both (isValidProperty k) p ps h in and-yes _ _ (property-good k p (a .0)) (good-properties k ps r (a .1) g)
 
-good-components : (c : Components) (ks : List (List ℕ)) → every isPlain ks ≡ true → ValidIn ks c → (r : List (List ℕ)) → every isGoodLine r ≡ true → every isGoodLine (linesBefore c r) ≡ true
+good-components : (c : Components) (ks : List (List ℕ)) → every isKeptName ks ≡ true → areValid ks c ≡ true → (r : List (List ℕ)) → every isGoodLine r ≡ true → every isGoodLine (linesBefore c r) ≡ true
 unfolding linesBefore every
 good-components noMore ks a v r g = g
-good-components (component k ps inner next) ks a v r g =
-    let n = plain-name ks k a (v .0) in
+good-components (component k ps inner next) ks a h r g =
+    let v = valid-component ks k ps inner next h in
+    let n = component-name ks k a (v .named) in
     and-yes _ _ (begin-good k (n .1))
-    (good-properties k ps _ (v .1) (good-components inner (subcomponentsOf k) (inside-plain k) (v .3) _ (and-yes _ _ (end-good k (n .1)) (good-components next ks a (v .4) r g))))
+    (good-properties k ps _ (v .properties) (good-components inner (subcomponentsOf k) (inside-kept k) (v .inside) _ (and-yes _ _ (end-good k (n .1)) (good-components next ks a (v .after) r g))))
 
 -- what good lines are
 record Good (s : List ℕ) : Type 0 where
@@ -121,14 +122,16 @@ verdict-fine : (s u : List ℕ) (room : ℕ) → length s ≤ limit → length s
 unfolding textVerdict placed pick
 verdict-fine s u room l r e h = rw (le-leb _ _ l, le-leb _ _ r, e, h)
 
-pub text-back : (c : Components) (room : ℕ) → Valid c → hasComponents c ≡ true → length (writeCalendar c) ≤ limit → length (writeCalendar c) ≤ room →
+pub text-back : (c : Components) (room : ℕ) → isValid c ≡ true → length (writeCalendar c) ≤ limit → length (writeCalendar c) ≤ room →
     readCalendar (writeCalendar c) room ≡ accepted c
 unfolding readCalendar every
-text-back c room v n l r =
-    let g : every isGoodLine (linesOf c) ≡ true = good-components c atTop top-plain v [] refl in
+text-back c room h l r =
+    let n = valid-parts c h in
+    let v = n .1 in
+    let g : every isGoodLine (linesOf c) ≡ true = good-components c atTop top-kept v [] refl in
     let nr = lines-no-return (linesOf c) g in
     let u : unfolded (writeCalendar c) ≡ plainText (linesOf c) = ap unfolded (text-written c) ∙ text-unfolded (linesOf c) nr (lines-no-blank (linesOf c) g) in
     let w : lines (plainText (linesOf c)) ≡ wholeLines 0 (linesOf c) = text-lines (linesOf c) 0 nr in
-    let f : linesVerdict (length (plainText (linesOf c))) (wholeLines 0 (linesOf c)) ≡ fine = not-empty c _ 0 n ∙ nesting-back _ c 0 v in
+    let f : linesVerdict (length (plainText (linesOf c))) (wholeLines 0 (linesOf c)) ≡ fine = not-empty c _ 0 (n .0) ∙ nesting-back _ c 0 v in
     let t : textVerdict (writeCalendar c) room ≡ fine = verdict-fine (writeCalendar c) (plainText (linesOf c)) room l r u (kept-fine (plainText (linesOf c)) (wholeLines 0 (linesOf c)) (lines-good (linesOf c) g) w f) in
     rw (t, u, w, tree-back c 0 v)

@@ -15,8 +15,9 @@ use Rattle.octets.specs.laws.Pick.{and-yes}
 use Rattle.octets.specs.Scan.{allOf}
 use Rattle.octets.specs.Append.{_⊕_, joined}
 use Rattle.octets.specs.Class.{isVisible, upper}
+use Rattle.octets.specs.Words.{isOneOf}
 use Rattle.octets.specs.Lists.{every}
-use Rattle.octets.specs.laws.Lists.{every-both}
+use Rattle.octets.specs.laws.Lists.{every-both, word-passes}
 use Rattle.octets.specs.Computing.{octets-compute}
 use Rattle.calendar.specs.Calendar.{Property, Components, noMore, component}
 use Rattle.schema.specs.Components.{subcomponentsOf}
@@ -25,13 +26,13 @@ use Rattle.read_text_line.specs.ContentLine.{ContentLine, isName, isContentLine
 use Rattle.read_text_line.specs.laws.Chars.{visible-value}
 use Rattle.read_text_line.specs.Write.{writeContentLine}
 use Rattle.read_text_line.specs.laws.RoundTrip.{content-line-read-back}
+use Rattle.validity.specs.ValidCalendar.{isKeptName, isValidProperty, areValid, atTop}
+use Rattle.validity.specs.laws.ValidCalendar.{kept-parts, name-visible, inside-kept, top-kept, ValidProperty, valid-property, valid-component}
 use Rattle.text.specs.Statement.{propertyOf}
 use Rattle.text.specs.Tree.{Entry, begin, end, property, entryBy, entryOf, ownOf, innerOf, calendarOf}
 use Rattle.text.specs.WriteText.{contentLineOf}
 use Rattle.text.specs.laws.PropertyLaws.{property-read-back}
 use Rattle.text.specs.laws.LineLaws.{line-read-back}
-use Rattle.text.specs.ValidCalendar.{isStated, ValidIn, Valid, atTop}
-use Rattle.text.specs.laws.ValidCalendar.{Stated, stated, isPlain, inside-plain, top-plain, plain-name}
 
 -- ---- lines
 
@@ -65,11 +66,11 @@ framing-line : (n k : List ℕ) → isName n ≡ true → allOf isVisible k ≡ 
 unfolding isContentLine every
 framing-line n k a h = and-yes _ _ a (and-yes _ _ refl (visible-value k h))
 
-begin-name : isName (ascii "BEGIN") ≡ true
+pub begin-name : isName (ascii "BEGIN") ≡ true
 unfolding octets-compute isName
 begin-name = refl
 
-end-name : isName (ascii "END") ≡ true
+pub end-name : isName (ascii "END") ≡ true
 unfolding octets-compute isName
 end-name = refl
 
@@ -87,8 +88,8 @@ begin-line k h = ap contentLine (sym (begin-written k)) ∙ content-line-read-ba
 pub end-line : (k : List ℕ) → allOf isVisible k ≡ true → contentLine (endOf k) ≡ some (framing (ascii "END") k)
 end-line k h = ap contentLine (sym (end-written k)) ∙ content-line-read-back (framing (ascii "END") k) (framing-line (ascii "END") k end-name h)
 
-pub property-line : (k : List ℕ) (p : Property) → Stated k p → contentLine (lineOf p) ≡ some (contentLineOf p)
-property-line k p s = line-read-back k p (s .valid) (s .line)
+pub property-line : (k : List ℕ) (p : Property) → ValidProperty k p → contentLine (lineOf p) ≡ some (contentLineOf p)
+property-line k p s = line-read-back k p s
 
 -- ---- entries
 
@@ -111,12 +112,12 @@ end-entry : (k : List ℕ) → allOf isVisible k ≡ true → entry (endOf k) �
 unfolding entry
 end-entry k h = ap entryBy (end-line k h) ∙ end-by k
 
-property-entry : (k : List ℕ) (p : Property) → isStated k p ≡ true → entry (lineOf p) ≡ property (contentLineOf p)
+property-entry : (k : List ℕ) (p : Property) → isValidProperty k p ≡ true → entry (lineOf p) ≡ property (contentLineOf p)
 unfolding entry entryBy pick contentLineOf
-property-entry k p h = let s = stated k p h in ap entryBy (property-line k p s) ∙ rw (s .capitals, s .begins, s .ends)
+property-entry k p h = let s = valid-property k p h in ap entryBy (property-line k p s) ∙ rw (kept-parts (p .name) (s .kept) .0, s .begins, s .ends)
 
-stated-back : (k : List ℕ) (p : Property) → isStated k p ≡ true → propertyOf k (contentLineOf p) ≡ p
-stated-back k p h = property-read-back k p (stated k p h .valid)
+stated-back : (k : List ℕ) (p : Property) → isValidProperty k p ≡ true → propertyOf k (contentLineOf p) ≡ p
+stated-back k p h = property-read-back k p (valid-property k p h .typed)
 
 -- places do not matter
 placeless : (ls : List (List ℕ)) (p : ℕ) → map entryOf (wholeLines p ls) ≡ map entry ls
@@ -129,66 +130,73 @@ placeless (l ∷ ls) p = rw (placeless ls (p + length l + 2))
 abbrev entries : List (List ℕ) → List Entry
 entries ls = map entry ls
 
-own-properties : (k : List ℕ) (ps : List Property) (r : List (List ℕ)) → every (isStated k) ps ≡ true → ownOf k (entries r) 0 ≡ [] → ownOf k (entries (propertiesBefore ps r)) 0 ≡ ps
+own-properties : (k : List ℕ) (ps : List Property) (r : List (List ℕ)) → every (isValidProperty k) ps ≡ true → ownOf k (entries r) 0 ≡ [] → ownOf k (entries (propertiesBefore ps r)) 0 ≡ ps
 unfolding propertiesBefore ownOf
 own-properties k [] r h e = e
 own-properties k (p ∷ ps) r h e =
-    let a = every-both (isStated k) p ps h in
+    let a = every-both (isValidProperty k) p ps h in
     rw (property-entry k p (a .0), stated-back k p (a .0), own-properties k ps r (a .1) e)
 
-deep-properties : (j k : List ℕ) (d : ℕ) (ps : List Property) (r : List (List ℕ)) → every (isStated k) ps ≡ true → ownOf j (entries (propertiesBefore ps r)) (suc d) ≡ ownOf j (entries r) (suc d)
+deep-properties : (j k : List ℕ) (d : ℕ) (ps : List Property) (r : List (List ℕ)) → every (isValidProperty k) ps ≡ true → ownOf j (entries (propertiesBefore ps r)) (suc d) ≡ ownOf j (entries r) (suc d)
 unfolding propertiesBefore ownOf
 deep-properties j k d [] r h = refl
 deep-properties j k d (p ∷ ps) r h =
-    let a = every-both (isStated k) p ps h in
+    let a = every-both (isValidProperty k) p ps h in
     rw (property-entry k p (a .0)) (deep-properties j k d ps r (a .1))
 
-inner-properties : (k : List ℕ) (d : ℕ) (ps : List Property) (r : List (List ℕ)) → every (isStated k) ps ≡ true → innerOf (entries (propertiesBefore ps r)) d ≡ innerOf (entries r) d
+inner-properties : (k : List ℕ) (d : ℕ) (ps : List Property) (r : List (List ℕ)) → every (isValidProperty k) ps ≡ true → innerOf (entries (propertiesBefore ps r)) d ≡ innerOf (entries r) d
 unfolding propertiesBefore innerOf
 inner-properties k d [] r h = refl
 inner-properties k d (p ∷ ps) r h =
-    let a = every-both (isStated k) p ps h in
+    let a = every-both (isValidProperty k) p ps h in
     rw (property-entry k p (a .0)) (inner-properties k d ps r (a .1))
 
 -- ---- components
 
-own-components : (c : Components) (ks : List (List ℕ)) → every isPlain ks ≡ true → ValidIn ks c → (j : List ℕ) (d : ℕ) (r : List (List ℕ)) → ownOf j (entries (linesBefore c r)) d ≡ ownOf j (entries r) d
+-- the name of a component is in capitals, and shows
+pub component-name : (ks : List (List ℕ)) (k : List ℕ) → every isKeptName ks ≡ true → isOneOf k ks ≡ true → (upper k ≡ k) × (allOf isVisible k ≡ true)
+component-name ks k a h = let n = kept-parts k (word-passes isKeptName ks k a h) in (n .0, name-visible k (n .1))
+
+own-components : (c : Components) (ks : List (List ℕ)) → every isKeptName ks ≡ true → areValid ks c ≡ true → (j : List ℕ) (d : ℕ) (r : List (List ℕ)) → ownOf j (entries (linesBefore c r)) d ≡ ownOf j (entries r) d
 unfolding linesBefore ownOf
 own-components noMore ks a v j d r = refl
-own-components (component k ps inner next) ks a v j d r =
-    let n = plain-name ks k a (v .0) in
+own-components (component k ps inner next) ks a h j d r =
+    let v = valid-component ks k ps inner next h in
+    let n = component-name ks k a (v .named) in
     let e = end-entry k (n .1) in
     rw (begin-entry k (n .0) (n .1))
-    (deep-properties j k d ps _ (v .1) ∙ own-components inner (subcomponentsOf k) (inside-plain k) (v .3) j (suc d) _ ∙ rw e (own-components next ks a (v .4) j d r))
+    (deep-properties j k d ps _ (v .properties) ∙ own-components inner (subcomponentsOf k) (inside-kept k) (v .inside) j (suc d) _ ∙ rw e (own-components next ks a (v .after) j d r))
 
-inner-deep : (c : Components) (ks : List (List ℕ)) → every isPlain ks ≡ true → ValidIn ks c → (d : ℕ) (r : List (List ℕ)) → innerOf (entries (linesBefore c r)) (suc d) ≡ innerOf (entries r) (suc d)
+inner-deep : (c : Components) (ks : List (List ℕ)) → every isKeptName ks ≡ true → areValid ks c ≡ true → (d : ℕ) (r : List (List ℕ)) → innerOf (entries (linesBefore c r)) (suc d) ≡ innerOf (entries r) (suc d)
 unfolding linesBefore innerOf
 inner-deep noMore ks a v d r = refl
-inner-deep (component k ps inner next) ks a v d r =
-    let n = plain-name ks k a (v .0) in
+inner-deep (component k ps inner next) ks a h d r =
+    let v = valid-component ks k ps inner next h in
+    let n = component-name ks k a (v .named) in
     let e = end-entry k (n .1) in
     rw (begin-entry k (n .0) (n .1))
-    (inner-properties k (suc (suc d)) ps _ (v .1) ∙ inner-deep inner (subcomponentsOf k) (inside-plain k) (v .3) (suc d) _ ∙ rw e (inner-deep next ks a (v .4) d r))
+    (inner-properties k (suc (suc d)) ps _ (v .properties) ∙ inner-deep inner (subcomponentsOf k) (inside-kept k) (v .inside) (suc d) _ ∙ rw e (inner-deep next ks a (v .after) d r))
 
-inner-own : (c : Components) (ks : List (List ℕ)) → every isPlain ks ≡ true → ValidIn ks c → (r : List (List ℕ)) → innerOf (entries r) 0 ≡ noMore → innerOf (entries (linesBefore c r)) 0 ≡ c
+inner-own : (c : Components) (ks : List (List ℕ)) → every isKeptName ks ≡ true → areValid ks c ≡ true → (r : List (List ℕ)) → innerOf (entries r) 0 ≡ noMore → innerOf (entries (linesBefore c r)) 0 ≡ c
 unfolding linesBefore innerOf ownOf
 inner-own noMore ks a v r h = h
-inner-own (component k ps inner next) ks a v r h =
-    let n = plain-name ks k a (v .0) in
+inner-own (component k ps inner next) ks a w r h =
+    let v = valid-component ks k ps inner next w in
+    let n = component-name ks k a (v .named) in
     let e = end-entry k (n .1) in
     let x : List (List ℕ) = endOf k ∷ linesBefore next r in
     let y : List (List ℕ) = linesBefore inner x in
     let own : ownOf k (entries (propertiesBefore ps y)) 0 ≡ ps =
-    own-properties k ps y (v .1) (own-components inner (subcomponentsOf k) (inside-plain k) (v .3) k 0 x ∙ rw e) in
+    own-properties k ps y (v .properties) (own-components inner (subcomponentsOf k) (inside-kept k) (v .inside) k 0 x ∙ rw e) in
     let ours : innerOf (entries (propertiesBefore ps y)) 0 ≡ inner =
-    inner-properties k 0 ps y (v .1) ∙ inner-own inner (subcomponentsOf k) (inside-plain k) (v .3) x (rw e) in
+    inner-properties k 0 ps y (v .properties) ∙ inner-own inner (subcomponentsOf k) (inside-kept k) (v .inside) x (rw e) in
     let after : innerOf (entries (propertiesBefore ps y)) 1 ≡ next =
-    inner-properties k 1 ps y (v .1) ∙ inner-deep inner (subcomponentsOf k) (inside-plain k) (v .3) 0 x ∙ rw e (inner-own next ks a (v .4) r h) in
+    inner-properties k 1 ps y (v .properties) ∙ inner-deep inner (subcomponentsOf k) (inside-kept k) (v .inside) 0 x ∙ rw e (inner-own next ks a (v .after) r h) in
     rw (begin-entry k (n .0) (n .1)) (rw (own, ours, after))
 
-pub tree-back : (c : Components) (p : ℕ) → Valid c → calendarOf (wholeLines p (linesOf c)) ≡ c
+pub tree-back : (c : Components) (p : ℕ) → areValid atTop c ≡ true → calendarOf (wholeLines p (linesOf c)) ≡ c
 unfolding calendarOf
-tree-back c p v = rw (placeless (linesOf c) p) (inner-own c atTop top-plain v [] done)
+tree-back c p v = rw (placeless (linesOf c) p) (inner-own c atTop top-kept v [] done)
   where
     done : innerOf [] 0 ≡ noMore
     done = unfold innerOf in refl

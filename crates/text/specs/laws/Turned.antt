@@ -8,10 +8,9 @@ use mathlib.Core.Option.{Option, none, some}
 use Prim.Native.Nat.{ℕ, suc, _+_, _≤_}
 use native.Mathlib.Omega.{arith}
 use Rattle.octets.specs.Ascii.{ascii}
-use Rattle.octets.specs.Pick.{pick, _or_}
+use Rattle.octets.specs.Pick.{pick}
 use Rattle.octets.specs.laws.Pick.{and-both}
 use Rattle.octets.specs.Words.{same, isOneOf, rowOf}
-use Rattle.octets.specs.laws.Words.{same-true}
 use Rattle.octets.specs.Lists.{every}
 use Rattle.octets.specs.laws.Tables.{row-any-passes, row-passes}
 use Rattle.octets.specs.Reading.{andThen}
@@ -20,7 +19,7 @@ use Rattle.octets.specs.Computing.{octets-compute}
 use Rattle.calendar.specs.Calendar.{Property}
 use Rattle.schema.specs.Components.{Occurrence, alarmTable, componentTable, componentRow, unknownComponent, occurrencesOf, alarmOccurrences, isAlarm}
 use Rattle.schema.specs.Properties.{propertyNames}
-use Rattle.schema.specs.Counts.{tally, occurrenceIn, isOften, eachOften, firstText, actionOf, listFor, oftenFor, complete}
+use Rattle.schema.specs.Counts.{tally, occurrenceIn, firstText, actionOf, listFor, oftenFor, complete}
 use Rattle.schema.specs.laws.Tallies.{complete-same, often-at}
 use Rattle.schema.specs.laws.Completing.{isOnce, once-short}
 

@@ -1,6 +1,5 @@
--- The values of a property that are written are read back, and what is read is such values.
+-- The values of a property that are written are read back.
 --     values-read-back    of any property, in any component
---     values-accepted     what is read is permitted, of one type, and a word of the closed set where there is one
 use mathlib.Core.Path.{_≡_, refl, sym, subst, _∙_}
 use mathlib.Core.Bool.{Bool, true, false, not, false≢true}
 use mathlib.Core.List.{List, [], _∷_, map}

@@ -1,8 +1,7 @@
 -- The lines of a calendar as bytes: no CR stands in one, none begins with a blank, and their characters are well formed.
 --     line-passes      what holds of bytes that show, and of joined bytes where it holds of both, holds of a content line where it holds of its values
---     name-char-visible, name-visible    names show
 --     isGoodLine       such a line;   begin-good, end-good, property-good
-use mathlib.Core.Path.{_≡_, refl}
+use mathlib.Core.Path.{_≡_, refl, _∙_}
 use mathlib.Core.Bool.{Bool, true, false, not, false≢true}
 use mathlib.Core.List.{List, [], _∷_, map}
 use mathlib.Core.Option.{Option, none, some}
@@ -20,7 +19,7 @@ use Rattle.octets.specs.laws.Class.{name-char-visible}
 use Rattle.octets.specs.Words.{starts, holds, eachAfter, joinedBy}
 use Rattle.octets.specs.laws.Words.{holds-neither, all-without}
 use Rattle.octets.specs.Lists.{every}
-use Rattle.octets.specs.laws.Lists.{every-both, every-weaker}
+use Rattle.octets.specs.laws.Lists.{every-both, every-weaker, every-map}
 use Rattle.octets.specs.Reading.{readOr}
 use Rattle.octets.specs.Computing.{octets-compute}
 use Rattle.calendar.specs.Calendar.{ValueType, Value, textIn, Parameter, Property}
@@ -33,23 +32,16 @@ use Rattle.utf8.specs.laws.Utf8.{well-formed-good, good-well-formed, good-appen
 use Rattle.folding.specs.Unfold.{blankAt}
 use Rattle.values.specs.WriteValue.{writeValue, writeValues, typeOfAll}
 use Rattle.values.specs.ReadBack.{isValue}
-use Rattle.values.specs.Valid.{isChosen, isParameter, isPropertyValue, areParameters, areValuesOf, isProperty}
+use Rattle.values.specs.Valid.{isChosen, isPropertyValue, areValuesOf}
 use Rattle.values.specs.laws.Valid.{text-in, chosen-valid, property-value-valid}
 use Rattle.read_text_line.specs.ContentLine.{ParamValue, RawParameter, ContentLine, isValueChar, isQSafeChar, isSafeChar, isName, isParamValue, isRawParameter, isContentLine}
 use Rattle.read_text_line.specs.Write.{writeParamValue, writeParameter, writeContentLine}
+use Rattle.validity.specs.ValidCalendar.{isPermitted, isValidParameter, isValidProperty}
+use Rattle.validity.specs.laws.ValidCalendar.{kept-parts, name-visible, valid-parameter, ValidProperty, valid-property}
 use Rattle.text.specs.WriteText.{paramChars, paramValueOf, rawOf, valueParameter, withValue, contentLineOf}
-use Rattle.text.specs.LineLaws.{isLineParameter, isLineProperty}
 use Rattle.text.specs.laws.LineLaws.{line-is-line}
-use Rattle.text.specs.ValidCalendar.{isGoodValue, isGoodParameter, isStated}
-use Rattle.text.specs.laws.ValidCalendar.{Stated, stated}
 use Rattle.text.specs.laws.EscapedCharacters.{joined-good, value-good}
-use Rattle.text.specs.laws.TreeBack.{beginOf, endOf, lineOf}
-
--- ---- names show
-
-pub name-visible : (n : List ℕ) → isName n ≡ true → allOf isVisible n ≡ true
-unfolding isName
-name-visible n h = all-weaker isNameChar isVisible name-char-visible n (pick-second _ _ h .1)
+use Rattle.text.specs.laws.TreeBack.{beginOf, endOf, lineOf, begin-name, end-name}
 
 -- ---- what holds of a line
 
@@ -135,7 +127,7 @@ name-no-blank (b ∷ n) r h = byte-no-blank b (n ⊕ r) (name-char-visible b (al
 
 -- ---- characters
 
-param-chars-good : (v : Value) → isValue v ≡ true → isGoodValue v ≡ true → firstBad (paramChars v) ≡ none
+param-chars-good : (v : Value) → isValue v ≡ true → isPermitted v ≡ true → firstBad (paramChars v) ≡ none
 unfolding readOr
 param-chars-good v h g = go (textIn v) refl
   where
@@ -149,26 +141,21 @@ isGoodChars v = wellFormed (v .chars)
 abbrev isGoodRaw : RawParameter → Bool
 isGoodRaw r = isName (r .name) and every isGoodChars (r .values)
 
-chars-good : (n : List ℕ) (vs : List Value) → every (isChosen (parameterWords n) (parameterType n)) vs ≡ true → every isGoodValue vs ≡ true → every isGoodChars (map (paramValueOf n) vs) ≡ true
+chars-good : (n : List ℕ) (vs : List Value) → every (isChosen (parameterWords n) (parameterType n)) vs ≡ true → every isPermitted vs ≡ true → every isGoodChars (map (paramValueOf n) vs) ≡ true
 unfolding every
 chars-good n [] h g = refl
 chars-good n (v ∷ vs) h g =
     let a = every-both (isChosen (parameterWords n) (parameterType n)) v vs h in
-    let b = every-both isGoodValue v vs g in
+    let b = every-both isPermitted v vs g in
     and-yes _ _ (good-well-formed _ (param-chars-good v (chosen-valid (parameterWords n) (parameterType n) v (a .0)) (b .0))) (chars-good n vs (a .1) (b .1))
 
-raw-good : (p : Parameter) → isParameter p ≡ true → isLineParameter p ≡ true → isGoodParameter p ≡ true → isGoodRaw (rawOf p) ≡ true
-unfolding isParameter
-raw-good p h l g = and-yes _ _ (and-both _ _ l .0) (chars-good (p .name) (p .values) (and-both _ _ (and-both _ _ (and-both _ _ h .1) .1) .1) (and-both _ _ g .1))
+raw-good : (p : Parameter) → isValidParameter p ≡ true → isGoodRaw (rawOf p) ≡ true
+raw-good p h =
+    let v = valid-parameter p h in
+    and-yes _ _ (kept-parts (p .name) (v .kept) .1) (chars-good (p .name) (p .values) (v .chosen) (v .permitted))
 
-raws-good : (ps : List Parameter) → every isParameter ps ≡ true → every isLineParameter ps ≡ true → every isGoodParameter ps ≡ true → every isGoodRaw (map rawOf ps) ≡ true
-unfolding every
-raws-good [] h l g = refl
-raws-good (p ∷ ps) h l g =
-    let a = every-both isParameter p ps h in
-    let b = every-both isLineParameter p ps l in
-    let c = every-both isGoodParameter p ps g in
-    and-yes _ _ (raw-good p (a .0) (b .0) (c .0)) (raws-good ps (a .1) (b .1) (c .1))
+raws-good : (ps : List Parameter) → every isValidParameter ps ≡ true → every isGoodRaw (map rawOf ps) ≡ true
+raws-good ps h = every-map isGoodRaw rawOf ps ∙ every-weaker isValidParameter (λ p. isGoodRaw (rawOf p)) raw-good ps h
 
 value-name : isName (ascii "VALUE") ≡ true
 unfolding octets-compute isName
@@ -182,27 +169,24 @@ with-value-good : (n : List ℕ) (t : ValueType) (rs : List RawParameter) → ev
 unfolding withValue every
 with-value-good n t rs h = pick-either (λ (l : List RawParameter). every isGoodRaw l ≡ true) (sameType t (defaultType n)) rs (valueParameter t ∷ rs) h (and-yes _ _ (type-good t) h)
 
-values-good : (k n : List ℕ) (t : ValueType) (vs : List Value) → every (isPropertyValue k n t) vs ≡ true → every isGoodValue vs ≡ true → every wellFormed (map writeValue vs) ≡ true
+values-good : (k n : List ℕ) (t : ValueType) (vs : List Value) → every (isPropertyValue k n t) vs ≡ true → every isPermitted vs ≡ true → every wellFormed (map writeValue vs) ≡ true
 unfolding every
 values-good k n t [] h g = refl
 values-good k n t (v ∷ vs) h g =
     let a = every-both (isPropertyValue k n t) v vs h in
-    let b = every-both isGoodValue v vs g in
+    let b = every-both isPermitted v vs g in
     and-yes _ _ (good-well-formed _ (value-good v (property-value-valid k n t v (a .0)) (b .0))) (values-good k n t vs (a .1) (b .1))
 
 pub comma-ascii : isAscii 44 ≡ true
 unfolding _and_ _or_
 comma-ascii = refl
 
-line-good : (k : List ℕ) (p : Property) → Stated k p → firstBad (lineOf p) ≡ none
-unfolding isProperty areParameters areValuesOf isLineProperty contentLineOf writeValues
+line-good : (k : List ℕ) (p : Property) → ValidProperty k p → firstBad (lineOf p) ≡ none
+unfolding areValuesOf contentLineOf writeValues
 line-good k p s =
-    let a = and-both _ _ (and-both _ _ (s .valid) .1) in
-    let b = and-both (isName (p .name)) _ (s .line) in
-    let c = and-both (every isLineParameter (p .parameters)) _ (b .1) in
-    line-passes (λ s. firstBad s ≡ none) visible-good good-append isGoodChars (λ v h. well-formed-good (v .chars) h) (contentLineOf p) (b .0)
-    (with-value-good (p .name) _ _ (raws-good (p .parameters) (and-both _ _ (a .0) .0) (c .0) (s .parameters)))
-    (joined-good 44 (map writeValue (p .values)) comma-ascii (values-good k (p .name) (typeOfAll (p .values)) (p .values) (and-both _ _ (and-both _ _ (a .1) .1) .1) (s .values)))
+    line-passes (λ s. firstBad s ≡ none) visible-good good-append isGoodChars (λ v h. well-formed-good (v .chars) h) (contentLineOf p) (kept-parts (p .name) (s .kept) .1)
+    (with-value-good (p .name) _ _ (raws-good (p .parameters) (s .parameters)))
+    (joined-good 44 (map writeValue (p .values)) comma-ascii (values-good k (p .name) (typeOfAll (p .values)) (p .values) (and-both _ _ (and-both _ _ (s .values) .1) .1) (s .permitted)))
 
 -- ---- lines
 
@@ -221,21 +205,15 @@ shown-good n k a h =
 
 pub begin-good : (k : List ℕ) → allOf isVisible k ≡ true → isGoodLine (beginOf k) ≡ true
 unfolding _⊕_
-begin-good k h = shown-good (ascii "BEGIN") k name h
-  where
-    name : isName (ascii "BEGIN") ≡ true
-    name = unfold octets-compute isName in refl
+begin-good k h = shown-good (ascii "BEGIN") k begin-name h
 
 pub end-good : (k : List ℕ) → allOf isVisible k ≡ true → isGoodLine (endOf k) ≡ true
 unfolding _⊕_
-end-good k h = shown-good (ascii "END") k name h
-  where
-    name : isName (ascii "END") ≡ true
-    name = unfold octets-compute isName in refl
+end-good k h = shown-good (ascii "END") k end-name h
 
-pub property-good : (k : List ℕ) (p : Property) → isStated k p ≡ true → isGoodLine (lineOf p) ≡ true
+pub property-good : (k : List ℕ) (p : Property) → isValidProperty k p ≡ true → isGoodLine (lineOf p) ≡ true
 unfolding isContentLine writeContentLine
 property-good k p h =
-    let s = stated k p h in
-    let l = line-is-line k p (s .valid) (s .line) in
+    let s = valid-property k p h in
+    let l = line-is-line k p s in
     good-line (lineOf p) (line-no-return (contentLineOf p) l) (name-no-blank (contentLineOf p .name) _ (and-both _ _ l .0)) (line-good k p s)

@@ -12,14 +12,13 @@ use Rattle.octets.specs.Pick.{pick}
 use Rattle.octets.specs.Append.{_⊕_}
 use Rattle.calendar.specs.Calendar.{Calendar}
 use Rattle.calendar.specs.Refusal.{ROOM, Answer, accepted, refused}
+use Rattle.validity.specs.ValidCalendar.{isValid}
 use Rattle.text.specs.ReadText.{readCalendar}
 use Rattle.text.specs.laws.AcceptedText.{accepted-valid}
 use Rattle.xcal.specs.WriteXml.{writeDocument}
-use Rattle.xcal.specs.Carried.{isValid}
 use Rattle.calls.specs.Conversion.{Converted, result, converted, written, refusal, outcome, contents}
 use Rattle.calls.specs.ToXml.{toXml}
 use Rattle.theorems.specs.Calls.{isWritten, bytesOf, Call, isAccepted, xmlOf, States}
-use Rattle.theorems.specs.laws.Bridge.{stated-valid}
 
 -- ---- a result, and the output that it stands in
 
@@ -62,8 +61,7 @@ pub given : (k : Call) → isAccepted k ≡ true → Given k
 unfolding toXml
 given k h =
     let r = written-read writeDocument (readCalendar (k .input) (length (k .work))) (k .output) h in
-    let v = accepted-valid (k .input) (length (k .work)) (r .calendar) (r .states) in
-    record { calendar = r .calendar; states = r .states; valid = stated-valid (r .calendar) (v .0) (v .1); xml = r .bytes }
+    record { calendar = r .calendar; states = r .states; valid = accepted-valid (k .input) (length (k .work)) (r .calendar) (r .states); xml = r .bytes }
 
 pub states-accepted : (k : Call) (c : Calendar) → States k c → length (writeDocument c) ≤ length (k .output) → (isAccepted k ≡ true) × (xmlOf k ≡ writeDocument c)
 unfolding toXml

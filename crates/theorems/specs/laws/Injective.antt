@@ -3,32 +3,32 @@
 --     document-unique     of two documents in front of anything, the calendars and what follows are the same
 --     documents-unique    of documents one after another, the calendars are the same
 use mathlib.Core.Path.{_≡_, refl, sym, ap, _∙_}
-use mathlib.Core.Bool.{true, not}
+use mathlib.Core.Bool.{true}
 use mathlib.Core.List.{List, [], _∷_, map}
 use Prim.Native.Nat.{ℕ}
 use native.Mathlib.Omega.{arith}
 use Rattle.octets.specs.Ascii.{ascii}
-use Rattle.octets.specs.laws.Pick.{and-both}
 use Rattle.octets.specs.Append.{_⊕_, joined}
-use Rattle.octets.specs.laws.Append.{append-none, append-regroup}
+use Rattle.octets.specs.laws.Append.{append-none}
 use Rattle.octets.specs.Lists.{every}
 use Rattle.octets.specs.laws.Lists.{every-both}
 use Rattle.calendar.specs.Calendar.{Calendar}
+use Rattle.validity.specs.ValidCalendar.{atTop, isValid}
+use Rattle.validity.specs.laws.ValidCalendar.{top-kept, valid-parts}
+use Rattle.text.specs.laws.TextBack.{regrouped}
 use Rattle.xml.specs.Escape.{declaration, rootStart, endTag}
-use Rattle.xml.specs.Reads.{isName}
 use Rattle.xml.specs.Marks.{Mark, opens, marks, documentMarks}
 use Rattle.xml.specs.Nodes.{rootBy, rootNode, documentNodes}
 use Rattle.xml.specs.Content.{written}
 use Rattle.xml.specs.laws.ReadBack.{content-nodes}
 use Rattle.xml.specs.Computing.{xml-compute}
-use Rattle.xcal.specs.WriteXml.{isNoMore, writeDocument}
+use Rattle.xcal.specs.WriteXml.{writeDocument}
 use Rattle.xcal.specs.ComponentNodes.{readComponents, readRoot}
-use Rattle.xcal.specs.Contents.{calendarContent}
+use Rattle.xcal.specs.laws.Contents.{calendarContent}
 use Rattle.xcal.specs.laws.WrittenContents.{document-written}
-use Rattle.xcal.specs.laws.ComponentsBack.{calendars-back}
+use Rattle.xcal.specs.laws.ComponentsBack.{components-back}
 use Rattle.xcal.specs.laws.SoundContent.{sound-writable}
-use Rattle.xcal.specs.Carried.{isValid}
-use Rattle.xcal.specs.laws.Carried.{calendar-sound, valid-calendars}
+use Rattle.xcal.specs.laws.SoundCalendar.{calendar-sound}
 
 -- ---- a document and what follows it
 
@@ -36,13 +36,6 @@ use Rattle.xcal.specs.laws.Carried.{calendar-sound, valid-calendars}
 root-front : (r : List ℕ) → documentMarks (declaration ⊕ rootStart ⊕ r) ≡ opens 39 (ascii "icalendar") ∷ marks 95 r
 unfolding xml-compute
 root-front r = refl
-
-root-name : isName (ascii "icalendar") ≡ true
-unfolding xml-compute
-root-name = refl
-
-regrouped : (a b c d e r : List ℕ) → (a ⊕ b ⊕ c ⊕ d ⊕ e) ⊕ r ≡ a ⊕ b ⊕ c ⊕ d ⊕ e ⊕ r
-regrouped a b c d e r = rw (append-regroup, append-regroup, append-regroup, append-regroup)
 
 -- what bytes state, read as a document
 abbrev readBytes : List ℕ → Calendar
@@ -55,11 +48,12 @@ marks-root p n r s e = ap (λ (ms : List Mark). readRoot (rootNode ms)) e
 pub document-front : (c : Calendar) (x : List ℕ) → isValid c ≡ true → readBytes (writeDocument c ⊕ x) ≡ c
 unfolding rootBy readRoot
 document-front c x h =
+    let v = valid-parts c h .1 in
     ap (λ (s : List ℕ). readBytes (s ⊕ x)) (document-written c)
     ∙ ap readBytes (regrouped declaration rootStart (written (calendarContent c)) (endTag (ascii "icalendar")) (ascii "\n") x)
     ∙ marks-root 39 (ascii "icalendar") (written (calendarContent c) ⊕ (endTag (ascii "icalendar") ⊕ (ascii "\n" ⊕ x))) _ (root-front _)
-    ∙ ap readComponents (content-nodes (calendarContent c) 15 (ascii "icalendar") (ascii "\n" ⊕ x) 95 (sound-writable (calendarContent c) 15 (calendar-sound c h)) root-name)
-    ∙ calendars-back c (and-both (not (isNoMore c)) _ (valid-calendars c h) .1) 95
+    ∙ ap readComponents (content-nodes (calendarContent c) 15 (ascii "icalendar") (ascii "\n" ⊕ x) 95 (sound-writable (calendarContent c) 15 (calendar-sound c v)) (unfold xml-compute in refl))
+    ∙ components-back c atTop top-kept v 95
 
 -- ---- one document
 

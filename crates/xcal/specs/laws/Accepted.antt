@@ -1,4 +1,5 @@
--- Laws of what specs/Accepted.antt defines.
+-- What a verdict that is fine says of the nodes that it was given on.
+--     allChildren                         every child passes a test;   comes: the names of the children
 --     both-fine, test-fine, past-fine     of checks one after another, and of tests
 --     leaf-accepted                       of an element of character data
 --     sequence-each                       of children in an order: each child passes a test that its own verdict implies
@@ -10,7 +11,7 @@ use mathlib.Core.List.{List, _∷_}
 use mathlib.Core.Option.{Option, none, some}
 use Prim.Native.Nat.{ℕ, suc}
 use lib.Dec.{ltb}
-use Rattle.octets.specs.Pick.{pick, _or_}
+use Rattle.octets.specs.Pick.{pick, _or_, _and_}
 use Rattle.octets.specs.laws.Pick.{and-both, and-yes, or-false}
 use Rattle.octets.specs.Class.{isSpace}
 use Rattle.octets.specs.Words.{same, isOneOf}
@@ -22,7 +23,22 @@ use Rattle.calendar.specs.laws.Refusal.{refused-not}
 use Rattle.xml.specs.Nodes.{Nodes, noNodes, element, literal, referred, charactersOf, hasElement}
 use Rattle.xcal.specs.Layout.{hasCapital, unexpected, Slot, slotOf, afterSlot, lacks, admitted, sequence, innerElement, leaf}
 use Rattle.xcal.specs.ValueNodes.{childNamed}
-use Rattle.xcal.specs.Accepted.{allChildren, comes}
+
+-- ---- children
+
+-- every child that is an element passes a test of its name and its content
+unfoldable pub allChildren : (List ℕ → Nodes → Bool) → Nodes → Bool
+allChildren good noNodes = true
+allChildren good (literal p b more) = allChildren good more
+allChildren good (referred p bs more) = allChildren good more
+allChildren good (element p n x kids more) = good n kids and allChildren good more
+
+-- the names of the children, the last first, in front of those that have come
+unfoldable pub comes : Nodes → List (List ℕ) → List (List ℕ)
+comes noNodes seen = seen
+comes (literal p b more) seen = comes more seen
+comes (referred p bs more) seen = comes more seen
+comes (element p n x kids more) seen = comes more (n ∷ seen)
 
 -- ---- verdicts
 

@@ -20,7 +20,7 @@ use Rattle.values.specs.ReadBack.{isValue, isTyped}
 use Rattle.values.specs.laws.ReadBack.{isCharacterData, characters-read-back}
 use Rattle.values.specs.Valid.{isWordIn, isChosen}
 use Rattle.values.specs.laws.Valid.{text-in}
-use Rattle.xcal.specs.Contents.{plainInside, inside}
+use Rattle.xcal.specs.laws.Contents.{plainInside, inside}
 use Rattle.xcal.specs.ValueNodes.{readWordOf}
 use Rattle.xcal.specs.ParameterNodes.{readWordIn}
 use Rattle.xcal.specs.laws.ValuesBack.{by-spelling}

@@ -1,4 +1,4 @@
--- Components read from elements that are not refused are components as the schema has them, that can be carried (RFC 6321, sections 3.2 and 3.3).
+-- Components read from elements that are not refused are valid (RFC 6321, sections 3.2 and 3.3).
 --     stream-accepted        the calendars that the children of the root state are valid
 use mathlib.Core.Path.{_≡_, refl, ap, _∙_}
 use mathlib.Core.Bool.{Bool, true, false, not}
@@ -6,28 +6,26 @@ use mathlib.Core.List.{List}
 use Prim.Native.Nat.{ℕ}
 use Rattle.octets.specs.Ascii.{ascii}
 use Rattle.octets.specs.Pick.{pick, _and_, _or_}
-use Rattle.octets.specs.laws.Pick.{and-both, and-yes, or-left, or-right}
+use Rattle.octets.specs.laws.Pick.{and-both, or-left, or-right}
 use Rattle.octets.specs.Class.{isSpace, upper}
 use Rattle.octets.specs.Words.{same, isOneOf, isEmpty}
-use Rattle.octets.specs.laws.Words.{same-self, same-true, same-swap}
+use Rattle.octets.specs.laws.Words.{same-true, same-swap}
 use Rattle.octets.specs.Lists.{every}
 use Rattle.octets.specs.Computing.{octets-compute}
 use Rattle.calendar.specs.Calendar.{Components, component}
 use Rattle.calendar.specs.Refusal.{FRAME, COUNT, Verdict, fine}
 use Rattle.calendar.specs.laws.Refusal.{refused-not}
 use Rattle.schema.specs.Components.{subcomponentsOf}
+use Rattle.validity.specs.ValidCalendar.{isValidProperty, hasComponents, areValid, atTop}
+use Rattle.validity.specs.laws.ValidCalendar.{component-valid}
 use Rattle.xml.specs.Reads.{isName}
 use Rattle.xml.specs.Nodes.{Nodes, noNodes, element, literal, referred, hasElement}
-use Rattle.xcal.specs.WriteXml.{isNoMore}
 use Rattle.xcal.specs.Layout.{hasCapital, unexpected}
 use Rattle.xcal.specs.PropertyNodes.{propertiesVerdict, readProperties}
 use Rattle.xcal.specs.ComponentNodes.{insideOf, isComplete, Come, endOfComponent, componentVerdict, componentsVerdict, streamVerdict, readComponents, readInner}
-use Rattle.xcal.specs.PropertiesBack.{isCarriedProperty}
-use Rattle.xcal.specs.ComponentsBack.{areCarried, areAllCalendars}
-use Rattle.xcal.specs.Carried.{isCleanProperty, areClean}
 use Rattle.xcal.specs.laws.Accepted.{unexpected-not, both-fine, test-fine, past-fine}
-use Rattle.xcal.specs.ValuesAccepted.{isCleanContent}
-use Rattle.xcal.specs.GoodNodes.{isGood}
+use Rattle.xcal.specs.laws.ValuesAccepted.{isCleanContent}
+use Rattle.xcal.specs.laws.GoodNodes.{isGood}
 use Rattle.xcal.specs.laws.PropertiesAccepted.{properties-accepted}
 
 -- ---- what a component holds
@@ -44,7 +42,7 @@ unfolding pick
 one-fine true v p m h = (refl, h)
 one-fine false v p m h = unexpected-not p m h
 
-has-components : (kids : Nodes) → hasElement kids ≡ not (isNoMore (readComponents kids))
+has-components : (kids : Nodes) → hasElement kids ≡ hasComponents (readComponents kids)
 unfolding hasElement readComponents readInner
 has-components noNodes = refl
 has-components (literal p b more) = has-components more
@@ -62,29 +60,26 @@ inner-components (element p m x kids more) = go (same m (ascii "components")) (i
     go true ih = refl
     go false ih = ih
 
--- what is known of the children of `components` in a component k
-record Within (k : List ℕ) (c : Components) : Type 0 where
-  carried : areCarried k c ≡ true
-  clean : areClean c ≡ true
-
 -- what is known of the children of a component n
 record Holds (n : List ℕ) (counts : Bool) (kids : Nodes) : Type 0 where
-  inner : Within n (readInner kids)
-  properties : every (isCarriedProperty n) (readProperties (insideOf (ascii "properties") kids)) ≡ true
-  clean : every isCleanProperty (readProperties (insideOf (ascii "properties") kids)) ≡ true
+  inner : areValid (subcomponentsOf n) (readInner kids) ≡ true
+  properties : every (isValidProperty n) (readProperties (insideOf (ascii "properties") kids)) ≡ true
   counted : counts ≡ true
 
 -- the component that an element states
-component-within : (k n : List ℕ) (kids more : Nodes) → isOneOf n (subcomponentsOf k) ≡ true → Holds n (isComplete n kids) kids → Within k (readComponents more) →
-    Within k (component n (readProperties (insideOf (ascii "properties") kids)) (readInner kids) (readComponents more))
-unfolding areCarried areClean
-component-within k n kids more o h r = record {
-  carried = and-yes _ _ o (and-yes _ _ (and-yes _ _ (h .properties) (rw (inner-components kids, ← (has-components (insideOf (ascii "components") kids))) (h .counted))) (and-yes _ _ (h .inner .carried) (r .carried)));
-  clean = and-yes _ _ (h .clean) (and-yes _ _ (h .inner .clean) (r .clean));
-}
+component-within : (ks : List (List ℕ)) (n : List ℕ) (kids more : Nodes) → isOneOf n ks ≡ true → Holds n (isComplete n kids) kids → areValid ks (readComponents more) ≡ true →
+    areValid ks (component n (readProperties (insideOf (ascii "properties") kids)) (readInner kids) (readComponents more)) ≡ true
+component-within ks n kids more o h r =
+    component-valid ks n _ _ _ (record {
+      named = o;
+      properties = h .properties;
+      counts = rw (inner-components kids, ← (has-components (insideOf (ascii "components") kids))) (h .counted);
+      inside = h .inner;
+      after = r;
+    })
 
 abbrev Components-fine : Nodes → Type 0
-Components-fine kids = (k : List ℕ) (any : Bool) (e : ℕ) → isGood kids ≡ true → componentsVerdict kids k any e ≡ fine → Within k (readComponents kids)
+Components-fine kids = (k : List ℕ) (any : Bool) (e : ℕ) → isGood kids ≡ true → componentsVerdict kids k any e ≡ fine → areValid (subcomponentsOf k) (readComponents kids) ≡ true
 
 abbrev Component-fine : Nodes → Type 0
 Component-fine kids = (n : List ℕ) (counts : Bool) (c : Come) (e : ℕ) → isGood kids ≡ true → componentVerdict kids n counts c e ≡ fine → Holds n counts kids
@@ -108,12 +103,13 @@ module _ (p : ℕ) (m : List ℕ) (x : ℕ) (kids more : Nodes) (g : isGood (ele
       (b .0, d .0, d .1)
 
   -- the element of a subcomponent
-  subcomponent : Component-fine kids → Components-fine more → (k : List ℕ) (any : Bool) (e : ℕ) → componentsVerdict (element p m x kids more) k any e ≡ fine → Within k (readComponents (element p m x kids more))
+  subcomponent : Component-fine kids → Components-fine more → (k : List ℕ) (any : Bool) (e : ℕ) → componentsVerdict (element p m x kids more) k any e ≡ fine →
+      areValid (subcomponentsOf k) (readComponents (element p m x kids more)) ≡ true
   unfolding componentsVerdict readComponents
   subcomponent f r k any e h =
       let a = one-fine (not (hasCapital m) and isOneOf (upper m) (subcomponentsOf k)) _ p m h in
       let b = both-fine (componentVerdict kids (upper m) (isComplete (upper m) kids) (record { properties = false; components = false }) x) _ (a .1) in
-      component-within k (upper m) kids more (and-both (not (hasCapital m)) _ (a .0) .1) (f (upper m) (isComplete (upper m) kids) (record { properties = false; components = false }) x (parts .1) (b .0))
+      component-within (subcomponentsOf k) (upper m) kids more (and-both (not (hasCapital m)) _ (a .0) .1) (f (upper m) (isComplete (upper m) kids) (record { properties = false; components = false }) x (parts .1) (b .0))
       (r k true e (parts .2) (b .1))
 
   -- a child of a component
@@ -126,24 +122,24 @@ module _ (p : ℕ) (m : List ℕ) (x : ℕ) (kids more : Nodes) (g : isGood (ele
       let b = both-fine (propertiesVerdict n kids) _ v in
       let q = properties-accepted n kids (parts .1) (b .0) in
       let i = r n counts (record { properties = true; components = false }) e (parts .2) (b .1) in
-      record { inner = rw (same-true m (ascii "properties") z, other-name) (i .inner); properties = rw z (q .0); clean = rw z (q .1); counted = i .counted })
+      record { inner = rw (same-true m (ascii "properties") z, other-name) (i .inner); properties = rw z q; counted = i .counted })
       (λ t v.
       let z = and-both (same m (ascii "components")) _ t .0 in
       let b = both-fine (componentsVerdict kids n false x) _ v in
       let i = r n counts (record { properties = c .properties; components = true }) e (parts .2) (b .1) in
       let w : same m (ascii "properties") ≡ false = ap (λ (u : List ℕ). same u (ascii "properties")) (same-true m (ascii "components") z) ∙ same-swap (ascii "properties") (ascii "components") other-name in
-      record { inner = rw z (f n false x (parts .1) (b .0)); properties = rw w (i .properties); clean = rw w (i .clean); counted = i .counted })
+      record { inner = rw z (f n false x (parts .1) (b .0)); properties = rw w (i .properties); counted = i .counted })
 
 both-accepted : (kids : Nodes) → Components-fine kids × Component-fine kids
-unfolding componentsVerdict componentVerdict readComponents readInner insideOf readProperties areCarried areClean every isGood
+unfolding componentsVerdict componentVerdict readComponents readInner insideOf readProperties areValid every isGood
 both-accepted noNodes = (
-  λ k any e g h. record { carried = refl; clean = refl },
-  λ n counts c e g h. record { inner = record { carried = refl; clean = refl }; properties = refl; clean = refl; counted = end-counted n counts c e h },
+  λ k any e g h. refl,
+  λ n counts c e g h. record { inner = refl; properties = refl; counted = end-counted n counts c e h },
 )
 both-accepted (literal p b more) =
     let r = both-accepted more in (
       λ k any e g h. r .0 k any e g (test-fine (isSpace b) _ FRAME p h .1),
-      λ n counts c e g h. let i = r .1 n counts c e g (test-fine (isSpace b) _ FRAME p h .1) in record { inner = i .inner; properties = i .properties; clean = i .clean; counted = i .counted },
+      λ n counts c e g h. let i = r .1 n counts c e g (test-fine (isSpace b) _ FRAME p h .1) in record { inner = i .inner; properties = i .properties; counted = i .counted },
     )
 both-accepted (referred p bs more) = (λ k any e g h. refused-not FRAME p h, λ n counts c e g h. refused-not FRAME p h)
 both-accepted (element p m x kids more) =
@@ -157,14 +153,17 @@ vcalendar-name : upper (ascii "vcalendar") ≡ ascii "VCALENDAR"
 unfolding octets-compute
 vcalendar-name = refl
 
+top : isOneOf (ascii "VCALENDAR") atTop ≡ true
+unfolding octets-compute
+top = refl
+
 pub record Calendars (any : Bool) (c : Components) : Type 0 where
-  pub carried : areAllCalendars c ≡ true
-  pub clean : areClean c ≡ true
-  pub there : (any or not (isNoMore c)) ≡ true
+  pub valid : areValid atTop c ≡ true
+  pub there : (any or hasComponents c) ≡ true
 
 pub stream-accepted : (kids : Nodes) (any : Bool) (e : ℕ) → isGood kids ≡ true → streamVerdict kids any e ≡ fine → Calendars any (readComponents kids)
-unfolding streamVerdict readComponents readInner areAllCalendars areClean isGood
-stream-accepted noNodes any e g h = record { carried = refl; clean = refl; there = or-left _ _ (test-fine any fine FRAME e h .0) }
+unfolding streamVerdict readComponents readInner areValid isGood
+stream-accepted noNodes any e g h = record { valid = refl; there = or-left _ _ (test-fine any fine FRAME e h .0) }
 stream-accepted (literal p b more) any e g h = stream-accepted more any e g (test-fine (isSpace b) _ FRAME p h .1)
 stream-accepted (referred p bs more) any e g h = refused-not FRAME p h
 stream-accepted (element p m x kids more) any e g h =
@@ -174,10 +173,4 @@ stream-accepted (element p m x kids more) any e g h =
     let i = both-accepted kids .1 (ascii "VCALENDAR") (isComplete (ascii "VCALENDAR") kids) (record { properties = false; components = false }) x (q .1) (b .0) in
     let r = stream-accepted more true e (q .2) (b .1) in
     let z : upper m ≡ ascii "VCALENDAR" = ap upper (same-true m (ascii "vcalendar") (a .0)) ∙ vcalendar-name in
-    rw z (record {
-      carried =
-          and-yes _ _ (same-self (ascii "VCALENDAR"))
-          (and-yes _ _ (and-yes _ _ (i .properties) (rw (inner-components kids, ← (has-components (insideOf (ascii "components") kids))) (i .counted))) (and-yes _ _ (i .inner .carried) (r .carried)));
-      clean = and-yes _ _ (i .clean) (and-yes _ _ (i .inner .clean) (r .clean));
-      there = or-right _ _ refl;
-    })
+    rw z (record { valid = component-within atTop (ascii "VCALENDAR") kids more top i (r .valid); there = or-right _ _ refl })

@@ -7,62 +7,62 @@ use mathlib.Core.List.{List, [], _∷_}
 use Prim.Native.Nat.{ℕ}
 use Rattle.octets.specs.Ascii.{ascii}
 use Rattle.octets.specs.Pick.{pick, _and_, _or_}
-use Rattle.octets.specs.laws.Pick.{and-both, or-left, or-right, or-cases}
+use Rattle.octets.specs.laws.Pick.{or-left, or-right, or-cases}
 use Rattle.octets.specs.Class.{lower}
 use Rattle.octets.specs.Words.{same, isOneOf, isEmpty}
 use Rattle.octets.specs.laws.Words.{same-true}
 use Rattle.octets.specs.Lists.{every}
+use Rattle.octets.specs.laws.Lists.{word-passes}
 use Rattle.octets.specs.Computing.{octets-compute}
 use Rattle.calendar.specs.Calendar.{Property, Components, noMore, component}
 use Rattle.calendar.specs.Refusal.{FRAME, fine, refuse, _otherwise_}
 use Rattle.schema.specs.Components.{subcomponentsOf}
+use Rattle.schema.specs.Counts.{complete}
 use Rattle.schema.specs.Computing.{schema-compute}
+use Rattle.validity.specs.ValidCalendar.{isKeptName, isValidProperty, hasComponents, areValid, atTop}
+use Rattle.validity.specs.laws.ValidCalendar.{inside-kept, top-name, valid-component}
 use Rattle.xml.specs.Nodes.{noNodes, hasElement}
 use Rattle.xml.specs.Content.{Content, placed}
 use Rattle.xcal.specs.WriteXml.{isNoMore}
-use Rattle.xcal.specs.laws.ElementNames.{no-capital}
-use Rattle.xcal.specs.Contents.{componentsPart, componentInside, calendarContent}
+use Rattle.xcal.specs.laws.ElementNames.{no-capital, kept-back}
+use Rattle.xcal.specs.laws.Contents.{componentsPart, componentInside, calendarContent}
 use Rattle.xcal.specs.PropertyNodes.{readProperties}
 use Rattle.xcal.specs.ComponentNodes.{insideOf, isComplete, endOfComponent, endOfComponents, componentVerdict, componentsVerdict, streamVerdict}
-use Rattle.xcal.specs.PropertiesBack.{isCarriedProperty}
 use Rattle.xcal.specs.laws.PropertiesBack.{properties-back, properties-fine}
-use Rattle.xcal.specs.ComponentsBack.{isCarriedComponent, areCarried, isCalendar, areAllCalendars}
-use Rattle.xcal.specs.laws.ComponentsBack.{carried-name, by-part, has-components}
+use Rattle.xcal.specs.laws.ComponentsBack.{isCalendar, by-part, no-more, has-components}
 
 -- ---- counts
 
 -- whether there is a subcomponent
-has-sub : (n : List ℕ) (ps : List Property) (inner : Components) (q : ℕ) → hasElement (insideOf (ascii "components") (placed (componentInside n ps (isNoMore inner) (calendarContent inner)) q noNodes)) ≡ not (isNoMore inner)
+has-sub : (n : List ℕ) (ps : List Property) (inner : Components) (q : ℕ) → hasElement (insideOf (ascii "components") (placed (componentInside n ps (isNoMore inner) (calendarContent inner)) q noNodes)) ≡ hasComponents inner
 unfolding octets-compute placed insideOf hasElement
 has-sub n ps inner q =
-    by-part (λ d. (r : ℕ) → hasElement (insideOf (ascii "components") (placed d r noNodes)) ≡ not (isNoMore inner)) n (isNoMore inner) (calendarContent inner)
-    (λ h r. has-components inner _) (λ h e r. rw e) _
+    by-part (λ d. (r : ℕ) → hasElement (insideOf (ascii "components") (placed d r noNodes)) ≡ hasComponents inner) n (isNoMore inner) (calendarContent inner)
+    (λ h r. has-components inner _) (λ h e r. rw (no-more inner e)) _
 
-properties-first : (n : List ℕ) (ps : List Property) (empty : Bool) (c : Content) → every (isCarriedProperty n) ps ≡ true → (q : ℕ) →
+properties-first : (n : List ℕ) (ps : List Property) (empty : Bool) (c : Content) → every (isValidProperty n) ps ≡ true → (q : ℕ) →
     readProperties (insideOf (ascii "properties") (placed (componentInside n ps empty c) q noNodes)) ≡ ps
 unfolding octets-compute placed insideOf
 properties-first n ps empty c h q = properties-back n ps h _
 
-complete-in : (n : List ℕ) (ps : List Property) (inner : Components) → isCarriedComponent n ps inner ≡ true → (q : ℕ) →
+complete-in : (n : List ℕ) (ps : List Property) (inner : Components) → every (isValidProperty n) ps ≡ true → complete n ps (hasComponents inner) ≡ true → (q : ℕ) →
     isComplete n (placed (componentInside n ps (isNoMore inner) (calendarContent inner)) q noNodes) ≡ true
-complete-in n ps inner h q =
-    let a = and-both (every (isCarriedProperty n) ps) _ h in
-    rw (has-sub n ps inner q, properties-first n ps (isNoMore inner) (calendarContent inner) (a .0) q) (a .1)
+complete-in n ps inner h c q = rw (has-sub n ps inner q, properties-first n ps (isNoMore inner) (calendarContent inner) h q) c
 
 -- ---- the children of a component
 
 -- a component that has `components` may have some
-has-subcomponents : (n : List ℕ) (inner : Components) → (isCalendar n or not (isNoMore inner)) ≡ true → areCarried n inner ≡ true → isEmpty (subcomponentsOf n) ≡ false
-unfolding schema-compute areCarried
+has-subcomponents : (n : List ℕ) (inner : Components) → (isCalendar n or not (isNoMore inner)) ≡ true → areValid (subcomponentsOf n) inner ≡ true → isEmpty (subcomponentsOf n) ≡ false
+unfolding schema-compute
 has-subcomponents n inner h c = or-cases (isCalendar n) _ h (λ e. rw (same-true n (ascii "VCALENDAR") e)) (other inner c)
   where
     some-word : (m : List ℕ) (ws : List (List ℕ)) → isOneOf m ws ≡ true → isEmpty ws ≡ false
     some-word m [] e = absurd (false≢true e)
     some-word m (w ∷ ws) e = refl
 
-    other : (i : Components) → areCarried n i ≡ true → not (isNoMore i) ≡ true → isEmpty (subcomponentsOf n) ≡ false
+    other : (i : Components) → areValid (subcomponentsOf n) i ≡ true → not (isNoMore i) ≡ true → isEmpty (subcomponentsOf n) ≡ false
     other noMore c e = absurd (false≢true e)
-    other (component m ps i next) c e = some-word m (subcomponentsOf n) (and-both (isOneOf m (subcomponentsOf n)) _ c .0)
+    other (component m ps i next) c e = some-word m (subcomponentsOf n) (valid-component (subcomponentsOf n) m ps i next c .named)
 
 end-fine : (n : List ℕ) (e : ℕ) → endOfComponent n true (record { properties = true; components = true }) e ≡ fine
 unfolding endOfComponent pick _and_ _or_
@@ -73,7 +73,7 @@ end-fine n e = go (isCalendar n)
     go false = refl
 
 -- after `properties`
-part-fine : (n : List ℕ) (inner : Components) → areCarried n inner ≡ true →
+part-fine : (n : List ℕ) (inner : Components) → areValid (subcomponentsOf n) inner ≡ true →
     ((x q : ℕ) → (isCalendar n or not (isNoMore inner)) ≡ true → componentsVerdict (placed (calendarContent inner) q noNodes) n false x ≡ fine) →
     (e q : ℕ) → componentVerdict (placed (componentsPart n (isNoMore inner) (calendarContent inner)) q noNodes) n true (record { properties = true; components = false }) e ≡ fine
 unfolding octets-compute placed componentVerdict endOfComponent _otherwise_
@@ -83,11 +83,11 @@ part-fine n inner c ih e q =
     (λ h k r. rw h)
     q
 
-inside-fine : (n : List ℕ) (ps : List Property) (inner : Components) → isCarriedComponent n ps inner ≡ true → areCarried n inner ≡ true →
+inside-fine : (n : List ℕ) (ps : List Property) (inner : Components) → every (isValidProperty n) ps ≡ true → areValid (subcomponentsOf n) inner ≡ true →
     ((x q : ℕ) → (isCalendar n or not (isNoMore inner)) ≡ true → componentsVerdict (placed (calendarContent inner) q noNodes) n false x ≡ fine) →
     (e q : ℕ) → componentVerdict (placed (componentInside n ps (isNoMore inner) (calendarContent inner)) q noNodes) n true (record { properties = false; components = false }) e ≡ fine
 unfolding octets-compute placed componentVerdict _otherwise_
-inside-fine n ps inner h c ih e q = rw (properties-fine n ps (and-both (every (isCarriedProperty n) ps) _ h .0)) (part-fine n inner c ih e _)
+inside-fine n ps inner h c ih e q = rw (properties-fine n ps h) (part-fine n inner c ih e _)
 
 -- ---- components
 
@@ -107,22 +107,20 @@ unfolding _or_
 or-middle true b e = refl
 or-middle false b e = e
 
-pub components-fine : (c : Components) (k : List ℕ) (any : Bool) (x q : ℕ) → areCarried k c ≡ true → (isCalendar k or any or not (isNoMore c)) ≡ true →
+pub components-fine : (c : Components) (k : List ℕ) (any : Bool) (x q : ℕ) → areValid (subcomponentsOf k) c ≡ true → (isCalendar k or any or not (isNoMore c)) ≡ true →
     componentsVerdict (placed (calendarContent c) q noNodes) k any x ≡ fine
-unfolding calendarContent placed componentsVerdict areCarried pick _and_ _otherwise_
+unfolding calendarContent placed componentsVerdict pick _and_ _otherwise_
 components-fine noMore k any x q h o = no-components k any x (or-last (isCalendar k) any o)
 components-fine (component n ps inner next) k any x q h o =
-    let a = and-both (isOneOf n (subcomponentsOf k)) _ h in
-    let b = and-both (isCarriedComponent n ps inner) _ (a .1) in
-    let d = and-both (areCarried n inner) _ (b .1) in
+    let v = valid-component (subcomponentsOf k) n ps inner next h in
     rw (
       no-capital n,
-      carried-name k n (a .0),
-      a .0,
-      complete-in n ps inner (b .0),
-      inside-fine n ps inner (b .0) (d .0) (λ y r z. components-fine inner n false y r (d .0) (or-middle _ _ z)),
+      kept-back n (word-passes isKeptName (subcomponentsOf k) n (inside-kept k) (v .named)),
+      v .named,
+      complete-in n ps inner (v .properties) (v .counts),
+      inside-fine n ps inner (v .properties) (v .inside) (λ y r z. components-fine inner n false y r (v .inside) (or-middle _ _ z)),
     )
-    (components-fine next k true x _ (d .1) (or-right _ _ (or-left _ _ refl)))
+    (components-fine next k true x _ (v .after) (or-right _ _ (or-left _ _ refl)))
 
 -- ---- the root
 
@@ -130,13 +128,17 @@ calendar-element : (n : List ℕ) → isCalendar n ≡ true → same (lower n) (
 unfolding octets-compute
 calendar-element n h = rw (same-true n (ascii "VCALENDAR") h)
 
-pub stream-fine : (c : Components) (any : Bool) (x q : ℕ) → areAllCalendars c ≡ true → (any or not (isNoMore c)) ≡ true → streamVerdict (placed (calendarContent c) q noNodes) any x ≡ fine
-unfolding calendarContent placed streamVerdict areAllCalendars pick _otherwise_
+pub stream-fine : (c : Components) (any : Bool) (x q : ℕ) → areValid atTop c ≡ true → (any or hasComponents c) ≡ true → streamVerdict (placed (calendarContent c) q noNodes) any x ≡ fine
+unfolding calendarContent placed streamVerdict pick _otherwise_
 stream-fine noMore any x q h o = or-cases any false o (λ e. rw e) (λ e. absurd (false≢true e))
 stream-fine (component n ps inner next) any x q h o =
-    let a = and-both (isCalendar n) _ h in
-    let b = and-both (isCarriedComponent n ps inner) _ (a .1) in
-    let d = and-both (areCarried n inner) _ (b .1) in
-    let z : ascii "VCALENDAR" ≡ n = sym (same-true n (ascii "VCALENDAR") (a .0)) in
-    rw (calendar-element n (a .0), z, complete-in n ps inner (b .0), inside-fine n ps inner (b .0) (d .0) (λ y r w. components-fine inner n false y r (d .0) (or-middle _ _ w)))
-    (stream-fine next true x _ (d .1) (or-left _ _ refl))
+    let v = valid-component atTop n ps inner next h in
+    let e = top-name n (v .named) in
+    let z : ascii "VCALENDAR" ≡ n = sym (same-true n (ascii "VCALENDAR") e) in
+    rw (
+      calendar-element n e,
+      z,
+      complete-in n ps inner (v .properties) (v .counts),
+      inside-fine n ps inner (v .properties) (v .inside) (λ y r w. components-fine inner n false y r (v .inside) (or-middle _ _ w)),
+    )
+    (stream-fine next true x _ (v .after) (or-left _ _ refl))

@@ -18,6 +18,7 @@ use Rattle.calendar.specs.Refusal.{XML, LENGTH, CHARACTER, Verdict, fine, refus
 use Rattle.calendar.specs.laws.Refusal.{refused-not}
 use Rattle.utf8.specs.Utf8.{tails, firstBad}
 use Rattle.utf8.specs.laws.Utf8.{good-well-formed}
+use Rattle.validity.specs.ValidCalendar.{isValid}
 use Rattle.xml.specs.Pieces.{from, S?, nameOf, _then_}
 use Rattle.xml.specs.Prolog.{prolog}
 use Rattle.xml.specs.Reads.{isName}
@@ -28,14 +29,12 @@ use Rattle.xml.specs.Nodes.{nodes, rootBy, rootNode, documentNodes}
 use Rattle.xcal.specs.WriteXml.{writeDocument}
 use Rattle.xcal.specs.ComponentNodes.{rootVerdict, readRoot}
 use Rattle.xcal.specs.ReadDocument.{documentVerdict, readDocument}
-use Rattle.xcal.specs.SoundContent.{isClean}
-use Rattle.xcal.specs.Carried.{isValid}
+use Rattle.xcal.specs.laws.SoundContent.{isClean}
 use Rattle.xcal.specs.laws.DocumentBack.{document-back}
 use Rattle.xcal.specs.laws.Accepted.{both-fine, test-fine}
 use Rattle.xcal.specs.laws.ValuesAccepted.{empty-clean}
 use Rattle.xcal.specs.laws.ComponentsAccepted.{one-fine, stream-accepted}
-use Rattle.xcal.specs.GoodMarks.{isGoodMark, areGoodMarks}
-use Rattle.xcal.specs.laws.GoodMarks.{good-nodes}
+use Rattle.xcal.specs.laws.GoodMarks.{isGoodMark, areGoodMarks, good-nodes}
 use Rattle.xml.specs.laws.Decoding.{State, step-state, drop-state, Ends, start-by, tag-by, reference-by, name-read}
 use Rattle.xml.specs.CleanRuns.{runBy, runOf}
 use Rattle.xml.specs.laws.CleanRuns.{Run, run-clean, past-run}
@@ -109,7 +108,7 @@ valid-root [] e g r x h = absurd (false≢true (test-fine false fine XML e x .0)
 valid-root (opens p nm ∷ ms) e g r x h =
     let a = one-fine (same nm (ascii "icalendar")) _ p nm h in
     let c = stream-accepted (nodes ms 0) false _ (good-nodes ms 0 (later p nm ms g)) (a .1) in
-    and-yes _ _ (and-yes _ _ (c .there) (c .carried)) (c .clean)
+    and-yes _ _ (c .there) (c .valid)
 valid-root (closes p nm ∷ ms) e g r x h = absurd (false≢true r)
 valid-root (char p b ∷ ms) e g r x h = absurd (false≢true r)
 valid-root (refers p bs ∷ ms) e g r x h = absurd (false≢true r)

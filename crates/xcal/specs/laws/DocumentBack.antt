@@ -1,15 +1,14 @@
 -- A calendar that is written as a document is read back from it (RFC 6321).
 --     document-back    a valid calendar, whose document is within the input limit, is read back
 use mathlib.Core.Path.{_≡_, refl}
-use mathlib.Core.Bool.{true, false, not}
+use mathlib.Core.Bool.{true, false}
 use mathlib.Core.List.{List}
 use mathlib.Core.Option.{none}
 use Prim.Native.Nat.{ℕ, _+_, _≤_}
 use lib.ListN.{length}
 use borrow.Author.Tests.{le-leb}
 use Rattle.octets.specs.Ascii.{ascii}
-use Rattle.octets.specs.Pick.{pick, _and_, _or_}
-use Rattle.octets.specs.laws.Pick.{and-both}
+use Rattle.octets.specs.Pick.{pick, _or_}
 use Rattle.octets.specs.Append.{_⊕_}
 use Rattle.octets.specs.laws.Words.{same-self}
 use Rattle.calendar.specs.Calendar.{Components}
@@ -17,22 +16,21 @@ use Rattle.calendar.specs.Refusal.{fine, _otherwise_, accepted}
 use Rattle.utf8.specs.Computing.{utf8-compute}
 use Rattle.utf8.specs.Utf8.{firstBad}
 use Rattle.utf8.specs.laws.Utf8.{good-append}
+use Rattle.validity.specs.ValidCalendar.{hasComponents, areValid, atTop, isValid}
+use Rattle.validity.specs.laws.ValidCalendar.{top-kept, valid-parts}
 use Rattle.xml.specs.Escape.{declaration, rootStart, endTag, documentOf}
 use Rattle.xml.specs.Nodes.{noNodes, element, documentNodes}
 use Rattle.xml.specs.Content.{written, placed}
 use Rattle.xml.specs.laws.DocumentBack.{document-read-back, document-well-formed}
-use Rattle.xcal.specs.WriteXml.{isNoMore, writeDocument}
+use Rattle.xcal.specs.WriteXml.{writeDocument}
 use Rattle.xcal.specs.ComponentNodes.{rootVerdict, readRoot}
 use Rattle.xcal.specs.ReadDocument.{documentVerdict, readDocument}
-use Rattle.xcal.specs.Contents.{calendarContent}
+use Rattle.xcal.specs.laws.Contents.{calendarContent}
 use Rattle.xcal.specs.laws.WrittenContents.{document-written}
-use Rattle.xcal.specs.ComponentsBack.{areCalendars}
-use Rattle.xcal.specs.laws.ComponentsBack.{calendars-back}
+use Rattle.xcal.specs.laws.ComponentsBack.{components-back}
 use Rattle.xcal.specs.laws.ComponentsFine.{stream-fine}
-use Rattle.xcal.specs.SoundContent.{isSound}
-use Rattle.xcal.specs.laws.SoundContent.{sound-writable, sound-good}
-use Rattle.xcal.specs.Carried.{isValid}
-use Rattle.xcal.specs.laws.Carried.{calendar-sound, valid-calendars}
+use Rattle.xcal.specs.laws.SoundContent.{isSound, sound-writable, sound-good}
+use Rattle.xcal.specs.laws.SoundCalendar.{calendar-sound}
 
 -- ---- bytes
 
@@ -55,20 +53,18 @@ document-good s h =
 
 -- ---- the document
 
-module _ (c : Components) (calendars : areCalendars c ≡ true) (sound : isSound (calendarContent c) 15 ≡ true) where
+module _ (c : Components) (there : hasComponents c ≡ true) (valid : areValid atTop c ≡ true) (sound : isSound (calendarContent c) 15 ≡ true) where
   nodes-back : documentNodes (documentOf (written (calendarContent c)))
       ≡ element 39 (ascii "icalendar") (95 + length (written (calendarContent c))) (placed (calendarContent c) 95 noNodes) noNodes
   nodes-back = document-read-back (calendarContent c) 15 (sound-writable (calendarContent c) 15 sound)
 
   root-fine : rootVerdict (documentNodes (documentOf (written (calendarContent c)))) ≡ fine
   unfolding rootVerdict pick _or_
-  root-fine =
-      let a = and-both (not (isNoMore c)) _ calendars in
-      rw (nodes-back, same-self (ascii "icalendar")) (stream-fine c false _ 95 (a .1) (a .0))
+  root-fine = rw (nodes-back, same-self (ascii "icalendar")) (stream-fine c false _ 95 valid there)
 
   root-back : readRoot (documentNodes (documentOf (written (calendarContent c)))) ≡ c
   unfolding readRoot
-  root-back = rw nodes-back (calendars-back c (and-both (not (isNoMore c)) _ calendars .1) 95)
+  root-back = rw nodes-back (components-back c atTop top-kept valid 95)
 
   document-fine : length (documentOf (written (calendarContent c))) ≤ 65535 → documentVerdict (documentOf (written (calendarContent c))) ≡ fine
   unfolding documentVerdict pick _otherwise_
@@ -80,4 +76,4 @@ module _ (c : Components) (calendars : areCalendars c ≡ true) (sound : isSound
   content-back l = rw (document-written c, document-fine (rw (document-written c) at l), root-back)
 
 pub document-back : (c : Components) → isValid c ≡ true → length (writeDocument c) ≤ 65535 → readDocument (writeDocument c) ≡ accepted c
-document-back c h l = content-back c (valid-calendars c h) (calendar-sound c h) l
+document-back c h l = let v = valid-parts c h in content-back c (v .0) (v .1) (calendar-sound c (v .1)) l

@@ -1,4 +1,4 @@
--- Laws of what specs/ElementNames.antt defines.
+-- Names in capitals, as the calendar keeps them, and the names of their elements in small letters (RFC 6321, section 3).
 --     upper-lower      a name in capitals is read back from its element's
 --     lower-same       elements have the same name exactly where names in capitals are the same
 --     no-capital       an element's name has no capital
@@ -22,9 +22,10 @@ use Rattle.octets.specs.laws.Words.{same-self, same-true}
 use Rattle.read_text_line.specs.ContentLine.{isName}
 use Rattle.read_text_line.specs.Names.{startsOffName, isCarriedName}
 use Rattle.read_text_line.specs.laws.Names.{name-upper, carried-name-upper}
+use Rattle.validity.specs.ValidCalendar.{isKeptName}
+use Rattle.validity.specs.laws.ValidCalendar.{kept-parts}
 use Rattle.xml.specs.Reads.{isName as isXmlName}
 use Rattle.xcal.specs.Layout.{hasCapital}
-use Rattle.xcal.specs.ElementNames.{isKeptName}
 
 -- what a byte becomes, by cases: a capital is made small, another byte stays
 lower-case : (P : ℕ → Type 0) (b : ℕ) → (65 ≤ b → b ≤ 90 → P (b + 32)) → (isCapital b ≡ false → P b) → P (lowerByte b)
@@ -99,16 +100,16 @@ element-name (b ∷ n) h c =
 -- ---- kept names
 
 pub kept-upper : (n : List ℕ) → isKeptName n ≡ true → upper n ≡ n
-kept-upper n h = same-true (upper n) n (and-both _ _ h .0)
+kept-upper n h = kept-parts n h .0
 
 pub kept-back : (n : List ℕ) → isKeptName n ≡ true → upper (lower n) ≡ n
 kept-back n h = upper-lower n (kept-upper n h)
 
 pub kept-element : (n : List ℕ) → isKeptName n ≡ true → isXmlName (lower n) ≡ true
-kept-element n h = let q = and-both _ _ (and-both _ _ h .1) in element-name n (q .0) (q .1)
+kept-element n h = let q = kept-parts n h in element-name n (q .1) (q .2)
 
 pub kept-carried : (n : List ℕ) → isKeptName n ≡ true → isCarriedName (lower n) ≡ true
-kept-carried n h = sym (carried-name-upper (lower n)) ∙ ap isCarriedName (kept-back n h) ∙ and-both _ _ (and-both _ _ h .1) .1
+kept-carried n h = sym (carried-name-upper (lower n)) ∙ ap isCarriedName (kept-back n h) ∙ kept-parts n h .2
 
 -- ---- names that are read
 

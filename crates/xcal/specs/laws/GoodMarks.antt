@@ -1,4 +1,5 @@
--- Laws of what specs/GoodMarks.antt defines.
+-- Marks of a document that can be read: where an element opens, its name is a name, and the characters up to the next tag are clean. Their nodes are good.
+--     areGoodMarks
 --     good-nodes    the nodes of such marks are good
 use mathlib.Core.Path.{_≡_, refl, sym, ap}
 use mathlib.Core.Bool.{Bool, true, false, false≢true}
@@ -11,10 +12,20 @@ use Rattle.xml.specs.Reads.{isName}
 use Rattle.xml.specs.Marks.{Mark, opens, closes, char, refers, fault}
 use Rattle.xml.specs.Nodes.{nodesBy, nodes, charactersOf, hasElement}
 use Rattle.xml.specs.CleanRuns.{runBy, runOf}
-use Rattle.xcal.specs.SoundContent.{isClean}
-use Rattle.xcal.specs.ValuesAccepted.{isCleanContent}
-use Rattle.xcal.specs.GoodNodes.{isGood}
-use Rattle.xcal.specs.GoodMarks.{isGoodMark, areGoodMarks}
+use Rattle.xcal.specs.laws.SoundContent.{isClean}
+use Rattle.xcal.specs.laws.ValuesAccepted.{isCleanContent}
+use Rattle.xcal.specs.laws.GoodNodes.{isGood}
+
+unfoldable pub isGoodMark : Mark → List ℕ → Bool
+isGoodMark (opens p nm) run = isName nm and isClean run
+isGoodMark (closes p nm) run = true
+isGoodMark (char p b) run = true
+isGoodMark (refers p bs) run = true
+isGoodMark (fault p) run = true
+
+unfoldable pub areGoodMarks : List Mark → Bool
+areGoodMarks [] = true
+areGoodMarks (m ∷ ms) = isGoodMark m (runOf ms) and areGoodMarks ms
 
 -- ---- nodes
 

@@ -9,7 +9,7 @@ use Prim.Native.Nat.{ℕ, suc, _≤_, _<_}
 use native.Mathlib.Omega.{arith}
 use borrow.Author.Tests.{ltb-false}
 use Rattle.octets.specs.Ascii.{ascii}
-use Rattle.octets.specs.Pick.{pick, _and_, _or_}
+use Rattle.octets.specs.Pick.{pick, _and_}
 use Rattle.octets.specs.laws.Pick.{pick-either, and-both, and-yes, and-no-left, and-no-right}
 use Rattle.octets.specs.Class.{isSpace, upper, lower}
 use Rattle.octets.specs.Words.{same, isEmpty}
@@ -25,8 +25,7 @@ use Rattle.recur.specs.laws.ItemLaws.{item-accepted}
 use Rattle.xml.specs.Nodes.{Nodes, noNodes, element, literal, referred, charactersOf}
 use Rattle.xcal.specs.Layout.{slotOf, sequence}
 use Rattle.xcal.specs.ValueNodes.{recurSlots, recurInside, childNamed, itemsOf}
-use Rattle.xcal.specs.Accepted.{allChildren}
-use Rattle.xcal.specs.laws.Accepted.{test-fine, admitted-fine}
+use Rattle.xcal.specs.laws.Accepted.{allChildren, test-fine, admitted-fine}
 use Rattle.xcal.specs.laws.PeriodAccepted.{read-passes}
 
 -- ---- the items of a part

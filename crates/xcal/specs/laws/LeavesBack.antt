@@ -1,6 +1,5 @@
 -- Elements of character data that are written: their nodes have the characters, no element, and the verdict on them is that of the characters.
 --     leaf-characters, leaf-no-element, leaf-fine
---     leaf-read       the reading of a leaf's characters
 use mathlib.Core.Path.{_≡_, refl, _∙_}
 use mathlib.Core.Bool.{Bool, true, false}
 use mathlib.Core.List.{List, [], _∷_}

@@ -34,14 +34,12 @@ use Rattle.xcal.specs.ParameterNodes.{parametersVerdict}
 use Rattle.xcal.specs.PropertyNodes.{propertySlots, childVerdict}
 use Rattle.xcal.specs.laws.Chosen.{chosen-typed}
 use Rattle.xcal.specs.laws.PropertyValues.{of-text}
-use Rattle.xcal.specs.SoundContent.{isClean}
-use Rattle.xcal.specs.CleanValues.{isCleanData, isCleanValue}
-use Rattle.xcal.specs.Accepted.{allChildren, comes}
-use Rattle.xcal.specs.laws.Accepted.{test-fine, admitted-fine, leaf-accepted, sequence-each, sequence-comes, comes-named, child-good}
+use Rattle.xcal.specs.laws.SoundContent.{isClean}
+use Rattle.xcal.specs.laws.CleanValues.{isCleanValue, isCleanData, status-clean}
+use Rattle.xcal.specs.laws.Accepted.{allChildren, comes, test-fine, admitted-fine, leaf-accepted, sequence-each, sequence-comes, comes-named, child-good}
 use Rattle.xcal.specs.laws.PeriodAccepted.{read-passes}
-use Rattle.xcal.specs.ValuesAccepted.{isCleanContent}
-use Rattle.xcal.specs.laws.ValuesAccepted.{clean-leaf, empty-clean}
-use Rattle.xcal.specs.GoodNodes.{isGood}
+use Rattle.xcal.specs.laws.ValuesAccepted.{isCleanContent, clean-leaf, empty-clean}
+use Rattle.xcal.specs.laws.GoodNodes.{isGood}
 use Rattle.xcal.specs.laws.TypedAccepted.{typed-values-accepted}
 
 -- what is known of the values that the children of the property n state
@@ -144,7 +142,7 @@ status-given k t kids x g h =
     record {
       values = refl;
       type = refl;
-      clean = rw (text-clean (ascii "code") kids refl c, text-clean (ascii "description") kids refl c, data-clean (ascii "data") kids refl c);
+      clean = and-yes _ _ (status-clean (textOf (ascii "code") kids) (textOf (ascii "description") kids) (childNamed (ascii "data") kids) (text-clean (ascii "code") kids refl c) (text-clean (ascii "description") kids refl c) (data-clean (ascii "data") kids refl c)) refl;
     }
 
 -- ---- values that are spelled as their type says

@@ -8,7 +8,7 @@ use mathlib.Core.Option.{Option, none, some}
 use Prim.Native.Nat.{ℕ}
 use borrow.Author.Tests.{le-ltb, not-true}
 use Rattle.octets.specs.Ascii.{ascii}
-use Rattle.octets.specs.Pick.{pick, _and_, _or_}
+use Rattle.octets.specs.Pick.{pick, _or_}
 use Rattle.octets.specs.laws.Pick.{and-both, or-left, or-right}
 use Rattle.octets.specs.Words.{same}
 use Rattle.octets.specs.laws.Words.{same-self, same-true}
@@ -30,7 +30,7 @@ use Rattle.xml.specs.Content.{placed}
 use Rattle.xcal.specs.Layout.{lacks, sequence}
 use Rattle.xcal.specs.ValueNodes.{valueVerdict, childNamed, readValueNodes}
 use Rattle.xcal.specs.PropertyNodes.{parametersIn}
-use Rattle.xcal.specs.Contents.{valueBefore, valuesBefore}
+use Rattle.xcal.specs.laws.Contents.{valueBefore, valuesBefore}
 use Rattle.xcal.specs.laws.LeavesBack.{leaf-characters, leaf-fine}
 use Rattle.xcal.specs.laws.PropertyValues.{Stands, typed-stands}
 

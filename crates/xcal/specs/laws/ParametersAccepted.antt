@@ -1,4 +1,4 @@
--- Parameters read from elements that are not refused are parameters that can be carried (RFC 6321, section 3.5).
+-- Parameters read from elements that are not refused are valid (RFC 6321, section 3.5).
 --     Said          what is known of the parameters that elements state
 --     parameters-accepted
 use mathlib.Core.Path.{_≡_, refl, sym, ap, _∙_}
@@ -7,14 +7,15 @@ use mathlib.Core.List.{List, [], _∷_, map}
 use mathlib.Core.Option.{Option, none, some}
 use Prim.Native.Nat.{ℕ}
 use lib.Dec.{eqb}
-use borrow.Author.Tests.{not-false}
+use borrow.Author.Tests.{not-true, not-false}
 use Rattle.octets.specs.Ascii.{ascii}
 use Rattle.octets.specs.Pick.{pick, _and_, _or_}
-use Rattle.octets.specs.laws.Pick.{and-both, and-yes, or-no, or-neither, or-left, or-right}
+use Rattle.octets.specs.laws.Pick.{pick-no, and-both, and-yes, or-no, or-neither, or-left, or-right}
 use Rattle.octets.specs.Class.{isSpace, upper, lower}
-use Rattle.octets.specs.Words.{same, isOneOf, holds, isEmpty}
+use Rattle.octets.specs.Words.{same, isOneOf, holds, noneHolds, isEmpty}
 use Rattle.octets.specs.laws.Words.{same-self, same-true}
 use Rattle.octets.specs.Lists.{every, distinct}
+use Rattle.octets.specs.laws.Lists.{every-weaker}
 use Rattle.octets.specs.Reading.{consRead, readOr}
 use Rattle.octets.specs.laws.Reading.{none-some, provided-some, andThen-some, consRead-some}
 use Rattle.octets.specs.Computing.{octets-compute}
@@ -27,73 +28,73 @@ use Rattle.schema.specs.Parameters.{parameterType, isListedParameter, parameter
 use Rattle.schema.specs.Properties.{permitsParameter}
 use Rattle.schema.specs.Computing.{schema-compute}
 use Rattle.schema.specs.laws.Rows.{parameterTypes, parameter-type}
+use Rattle.utf8.specs.Utf8.{wellFormed}
 use Rattle.read_text_line.specs.Names.{isCarriedName}
 use Rattle.numbers.specs.Boolean.{readBoolean}
 use Rattle.texts.specs.Uri.{readUri}
-use Rattle.texts.specs.laws.Uri.{uri-kept}
 use Rattle.texts.specs.Unknown.{readUnknown}
 use Rattle.texts.specs.laws.Unknown.{unknown-kept}
 use Rattle.values.specs.ReadValue.{readValue}
-use Rattle.values.specs.WriteValue.{characters as dataOf}
 use Rattle.values.specs.Valid.{isAmount, isChosen, isParameter}
+use Rattle.values.specs.Characters.{isParameterText}
 use Rattle.values.specs.laws.ReadBack.{made}
+use Rattle.validity.specs.ValidCalendar.{isKeptName, isPermitted, isValidParameter}
 use Rattle.xml.specs.Reads.{isName}
 use Rattle.xml.specs.Nodes.{Nodes, noNodes, element, literal, referred, charactersOf, hasElement}
 use Rattle.xcal.specs.Layout.{hasCapital}
-use Rattle.xcal.specs.ElementNames.{isKeptName}
 use Rattle.xcal.specs.laws.ElementNames.{kept-name, upper-apart, lower-upper}
 use Rattle.xcal.specs.ParameterNodes.{readWordIn, readParamNode, readParamNodes, valuesGood, encodes, badName, parameterVerdict, parametersVerdict, readParameterNodes}
-use Rattle.xcal.specs.ParametersBack.{isCarriedValue, isCarriedParameter}
 use Rattle.xcal.specs.laws.ParametersFine.{nameIn, isEncoded}
-use Rattle.xcal.specs.CleanValues.{isCleanValue}
-use Rattle.xcal.specs.SoundContent.{isClean}
-use Rattle.xcal.specs.Carried.{isCleanParameter}
+use Rattle.xcal.specs.laws.SoundContent.{isClean}
 use Rattle.xcal.specs.laws.Accepted.{both-fine, test-fine, past-fine}
-use Rattle.xcal.specs.ValuesAccepted.{isCleanContent}
-use Rattle.xcal.specs.laws.ValuesAccepted.{read-typed, clean-leaf, read-clean}
-use Rattle.xcal.specs.GoodNodes.{isGood}
+use Rattle.xcal.specs.laws.ValuesAccepted.{isCleanContent, read-typed, clean-leaf}
+use Rattle.xcal.specs.laws.GoodNodes.{isGood}
 
 -- ---- one value
 
-abbrev Plain : Value → Type 0
-Plain v = isCarriedValue v ≡ true
+-- both formats can have its characters
+abbrev isPlain : Value → Bool
+isPlain v = isParameterText v and isPermitted v
 
--- what is read from characters without a double quote and LF has none either
-plain-kept : (t : ValueType) (s : List ℕ) (v : Value) → isTypeOf t parameterTypes ≡ true → holds 34 s ≡ false → holds 10 s ≡ false → readValue xcal t s ≡ some v → isCarriedValue v ≡ true
-unfolding schema-compute readValue dataOf
-plain-kept TEXT s v p a b h = made Plain text (some s) v h (λ x e. let z : s ≡ x = cc in rw (← z, a, b))
-plain-kept URI s v p a b h = made Plain uri (readUri s) v h (λ x e. rw (← (uri-kept s x e), a, b))
-plain-kept CAL-ADDRESS s v p a b h = made Plain calAddress (readUri s) v h (λ x e. rw (← (uri-kept s x e), a, b))
-plain-kept BOOLEAN s v p a b h = made Plain boolean (readBoolean xcal s) v h (λ x e. truth x)
-  where
-    truth : (x : Bool) → isCarriedValue (boolean x) ≡ true
-    truth true = refl
-    truth false = refl
-plain-kept UNKNOWN s v p a b h = made Plain unknown (readUnknown s) v h (λ x e. rw (← (unknown-kept s x e), a, b))
-plain-kept BINARY s v p a b h = absurd (false≢true p)
-plain-kept DATE s v p a b h = absurd (false≢true p)
-plain-kept DATE-TIME s v p a b h = absurd (false≢true p)
-plain-kept DURATION s v p a b h = absurd (false≢true p)
-plain-kept FLOAT s v p a b h = absurd (false≢true p)
-plain-kept INTEGER s v p a b h = absurd (false≢true p)
-plain-kept PERIOD s v p a b h = absurd (false≢true p)
-plain-kept RECUR s v p a b h = absurd (false≢true p)
-plain-kept TIME s v p a b h = absurd (false≢true p)
-plain-kept UTC-OFFSET s v p a b h = absurd (false≢true p)
+abbrev Plain : Value → Type 0
+Plain v = isPlain v ≡ true
+
+free-plain : (s : List ℕ) → isClean s ≡ true → holds 34 s ≡ false → holds 10 s ≡ false → isPlain (text s) ≡ true
+unfolding isClean noneHolds every
+free-plain s c a b =
+    let d = and-both (not (holds 13 s)) (wellFormed s) c in
+    and-yes _ _ (and-yes _ _ (pick-no _ false true (not-true _ (d .0))) (and-yes _ _ (pick-no _ false true b) (pick-no _ false true a))) (and-yes _ _ (d .1) refl)
+
+-- what is read from clean characters without a double quote and LF
+plain-kept : (t : ValueType) (s : List ℕ) (v : Value) → isTypeOf t parameterTypes ≡ true → isClean s ≡ true → holds 34 s ≡ false → holds 10 s ≡ false → readValue xcal t s ≡ some v → isPlain v ≡ true
+unfolding schema-compute readValue
+plain-kept TEXT s v p c a b h = made Plain text (some s) v h (λ x e. let z : s ≡ x = cc in rw (← z) (free-plain s c a b))
+plain-kept URI s v p c a b h = made Plain uri (readUri s) v h (λ x e. refl)
+plain-kept CAL-ADDRESS s v p c a b h = made Plain calAddress (readUri s) v h (λ x e. refl)
+plain-kept BOOLEAN s v p c a b h = made Plain boolean (readBoolean xcal s) v h (λ x e. refl)
+plain-kept UNKNOWN s v p c a b h = made Plain unknown (readUnknown s) v h (λ x e. rw (← (unknown-kept s x e)) (free-plain s c a b))
+plain-kept BINARY s v p c a b h = absurd (false≢true p)
+plain-kept DATE s v p c a b h = absurd (false≢true p)
+plain-kept DATE-TIME s v p c a b h = absurd (false≢true p)
+plain-kept DURATION s v p c a b h = absurd (false≢true p)
+plain-kept FLOAT s v p c a b h = absurd (false≢true p)
+plain-kept INTEGER s v p c a b h = absurd (false≢true p)
+plain-kept PERIOD s v p c a b h = absurd (false≢true p)
+plain-kept RECUR s v p c a b h = absurd (false≢true p)
+plain-kept TIME s v p c a b h = absurd (false≢true p)
+plain-kept UTC-OFFSET s v p c a b h = absurd (false≢true p)
 
 -- what is known of a value of the parameter n
 record Sound (n : List ℕ) (v : Value) : Type 0 where
   chosen : isChosen (parameterWords n) (parameterType n) v ≡ true
-  plain : isCarriedValue v ≡ true
-  clean : isCleanValue v ≡ true
+  plain : isPlain v ≡ true
 
 word-sound : (n : List ℕ) (o : Option (List (List ℕ))) (s : List ℕ) (v : Value) → parameterWords n ≡ o → holds 34 s ≡ false → holds 10 s ≡ false → isClean s ≡ true →
-    readWordIn o (parameterType n) s ≡ some v → (isChosen o (parameterType n) v ≡ true) × (isCarriedValue v ≡ true) × (isCleanValue v ≡ true)
-unfolding dataOf _and_
-word-sound n none s v z a b c h = (read-typed (parameterType n) s v h, plain-kept (parameterType n) s v (parameter-type n) a b h, read-clean (parameterType n) s v c h)
+    readWordIn o (parameterType n) s ≡ some v → (isChosen o (parameterType n) v ≡ true) × (isPlain v ≡ true)
+word-sound n none s v z a b c h = (read-typed (parameterType n) s v h, plain-kept (parameterType n) s v (parameter-type n) c a b h)
 word-sound n (some words) s v z a b c h =
     let p = provided-some (isOneOf s words) (text s) v h in
-    rw (← (p .1)) (p .0, rw (a, b), c)
+    rw (← (p .1)) (p .0, free-plain s c a b)
 
 value-sound : (n : List ℕ) (kids : Nodes) (v : Value) → isCleanContent kids ≡ true → readParamNode n kids ≡ some v → Sound n v
 unfolding readParamNode pick
@@ -105,14 +106,13 @@ value-sound n kids v c h = go (hasElement kids or holds 34 (charactersOf kids) o
         let a = or-neither (hasElement kids) _ e in
         let b = or-neither (holds 34 (charactersOf kids)) _ (a .1) in
         let w = word-sound n (parameterWords n) (charactersOf kids) v refl (b .0) (b .1) (clean-leaf kids (a .0) c) k in
-        record { chosen = w .0; plain = w .1; clean = w .2 }
+        record { chosen = w .0; plain = w .1 }
 
 -- ---- the values of a parameter
 
 record Sounds (n : List ℕ) (kids : Nodes) (vs : List Value) : Type 0 where
   chosen : every (isChosen (parameterWords n) (parameterType n)) vs ≡ true
-  plain : every isCarriedValue vs ≡ true
-  clean : every isCleanValue vs ≡ true
+  plain : every isPlain vs ≡ true
   some-value : hasElement kids ≡ true → isEmpty vs ≡ false
 
 -- a choice that was read
@@ -123,10 +123,10 @@ chosen-first false o a h = none-some h
 
 values-sound : (n : List ℕ) (kids : Nodes) (vs : List Value) → isGood kids ≡ true → readParamNodes n kids ≡ some vs → Sounds n kids vs
 unfolding isGood readParamNodes hasElement every
-values-sound n noNodes vs g h = let z : [] ≡ vs = cc in rw (← z) (record { chosen = refl; plain = refl; clean = refl; some-value = λ e. absurd (false≢true e) })
+values-sound n noNodes vs g h = let z : [] ≡ vs = cc in rw (← z) (record { chosen = refl; plain = refl; some-value = λ e. absurd (false≢true e) })
 values-sound n (literal p b more) vs g h =
     let r = values-sound n more vs g (chosen-first (isSpace b) (readParamNodes n more) vs h) in
-    record { chosen = r .chosen; plain = r .plain; clean = r .clean; some-value = r .some-value }
+    record { chosen = r .chosen; plain = r .plain; some-value = r .some-value }
 values-sound n (referred p bs more) vs g h = none-some h
 values-sound n (element p m x kids more) vs g h =
     let a = and-both (isName m) _ g in
@@ -136,7 +136,7 @@ values-sound n (element p m x kids more) vs g h =
     let f = consRead-some (e .0) (readParamNodes n more) vs (e .2) in
     let v = value-sound n kids (e .0) (b .0) (e .1) in
     let r = values-sound n more (f .0) (c .1) (f .1) in
-    rw (← (f .2)) (record { chosen = and-yes _ _ (v .chosen) (r .chosen); plain = and-yes _ _ (v .plain) (r .plain); clean = and-yes _ _ (v .clean) (r .clean); some-value = λ e. refl })
+    rw (← (f .2)) (record { chosen = and-yes _ _ (v .chosen) (r .chosen); plain = and-yes _ _ (v .plain) (r .plain); some-value = λ e. refl })
 
 -- ---- one parameter
 
@@ -146,8 +146,7 @@ good-amount l (v ∷ vs) h e = h
 
 -- what is known of the parameter that the element m with these kids states, of a property n whose values have type t
 record Says (n : List ℕ) (t : ValueType) (p : Parameter) : Type 0 where
-  carried : isCarriedParameter p ≡ true
-  clean : isCleanParameter p ≡ true
+  valid : isValidParameter p ≡ true
   permitted : permitsParameter n t (p .name) ≡ true
   encoded : isEncoded t p ≡ true
 
@@ -162,7 +161,7 @@ small-value = refl
 
 parameter-says : (n : List ℕ) (t : ValueType) (seen : List (List ℕ)) (p : ℕ) (m : List ℕ) (x : ℕ) (kids : Nodes) → isName m ≡ true → isGood kids ≡ true → parameterVerdict n t seen p m x kids ≡ fine →
     Says n t (record { name = upper m; values = readOr [] (readParamNodes (upper m) kids) })
-unfolding parameterVerdict isCarriedParameter isParameter
+unfolding parameterVerdict isValidParameter isParameter
 parameter-says n t seen p m x kids w g h =
     let a = past-fine (badName m) _ NAME p h in
     let b = past-fine (eqb p x) _ FRAME p (a .1) in
@@ -179,8 +178,10 @@ parameter-says n t seen p m x kids w g h =
     let r = values-sound (upper m) kids vs g z in
     let q : isKeptName (upper m) ≡ true = kept-name m w (not-false _ (k .0)) in
     record {
-      carried = and-yes _ _ q (and-yes _ _ (and-yes _ _ (and-both _ _ q .0) (and-yes _ _ (rw (upper-apart m (ascii "VALUE") (j .0) (rw small-value (k .1)))) (and-yes _ _ (good-amount (isListedParameter (upper m)) vs (rw z at l) (r .some-value (d .0))) (r .chosen)))) (r .plain));
-      clean = r .clean;
+      valid =
+          and-yes _ _ q
+          (and-yes _ _ (and-yes _ _ (and-both _ _ q .0) (and-yes _ _ (rw (upper-apart m (ascii "VALUE") (j .0) (rw small-value (k .1)))) (and-yes _ _ (good-amount (isListedParameter (upper m)) vs (rw z at l) (r .some-value (d .0))) (r .chosen))))
+          (and-yes _ _ (every-weaker isPlain isParameterText (λ v e. and-both _ _ e .0) vs (r .plain)) (every-weaker isPlain isPermitted (λ v e. and-both _ _ e .1) vs (r .plain))));
       permitted = not-false _ (f .0);
       encoded = not-false _ (i .1);
     }
@@ -188,8 +189,7 @@ parameter-says n t seen p m x kids w g h =
 -- ---- parameters
 
 pub record Said (n : List ℕ) (t : ValueType) (ps : List Parameter) : Type 0 where
-  pub carried : every isCarriedParameter ps ≡ true
-  pub clean : every isCleanParameter ps ≡ true
+  pub valid : every isValidParameter ps ≡ true
   pub permitted : every (λ (p : Parameter). permitsParameter n t (p .name)) ps ≡ true
   pub encoded : every (isEncoded t) ps ≡ true
   pub once : distinct (map nameIn ps) ≡ true
@@ -224,7 +224,7 @@ unseen n t w (element p m x kids more) seen c o h =
 
 pub parameters-accepted : (n : List ℕ) (t : ValueType) (kids : Nodes) (seen : List (List ℕ)) → isGood kids ≡ true → parametersVerdict n t kids seen ≡ fine → Said n t (readParameterNodes kids)
 unfolding parametersVerdict readParameterNodes isGood every distinct pick isOneOf
-parameters-accepted n t noNodes seen g h = record { carried = refl; clean = refl; permitted = refl; encoded = refl; once = refl }
+parameters-accepted n t noNodes seen g h = record { valid = refl; permitted = refl; encoded = refl; once = refl }
 parameters-accepted n t (literal p b more) seen g h = parameters-accepted n t more seen g (test-fine (isSpace b) _ FRAME p h .1)
 parameters-accepted n t (referred p bs more) seen g h = refused-not FRAME p h
 parameters-accepted n t (element p m x kids more) seen g h =
@@ -235,8 +235,7 @@ parameters-accepted n t (element p m x kids more) seen g h =
     let s = parameter-says n t seen p m x kids (b .0) (d .0) (a .0) in
     let r = parameters-accepted n t more (m ∷ seen) (d .1) (a .1) in
     record {
-      carried = and-yes _ _ (s .carried) (r .carried);
-      clean = and-yes _ _ (s .clean) (r .clean);
+      valid = and-yes _ _ (s .valid) (r .valid);
       permitted = and-yes _ _ (s .permitted) (r .permitted);
       encoded = and-yes _ _ (s .encoded) (r .encoded);
       once = rw (unseen n t m more (m ∷ seen) (small-name n t seen p m x kids (a .0)) (or-left _ _ (same-self m)) (a .1)) (r .once);

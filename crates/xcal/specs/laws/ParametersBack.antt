@@ -1,4 +1,5 @@
--- Laws of what specs/ParametersBack.antt defines.
+-- Parameters that are written to XML are read back from their elements (RFC 6321, section 3.5).
+--     isCarriedValue           a value whose characters hold no double quote and no LF
 --     parameter-values-back    the values that a parameter's element states
 --     parameters-back          the parameters that the elements of parameters state
 use mathlib.Core.Path.{_≡_, refl, ap}
@@ -7,36 +8,42 @@ use mathlib.Core.List.{List, [], _∷_}
 use mathlib.Core.Option.{some}
 use Prim.Native.Nat.{ℕ}
 use borrow.Author.Tests.{not-true}
-use Rattle.octets.specs.Ascii.{ascii}
 use Rattle.octets.specs.Pick.{pick, _and_, _or_}
-use Rattle.octets.specs.laws.Pick.{and-both}
-use Rattle.octets.specs.Class.{upper, lower}
-use Rattle.octets.specs.Words.{same, holds}
-use Rattle.octets.specs.laws.Words.{same-self}
+use Rattle.octets.specs.laws.Pick.{and-both, and-yes}
+use Rattle.octets.specs.Class.{isVisible, lower}
+use Rattle.octets.specs.Words.{holds, noneHolds}
+use Rattle.octets.specs.laws.Words.{same-self, none-split, all-without}
 use Rattle.octets.specs.Lists.{every}
-use Rattle.octets.specs.laws.Lists.{every-both}
+use Rattle.octets.specs.laws.Lists.{every-both, every-weaker, every-and}
 use Rattle.octets.specs.Reading.{andThen, consRead, readOr}
 use Rattle.octets.specs.laws.Tables.{row-any-passes}
 use Rattle.octets.specs.Computing.{octets-compute}
-use Rattle.calendar.specs.Calendar.{PERIOD, RECUR, TEXT, Value, typeOf, Parameter}
+use Rattle.calendar.specs.Calendar.{PERIOD, RECUR, TEXT, Value, boolean, typeOf, Parameter}
 use Rattle.schema.specs.Types.{typeName, sameType}
 use Rattle.schema.specs.laws.Closed.{parameter-words-text}
-use Rattle.schema.specs.Parameters.{parameterTable, parameterRow, unrecognisedParameter, parameterType, isListedParameter, parameterWords}
+use Rattle.schema.specs.Parameters.{parameterTable, parameterRow, unrecognisedParameter, parameterType, parameterWords}
+use Rattle.texts.specs.Uri.{isUri}
+use Rattle.texts.specs.laws.Uri.{uri-visible, uri-unquoted}
 use Rattle.values.specs.WriteValue.{characters as dataOf}
 use Rattle.values.specs.ReadBack.{isValue, isTyped}
-use Rattle.values.specs.Valid.{isAmount, isChosen, isParameter}
+use Rattle.values.specs.Valid.{isAmount, isChosen}
+use Rattle.values.specs.Characters.{isParameterText}
 use Rattle.xml.specs.Nodes.{noNodes, hasElement}
 use Rattle.xml.specs.Content.{nothing, placed}
-use Rattle.xcal.specs.ElementNames.{isKeptName}
+use Rattle.validity.specs.ValidCalendar.{isValidParameter}
+use Rattle.validity.specs.laws.ValidCalendar.{ValidParameter, valid-parameter, parameter-value}
 use Rattle.xcal.specs.laws.ElementNames.{kept-back}
-use Rattle.xcal.specs.Contents.{inside, valuesBefore, parametersBefore}
+use Rattle.xcal.specs.laws.Contents.{inside, valuesBefore, parametersBefore}
 use Rattle.xcal.specs.laws.LeavesBack.{leaf-placed, leaf-characters, leaf-no-element}
 use Rattle.xcal.specs.ParameterNodes.{readParamNode, readParamNodes, readParameterNodes}
 use Rattle.xcal.specs.laws.ValuesBack.{typed-before}
 use Rattle.xcal.specs.laws.Chosen.{plain-value, chosen-typed, chosen-read}
-use Rattle.xcal.specs.ParametersBack.{isCarriedValue, isCarriedParameter}
 
 -- ---- one value
+
+-- 34 is the double quote, 10 LF
+abbrev pub isCarriedValue : Value → Bool
+isCarriedValue v = not (holds 34 (dataOf v)) and not (holds 10 (dataOf v))
 
 -- no parameter is a PERIOD or a RECUR
 parameter-plain : (n : List ℕ) → (not (sameType (parameterType n) PERIOD) and not (sameType (parameterType n) RECUR)) ≡ true
@@ -81,31 +88,39 @@ has-element n l (v ∷ vs) a h q = rw (typed-before v (valuesBefore vs nothing) 
 
 -- ---- parameters
 
--- what a parameter that can be carried is
-pub record Carried (p : Parameter) : Type 0 where
-  pub kept : isKeptName (p .name) ≡ true
-  pub other : same (p .name) (ascii "VALUE") ≡ false
-  pub amount : isAmount (isListedParameter (p .name)) (p .values) ≡ true
-  pub chosen : every (isChosen (parameterWords (p .name)) (parameterType (p .name))) (p .values) ≡ true
-  pub clean : every isCarriedValue (p .values) ≡ true
+neither : (s : List ℕ) → holds 34 s ≡ false → holds 10 s ≡ false → (not (holds 34 s) and not (holds 10 s)) ≡ true
+neither s a b = and-yes _ _ (rw a) (rw b)
 
-pub carried : (p : Parameter) → isCarriedParameter p ≡ true → Carried p
-unfolding isCarriedParameter isParameter
-carried p h =
-    let a = and-both (isKeptName (p .name)) _ h in
-    let b = and-both (isParameter p) _ (a .1) in
-    let c = and-both (same (upper (p .name)) (p .name)) _ (b .0) in
-    let d = and-both (not (same (p .name) (ascii "VALUE"))) _ (c .1) in
-    let e = and-both (isAmount (isListedParameter (p .name)) (p .values)) _ (d .1) in
-    record { kept = a .0; other = not-true _ (d .0); amount = e .0; chosen = e .1; clean = b .1 }
+uri-carried : (s : List ℕ) → isUri s ≡ true → (not (holds 34 s) and not (holds 10 s)) ≡ true
+unfolding octets-compute
+uri-carried s h = neither s (uri-unquoted s h) (all-without isVisible 10 refl s (uri-visible s h))
 
-pub values-in : (p : Parameter) → Carried p → (q : ℕ) → readParamNodes (p .name) (placed (valuesBefore (p .values) nothing) q noNodes) ≡ some (p .values)
-values-in p c q = parameter-values-back (p .name) (p .values) (c .chosen) (c .clean) q
+free-carried : (s : List ℕ) → (noneHolds 13 (s ∷ []) and noneHolds 10 (s ∷ []) and noneHolds 34 (s ∷ [])) ≡ true → (not (holds 34 s) and not (holds 10 s)) ≡ true
+free-carried s h =
+    let q = and-both (noneHolds 10 (s ∷ [])) _ (and-both (noneHolds 13 (s ∷ [])) _ h .1) in
+    neither s (none-split 34 s [] (q .1) .0) (none-split 10 s [] (q .0) .0)
 
-pub parameters-back : (ps : List Parameter) → every isCarriedParameter ps ≡ true → (q : ℕ) → readParameterNodes (placed (parametersBefore ps nothing) q noNodes) ≡ ps
+-- where the characters that a value's type leaves free hold no double quote and no LF, its element does not either
+value-carried : (n : List ℕ) (v : Value) → isChosen (parameterWords n) (parameterType n) v ≡ true → isParameterText v ≡ true → isCarriedValue v ≡ true
+unfolding octets-compute dataOf
+value-carried n v h f =
+    parameter-value (λ v. isParameterText v ≡ true → isCarriedValue v ≡ true) truth (λ s u f. uri-carried s u) (λ s u f. uri-carried s u) free-carried free-carried n v h f
+  where
+    truth : (b : Bool) → isParameterText (boolean b) ≡ true → isCarriedValue (boolean b) ≡ true
+    truth true f = refl
+    truth false f = refl
+
+pub values-in : (p : Parameter) → ValidParameter p → (q : ℕ) → readParamNodes (p .name) (placed (valuesBefore (p .values) nothing) q noNodes) ≡ some (p .values)
+values-in p c q =
+    parameter-values-back (p .name) (p .values) (c .chosen)
+    (every-weaker _ isCarriedValue (λ v h. let a = and-both (isChosen (parameterWords (p .name)) (parameterType (p .name)) v) _ h in value-carried (p .name) v (a .0) (a .1)) (p .values)
+    (every-and (isChosen (parameterWords (p .name)) (parameterType (p .name))) isParameterText (p .values) (c .chosen) (c .plain)))
+    q
+
+pub parameters-back : (ps : List Parameter) → every isValidParameter ps ≡ true → (q : ℕ) → readParameterNodes (placed (parametersBefore ps nothing) q noNodes) ≡ ps
 unfolding parametersBefore placed readParameterNodes readOr
 parameters-back [] h q = refl
 parameters-back (p ∷ ps) h q =
-    let a = every-both isCarriedParameter p ps h in
-    let c = carried p (a .0) in
+    let a = every-both isValidParameter p ps h in
+    let c = valid-parameter p (a .0) in
     rw (kept-back (p .name) (c .kept), values-in p c) (ap (λ (l : List Parameter). p ∷ l) (parameters-back ps (a .1) _))

@@ -27,14 +27,14 @@ use Rattle.schema.specs.Types.{sameType}
 use Rattle.schema.specs.Parameters.{isListedParameter}
 use Rattle.schema.specs.Properties.{permitsParameter}
 use Rattle.values.specs.Valid.{isAmount, isWordIn, isParameter, areParameters, isBase64 as saysBase64}
+use Rattle.validity.specs.ValidCalendar.{isKeptName, isValidParameter}
+use Rattle.validity.specs.laws.ValidCalendar.{ValidParameter, valid-parameter}
 use Rattle.xml.specs.Nodes.{noNodes}
 use Rattle.xml.specs.Content.{Content, nothing, endTagPlace, placed}
-use Rattle.xcal.specs.ElementNames.{isKeptName}
 use Rattle.xcal.specs.laws.ElementNames.{lower-same, no-capital, kept-upper, kept-back, kept-carried}
-use Rattle.xcal.specs.Contents.{valuesBefore, parametersBefore}
+use Rattle.xcal.specs.laws.Contents.{valuesBefore, parametersBefore}
 use Rattle.xcal.specs.ParameterNodes.{readParamNodes, valuesGood, isBase64, encodes, hasEncoding, badName, parameterVerdict, parametersVerdict}
-use Rattle.xcal.specs.ParametersBack.{isCarriedParameter}
-use Rattle.xcal.specs.laws.ParametersBack.{Carried, carried, values-in, has-element}
+use Rattle.xcal.specs.laws.ParametersBack.{values-in, has-element}
 
 abbrev pub nameIn : Parameter → List ℕ
 nameIn p = p .name
@@ -123,7 +123,7 @@ all-encoded t ps d h = or-cases (not (sameType t BINARY)) _ h (λ e. others-enco
 -- ---- the verdict
 
 -- a parameter of the property n whose values have type t
-module _ (n : List ℕ) (t : ValueType) (p : Parameter) (c : Carried p) (permitted : permitsParameter n t (p .name) ≡ true) (enc : isEncoded t p ≡ true) where
+module _ (n : List ℕ) (t : ValueType) (p : Parameter) (c : ValidParameter p) (permitted : permitsParameter n t (p .name) ≡ true) (enc : isEncoded t p ≡ true) where
   good-parameter : (seen : List (List ℕ)) (r : ℕ) → isOneOf (lower (p .name)) seen ≡ false →
       (isOneOf (lower (p .name)) seen or not (permitsParameter n t (upper (lower (p .name))))
       or not (valuesGood (isListedParameter (upper (lower (p .name)))) (readParamNodes (upper (lower (p .name))) (placed (valuesBefore (p .values) nothing) r noNodes)))
@@ -143,26 +143,26 @@ module _ (n : List ℕ) (t : ValueType) (p : Parameter) (c : Carried p) (permitt
 abbrev unseen : List (List ℕ) → List Parameter → Bool
 unseen seen ps = every (λ (p : Parameter). not (isOneOf (lower (p .name)) seen)) ps
 
-unseen-more : (m : List ℕ) (seen : List (List ℕ)) (ps : List Parameter) → upper m ≡ m → every isCarriedParameter ps ≡ true → isOneOf m (map nameIn ps) ≡ false → unseen seen ps ≡ true →
+unseen-more : (m : List ℕ) (seen : List (List ℕ)) (ps : List Parameter) → upper m ≡ m → every isValidParameter ps ≡ true → isOneOf m (map nameIn ps) ≡ false → unseen seen ps ≡ true →
     unseen (lower m ∷ seen) ps ≡ true
 unfolding isOneOf every
 unseen-more m seen [] u h o k = refl
 unseen-more m seen (p ∷ ps) u h o k =
-    let a = every-both isCarriedParameter p ps h in
+    let a = every-both isValidParameter p ps h in
     let b = or-neither (same m (p .name)) _ o in
     let d = and-both (not (isOneOf (lower (p .name)) seen)) _ k in
     and-yes _ _
-    (rw (or-no _ _ (lower-same (p .name) m (kept-upper (p .name) (carried p (a .0) .kept)) u ∙ same-swap m (p .name) (b .0)) (not-true _ (d .0))))
+    (rw (or-no _ _ (lower-same (p .name) m (kept-upper (p .name) (valid-parameter p (a .0) .kept)) u ∙ same-swap m (p .name) (b .0)) (not-true _ (d .0))))
     (unseen-more m seen ps u (a .1) (b .1) (d .1))
 
-pub parameters-fine : (n : List ℕ) (t : ValueType) (ps : List Parameter) (seen : List (List ℕ)) → every isCarriedParameter ps ≡ true → distinct (map nameIn ps) ≡ true →
+pub parameters-fine : (n : List ℕ) (t : ValueType) (ps : List Parameter) (seen : List (List ℕ)) → every isValidParameter ps ≡ true → distinct (map nameIn ps) ≡ true →
     every (λ (p : Parameter). permitsParameter n t (p .name)) ps ≡ true → every (isEncoded t) ps ≡ true → unseen seen ps ≡ true →
     (q : ℕ) → parametersVerdict n t (placed (parametersBefore ps nothing) q noNodes) seen ≡ fine
 unfolding parametersBefore placed parametersVerdict distinct _otherwise_
 parameters-fine n t [] seen h d m e u q = refl
 parameters-fine n t (p ∷ ps) seen h d m e u q =
-    let a = every-both isCarriedParameter p ps h in
-    let c = carried p (a .0) in
+    let a = every-both isValidParameter p ps h in
+    let c = valid-parameter p (a .0) in
     let o = pick-second (isOneOf (p .name) (map nameIn ps)) (distinct (map nameIn ps)) d in
     let b = every-both (λ (p : Parameter). permitsParameter n t (p .name)) p ps m in
     let k = every-both (isEncoded t) p ps e in
@@ -176,7 +176,7 @@ unseen-none [] = refl
 unseen-none (p ∷ ps) = and-yes _ _ refl (unseen-none ps)
 
 -- the parameters of a property n whose values have type t
-pub parameters-good : (n : List ℕ) (t : ValueType) (ps : List Parameter) → areParameters n t ps ≡ true → every isCarriedParameter ps ≡ true →
+pub parameters-good : (n : List ℕ) (t : ValueType) (ps : List Parameter) → areParameters n t ps ≡ true → every isValidParameter ps ≡ true →
     (q : ℕ) → parametersVerdict n t (placed (parametersBefore ps nothing) q noNodes) [] ≡ fine
 unfolding areParameters
 parameters-good n t ps h c q =
@@ -187,16 +187,16 @@ parameters-good n t ps h c q =
 
 -- ---- ENCODING among the parameters
 
-encoding-in : (ps : List Parameter) → every isCarriedParameter ps ≡ true → isOneOf (ascii "ENCODING") (map nameIn ps) ≡ true → (q : ℕ) → hasEncoding (placed (parametersBefore ps nothing) q noNodes) ≡ true
+encoding-in : (ps : List Parameter) → every isValidParameter ps ≡ true → isOneOf (ascii "ENCODING") (map nameIn ps) ≡ true → (q : ℕ) → hasEncoding (placed (parametersBefore ps nothing) q noNodes) ≡ true
 unfolding parametersBefore placed hasEncoding isOneOf lower pick _and_
 encoding-in [] h o q = absurd (false≢true o)
 encoding-in (p ∷ ps) h o q =
-    let a = every-both isCarriedParameter p ps h in
+    let a = every-both isValidParameter p ps h in
     or-cases (same (ascii "ENCODING") (p .name)) _ o
     (λ e. or-left _ _ (ap (λ (n : List ℕ). same (lower n) (ascii "encoding")) (sym (same-true _ _ e)) ∙ same-self (ascii "encoding")))
     (λ e. or-right _ _ (encoding-in ps (a .1) e _))
 
-pub has-encoding : (n : List ℕ) (t : ValueType) (ps : List Parameter) → areParameters n t ps ≡ true → every isCarriedParameter ps ≡ true → (q : ℕ) →
+pub has-encoding : (n : List ℕ) (t : ValueType) (ps : List Parameter) → areParameters n t ps ≡ true → every isValidParameter ps ≡ true → (q : ℕ) →
     (sameType t BINARY and not (hasEncoding (placed (parametersBefore ps nothing) q noNodes))) ≡ false
 unfolding areParameters
 has-encoding n t ps h c q =

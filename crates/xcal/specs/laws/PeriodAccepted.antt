@@ -24,8 +24,7 @@ use Rattle.values.specs.ReadBack.{isValue}
 use Rattle.xml.specs.Nodes.{Nodes, charactersOf}
 use Rattle.xcal.specs.Layout.{lacks, sequence}
 use Rattle.xcal.specs.ValueNodes.{periodSlots, periodInside, childNamed, momentOf, periodOf}
-use Rattle.xcal.specs.Accepted.{allChildren, comes}
-use Rattle.xcal.specs.laws.Accepted.{leaf-accepted, sequence-each, sequence-comes, comes-named, child-good}
+use Rattle.xcal.specs.laws.Accepted.{allChildren, comes, leaf-accepted, sequence-each, sequence-comes, comes-named, child-good}
 
 -- what was read passes what every reading passes
 pub read-passes : {A : Type 0} (d : A) (o : Option A) (good : A → Bool) → isRead o ≡ true → ((a : A) → o ≡ some a → good a ≡ true) → good (readOr d o) ≡ true

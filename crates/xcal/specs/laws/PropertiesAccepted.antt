@@ -1,4 +1,4 @@
--- Properties read from elements that are not refused are properties that can be carried, and clean (RFC 6321, section 3.4).
+-- Properties read from elements that are not refused are valid (RFC 6321, section 3.4).
 --     properties-accepted
 use mathlib.Core.Path.{_≡_, refl, sym}
 use mathlib.Core.Bool.{Bool, true, false, not}
@@ -19,19 +19,18 @@ use Rattle.schema.specs.Components.{mayStand}
 use Rattle.schema.specs.Properties.{isKnownProperty}
 use Rattle.read_text_line.specs.Names.{isCarriedName}
 use Rattle.values.specs.Valid.{isProperty}
+use Rattle.validity.specs.ValidCalendar.{isKeptName, isValidProperty}
 use Rattle.xml.specs.Reads.{isName}
 use Rattle.xml.specs.Nodes.{Nodes, noNodes, element, literal, referred}
 use Rattle.xcal.specs.Layout.{hasCapital, slotOf, sequence}
-use Rattle.xcal.specs.ElementNames.{isKeptName}
 use Rattle.xcal.specs.laws.ElementNames.{kept-name, upper-apart}
-use Rattle.xcal.specs.ValueNodes.{valueSlots, typeOfNodes, valueVerdict}
+use Rattle.xcal.specs.ValueNodes.{valueSlots, typeOfNodes, valueVerdict, readValueNodes}
 use Rattle.xcal.specs.ParameterNodes.{parametersVerdict}
 use Rattle.xcal.specs.PropertyNodes.{badName, propertySlots, stillBefore, parametersIn, childVerdict, lacksEncoding, propertyVerdict, propertiesVerdict, readProperties, propertyIn}
-use Rattle.xcal.specs.PropertiesBack.{isCarriedProperty}
-use Rattle.xcal.specs.Carried.{isCleanProperty}
 use Rattle.xcal.specs.laws.Accepted.{both-fine, test-fine, past-fine, admitted-fine}
-use Rattle.xcal.specs.ValuesAccepted.{isCleanContent}
-use Rattle.xcal.specs.GoodNodes.{isGood}
+use Rattle.xcal.specs.laws.ValuesAccepted.{isCleanContent}
+use Rattle.xcal.specs.laws.GoodNodes.{isGood}
+use Rattle.xcal.specs.laws.CleanValues.{clean-values}
 use Rattle.xcal.specs.laws.ParametersAccepted.{parameters-accepted}
 use Rattle.xcal.specs.laws.EncodingAccepted.{are-parameters}
 use Rattle.xcal.specs.laws.OwnAccepted.{values-accepted}
@@ -88,8 +87,8 @@ allowed true false h = sym h
 allowed false b h = refl
 
 property-accepted : (k : List ℕ) (p : ℕ) (m : List ℕ) (x : ℕ) (kids : Nodes) → isName m ≡ true → isGood kids ≡ true → propertyVerdict k p m x kids ≡ fine →
-    (isCarriedProperty k (propertyIn m kids) ≡ true) × (isCleanProperty (propertyIn m kids) ≡ true)
-unfolding propertyVerdict isCarriedProperty isProperty
+    isValidProperty k (propertyIn m kids) ≡ true
+unfolding propertyVerdict isValidProperty isProperty
 property-accepted k p m x kids w g h =
     let n = upper m in
     let t = typeOfNodes n kids in
@@ -101,20 +100,20 @@ property-accepted k p m x kids w g h =
     let f = or-neither (same m (ascii "begin")) _ (e .1) in
     let v = values-accepted k n kids x g (c .1) in
     let s = parameters-accepted n t (parametersIn n kids) [] (parameters-good n kids g) (parameters-fine k n t kids 0 [] x (c .1)) in
-    let q : isKeptName n ≡ true = kept-name m w (not-false _ (e .0)) in (
-      and-yes _ _ q
-          (and-yes _ _ (rw (upper-apart m (ascii "BEGIN") (d .0) (rw small-begin (f .0))))
-          (and-yes _ _ (rw (upper-apart m (ascii "END") (d .0) (rw small-end (f .1))))
-          (and-yes _ _ (allowed (isKnownProperty n) (mayStand k n) (b .0))
-          (and-yes _ _ (and-yes _ _ (and-both _ _ q .0) (and-yes _ _ (rw (v .type) (are-parameters n t (parametersIn n kids) s (c .0))) (v .values))) (s .carried))))),
-      and-yes _ _ (s .clean) (v .clean),
-    )
+    let u = clean-values (readValueNodes n kids) (v .clean) in
+    let q : isKeptName n ≡ true = kept-name m w (not-false _ (e .0)) in
+    and-yes _ _ q
+    (and-yes _ _ (rw (upper-apart m (ascii "BEGIN") (d .0) (rw small-begin (f .0))))
+    (and-yes _ _ (rw (upper-apart m (ascii "END") (d .0) (rw small-end (f .1))))
+    (and-yes _ _ (allowed (isKnownProperty n) (mayStand k n) (b .0))
+    (and-yes _ _ (and-yes _ _ (and-both _ _ q .0) (and-yes _ _ (rw (v .type) (are-parameters n t (parametersIn n kids) s (c .0))) (v .values)))
+    (and-yes _ _ (s .valid) (and-yes _ _ (u .0) (u .1)))))))
 
 -- ---- properties
 
-pub properties-accepted : (k : List ℕ) (kids : Nodes) → isGood kids ≡ true → propertiesVerdict k kids ≡ fine → (every (isCarriedProperty k) (readProperties kids) ≡ true) × (every isCleanProperty (readProperties kids) ≡ true)
+pub properties-accepted : (k : List ℕ) (kids : Nodes) → isGood kids ≡ true → propertiesVerdict k kids ≡ fine → every (isValidProperty k) (readProperties kids) ≡ true
 unfolding propertiesVerdict readProperties isGood every
-properties-accepted k noNodes g h = (refl, refl)
+properties-accepted k noNodes g h = refl
 properties-accepted k (literal p b more) g h = properties-accepted k more g (test-fine (isSpace b) _ FRAME p h .1)
 properties-accepted k (referred p bs more) g h = refused-not FRAME p h
 properties-accepted k (element p m x kids more) g h =
@@ -122,6 +121,4 @@ properties-accepted k (element p m x kids more) g h =
     let b = and-both (isName m) _ g in
     let c = and-both (isCleanContent kids) _ (b .1) in
     let d = and-both (isGood kids) _ (c .1) in
-    let s = property-accepted k p m x kids (b .0) (d .0) (a .0) in
-    let r = properties-accepted k more (d .1) (a .1) in
-    (and-yes _ _ (s .0) (r .0), and-yes _ _ (s .1) (r .1))
+    and-yes _ _ (property-accepted k p m x kids (b .0) (d .0) (a .0)) (properties-accepted k more (d .1) (a .1))

@@ -1,4 +1,4 @@
--- Laws of what specs/PropertiesBack.antt defines.
+-- Properties that are written to XML are read back from their elements, and not refused (RFC 6321, section 3.4).
 --     properties-back          the properties that the elements of properties state
 --     properties-fine          the verdict on them
 use mathlib.Core.Path.{_≡_, refl, ap, _∙_}
@@ -9,10 +9,9 @@ use Prim.Native.Nat.{ℕ, _≤_}
 use native.Mathlib.Omega.{arith}
 use borrow.Author.Tests.{not-true}
 use Rattle.octets.specs.Ascii.{ascii}
-use Rattle.octets.specs.Pick.{pick, _and_, _or_}
-use Rattle.octets.specs.laws.Pick.{and-both, or-no, or-cases, and-no-left, and-no-right}
+use Rattle.octets.specs.Pick.{pick, _and_}
+use Rattle.octets.specs.laws.Pick.{or-no, or-cases, and-no-left, and-no-right}
 use Rattle.octets.specs.Class.{upper, lower}
-use Rattle.octets.specs.Words.{same}
 use Rattle.octets.specs.Lists.{every}
 use Rattle.octets.specs.laws.Lists.{every-both}
 use Rattle.octets.specs.Reading.{readOr}
@@ -23,22 +22,20 @@ use Rattle.schema.specs.Components.{mayStand}
 use Rattle.schema.specs.Properties.{isKnownProperty}
 use Rattle.schema.specs.Computing.{schema-compute}
 use Rattle.values.specs.WriteValue.{typeOfAll}
-use Rattle.values.specs.Valid.{areParameters, arePropertyValues, isProperty}
+use Rattle.validity.specs.ValidCalendar.{isValidProperty}
+use Rattle.validity.specs.laws.ValidCalendar.{ValidProperty, valid-property}
 use Rattle.xml.specs.Nodes.{Nodes, noNodes, element}
 use Rattle.xml.specs.Content.{Content, nothing, placed}
 use Rattle.xcal.specs.Layout.{sequence}
-use Rattle.xcal.specs.ElementNames.{isKeptName}
 use Rattle.xcal.specs.laws.ElementNames.{lower-same, no-capital, kept-upper, kept-back, kept-carried}
-use Rattle.xcal.specs.Contents.{valuesBefore, parametersBefore, parametersPart, propertyInside, propertiesBefore}
+use Rattle.xcal.specs.laws.Contents.{valuesBefore, parametersBefore, parametersPart, propertyInside, propertiesBefore}
 use Rattle.xcal.specs.ValueNodes.{elementType, firstType, typeOfNodes, childNamed, typedValues, readValueNodes}
 use Rattle.xcal.specs.ParameterNodes.{parametersVerdict, readParameterNodes}
 use Rattle.xcal.specs.PropertyNodes.{badName, propertySlots, parametersIn, childVerdict, lacksEncoding, propertyVerdict, propertiesVerdict, readProperties}
-use Rattle.xcal.specs.ParametersBack.{isCarriedParameter}
 use Rattle.xcal.specs.laws.ParametersBack.{parameters-back}
 use Rattle.xcal.specs.laws.ParametersFine.{parameters-good, has-encoding}
 use Rattle.xcal.specs.laws.PropertyValues.{Stands}
 use Rattle.xcal.specs.laws.OwnValues.{values-stand}
-use Rattle.xcal.specs.PropertiesBack.{isCarriedProperty}
 
 -- ---- `parameters` before the values
 
@@ -77,27 +74,6 @@ good-part k n t (p ∷ ps) c x g h q = rw (g _) (h 1 (ascii "parameters" ∷ [])
 
 -- ---- one property
 
-pub record Carried (k : List ℕ) (p : Property) : Type 0 where
-  pub kept : isKeptName (p .name) ≡ true
-  pub begin : same (p .name) (ascii "BEGIN") ≡ false
-  pub end : same (p .name) (ascii "END") ≡ false
-  pub allowed : (not (isKnownProperty (p .name)) or mayStand k (p .name)) ≡ true
-  pub parameters : areParameters (p .name) (typeOfAll (p .values)) (p .parameters) ≡ true
-  pub values : arePropertyValues k (p .name) (p .values) ≡ true
-  pub clean : every isCarriedParameter (p .parameters) ≡ true
-
-pub carried : (k : List ℕ) (p : Property) → isCarriedProperty k p ≡ true → Carried k p
-unfolding isCarriedProperty isProperty
-carried k p h =
-    let a = and-both (isKeptName (p .name)) _ h in
-    let b = and-both (not (same (p .name) (ascii "BEGIN"))) _ (a .1) in
-    let c = and-both (not (same (p .name) (ascii "END"))) _ (b .1) in
-    let d = and-both (not (isKnownProperty (p .name)) or mayStand k (p .name)) _ (c .1) in
-    let e = and-both (isProperty k p) _ (d .1) in
-    let f = and-both (same (upper (p .name)) (p .name)) _ (e .0) in
-    let g = and-both (areParameters (p .name) (typeOfAll (p .values)) (p .parameters)) _ (f .1) in
-    record { kept = a .0; begin = not-true _ (b .0); end = not-true _ (c .0); allowed = d .0; parameters = g .0; values = g .1; clean = e .1 }
-
 begin-name : upper (ascii "BEGIN") ≡ ascii "BEGIN"
 unfolding octets-compute
 begin-name = refl
@@ -106,12 +82,12 @@ end-name : upper (ascii "END") ≡ ascii "END"
 unfolding octets-compute
 end-name = refl
 
-module _ (k : List ℕ) (p : Property) (c : Carried k p) where
+module _ (k : List ℕ) (p : Property) (c : ValidProperty k p) where
   good-name : badName (lower (p .name)) ≡ false
   unfolding lower pick _and_
   good-name =
       or-no _ _ (no-capital (p .name)) (or-no _ _ (rw (kept-carried (p .name) (c .kept)))
-      (or-no _ _ (lower-same (p .name) (ascii "BEGIN") (kept-upper (p .name) (c .kept)) begin-name ∙ c .begin) (lower-same (p .name) (ascii "END") (kept-upper (p .name) (c .kept)) end-name ∙ c .end)))
+      (or-no _ _ (lower-same (p .name) (ascii "BEGIN") (kept-upper (p .name) (c .kept)) begin-name ∙ c .begins) (lower-same (p .name) (ascii "END") (kept-upper (p .name) (c .kept)) end-name ∙ c .ends)))
 
   stands : Stands k (p .name) (typeOfAll (p .values)) (p .values)
   stands = values-stand k (p .name) (p .values) (c .values)
@@ -124,40 +100,40 @@ module _ (k : List ℕ) (p : Property) (c : Carried k p) where
   parameters-in q = parameters-part (p .name) (p .parameters) (valuesBefore (p .values) nothing) (stands .apart) q
 
   not-misplaced : (isKnownProperty (p .name) and not (mayStand k (p .name))) ≡ false
-  not-misplaced = or-cases _ _ (c .allowed) (λ e. and-no-left _ _ (not-true _ e)) (λ e. and-no-right _ _ (rw e))
+  not-misplaced = or-cases _ _ (c .stands) (λ e. and-no-left _ _ (not-true _ e)) (λ e. and-no-right _ _ (rw e))
 
   encoded : (q : ℕ) → lacksEncoding (p .name) (placed (propertyInside p) q noNodes) ≡ false
   encoded q =
       let e = parameters-in q in
-      rw (type-in q, e .1) (has-encoding (p .name) (typeOfAll (p .values)) (p .parameters) (c .parameters) (c .clean) (e .0))
+      rw (type-in q, e .1) (has-encoding (p .name) (typeOfAll (p .values)) (p .parameters) (c .agree) (c .parameters) (e .0))
 
   property-fine : (a x q : ℕ) → propertyVerdict k a (lower (p .name)) x (placed (propertyInside p) q noNodes) ≡ fine
   unfolding propertyVerdict pick
   property-fine a x q =
       rw (good-name, kept-back (p .name) (c .kept), not-misplaced, encoded q, type-in q)
       (good-part k (p .name) (typeOfAll (p .values)) (p .parameters) (valuesBefore (p .values) nothing) x
-      (parameters-good (p .name) (typeOfAll (p .values)) (p .parameters) (c .parameters) (c .clean)) (λ next seen q u. stands .good next seen x q u) q)
+      (parameters-good (p .name) (typeOfAll (p .values)) (p .parameters) (c .agree) (c .parameters)) (λ next seen q u. stands .good next seen x q u) q)
 
   -- what its element states
   parameters-stated : (q : ℕ) → readParameterNodes (parametersIn (p .name) (placed (propertyInside p) q noNodes)) ≡ p .parameters
-  parameters-stated q = let e = parameters-in q in rw (e .1) (parameters-back (p .parameters) (c .clean) (e .0))
+  parameters-stated q = let e = parameters-in q in rw (e .1) (parameters-back (p .parameters) (c .parameters) (e .0))
 
   values-stated : (q : ℕ) → readValueNodes (p .name) (placed (propertyInside p) q noNodes) ≡ p .values
   values-stated q = values-part (p .name) (p .values) (p .parameters) (valuesBefore (p .values) nothing) (stands .stated) q
 
 -- ---- properties
 
-pub properties-back : (k : List ℕ) (ps : List Property) → every (isCarriedProperty k) ps ≡ true → (q : ℕ) → readProperties (placed (propertiesBefore ps nothing) q noNodes) ≡ ps
+pub properties-back : (k : List ℕ) (ps : List Property) → every (isValidProperty k) ps ≡ true → (q : ℕ) → readProperties (placed (propertiesBefore ps nothing) q noNodes) ≡ ps
 unfolding propertiesBefore placed readProperties
 properties-back k [] h q = refl
 properties-back k (p ∷ ps) h q =
-    let a = every-both (isCarriedProperty k) p ps h in
-    let c = carried k p (a .0) in
+    let a = every-both (isValidProperty k) p ps h in
+    let c = valid-property k p (a .0) in
     rw (kept-back (p .name) (c .kept), parameters-stated k p c, values-stated k p c) (ap (λ (l : List Property). p ∷ l) (properties-back k ps (a .1) _))
 
-pub properties-fine : (k : List ℕ) (ps : List Property) → every (isCarriedProperty k) ps ≡ true → (q : ℕ) → propertiesVerdict k (placed (propertiesBefore ps nothing) q noNodes) ≡ fine
+pub properties-fine : (k : List ℕ) (ps : List Property) → every (isValidProperty k) ps ≡ true → (q : ℕ) → propertiesVerdict k (placed (propertiesBefore ps nothing) q noNodes) ≡ fine
 unfolding propertiesBefore placed propertiesVerdict _otherwise_
 properties-fine k [] h q = refl
 properties-fine k (p ∷ ps) h q =
-    let a = every-both (isCarriedProperty k) p ps h in
-    rw (property-fine k p (carried k p (a .0)) q) (properties-fine k ps (a .1) _)
+    let a = every-both (isValidProperty k) p ps h in
+    rw (property-fine k p (valid-property k p (a .0)) q) (properties-fine k ps (a .1) _)

@@ -31,7 +31,7 @@ use Rattle.xml.specs.Content.{Content, nothing, placed}
 use Rattle.xcal.specs.Layout.{Slot, slotOf, lacks, sequence}
 use Rattle.xcal.specs.ValueNodes.{may, typeElements, firstType, valueVerdict, readValueNodes}
 use Rattle.xcal.specs.PropertyNodes.{propertySlots, parametersIn, childVerdict}
-use Rattle.xcal.specs.Contents.{inside, valueBefore, valuesBefore}
+use Rattle.xcal.specs.laws.Contents.{inside, valueBefore, valuesBefore}
 use Rattle.xcal.specs.laws.ValuesBack.{typed-before, typed-fine, element-type, values-back}
 use Rattle.xcal.specs.laws.Chosen.{chosen-typed, chosen-word}
 

@@ -23,8 +23,7 @@ use Rattle.xml.specs.Nodes.{Nodes}
 use Rattle.xcal.specs.Layout.{slotOf, lacks}
 use Rattle.xcal.specs.ValueNodes.{recurSlots, recurInside, childNamed, itemsOf, onePart, partsOf}
 use Rattle.xcal.specs.laws.RecurFine.{fitsSlot, fits-slot}
-use Rattle.xcal.specs.Accepted.{allChildren, comes}
-use Rattle.xcal.specs.laws.Accepted.{leaf-accepted, sequence-each, sequence-comes, comes-named}
+use Rattle.xcal.specs.laws.Accepted.{allChildren, comes, leaf-accepted, sequence-each, sequence-comes, comes-named}
 use Rattle.xcal.specs.laws.ItemsAccepted.{isItemChild, items-good, has-item, From, once, exclusive}
 
 -- ---- the parts

@@ -5,7 +5,7 @@ use mathlib.Core.Bool.{Bool, true, false, false≢true}
 use mathlib.Core.List.{List, [], _∷_, _++_, append-nil, map}
 use mathlib.Core.Option.{Option, none, some}
 use Prim.Native.Nat.{ℕ}
-use Rattle.octets.specs.Pick.{pick, _and_}
+use Rattle.octets.specs.Pick.{pick}
 use Rattle.octets.specs.laws.Pick.{and-both, pick-second}
 use Rattle.octets.specs.Class.{upper, lower}
 use Rattle.octets.specs.Words.{same, isOneOf, rowOf}
@@ -24,7 +24,7 @@ use Rattle.recur.specs.laws.RuleLaws.{names-once}
 use Rattle.xml.specs.Nodes.{noNodes}
 use Rattle.xml.specs.Content.{Content, nothing, placed}
 use Rattle.xcal.specs.laws.ElementNames.{lower-same}
-use Rattle.xcal.specs.Contents.{itemsBefore, partsBefore}
+use Rattle.xcal.specs.laws.Contents.{itemsBefore, partsBefore}
 use Rattle.xcal.specs.laws.LeavesBack.{leaf-characters}
 use Rattle.xcal.specs.ValueNodes.{itemsOf, onePart, partsOf}
 

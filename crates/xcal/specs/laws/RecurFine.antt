@@ -27,7 +27,7 @@ use Rattle.xml.specs.Nodes.{noNodes}
 use Rattle.xml.specs.Content.{Content, nothing, placed}
 use Rattle.xcal.specs.Layout.{slotOf, lacks, sequence}
 use Rattle.xcal.specs.laws.ElementNames.{upper-lower}
-use Rattle.xcal.specs.Contents.{leafBefore, itemsBefore, partsBefore}
+use Rattle.xcal.specs.laws.Contents.{leafBefore, itemsBefore, partsBefore}
 use Rattle.xcal.specs.laws.LeavesBack.{leaf-fine}
 use Rattle.xcal.specs.laws.RecurBack.{part-capital}
 use Rattle.xcal.specs.ValueNodes.{recurSlots, recurInside}

@@ -1,4 +1,6 @@
--- Laws of what specs/SoundContent.antt defines.
+-- Content whose bytes are those of a document that can be read: names that are names, character data that is well formed and holds no CR.
+--     isClean s          character data that is well-formed UTF-8 of permitted characters, without CR
+--     isSound c d        content of such data, where at most d elements stand inside one another
 --     sound-writable     it can be written;   sound-good: its bytes are well formed;   sound-deeper: it is sound in more room
 --     escaped-good       character data is well formed also with its entities
 use mathlib.Core.Path.{_≡_, refl, sym, _∙_}
@@ -19,12 +21,20 @@ use Rattle.octets.specs.Class.{isVisible, isNameChar}
 use Rattle.octets.specs.laws.Class.{name-char-visible}
 use Rattle.octets.specs.Words.{holds}
 use Rattle.octets.specs.laws.Reading.{none-some}
-use Rattle.utf8.specs.Utf8.{isAscii, more, low, high, highAfter, tails, isSequence, badFrom, firstBad}
+use Rattle.utf8.specs.Utf8.{isAscii, more, low, high, highAfter, tails, isSequence, badFrom, firstBad, wellFormed}
 use Rattle.utf8.specs.laws.Utf8.{well-formed-good, bad-append, good-append, visible-good, low-least}
 use Rattle.xml.specs.Escape.{escaped, startTag, endTag, elementOf}
 use Rattle.xml.specs.Reads.{isName}
 use Rattle.xml.specs.Content.{Content, nothing, child, characters, written, isWritable}
-use Rattle.xcal.specs.SoundContent.{isClean, isSound}
+
+unfoldable pub isClean : List ℕ → Bool
+isClean s = not (holds 13 s) and wellFormed s
+
+unfoldable pub isSound : Content → ℕ → Bool
+isSound nothing d = true
+isSound (child nm inner next) zero = false
+isSound (child nm inner next) (suc d) = isName nm and isSound inner d and isSound next (suc d)
+isSound (characters s next) d = isClean s and isSound next d
 
 pub sound-writable : (c : Content) (d : ℕ) → isSound c d ≡ true → isWritable c d ≡ true
 unfolding isSound isWritable isClean

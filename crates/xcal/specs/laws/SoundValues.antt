@@ -6,7 +6,6 @@ use mathlib.Core.List.{List, [], _∷_}
 use mathlib.Core.Option.{Option, none, some}
 use Prim.Native.Nat.{ℕ, suc}
 use Rattle.octets.specs.Ascii.{ascii}
-use Rattle.octets.specs.Pick.{_and_, _or_}
 use Rattle.octets.specs.laws.Pick.{and-both, and-yes}
 use Rattle.octets.specs.Class.{lower}
 use Rattle.octets.specs.Lists.{every}
@@ -26,11 +25,10 @@ use Rattle.values.specs.ReadBack.{isValue, isTyped}
 use Rattle.values.specs.laws.Valid.{own-value}
 use Rattle.xml.specs.Reads.{isName}
 use Rattle.xml.specs.Content.{Content, nothing, child}
-use Rattle.xcal.specs.Contents.{leafBefore, itemsBefore, partsBefore, dataBefore, inside, valueBefore, valuesBefore}
+use Rattle.xcal.specs.laws.Contents.{leafBefore, itemsBefore, partsBefore, dataBefore, inside, valueBefore, valuesBefore}
 use Rattle.xcal.specs.laws.ValuesBack.{typed-before, by-spelling}
-use Rattle.xcal.specs.SoundContent.{isClean, isSound}
-use Rattle.xcal.specs.CleanValues.{isCleanData, isCleanValue}
-use Rattle.xcal.specs.laws.CleanValues.{data-clean, moment-clean, span-clean, float-clean, item-clean}
+use Rattle.xcal.specs.laws.SoundContent.{isClean, isSound}
+use Rattle.xcal.specs.laws.CleanValues.{isCleanValue, isCleanData, clean-status, data-clean, moment-clean, span-clean, float-clean, item-clean}
 
 pub leaf-sound : (n s : List ℕ) (next : Content) (d : ℕ) → isName n ≡ true → isClean s ≡ true → isSound next (suc d) ≡ true → isSound (leafBefore n s next) (suc d) ≡ true
 unfolding isSound
@@ -88,7 +86,7 @@ unfolding octets-compute isName valueBefore isSound
 own-sound v t h k next d s =
     own-value (λ v. isCleanValue v ≡ true → isSound (valueBefore v next) (suc d) ≡ true)
     (λ la lo a b k. rw (float-clean la a, float-clean lo b) s)
-    (λ c e x k. let a = and-both (isClean c) _ k in let b = and-both (isClean e) _ (a .1) in rw (a .0, b .0) (data-sound x (b .1)))
+    (λ c e x k. let a = clean-status c e x k in rw (a .0, a .1) (data-sound x (a .2)))
     v t h k
   where
     data-sound : (x : Option (List ℕ)) → isCleanData x ≡ true → isSound (dataBefore x next) (suc d) ≡ true

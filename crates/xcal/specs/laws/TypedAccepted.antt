@@ -30,11 +30,10 @@ use Rattle.xcal.specs.ValueNodes.{may, typeElements, elementType, asType
 use Rattle.xcal.specs.PropertyNodes.{childVerdict}
 use Rattle.xcal.specs.laws.PropertyValues.{typedSlots, of-text}
 use Rattle.xcal.specs.laws.PropertiesBack.{no-type}
-use Rattle.xcal.specs.CleanValues.{isCleanValue}
+use Rattle.xcal.specs.laws.CleanValues.{isCleanValue}
 use Rattle.xcal.specs.laws.Accepted.{test-fine, past-fine, admitted-fine}
-use Rattle.xcal.specs.ValuesAccepted.{isCleanContent}
-use Rattle.xcal.specs.laws.ValuesAccepted.{typed-accepted, value-clean}
-use Rattle.xcal.specs.GoodNodes.{isGood}
+use Rattle.xcal.specs.laws.ValuesAccepted.{isCleanContent, typed-accepted, value-clean}
+use Rattle.xcal.specs.laws.GoodNodes.{isGood}
 
 -- ---- slots
 

@@ -1,4 +1,5 @@
--- Laws of what specs/ValuesAccepted.antt defines.
+-- Values read from elements that are not refused are values of the type asked for, and clean where the characters are (RFC 6321, section 3.6).
+--     isCleanContent    content that is character data, of clean characters
 --     typed-accepted    the value that the content of an element states
 --     value-clean       is clean
 use mathlib.Core.Path.{_≡_, refl, sym, ap, _∙_}
@@ -10,6 +11,7 @@ use Rattle.octets.specs.Ascii.{ascii}
 use Rattle.octets.specs.Pick.{pick, _and_, _or_}
 use Rattle.octets.specs.laws.Pick.{and-yes}
 use Rattle.octets.specs.Words.{holds}
+use Rattle.octets.specs.Lists.{every}
 use Rattle.octets.specs.Reading.{isRead, readOr}
 use Rattle.octets.specs.laws.Reading.{none-some}
 use Rattle.calendar.specs.Calendar.{xcal, ValueType, BINARY, BOOLEAN, CAL-ADDRESS, DATE, DATE-TIME, DURATION, FLOAT, INTEGER, PERIOD, RECUR, TEXT, TIME, URI, UTC-OFFSET, UNKNOWN}
@@ -40,12 +42,17 @@ use Rattle.xml.specs.Nodes.{Nodes, charactersOf, hasElement}
 use Rattle.xcal.specs.Layout.{sequence, leaf}
 use Rattle.xcal.specs.ValueNodes.{periodSlots, periodInside, recurSlots, recurInside, readWordOf, typedVerdict, childNamed, periodOf, partsOf, valueOf}
 use Rattle.xcal.specs.laws.Chosen.{OfText}
-use Rattle.xcal.specs.SoundContent.{isClean}
-use Rattle.xcal.specs.CleanValues.{isCleanValue}
+use Rattle.xcal.specs.laws.SoundContent.{isClean}
+use Rattle.xcal.specs.laws.CleanValues.{isCleanValue, one-clean}
 use Rattle.xcal.specs.laws.Accepted.{leaf-accepted}
 use Rattle.xcal.specs.laws.PeriodAccepted.{read-passes, period-value}
 use Rattle.xcal.specs.laws.RecurAccepted.{rule-accepted}
-use Rattle.xcal.specs.ValuesAccepted.{isCleanContent}
+
+-- ---- clean
+
+-- content of an element that is character data, of clean characters
+abbrev pub isCleanContent : Nodes → Bool
+isCleanContent kids = hasElement kids or isClean (charactersOf kids)
 
 -- ---- of the type asked for
 
@@ -91,7 +98,7 @@ abbrev Clean : Value → Type 0
 Clean v = isCleanValue v ≡ true
 
 pub read-clean : (t : ValueType) (s : List ℕ) (v : Value) → isClean s ≡ true → readValue xcal t s ≡ some v → isCleanValue v ≡ true
-unfolding readValue
+unfolding readValue every
 read-clean BINARY s v c h = made Clean binary (readBinary xcal s) v h (λ a e. refl)
 read-clean BOOLEAN s v c h = made Clean boolean (readBoolean xcal s) v h (λ a e. refl)
 read-clean CAL-ADDRESS s v c h = made Clean calAddress (readUri s) v h (λ a e. refl)
@@ -102,11 +109,11 @@ read-clean FLOAT s v c h = made Clean float (readFloat s) v h (λ a e. refl)
 read-clean INTEGER s v c h = made Clean integer (readInteger s) v h (λ a e. refl)
 read-clean PERIOD s v c h = none-some h
 read-clean RECUR s v c h = none-some h
-read-clean TEXT s v c h = made Clean text (some s) v h (λ a e. let z : s ≡ a = cc in rw (← z) c)
+read-clean TEXT s v c h = made Clean text (some s) v h (λ a e. let z : s ≡ a = cc in rw (← z) (one-clean s c))
 read-clean TIME s v c h = made Clean time (readTime xcal s) v h (λ a e. refl)
 read-clean URI s v c h = made Clean uri (readUri s) v h (λ a e. refl)
 read-clean UTC-OFFSET s v c h = made Clean utcOffset (readUtcOffset xcal s) v h (λ a e. refl)
-read-clean UNKNOWN s v c h = made Clean unknown (readUnknown s) v h (λ a e. rw (← (unknown-kept s a e)) c)
+read-clean UNKNOWN s v c h = made Clean unknown (readUnknown s) v h (λ a e. rw (← (unknown-kept s a e)) (one-clean s c))
 
 pub empty-clean : isClean [] ≡ true
 unfolding isClean wellFormed holds badFrom isRead pick _and_
@@ -117,15 +124,16 @@ unfolding readOr
 read-or-clean t s c = go (readValue xcal t s) refl
   where
     go : (o : Option Value) → readValue xcal t s ≡ o → isCleanValue (readOr (text []) o) ≡ true
-    go none e = empty-clean
+    go none e = one-clean [] empty-clean
     go (some v) e = read-clean t s v c e
 
 period-clean : (o : Option (List ℕ)) (kids : Nodes) → isCleanValue (periodOf o kids) ≡ true
+unfolding every
 period-clean none kids = refl
 period-clean (some s) kids = refl
 
 pub value-clean : (k n : List ℕ) (t : ValueType) (p e : ℕ) (kids : Nodes) → typedVerdict k n t p e kids ≡ fine → isCleanContent kids ≡ true → isCleanValue (valueOf t kids) ≡ true
-unfolding typedVerdict valueOf pick
+unfolding typedVerdict valueOf pick every
 value-clean k n t p e kids h c = go (sameType t PERIOD) (sameType t RECUR) h
   where
     go : (a b : Bool) → pick a (sequence periodSlots periodInside kids 0 [] e) (pick b (sequence recurSlots recurInside kids 0 [] e) (leaf (readWordOf (propertyWords k n) t) p kids)) ≡ fine →

@@ -33,7 +33,7 @@ use Rattle.values.specs.laws.ReadBack.{isCharacterData, characters-read-back}
 use Rattle.xml.specs.Nodes.{noNodes}
 use Rattle.xml.specs.Content.{Content, nothing, placed}
 use Rattle.xcal.specs.Layout.{lacks, sequence}
-use Rattle.xcal.specs.Contents.{plainInside, inside, elementBefore, valueBefore, valuesBefore}
+use Rattle.xcal.specs.laws.Contents.{plainInside, inside, elementBefore, valueBefore, valuesBefore}
 use Rattle.xcal.specs.laws.LeavesBack.{leaf-placed, leaf-characters, leaf-fine}
 use Rattle.xcal.specs.laws.RecurBack.{parts-of}
 use Rattle.xcal.specs.laws.RecurFine.{rule-fine}

@@ -24,7 +24,7 @@ use Rattle.values.specs.WriteValue.{characters as dataOf}
 use Rattle.xml.specs.Escape.{escaped, elementOf, documentOf}
 use Rattle.xml.specs.Content.{Content, nothing, child, written}
 use Rattle.xcal.specs.WriteXml.{textElement, itemsXml, partsXml, dataXml, plainXml, valueXml, valuesXml, parameterXml, parametersXml, parametersElement, propertyXml, propertiesXml, isNoMore, componentsElement, componentsXml, writeDocument}
-use Rattle.xcal.specs.Contents.{leafBefore, itemsBefore, partsBefore, dataBefore, plainInside, inside, valueBefore, valuesBefore, parametersBefore, parametersPart, propertyInside, propertiesBefore, componentsPart, componentInside, calendarContent}
+use Rattle.xcal.specs.laws.Contents.{leafBefore, itemsBefore, partsBefore, dataBefore, plainInside, inside, valueBefore, valuesBefore, parametersBefore, parametersPart, propertyInside, propertiesBefore, componentsPart, componentInside, calendarContent}
 
 leaf-written : (n s : List ℕ) (next : Content) → written (leafBefore n s next) ≡ textElement n s ⊕ written next
 unfolding written

@@ -1,4 +1,4 @@
--- `read_xml::behind` meets its contract.
+-- `read_xml::component::behind` meets its contract.
 use Prim.Native.Nat.{_-_}
 use lib.ListN.{length}
 use Rattle.read_xml.specs.laws.Components.{following, Following}
@@ -6,10 +6,10 @@ use Rattle.read_xml.proofs.component.behind.Statement.{statement}
 use Rattle.read_xml.proofs.component.behind.Tie as tie
 
 abbrev Inv-loop : tie.InvT-loop
-Inv-loop k counts had s from e at₀ at = Following k counts had s from e at
+Inv-loop k kept had inner s from e at₀ at = Following s from e at had
 
 abbrev μ-loop : tie.MeasureT-loop
-μ-loop k counts had s from e at₀ at = length s - at
+μ-loop k kept had inner s from e at₀ at = length s - at
 
 pub behind-spec : {M : Type 1} → statement M
 behind-spec = tie.close (tie.spec

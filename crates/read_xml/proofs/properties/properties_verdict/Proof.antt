@@ -1,4 +1,4 @@
--- `read_xml::properties_verdict` meets its contract.
+-- `read_xml::properties::properties_verdict` meets its contract.
 use Prim.Native.Nat.{_-_}
 use lib.ListN.{length}
 use Rattle.read_xml.specs.laws.Properties.{listing, Listing}
@@ -6,22 +6,25 @@ use Rattle.read_xml.proofs.properties.properties_verdict.Statement.{sta
 use Rattle.read_xml.proofs.properties.properties_verdict.Tie as tie
 
 abbrev Inv-loop : tie.InvT-loop
-Inv-loop k s inside at₀ at = Listing k s inside at
+Inv-loop k s inside at₀ kept₀ at kept = Listing k s inside at kept
 
 abbrev μ-loop : tie.MeasureT-loop
-μ-loop k s inside at₀ at = length s - at
+μ-loop k s inside at₀ kept₀ at kept = length s - at
 
 pub properties-verdict-spec : {M : Type 1} → statement M
 properties-verdict-spec = tie.close (tie.spec
     Inv-loop
     μ-loop
+    (λ c κs. search listing)  -- none-counted-requires
     (λ c. search listing)  -- loop-holds
     (λ c κs. search listing)  -- next-node-requires
     (λ c. search listing)  -- enum-told
     (λ c. search listing)  -- returns
     (λ c. search listing)  -- enum-told-2
+    (λ c κs. search listing)  -- property-at-requires
     (λ c κs. search listing)  -- property-verdict-requires
     (λ c. search listing)  -- enum-told-3
+    (λ c κs. search listing)  -- count-requires
     (λ c. search listing)  -- loop-less
     (λ c. search listing)  -- loop-again
     (λ c. search listing)  -- enum-known-j

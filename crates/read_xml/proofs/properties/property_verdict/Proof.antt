@@ -1,4 +1,4 @@
--- `read_xml::property_verdict` meets its contract.
+-- `read_xml::properties::property_verdict` meets its contract.
 use Rattle.read_xml.specs.laws.Properties.{propertying}
 use Rattle.read_xml.proofs.properties.property_verdict.Statement.{statement}
 use Rattle.read_xml.proofs.properties.property_verdict.Tie as tie
@@ -7,8 +7,6 @@ pub property-verdict-spec : {M : Type 1} → statement M
 property-verdict-spec = tie.close (tie.spec
     (λ c κs. search propertying)  -- bad-name-requires
     (λ c. search propertying)  -- returns
-    (λ c. search propertying)  -- slice-aggregate-property-number
-    (λ c κs. search propertying)  -- property-number-requires
     (λ c κs. search propertying)  -- is-misplaced-requires
     (λ c. search propertying)  -- returns-2
     (λ c κs. search propertying)  -- type-of-nodes-requires

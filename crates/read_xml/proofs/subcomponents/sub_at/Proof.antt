@@ -11,7 +11,6 @@ sub-at-spec = tie.close (tie.spec
     (λ c. search subs)  -- enum-told-2
     (λ c κs. search subs)  -- sub-number-requires
     (λ c. search subs)  -- enum-known-t
-    (λ c κs. search subs)  -- sub-component-requires
     (λ c. search subs)  -- enum-told-3
     (λ c κs. search subs)  -- unexpected-requires
     (λ c. search subs)  -- enum-told-4

@@ -1,0 +1,90 @@
+-- `read_xml::subcomponents::component_verdict` and `components_verdict`, which call each other, meet their contracts.
+use Prim.Native.Nat.{ℕ, _-_, _<_}
+use lib.ListN.{length}
+use borrow.Fn.Kinds.{In}
+use borrow.Fn.PlainCycle.{Measures, is, falls, and}
+use Rattle.read_xml.specs.laws.Subcomponents.{whole-falls, wholes, Among, begun-falls, falls-under, falls-below, among}
+use Rattle.read_xml.proofs.subcomponents.component_verdict.Reads as component-verdict
+use Rattle.read_xml.proofs.subcomponents.component_verdict.Kinds as component-verdict-kinds
+use Rattle.read_xml.proofs.subcomponents.+component_verdict+components_verdict.Lts-component_verdict as component-verdict-lts
+use Rattle.read_xml.proofs.subcomponents.components_verdict.Reads as components-verdict
+use Rattle.read_xml.proofs.subcomponents.components_verdict.Kinds as components-verdict-kinds
+use Rattle.read_xml.proofs.subcomponents.+component_verdict+components_verdict.Lts-components_verdict as components-verdict-lts
+use Rattle.read_xml.proofs.component.behind.Reads as behind-reads
+use Rattle.read_xml.proofs.component.head.Reads as head-reads
+use Rattle.read_xml.proofs.subcomponents.sub_at.Reads as sub-at-reads
+use Rattle.read_xml.proofs.subcomponents.+component_verdict+components_verdict.{statement}
+use Rattle.read_xml.proofs.subcomponents.+component_verdict+components_verdict.Tie.{close}
+
+abbrev μ-component-verdict : Measures 1 component-verdict-kinds.ps ℕ
+μ-component-verdict κs a = length (a .0 .now) - a .1 .0
+
+abbrev component-verdict-at : ℕ → In 1 component-verdict-kinds.ps
+component-verdict-at t = and 1 component-verdict-kinds.ps (is 1 component-verdict-kinds.ps μ-component-verdict t) component-verdict.Pre
+
+abbrev component-verdict-below : ℕ → In 1 component-verdict-kinds.ps
+component-verdict-below t = and 1 component-verdict-kinds.ps (falls 1 component-verdict-kinds.ps _<_ μ-component-verdict t) component-verdict.Pre
+
+abbrev μ-components-verdict : Measures 1 components-verdict-kinds.ps ℕ
+μ-components-verdict κs a = length (a .0 .now) - a .1 .0
+
+abbrev components-verdict-at : ℕ → In 1 components-verdict-kinds.ps
+components-verdict-at t = and 1 components-verdict-kinds.ps (is 1 components-verdict-kinds.ps μ-components-verdict t) components-verdict.Pre
+
+abbrev components-verdict-below : ℕ → In 1 components-verdict-kinds.ps
+components-verdict-below t = and 1 components-verdict-kinds.ps (falls 1 components-verdict-kinds.ps _<_ μ-components-verdict t) components-verdict.Pre
+
+-- what the calls ask and give
+abbrev component-verdict-claims : ℕ → component-verdict-lts.Claims
+component-verdict-claims t = (head-reads.Asked, head-reads.Learnt, components-verdict-below t, components-verdict.Post, behind-reads.Asked, behind-reads.Learnt)
+
+abbrev components-verdict-claims : ℕ → components-verdict-lts.Claims
+components-verdict-claims t = (sub-at-reads.Asked, sub-at-reads.Learnt, component-verdict-below t, component-verdict.Post)
+
+abbrev components-verdict-Inv-loop : components-verdict-lts.InvT-loop
+components-verdict-Inv-loop s inside k e at₀ any₀ at any = Among k s inside e at any
+
+abbrev components-verdict-μ-loop : components-verdict-lts.MeasureT-loop
+components-verdict-μ-loop s inside k e at₀ any₀ at any = length s - at
+
+pub +component-verdict+components-verdict-spec : {M : Type 1} → statement M
++component-verdict+components-verdict-spec = close μ-component-verdict μ-components-verdict
+    (λ t. component-verdict-lts.spec
+    (component-verdict-claims t)
+    (component-verdict-at t)
+    component-verdict.Post
+    (λ c κs. search wholes)  -- head-requires
+    (λ c. search wholes)  -- enum-known-part
+    (λ c. search wholes)  -- enum-known-part-2
+    (λ c κs. (search (falls-under, falls-below, whole-falls, wholes), search wholes))  -- components-verdict-requires
+    (λ c. search wholes)  -- enum-known-r
+    (λ c κs. search wholes)  -- behind-requires
+    (λ c. search wholes)  -- enum-known-r-2
+    (λ c. search wholes)  -- returns
+    (λ c. search wholes)  -- returns-2
+    (λ c. search wholes)  -- returns-3
+    )
+    (λ t. components-verdict-lts.spec
+    (components-verdict-claims t)
+    (components-verdict-at t)
+    components-verdict.Post
+    components-verdict-Inv-loop
+    components-verdict-μ-loop
+    (λ c. search among)  -- loop-holds
+    (λ c κs. search among)  -- sub-at-requires
+    (λ c. search among)  -- enum-known-t
+    (λ c. search among)  -- enum-told
+    (λ c. search among)  -- returns
+    (λ c. search among)  -- enum-known-j
+    (λ c. search among)  -- returns-2
+    (λ c. search among)  -- enum-known-t-2
+    (λ c. search among)  -- loop-less
+    (λ c. search among)  -- loop-again
+    (λ c. search among)  -- enum-known-t-3
+    (λ c κs. (search (falls-under, falls-below, begun-falls, among), search among))  -- component-verdict-requires
+    (λ c. search among)  -- enum-told-2
+    (λ c. search among)  -- loop-less-2
+    (λ c. search among)  -- loop-again-2
+    (λ c. search among)  -- enum-known-f
+    (λ c. search among)  -- returns-3
+    )

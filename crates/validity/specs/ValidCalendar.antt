@@ -1,0 +1,80 @@
+-- A valid calendar (RFC 5545, sections 3.1 to 3.6, and the rules), whichever format states it: what an accepted text or document states is one, and its text and its
+-- document are read back as it.
+--     isKeptName             a name of a property or parameter
+--     isValidParameter p     a parameter
+--     isValidProperty k p    a property in a component k
+--     areValid ks c          components with names among ks
+--     isValid c              VCALENDAR components, at least one
+use mathlib.Core.Bool.{Bool, true, false, not}
+use mathlib.Core.List.{List, [], _∷_}
+use Prim.Native.Nat.{ℕ}
+use Rattle.octets.specs.Ascii.{ascii}
+use Rattle.octets.specs.Pick.{_and_, _or_}
+use Rattle.octets.specs.Class.{upper}
+use Rattle.octets.specs.Words.{same, isOneOf}
+use Rattle.octets.specs.Lists.{every}
+use Rattle.calendar.specs.Calendar.{Value, Parameter, Property, Components, noMore, component}
+use Rattle.utf8.specs.Utf8.{wellFormed}
+use Rattle.schema.specs.Properties.{isKnownProperty}
+use Rattle.schema.specs.Components.{subcomponentsOf, mayStand}
+use Rattle.schema.specs.Counts.{complete}
+use Rattle.values.specs.Valid.{isParameter, isProperty}
+use Rattle.values.specs.Characters.{freeIn, isValueText, isParameterText}
+use Rattle.read_text_line.specs.ContentLine.{isName}
+use Rattle.read_text_line.specs.Names.{isCarriedName}
+
+-- ---- names and characters (3.1)
+
+-- in capitals, as the calendar keeps it, and one that an XML element can have too
+abbrev pub isKeptName : List ℕ → Bool
+isKeptName n = same (upper n) n and isName n and isCarriedName n
+
+-- the characters that a value's type leaves free are such that the rules permit
+abbrev pub isPermitted : Value → Bool
+isPermitted v = every wellFormed (freeIn v)
+
+-- ---- parameters (3.2)
+
+-- typed as the schema says; of the free characters no CR, LF or double quote
+unfoldable pub isValidParameter : Parameter → Bool
+isValidParameter p =
+    isKeptName (p .name)
+    and isParameter p
+    and every isParameterText (p .values)
+    and every isPermitted (p .values)
+
+-- ---- properties (3.5)
+
+-- BEGIN and END are none; a known property stands where the schema lists it; of the free characters no CR
+unfoldable pub isValidProperty : List ℕ → Property → Bool
+isValidProperty k p =
+    isKeptName (p .name)
+    and not (same (p .name) (ascii "BEGIN"))
+    and not (same (p .name) (ascii "END"))
+    and (not (isKnownProperty (p .name)) or mayStand k (p .name))
+    and isProperty k p
+    and every isValidParameter (p .parameters)
+    and every isValueText (p .values)
+    and every isPermitted (p .values)
+
+-- ---- components (3.4, 3.6)
+
+abbrev pub hasComponents : Components → Bool
+hasComponents noMore = false
+hasComponents (component k ps inner next) = true
+
+-- each with such properties, as often as they must stand, and with such subcomponents
+unfoldable pub areValid : List (List ℕ) → Components → Bool
+areValid ks noMore = true
+areValid ks (component k ps inner next) =
+    isOneOf k ks
+    and every (isValidProperty k) ps
+    and complete k ps (hasComponents inner)
+    and areValid (subcomponentsOf k) inner
+    and areValid ks next
+
+abbrev pub atTop : List (List ℕ)
+atTop = ascii "VCALENDAR" ∷ []
+
+unfoldable pub isValid : Components → Bool
+isValid c = hasComponents c and areValid atTop c

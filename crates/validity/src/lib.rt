@@ -1,0 +1,1 @@
+// A valid calendar, whichever format states it. Definitions are in specs/.
