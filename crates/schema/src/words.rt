@@ -110,7 +110,14 @@ fn read_in_set(n: usize, xcal: bool, mode: usize, s: &[u8], at: usize) -> WordRe
         return read_word_in(3, xcal, mode, s, at, b"DRAFT\nFINAL\nCANCELLED\n");
     }
     if n <= set::CUTYPE {
-        return read_word_in(5, xcal, mode, s, at, b"INDIVIDUAL\nGROUP\nRESOURCE\nROOM\nUNKNOWN\n");
+        return read_word_in(
+            5,
+            xcal,
+            mode,
+            s,
+            at,
+            b"INDIVIDUAL\nGROUP\nRESOURCE\nROOM\nUNKNOWN\n",
+        );
     }
     if n <= set::ENCODING {
         return read_word_in(2, xcal, mode, s, at, b"8BIT\nBASE64\n");
@@ -174,7 +181,27 @@ pub fn read_word_of(k: usize, p: usize, xcal: bool, mode: usize, s: &[u8], at: u
 }
 
 // The number of the set of each parameter.
-const PARAMETER_SETS: [u8; 19] = [16, 16, 8, 16, 16, 16, 9, 16, 10, 16, 16, 11, 12, 13, 14, 15, 16, 16, 16];
+const PARAMETER_SETS: [u8; 19] = [
+    16,
+    16,
+    8,
+    16,
+    16,
+    16,
+    9,
+    16,
+    10,
+    16,
+    16,
+    11,
+    12,
+    13,
+    14,
+    15,
+    16,
+    16,
+    16,
+];
 
 fn parameter_set(q: usize) -> usize
     ensures { λ r. ⌜ r ≡ parameterSet q ⌝ }
