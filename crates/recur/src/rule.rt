@@ -1,5 +1,6 @@
 // A whole rule in text, over an encoding whose cursors are indices. See specs/Pieces.antt and specs/Noted.antt.
-use crate::item::is_item;
+use crate::item::ItemRead;
+use crate::item::read_item;
 use crate::part;
 use names::name_key;
 use names::named;
@@ -122,17 +123,15 @@ fn are_items(p: usize, mode: usize, s: &[u8], at: usize) -> bool
     let mut c = at;
     loop {
         let e = byte_end(COMMA, mode, s, c);
-        let fits = is_item(p, false, mode, &s[..e], c);
-        if fits {
-            let n = unit(mode, s, e);
-            let u = n.u;
-            if u == END {
-                return true;
-            }
-            c = n.next;
-        } else {
+        let ItemRead::Good(i) = read_item(p, false, mode, &s[..e], c) else {
             return false;
+        };
+        let n = unit(mode, s, e);
+        let u = n.u;
+        if u == END {
+            return true;
         }
+        c = n.next;
     }
 }
 
@@ -146,7 +145,10 @@ fn is_part(p: usize, mode: usize, s: &[u8], at: usize) -> bool
     if listed {
         return are_items(p, mode, s, v);
     }
-    is_item(p, false, mode, s, v)
+    let ItemRead::Good(i) = read_item(p, false, mode, s, v) else {
+        return false;
+    };
+    true
 }
 
 // FREQ is there; UNTIL and COUNT are not both there.
