@@ -1,7 +1,7 @@
 -- Laws of what specs/Parts.antt defines.
 --     component-parts          the element is made of these
 --     head-put, tail-put       for code
-use mathlib.Core.Path.{_≡_, refl, sym, ap, _∙_}
+use mathlib.Core.Path.{_≡_, refl, sym, ap, subst, _∙_}
 use mathlib.Core.Bool.{Bool, true, false}
 use mathlib.Core.List.{List, [], _∷_}
 use Prim.Native.Nat.{ℕ}
@@ -54,11 +54,11 @@ pub head-put : (n : List ℕ) (mode : ℕ) (s : List ℕ) {from : ℕ} {w : Walk
     PropertiesPut e f a (elementOf (ascii "properties") (ownXml (componentName k) (entriesAt mode s from))) mode s from w → there ≡ hasComponents (upper n) (w .bare) →
     Put f g (w .to) r (pick there (startTag (ascii "components")) []) →
     PropertiesPut d g o (headXml (upper n) (w .bare) (entriesAt mode s from)) mode s from (record { to = r; inner = w .inner; bare = w .bare; next = w .next })
-head-put n mode s {from} k q u v h z =
+head-put n mode s {from} {d = d} {e = e} {o = o} {a = a} k q u v h z =
     let es : List Entry = entriesAt mode s from in
     let q′ : ownXml (componentName k) es ≡ ownXml (upper n) es = ap (λ (k : ℕ). ownXml (componentName k) es) q ∙ ap propertiesXml (own-place (upper n) es 0) in
-    record { put = (rw (← (lower-any-case n)) at u) ▷ (rw q′ at v .put) ▷ (rw h at z); ahead = v .ahead }
+    record { put = subst (λ (m : List ℕ). Put d e o a (startTag m)) (sym (lower-any-case n)) u ▷ (rw q′ at v .put) ▷ (rw h at z); ahead = v .ahead }
 
 pub tail-put : (n : List ℕ) (empty : Bool) {there : Bool} {d e f : List ℕ} {o a r : ℕ} → there ≡ hasComponents (upper n) empty →
     Put d e o a (pick there (endTag (ascii "components")) []) → Put e f a r (endTag (lower n)) → Put d f o r (tailXml (upper n) empty)
-tail-put n empty h u v = (rw h at u) ▷ (rw (← (lower-any-case n)) at v)
+tail-put n empty {e = e} {f = f} {a = a} {r = r} h u v = (rw h at u) ▷ subst (λ (m : List ℕ). Put e f a r (endTag m)) (sym (lower-any-case n)) v
