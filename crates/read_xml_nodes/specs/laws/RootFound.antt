@@ -1,5 +1,5 @@
 -- Laws of what specs/RootFound.antt defines.
---     root-start, root-empty, root-none    by the kind of the root's tag;   `search roots`
+--     root-start, root-empty, root-fault, root-end, root-char, root-reference    by the kind of the root's tag;   `search roots`
 use mathlib.Core.Path.{_≡_, refl}
 use mathlib.Core.List.{List}
 use Prim.Native.Nat.{ℕ, _≤_}

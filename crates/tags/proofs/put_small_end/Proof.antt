@@ -1,10 +1,10 @@
--- `write_xml_parameters::parameter::put_end` meets its contract.
+-- `tags::put_small_end` meets its contract.
 use Rattle.sink.specs.laws.Sink.{writing}
-use Rattle.write_xml_parameters.proofs.parameter.put_end.Statement.{statement}
-use Rattle.write_xml_parameters.proofs.parameter.put_end.Tie as tie
+use Rattle.tags.proofs.put_small_end.Statement.{statement}
+use Rattle.tags.proofs.put_small_end.Tie as tie
 
-pub put-end-spec : {M : Type 1} → statement M
-put-end-spec = tie.close (tie.spec
+pub put-small-end-spec : {M : Type 1} → statement M
+put-small-end-spec = tie.close (tie.spec
     (λ c. search writing)  -- slice-aggregate-put-all
     (λ c κs. search writing)  -- put-all-requires
     (λ c κs. search writing)  -- put-lower-requires

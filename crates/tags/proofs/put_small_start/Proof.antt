@@ -1,10 +1,10 @@
--- `write_xml_parameters::parameter::put_start` meets its contract.
+-- `tags::put_small_start` meets its contract.
 use Rattle.sink.specs.laws.Sink.{writing}
-use Rattle.write_xml_parameters.proofs.parameter.put_start.Statement.{statement}
-use Rattle.write_xml_parameters.proofs.parameter.put_start.Tie as tie
+use Rattle.tags.proofs.put_small_start.Statement.{statement}
+use Rattle.tags.proofs.put_small_start.Tie as tie
 
-pub put-start-spec : {M : Type 1} → statement M
-put-start-spec = tie.close (tie.spec
+pub put-small-start-spec : {M : Type 1} → statement M
+put-small-start-spec = tie.close (tie.spec
     (λ c. search writing)  -- slice-aggregate-put-all
     (λ c κs. search writing)  -- put-all-requires
     (λ c κs. search writing)  -- put-lower-requires
