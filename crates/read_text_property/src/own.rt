@@ -92,12 +92,7 @@ fn are_permitted(k: usize, p: usize, t: usize, mode: usize, s: &[u8], at: usize)
 // The values of the type `t` of the property `p` in the component `k`, from the cursor to the end.
 pub fn read_values(k: usize, p: usize, t: usize, mode: usize, s: &[u8], at: usize) -> ValuesRead
     requires { ⌜ cuts mode ≡ true ⌝ }
-    ensures { λ r. ⌜
-        ((c w : List ℕ) →
-        k ≡ placeOf c componentNames →
-        p ≡ placeOf w propertyNames →
-        t ≤ 14 →
-        r ≡ valuesRead t (isRead (readValues c w (typeAt t) (rest mode (now (s .entry)) at)))) ⌝ }
+    ensures { λ r. ⌜ r ≡ valuesRead t (goodAt k p t (rest mode (now (s .entry)) at)) ⌝ }
 {
     let good = are_permitted(k, p, t, mode, s, at);
     if good {

@@ -1,6 +1,6 @@
 -- Laws of what specs/ValuesAt.antt defines.
 --     areGood         whether they are;   good-values: whether they were read
---     values-place    it is what `readValues` says of the names
+--     values-place    it is what `readValues` says of the names;   values-named: so is the answer
 --     geo-yes, status-yes, chosen-word, chosen-value, values-good ..   the ways of the code
 use mathlib.Core.Path.{_≡_, refl, sym, ap, _∙_}
 use mathlib.Core.Bool.{Bool, true, false, false≢true}
@@ -116,12 +116,14 @@ module _ {a r : Bool} (o : Option (List (List ℕ))) (t : ValueType) (l : List �
 
 -- ---- the answer
 
-module _ {g : Bool} (k p t : ℕ) (l : List ℕ) (e : g ≡ goodAt k p t l) (c w : List ℕ) (i : k ≡ placeOf c componentNames) (j : p ≡ placeOf w propertyNames) where
-  read-is : isRead (readValues c w (typeAt t) l) ≡ g
-  read-is = values-place c w t l ∙ rw (← i, ← j) (sym e)
+module _ {g : Bool} (k p t : ℕ) (l : List ℕ) (e : g ≡ goodAt k p t l) where
+  pub values-good : g ≡ true → Good t ≡ valuesRead t (goodAt k p t l)
+  values-good h = rw (← e, h)
 
-  pub values-good : g ≡ true → Good t ≡ valuesRead t (isRead (readValues c w (typeAt t) l))
-  values-good h = rw (read-is, h)
+  pub values-bad : g ≡ false → Bad ≡ valuesRead t (goodAt k p t l)
+  values-bad h = rw (← e, h)
 
-  pub values-bad : g ≡ false → Bad ≡ valuesRead t (isRead (readValues c w (typeAt t) l))
-  values-bad h = rw (read-is, h)
+-- of names that have these numbers
+pub values-named : {r : ValuesRead} (k p t : ℕ) (l : List ℕ) → r ≡ valuesRead t (goodAt k p t l) → (c w : List ℕ) → k ≡ placeOf c componentNames → p ≡ placeOf w propertyNames →
+    r ≡ valuesRead t (isRead (readValues c w (typeAt t) l))
+values-named k p t l e c w i j = e ∙ rw (values-place c w t l, i, j)
