@@ -8,16 +8,12 @@ use values::ValueRead;
 use values::read_value;
 ghost use mathlib.Core.Path.{_≡_};
 ghost use mathlib.Core.Bool.{true};
-ghost use mathlib.Core.List.{List};
-ghost use Prim.Native.Nat.{ℕ};
 ghost use Rattle.octets.specs.Reading.{isRead};
 ghost use Rattle.calendar.specs.Calendar.{ical};
 ghost use Rattle.source.specs.Source.{rest, cuts};
-ghost use Rattle.names.specs.Table.{placeOf};
-ghost use Rattle.schema.specs.Parameters.{parameterNames};
 ghost use Rattle.schema.specs.Numbers.{typeAt, parameterAt};
 ghost use Rattle.values.specs.ReadValue.{readValue};
-ghost use Rattle.text.specs.Parameters.{readTyped, readWord, readParamValue};
+ghost use Rattle.text.specs.Parameters.{readTyped, readWord};
 ghost use Rattle.read_text_parameters.specs.Typing.{readBy};
 
 // A value of the type of the number `t`.
@@ -71,15 +67,4 @@ pub fn is_value_at(q: usize, quoted: bool, mode: usize, s: &[u8], at: usize) -> 
         return false;
     }
     is_chosen(q, mode, s, at)
-}
-
-// Whether a parameter's value, which stood between quotes or not, and whose characters stand from the cursor on, is one.
-pub fn is_value(q: usize, quoted: bool, mode: usize, s: &[u8], at: usize) -> bool
-    requires { ⌜ cuts mode ≡ true ⌝ }
-    ensures { λ r. ⌜
-        ((w : List ℕ) →
-        q ≡ placeOf w parameterNames →
-        r ≡ isRead (readParamValue w (record { quoted = quoted; chars = rest mode (now (s .entry)) at }))) ⌝ }
-{
-    is_value_at(q, quoted, mode, s, at)
 }

@@ -13,18 +13,13 @@ use texts::Status;
 use texts::read_request_status;
 ghost use mathlib.Core.Path.{_≡_};
 ghost use mathlib.Core.Bool.{true};
-ghost use mathlib.Core.List.{List};
-ghost use Prim.Native.Nat.{ℕ, _≤_};
 ghost use Rattle.octets.specs.Reading.{isRead};
 ghost use Rattle.source.specs.Source.{rest, cuts};
-ghost use Rattle.names.specs.Table.{placeOf};
-ghost use Rattle.schema.specs.Components.{componentNames};
-ghost use Rattle.schema.specs.Properties.{propertyNames};
 ghost use Rattle.schema.specs.Numbers.{typeAt};
 ghost use Rattle.schema.specs.Sets.{wordsAt};
 ghost use Rattle.numbers.specs.Geo.{readGeo};
 ghost use Rattle.texts.specs.RequestStatus.{readRequestStatus};
-ghost use Rattle.text.specs.Values.{readChosen, readValues};
+ghost use Rattle.text.specs.Values.{readChosen};
 ghost use Rattle.read_text_property.specs.ValuesAt.{ownAt, goodAt, valuesRead};
 
 fn is_geo(mode: usize, s: &[u8], at: usize) -> bool

@@ -37,6 +37,7 @@ module _ {f t : List ℕ} {k a e : ℕ} where
     where
       room : hasRoom f t k a e ≡ true
       room = sym (p .kept) ∙ h
+
       z : (ltb k (length f) ≡ true) × (ltb k (length t) ≡ true)
       z = and-both _ _ (and-both _ _ (and-both _ _ room .1) .1)
 
