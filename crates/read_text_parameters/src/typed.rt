@@ -9,14 +9,10 @@ use values::ValueRead;
 use values::read_value;
 ghost use mathlib.Core.Path.{_≡_};
 ghost use mathlib.Core.Bool.{true};
-ghost use mathlib.Core.List.{List};
-ghost use Prim.Native.Nat.{ℕ};
 ghost use Rattle.octets.specs.Reading.{isRead};
 ghost use Rattle.source.specs.Source.{rest, cuts};
-ghost use Rattle.names.specs.Table.{placeOf};
-ghost use Rattle.schema.specs.Parameters.{parameterNames};
 ghost use Rattle.schema.specs.Numbers.{parameterAt};
-ghost use Rattle.text.specs.Parameters.{readTyped, readWord, readParamValue};
+ghost use Rattle.text.specs.Parameters.{readTyped, readWord};
 ghost use Rattle.read_text_parameters.specs.Typing.{readBy};
 
 // A value of the parameter's type. TEXT is any characters.
@@ -64,15 +60,4 @@ pub fn is_value_at(q: usize, quoted: bool, mode: usize, s: &[u8], at: usize) -> 
         return false;
     }
     is_chosen(q, mode, s, at)
-}
-
-// Whether a parameter's value, which stood between quotes or not, and whose characters stand from the cursor on, is one.
-pub fn is_value(q: usize, quoted: bool, mode: usize, s: &[u8], at: usize) -> bool
-    requires { ⌜ cuts mode ≡ true ⌝ }
-    ensures { λ r. ⌜
-        ((w : List ℕ) →
-        q ≡ placeOf w parameterNames →
-        r ≡ isRead (readParamValue w (record { quoted = quoted; chars = rest mode (now (s .entry)) at }))) ⌝ }
-{
-    is_value_at(q, quoted, mode, s, at)
 }

@@ -15,19 +15,14 @@ use values::ValueRead;
 use values::read_value;
 ghost use mathlib.Core.Path.{_≡_};
 ghost use mathlib.Core.Bool.{true};
-ghost use mathlib.Core.List.{List};
-ghost use Prim.Native.Nat.{ℕ, _≤_};
 ghost use Rattle.octets.specs.Reading.{isRead};
 ghost use Rattle.source.specs.Source.{rest, cuts};
-ghost use Rattle.names.specs.Table.{placeOf};
-ghost use Rattle.schema.specs.Components.{componentNames};
-ghost use Rattle.schema.specs.Properties.{propertyNames};
 ghost use Rattle.schema.specs.Numbers.{typeAt};
 ghost use Rattle.schema.specs.Sets.{wordsAt};
 ghost use Rattle.numbers.specs.Geo.{readGeo};
 ghost use Rattle.texts.specs.RequestStatus.{readRequestStatus};
-ghost use Rattle.text.specs.Values.{readChosen, readValues};
-ghost use Rattle.read_text_property.specs.ValuesAt.{ownAt, valuesRead};
+ghost use Rattle.text.specs.Values.{readChosen};
+ghost use Rattle.read_text_property.specs.ValuesAt.{ownAt, goodAt, valuesRead};
 
 // GEO.
 fn read_geo_value(t: usize, mode: usize, s: &[u8], at: usize) -> ValuesRead
@@ -89,12 +84,7 @@ fn read_own(k: usize, p: usize, t: usize, mode: usize, s: &[u8], at: usize) -> V
 // The values of the type `t` of the property `p` in the component `k`, from the cursor to the end, where the property permits the type.
 pub fn read_values(k: usize, p: usize, t: usize, mode: usize, s: &[u8], at: usize) -> ValuesRead
     requires { ⌜ cuts mode ≡ true ⌝ }
-    ensures { λ r. ⌜
-        ((c w : List ℕ) →
-        k ≡ placeOf c componentNames →
-        p ≡ placeOf w propertyNames →
-        t ≤ 14 →
-        r ≡ valuesRead t (isRead (readValues c w (typeAt t) (rest mode (now (s .entry)) at)))) ⌝ }
+    ensures { λ r. ⌜ r ≡ valuesRead t (goodAt k p t (rest mode (now (s .entry)) at)) ⌝ }
 {
     let fits = permits_type(p, t);
     if fits {

@@ -1,8 +1,8 @@
 -- Laws of what specs/ValuesAt.antt defines.
 --     areGood         whether they are;   good-values: whether they were read
---     values-place    it is what `readValues` says of the names
+--     values-place    it is what `readValues` says of the names;   values-named: so is the answer
 --     values-yes, values-no, values-as, own-take, own-skip             the answer, by tests
---     geo-yes, status-yes, chosen-word, chosen-value, values-named ..  the ways of the code
+--     geo-yes, status-yes, chosen-word, chosen-value ..                the ways of the code
 use mathlib.Core.Path.{_≡_, refl, sym, ap, _∙_}
 use mathlib.Core.Bool.{Bool, true, false, false≢true}
 use mathlib.Core.List.{List, [], _∷_}
@@ -135,9 +135,7 @@ module _ {a r : Bool} (o : Option (List (List ℕ))) (t : ValueType) (l : List �
 
 -- ---- the answer
 
-module _ {r : ValuesRead} (k p t : ℕ) (l : List ℕ) (e : r ≡ valuesRead t (goodAt k p t l)) (c w : List ℕ) (i : k ≡ placeOf c componentNames) (j : p ≡ placeOf w propertyNames) where
-  read-is : isRead (readValues c w (typeAt t) l) ≡ goodAt k p t l
-  read-is = values-place c w t l ∙ rw (← i, ← j)
-
-  pub values-named : r ≡ valuesRead t (isRead (readValues c w (typeAt t) l))
-  values-named = values-as t e (sym read-is)
+-- of names that have these numbers
+pub values-named : {r : ValuesRead} (k p t : ℕ) (l : List ℕ) → r ≡ valuesRead t (goodAt k p t l) → (c w : List ℕ) → k ≡ placeOf c componentNames → p ≡ placeOf w propertyNames →
+    r ≡ valuesRead t (isRead (readValues c w (typeAt t) l))
+values-named k p t l e c w i j = e ∙ rw (values-place c w t l, i, j)

@@ -5,7 +5,7 @@ use borrow.Author.Needs.{needs}
 use mathlib.Core.Path.{sym}
 use Rattle.schema.specs.Numbers.{typeAt}
 use Rattle.recur.specs.laws.PieceLaws.{Left, left-start, pieces-less, cut-count}
-use Rattle.values.specs.laws.ValueAt.{good-yes, good-no}
+use Rattle.values.specs.laws.ValueAt.{good-yes, good-no, value-there}
 use Rattle.read_text_property.specs.Listed.{eachValue}
 use Rattle.read_text_property.specs.laws.Listed.{each-bad, each-last, each-more}
 use Rattle.read_text_property.specs.laws.ValuesAt.{values-yes, values-no}
@@ -28,9 +28,9 @@ read-pieces-spec = tie.close (tie.spec
     (λ c κs. search needs)  -- read-value-requires
     (λ c. search needs)  -- enum-known-v
     (λ c. search needs)  -- enum-told
-    (λ c. values-no (c .before .before .before .before .before .before .before .args .t) (each-bad _ (c .before .before .before .before .before .loop .inv) (c .before .before .before .before .byte-end .ensures) (sym (good-no (c .before .before .before .before .before .before .before .args .t) (c .before .before .read-value .ensures (λ h. c .before .before .before .before .before .loop .inv .inside .cut)) (c .enum-told .given .1)))))  -- returns
+    (λ c. values-no (c .before .before .before .before .before .before .before .args .t) (each-bad _ (c .before .before .before .before .before .loop .inv) (c .before .before .before .before .byte-end .ensures) (sym (good-no (c .before .before .before .before .before .before .before .args .t) (value-there _ _ _ _ _ (c .before .before .read-value .ensures) (λ h. c .before .before .before .before .before .loop .inv .inside .cut)) (c .enum-told .given .1)))))  -- returns
     (λ c κs. search needs)  -- unit-requires
-    (λ c. values-yes (c .before .before .before .before .before .before .before .before .before .before .args .t) (each-last _ (c .before .before .before .before .before .before .before .before .loop .inv) (c .before .before .before .before .before .before .before .byte-end .ensures) (c .before .unit .ensures) (sym (good-yes (c .before .before .before .before .before .before .before .before .before .before .args .t) (c .before .before .before .before .before .read-value .ensures (λ h. c .before .before .before .before .before .before .before .before .loop .inv .inside .cut)) (c .before .before .before .v .given .1))) (c .if1 .taken)))  -- returns-2
+    (λ c. values-yes (c .before .before .before .before .before .before .before .before .before .before .args .t) (each-last _ (c .before .before .before .before .before .before .before .before .loop .inv) (c .before .before .before .before .before .before .before .byte-end .ensures) (c .before .unit .ensures) (sym (good-yes (c .before .before .before .before .before .before .before .before .before .before .args .t) (value-there _ _ _ _ _ (c .before .before .before .before .before .read-value .ensures) (λ h. c .before .before .before .before .before .before .before .before .loop .inv .inside .cut)) (c .before .before .before .v .given .1))) (c .if1 .taken)))  -- returns-2
     (λ c. pieces-less (c .before .before .before .before .before .before .before .byte-end .ensures) (c .before .unit .ensures) (c .if1 .left))  -- loop-less
-    (λ c. each-more _ (c .before .before .before .before .before .before .before .before .loop .inv) (c .before .before .before .before .before .before .before .byte-end .ensures) (c .before .unit .ensures) (sym (good-yes (c .before .before .before .before .before .before .before .before .before .before .args .t) (c .before .before .before .before .before .read-value .ensures (λ h. c .before .before .before .before .before .before .before .before .loop .inv .inside .cut)) (c .before .before .before .v .given .1))) (c .if1 .left))  -- loop-again
+    (λ c. each-more _ (c .before .before .before .before .before .before .before .before .loop .inv) (c .before .before .before .before .before .before .before .byte-end .ensures) (c .before .unit .ensures) (sym (good-yes (c .before .before .before .before .before .before .before .before .before .before .args .t) (value-there _ _ _ _ _ (c .before .before .before .before .before .read-value .ensures) (λ h. c .before .before .before .before .before .before .before .before .loop .inv .inside .cut)) (c .before .before .before .v .given .1))) (c .if1 .left))  -- loop-again
     )

@@ -2,8 +2,7 @@
 use borrow.Author.Needs.{needs}
 use mathlib.Core.Path.{refl}
 use Rattle.octets.specs.laws.Pick.{flag-yes, flag-no}
-use Rattle.source.specs.Source.{rest}
-use Rattle.read_text_property.specs.laws.ValuesAt.{own-take, own-skip, values-named}
+use Rattle.read_text_property.specs.laws.ValuesAt.{own-take, own-skip}
 use Rattle.read_text_property.proofs.own.read_values.Statement.{statement}
 use Rattle.read_text_property.proofs.own.read_values.Tie as tie
 
@@ -11,6 +10,6 @@ pub read-values-spec : {M : Type 1} → statement M
 read-values-spec = tie.close (tie.spec
     (λ c κs. search needs)  -- permits-type-requires
     (λ c κs. search needs)  -- read-own-requires
-    (λ c a w i j h. values-named (c .before .before .before .before .args .k) (c .before .before .before .before .args .p) (c .before .before .before .before .args .t) (rest (c .before .before .before .before .args .mode) (c .before .before .before .before .args .s .now) (c .before .before .before .before .args .at)) (own-take _ (flag-yes _ _ (c .before .before .permits-type .ensures) (c .before .if1 .taken)) (c .read-own .ensures)) a w i j)  -- returns
-    (λ c a w i j h. values-named (c .before .before .before .args .k) (c .before .before .before .args .p) (c .before .before .before .args .t) (rest (c .before .before .before .args .mode) (c .before .before .before .args .s .now) (c .before .before .before .args .at)) (own-skip (c .before .before .before .args .t) (flag-no _ _ (c .before .permits-type .ensures) (c .if1 .left)) refl) a w i j)  -- returns-2
+    (λ c. own-take _ (flag-yes _ _ (c .before .before .permits-type .ensures) (c .before .if1 .taken)) (c .read-own .ensures))  -- returns
+    (λ c. own-skip (c .before .before .before .args .t) (flag-no _ _ (c .before .permits-type .ensures) (c .if1 .left)) refl)  -- returns-2
     )

@@ -4,7 +4,7 @@ use mathlib.Core.Bool.{false≢true}
 use Rattle.source.specs.Source.{rest}
 use Rattle.schema.specs.Sets.{parameterWordsAt}
 use Rattle.schema.specs.laws.Sets.{word-yes, word-no}
-use Rattle.values.specs.laws.ValueAt.{good-yes, good-no}
+use Rattle.values.specs.laws.ValueAt.{good-yes, good-no, value-there}
 use Rattle.read_xml_parameters.specs.laws.Leaves.{chosen-word, chosen-other}
 use borrow.Author.Needs.{needs}
 use Rattle.read_xml_parameters.proofs.leaf.is_chosen.Statement.{statement}
@@ -22,6 +22,6 @@ is-chosen-spec = tie.close (tie.spec
     (λ c κs. search needs)  -- read-value-requires
     (λ c. search needs)  -- enum-known-v
     (λ c. search needs)  -- enum-told-2
-    (λ c. chosen-other (c .before .before .before .before .before .before .before .args .q) _ (c .before .before .before .before .before .parameter-has-words .ensures) (c .before .before .before .before .if1 .left) (c .before .before .before .parameter-type .ensures) (good-no _ (c .before .before .read-value .ensures (λ h. absurd (false≢true (sym h)))) (c .enum-told2 .given .1)))  -- returns-3
-    (λ c. chosen-other (c .before .before .before .before .before .before .before .before .args .q) _ (c .before .before .before .before .before .before .parameter-has-words .ensures) (c .before .before .before .before .before .if1 .left) (c .before .before .before .before .parameter-type .ensures) (good-yes _ (c .before .before .before .read-value .ensures (λ h. absurd (false≢true (sym h)))) (c .before .v .given .1)))  -- returns-4
+    (λ c. chosen-other (c .before .before .before .before .before .before .before .args .q) _ (c .before .before .before .before .before .parameter-has-words .ensures) (c .before .before .before .before .if1 .left) (c .before .before .before .parameter-type .ensures) (good-no _ (value-there _ _ _ _ _ (c .before .before .read-value .ensures) (λ h. absurd (false≢true (sym h)))) (c .enum-told2 .given .1)))  -- returns-3
+    (λ c. chosen-other (c .before .before .before .before .before .before .before .before .args .q) _ (c .before .before .before .before .before .before .parameter-has-words .ensures) (c .before .before .before .before .before .if1 .left) (c .before .before .before .before .parameter-type .ensures) (good-yes _ (value-there _ _ _ _ _ (c .before .before .before .read-value .ensures) (λ h. absurd (false≢true (sym h)))) (c .before .v .given .1)))  -- returns-4
     )
