@@ -14,7 +14,7 @@ unfolding find
 part-number-spec = tie.close (tie.spec
     (λ c κs. search needs)  -- pack-requires
     (λ c κs. search needs)  -- part-1-requires
-    (λ c. by-packs _ partRows partRows2 partNames 14 names-packed refl (c .before .before .pack .ensures) (search finding depth 12))  -- returns
+    (λ c. by-packs _ partRows partRows2 partNames 14 names-packed refl (c .before .before .before .pack .ensures) (search finding depth 12))  -- returns
     (λ c κs. search needs)  -- part-2-requires
-    (λ c. by-packs _ partRows partRows2 partNames 14 names-packed refl (c .before .before .pack .ensures) (search finding depth 12))  -- returns-2
+    (λ c. by-packs _ partRows partRows2 partNames 14 names-packed refl (c .before .before .before .pack .ensures) (search finding depth 12))  -- returns-2
     )

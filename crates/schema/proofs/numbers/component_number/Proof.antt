@@ -14,7 +14,7 @@ unfolding find
 component-number-spec = tie.close (tie.spec
     (λ c κs. search needs)  -- pack-requires
     (λ c κs. search needs)  -- component-1-requires
-    (λ c. by-packs _ componentRows componentRows2 componentNames 9 components-packed refl (c .before .before .pack .ensures) (search finding depth 12))  -- returns
+    (λ c. by-packs _ componentRows componentRows2 componentNames 9 components-packed refl (c .before .before .before .pack .ensures) (search finding depth 12))  -- returns
     (λ c κs. search needs)  -- component-2-requires
-    (λ c. by-packs _ componentRows componentRows2 componentNames 9 components-packed refl (c .before .before .pack .ensures) (search finding depth 12))  -- returns-2
+    (λ c. by-packs _ componentRows componentRows2 componentNames 9 components-packed refl (c .before .before .before .pack .ensures) (search finding depth 12))  -- returns-2
     )

@@ -14,9 +14,9 @@ unfolding find
 parameter-number-spec = tie.close (tie.spec
     (λ c κs. search needs)  -- pack-requires
     (λ c κs. search needs)  -- parameter-1-requires
-    (λ c. by-packs _ parameterRows parameterRows3 parameterNames 19 parameters-packed refl (c .before .before .pack .ensures) (search finding depth 12))  -- returns
+    (λ c. by-packs _ parameterRows parameterRows3 parameterNames 19 parameters-packed refl (c .before .before .before .pack .ensures) (search finding depth 12))  -- returns
     (λ c κs. search needs)  -- parameter-2-requires
-    (λ c. by-packs _ parameterRows parameterRows3 parameterNames 19 parameters-packed refl (c .before .before .before .pack .ensures) (search finding depth 12))  -- returns-2
+    (λ c. by-packs _ parameterRows parameterRows3 parameterNames 19 parameters-packed refl (c .before .before .before .before .before .pack .ensures) (search finding depth 12))  -- returns-2
     (λ c κs. search needs)  -- parameter-3-requires
-    (λ c. by-packs _ parameterRows parameterRows3 parameterNames 19 parameters-packed refl (c .before .before .before .pack .ensures) (search finding depth 12))  -- returns-3
+    (λ c. by-packs _ parameterRows parameterRows3 parameterNames 19 parameters-packed refl (c .before .before .before .before .before .pack .ensures) (search finding depth 12))  -- returns-3
     )

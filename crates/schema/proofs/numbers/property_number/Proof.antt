@@ -14,15 +14,15 @@ unfolding find
 property-number-spec = tie.close (tie.spec
     (λ c κs. search needs)  -- pack-requires
     (λ c κs. search needs)  -- property-1-requires
-    (λ c. by-packs _ propertyRows propertyRows6 propertyNames 46 properties-packed refl (c .before .before .pack .ensures) (search finding depth 12))  -- returns
+    (λ c. by-packs _ propertyRows propertyRows6 propertyNames 46 properties-packed refl (c .before .before .before .pack .ensures) (search finding depth 12))  -- returns
     (λ c κs. search needs)  -- property-2-requires
-    (λ c. by-packs _ propertyRows propertyRows6 propertyNames 46 properties-packed refl (c .before .before .before .pack .ensures) (search finding depth 12))  -- returns-2
+    (λ c. by-packs _ propertyRows propertyRows6 propertyNames 46 properties-packed refl (c .before .before .before .before .before .pack .ensures) (search finding depth 12))  -- returns-2
     (λ c κs. search needs)  -- property-3-requires
-    (λ c. by-packs _ propertyRows propertyRows6 propertyNames 46 properties-packed refl (c .before .before .before .before .pack .ensures) (search finding depth 12))  -- returns-3
+    (λ c. by-packs _ propertyRows propertyRows6 propertyNames 46 properties-packed refl (c .before .before .before .before .before .before .before .pack .ensures) (search finding depth 12))  -- returns-3
     (λ c κs. search needs)  -- property-4-requires
-    (λ c. by-packs _ propertyRows propertyRows6 propertyNames 46 properties-packed refl (c .before .before .before .before .before .pack .ensures) (search finding depth 12))  -- returns-4
+    (λ c. by-packs _ propertyRows propertyRows6 propertyNames 46 properties-packed refl (c .before .before .before .before .before .before .before .before .before .pack .ensures) (search finding depth 12))  -- returns-4
     (λ c κs. search needs)  -- property-5-requires
-    (λ c. by-packs _ propertyRows propertyRows6 propertyNames 46 properties-packed refl (c .before .before .before .before .before .before .pack .ensures) (search finding depth 12))  -- returns-5
+    (λ c. by-packs _ propertyRows propertyRows6 propertyNames 46 properties-packed refl (c .before .before .before .before .before .before .before .before .before .before .before .pack .ensures) (search finding depth 12))  -- returns-5
     (λ c κs. search needs)  -- property-6-requires
-    (λ c. by-packs _ propertyRows propertyRows6 propertyNames 46 properties-packed refl (c .before .before .before .before .before .before .pack .ensures) (search finding depth 12))  -- returns-6
+    (λ c. by-packs _ propertyRows propertyRows6 propertyNames 46 properties-packed refl (c .before .before .before .before .before .before .before .before .before .before .before .pack .ensures) (search finding depth 12))  -- returns-6
     )

@@ -14,7 +14,7 @@ unfolding find
 type-number-spec = tie.close (tie.spec
     (λ c κs. search needs)  -- pack-requires
     (λ c κs. search needs)  -- type-1-requires
-    (λ c. by-packs _ typeRows typeRows2 typeNames 14 types-packed refl (c .before .before .pack .ensures) (search finding depth 12))  -- returns
+    (λ c. by-packs _ typeRows typeRows2 typeNames 14 types-packed refl (c .before .before .before .pack .ensures) (search finding depth 12))  -- returns
     (λ c κs. search needs)  -- type-2-requires
-    (λ c. by-packs _ typeRows typeRows2 typeNames 14 types-packed refl (c .before .before .pack .ensures) (search finding depth 12))  -- returns-2
+    (λ c. by-packs _ typeRows typeRows2 typeNames 14 types-packed refl (c .before .before .before .pack .ensures) (search finding depth 12))  -- returns-2
     )
