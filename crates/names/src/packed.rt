@@ -8,11 +8,17 @@ ghost use Rattle.octets.specs.Class.{upper};
 ghost use Rattle.source.specs.Source.{rest};
 ghost use Rattle.names.specs.Packing.{growHigh, growLow, Packs};
 
-// A digit of the number is a byte below this.
-const BASE: usize = 128;
-// The place behind the second digit from the top of the low half, and the number from which on the high half takes no more digits.
-const LOW_TOP: u64 = 0x2_0000_0000_0000;
+// The base of a number; its digits are the bytes below it.
+const BASE: u64 = 128;
+
+const DIGITS: usize = 128;
+
+// What a digit in the eighth place counts, the highest of the low half.
+const EIGHTH: u64 = 0x2_0000_0000_0000;
+
+// From here on the high half takes no more digits.
 const FULL: u64 = 0x100_0000_0000_0000;
+
 // The high half of what is no name's number.
 const NONE: u64 = 0x8000_0000_0000_0000;
 
@@ -26,11 +32,11 @@ pub struct Packed {
 fn grown(high: u64, low: u64, v: usize) -> Packed
     ensures { λ r. ⌜ (r .high ≡ growHigh high low v) × (r .low ≡ growLow high low v) ⌝ }
 {
-    if v < BASE {
+    if v < DIGITS {
         if high < FULL {
             return Packed {
-                high: high * 128 + low / LOW_TOP,
-                low: low % LOW_TOP * 128 + v as u64,
+                high: high * BASE + low / EIGHTH,
+                low: low % EIGHTH * BASE + v as u64,
             };
         }
         return Packed { high: NONE, low: 0 };

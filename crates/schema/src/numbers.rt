@@ -1,5 +1,5 @@
-// The number of a name that stands from a cursor on (crate source), in any case: as one number (specs/Packing.antt of crate names) it is compared with those of the
-// names, in groups of at most eight (specs/Packs.antt). `tools/name-numbers.py` prints them; a number that is wrong is refused by the check.
+// The number of a name that stands from a cursor on (crate source), in any case: its bytes are packed (specs/Packing.antt of crate names) and compared with the packed names,
+// in groups of at most eight (specs/Packs.antt). `tools/packed-names.py` prints them; one that is wrong is refused by the check.
 use crate::component;
 use crate::parameter;
 use crate::property;

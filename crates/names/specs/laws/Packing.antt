@@ -207,8 +207,9 @@ module _ {m : ℕ} {s : List ℕ} {c₀ h l c : ℕ} {n : Step} (t : Taking m s 
   pub taking-more : {v x y : ℕ} → (n .u ≡ 256 → ⊥) → v ≡ upperByte (n .u) → (x ≡ growHigh h l v) × (y ≡ growLow h l v) → Taking m s c₀ x y (n .next)
   unfolding highFrom lowFrom
   taking-more e f g = record {
-      high = t .high ∙ rw (rest-byte q e, cased-more Capital (n .u) (rest m s (n .next)), ← f, g .0, g .1);
-      low = t .low ∙ rw (rest-byte q e, cased-more Capital (n .u) (rest m s (n .next)), ← f, g .0, g .1) }
+    high = t .high ∙ rw (rest-byte q e, cased-more Capital (n .u) (rest m s (n .next)), ← f, g .0, g .1);
+    low = t .low ∙ rw (rest-byte q e, cased-more Capital (n .u) (rest m s (n .next)), ← f, g .0, g .1);
+  }
 
   pub taking-end : n .u ≡ 256 → Packs (upper (rest m s c₀)) h l
   unfolding highFrom lowFrom

@@ -1,11 +1,11 @@
 #!/usr/bin/env python3
-"""The numbers by which code finds names (crates/names/specs/Packing.antt), for names in the order of their places, which a module has as constants:
+"""Packed names (crates/names/specs/Packing.antt), by which code finds them; for names in the order of their places, which a module has as constants:
 
-    tools/name-numbers.py component componentRows VCALENDAR VEVENT ..    prints the lines of the code and of the specification, as in crates/schema/src/numbers.rt and
+    tools/packed-names.py component componentRows VCALENDAR VEVENT ..    prints the lines of the code and of the specification, as in crates/schema/src/numbers.rt and
                                                                          crates/schema/specs/Packs.antt
-    tools/name-numbers.py --check                                        whether each line in crates/*/src has the number of its name
+    tools/packed-names.py --check                                        whether each line in crates/*/src has the halves of its name
 
-The prover compares the numbers with the names, so a wrong one is refused anyway.
+The prover compares them with the names, so a wrong one is refused anyway.
 """
 import pathlib
 import re
@@ -70,8 +70,8 @@ def check():
             found += 1
             if (int(high, 16), int(low, 16)) != halves(name.replace("_", "-")):
                 wrong += 1
-                print(f"{path.relative_to(ROOT)}: {name} has another number")
-    print(f"{found} numbers, {wrong} wrong")
+                print(f"{path.relative_to(ROOT)}: {name} has other halves")
+    print(f"{found} names, {wrong} wrong")
     sys.exit(1 if wrong or not found else 0)
 
 
