@@ -11,6 +11,6 @@ pub read-values-spec : {M : Type 1} → statement M
 read-values-spec = tie.close (tie.spec
     (λ c κs. search needs)  -- permits-type-requires
     (λ c κs. search needs)  -- read-own-requires
-    (λ c a w i j h. values-named (c .before .before .before .before .args .k) (c .before .before .before .before .args .p) (c .before .before .before .before .args .t) (rest (c .before .before .before .before .args .mode) (c .before .before .before .before .args .s .now) (c .before .before .before .before .args .at)) (own-take _ (flag-yes _ _ (c .before .before .permits-type .ensures) (c .before .if1 .taken)) (c .read-own .ensures)) a w i j)  -- returns
-    (λ c a w i j h. values-named (c .before .before .before .args .k) (c .before .before .before .args .p) (c .before .before .before .args .t) (rest (c .before .before .before .args .mode) (c .before .before .before .args .s .now) (c .before .before .before .args .at)) (own-skip (c .before .before .before .args .t) (flag-no _ _ (c .before .permits-type .ensures) (c .if1 .left)) refl) a w i j)  -- returns-2
+    (λ c a w i j h. values-named (c .before .before .before .before .args .k) (c .before .before .before .before .args .p) (c .before .before .before .before .args .t) (rest (c .before .before .before .before .args .mode) (c .before .before .before .before .args .s .now) (c .before .before .before .before .args .at)) (own-take _ _ _ (flag-yes _ _ (c .before .before .permits-type .ensures) (c .before .if1 .taken)) (c .read-own .ensures)) a w i j)  -- returns
+    (λ c a w i j h. values-named (c .before .before .before .args .k) (c .before .before .before .args .p) (c .before .before .before .args .t) (rest (c .before .before .before .args .mode) (c .before .before .before .args .s .now) (c .before .before .before .args .at)) (own-skip (c .before .before .before .args .t) _ _ (flag-no _ _ (c .before .permits-type .ensures) (c .if1 .left)) refl) a w i j)  -- returns-2
     )
