@@ -58,7 +58,7 @@ module _ (t : ℕ) where
     pub values-as : {a b : Bool} → r ≡ valuesRead t a → a ≡ b → r ≡ valuesRead t b
     values-as e h = rw (← h) e
 
-    module _ {x a b : Bool} where
+    module _ {x : Bool} (a b : Bool) where
       pub own-take : x ≡ true → r ≡ valuesRead t a → r ≡ valuesRead t (pick x a b)
       unfolding pick
       own-take h e = rw h e
