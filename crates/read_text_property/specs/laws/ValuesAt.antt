@@ -116,11 +116,11 @@ module _ {a r : Bool} (o : Option (List (List ℕ))) (t : ValueType) (l : List �
 
 -- ---- the answer
 
-module _ {g : Bool} (k p t : ℕ) (l : List ℕ) (e : g ≡ goodAt k p t l) where
-  pub values-good : g ≡ true → Good t ≡ valuesRead t (goodAt k p t l)
+module _ {g b : Bool} (t : ℕ) (e : g ≡ b) where
+  pub values-good : g ≡ true → Good t ≡ valuesRead t b
   values-good h = rw (← e, h)
 
-  pub values-bad : g ≡ false → Bad ≡ valuesRead t (goodAt k p t l)
+  pub values-bad : g ≡ false → Bad ≡ valuesRead t b
   values-bad h = rw (← e, h)
 
 -- of names that have these numbers

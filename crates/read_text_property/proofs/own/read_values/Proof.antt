@@ -7,6 +7,6 @@ use Rattle.read_text_property.proofs.own.read_values.Tie as tie
 pub read-values-spec : {M : Type 1} → statement M
 read-values-spec = tie.close (tie.spec
     (λ c κs. search needs)  -- are-permitted-requires
-    (λ c. values-good _ _ _ _ (c .before .are-permitted .ensures) (c .if1 .taken))  -- returns
-    (λ c. values-bad _ _ _ _ (c .before .are-permitted .ensures) (c .if1 .left))  -- returns-2
+    (λ c. values-good (c .before .before .before .args .t) (c .before .are-permitted .ensures) (c .if1 .taken))  -- returns
+    (λ c. values-bad (c .before .before .before .args .t) (c .before .are-permitted .ensures) (c .if1 .left))  -- returns-2
     )
