@@ -17,5 +17,5 @@ put-declaration-spec = tie.close (tie.spec
     (λ c. search writing)  -- slice-aggregate-put-all-2
     (λ c κs. search writing)  -- put-all-requires-2
     (λ c. search writing)  -- same-length
-    (λ c. search (declaration-put, writing))  -- returns
+    (λ c. declaration-put (c .before .before .before .before .before .before .before .before .before .before .before .before .before .before .before .before .before .before .before .put-all .ensures) (c .before .before .before .before .before .before .before .before .before .before .before .before .before .put-attribute .ensures) (c .before .before .before .before .before .before .before .put-attribute2 .ensures) (c .before .before .put-all2 .ensures))  -- returns
     )
