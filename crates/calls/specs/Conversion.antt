@@ -2,10 +2,12 @@
 -- ROOM and its exact length. A refusal leaves the output as it was; a result stands at the output's start and the rest stays.
 --     Converted      what an input gives, whatever the output's length: a result, or a refusal with its place
 --     Outcome        the answer of a call
---     numbers        its number and value: 0 and the bytes written, or a refusal's number with its place (ROOM: with the needed length)
-use mathlib.Core.List.{List, [], _∷_}
+--     told           its row in the table of refusals (docs/FORMAT.md): number, place and length;   isRoom: ROOM has a length and no place
+--     numbers        its number and its one value: the bytes written, a refusal's place, of ROOM the length
+use mathlib.Core.Bool.{Bool}
+use mathlib.Core.List.{List}
 use Prim.Native.Nat.{ℕ}
-use lib.Dec.{leb}
+use lib.Dec.{leb, eqb}
 use lib.ListN.{length, drop}
 use Rattle.octets.specs.Pick.{pick}
 use Rattle.octets.specs.Append.{_⊕_}
@@ -24,6 +26,19 @@ converted write (refused r p) = fault r p
 pub data Outcome : Type 0 where
   written : ℕ → Outcome
   refusal : Refusal → ℕ → Outcome
+
+abbrev pub isRoom : Refusal → Bool
+isRoom r = eqb (numberOf r) (numberOf ROOM)
+
+-- its number; its place; the length that was written, or that is needed. Where there is no place, or no length, it is 0
+pub record Told : Type 0 where
+  pub number : ℕ
+  pub place : ℕ
+  pub size : ℕ
+
+abbrev pub told : Outcome → Told
+told (written n) = record { number = 0; place = 0; size = n }
+told (refusal r v) = record { number = numberOf r; place = pick (isRoom r) 0 v; size = pick (isRoom r) v 0 }
 
 abbrev pub numbers : Outcome → ℕ × ℕ
 numbers (written n) = (0, n)

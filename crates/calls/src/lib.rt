@@ -2,23 +2,15 @@
 mod refusing;
 mod told;
 
+use refusals::Refusal;
 pub use refusing::refused;
 pub use told::number_of;
 pub use told::value_of;
 
-// What a call answers: the bytes written, or a refusal with its place, for `Room` the length that the output would need.
-// Their numbers are in specs/Answered.antt: `Written` has 0, the others 1 to 11 in this order.
+// What a call answers: the bytes written; the length that the output would need; or a refusal and its place.
+// Their numbers and values are `outcomeOf` of specs/Answered.antt and `told`, `numbers` of specs/Conversion.antt.
 pub enum Answer {
     Written(usize),
-    Length(usize),
-    Work(usize),
-    Character(usize),
-    Line(usize),
-    Name(usize),
-    Frame(usize),
-    Parameter(usize),
-    Value(usize),
-    Count(usize),
-    Room(usize),
-    Xml(usize),
+    Needs(usize),
+    Refused(Refusal, usize),
 }

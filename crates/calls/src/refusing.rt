@@ -7,52 +7,61 @@ use refusals::LINE;
 use refusals::NAME;
 use refusals::PARAMETER;
 use refusals::ROOM;
+use refusals::Refusal;
 use refusals::VALUE;
 use refusals::WORK;
 use refusals::XML;
 ghost use mathlib.Core.Path.{_≡_};
-ghost use Rattle.calls.specs.Answered.{answerElse, answerAt};
+ghost use Rattle.calls.specs.Answered.{named, namedElse, answerAt};
 
-// The answer of a refusal's number, at a place: of one that is none of LINE to COUNT.
-fn refused_else(n: u8, p: usize) -> Answer
-    ensures { λ r. ⌜ r ≡ answerElse n p ⌝ }
+// The refusal of a number that is none of LINE to COUNT; of a number of none it is LENGTH.
+fn refusal_else(n: u8) -> Refusal
+    ensures { λ r. ⌜ r ≡ namedElse n ⌝ }
 {
     if n == WORK {
-        return Answer::Work(p);
+        return Refusal::Work;
     }
     if n == CHARACTER {
-        return Answer::Character(p);
-    }
-    if n == ROOM {
-        return Answer::Room(p);
+        return Refusal::Character;
     }
     if n == XML {
-        return Answer::Xml(p);
+        return Refusal::Xml;
     }
-    Answer::Length(p)
+    Refusal::Length
 }
 
-// The same of any number.
+// The refusal of any number.
+fn refusal_of(n: u8) -> Refusal
+    ensures { λ r. ⌜ r ≡ named n ⌝ }
+{
+    if n == LINE {
+        return Refusal::Line;
+    }
+    if n == NAME {
+        return Refusal::Name;
+    }
+    if n == FRAME {
+        return Refusal::Frame;
+    }
+    if n == PARAMETER {
+        return Refusal::Parameter;
+    }
+    if n == VALUE {
+        return Refusal::Value;
+    }
+    if n == COUNT {
+        return Refusal::Count;
+    }
+    refusal_else(n)
+}
+
+// The answer of a refusal's number, with its place, for ROOM with the length that is needed.
 pub fn refused(n: u8, p: usize) -> Answer
     ensures { λ r. ⌜ r ≡ answerAt n p ⌝ }
 {
-    if n == LINE {
-        return Answer::Line(p);
+    if n == ROOM {
+        return Answer::Needs(p);
     }
-    if n == NAME {
-        return Answer::Name(p);
-    }
-    if n == FRAME {
-        return Answer::Frame(p);
-    }
-    if n == PARAMETER {
-        return Answer::Parameter(p);
-    }
-    if n == VALUE {
-        return Answer::Value(p);
-    }
-    if n == COUNT {
-        return Answer::Count(p);
-    }
-    refused_else(n, p)
+    let r = refusal_of(n);
+    Answer::Refused(r, p)
 }

@@ -130,7 +130,7 @@ fn is_kept(t: Trial, input: &[u8], work: &[u8]) -> bool {
 
 // A number and a value as one number.
 fn code(number: u64, value: u64) -> u64 {
-    if number < 12 {
+    if number < 256 {
         if value < 4294967296 {
             return number * 4294967296 + value;
         }

@@ -1,12 +1,9 @@
 // Words collected by their cuts. See specs/Keeping.antt.
-ghost use mathlib.Core.Path.{_≡_};
-ghost use mathlib.Core.Bool.{true};
-ghost use Rattle.distinct.specs.Keeping.{Keeps};
+ghost use Rattle.distinct.specs.Keeping.{KeepsIf};
 
 // Puts the cut from `a` up to `e` at the place `k`, where that is there and the cut fits.
 pub fn keep(from: &mut [u16], to: &mut [u16], k: usize, a: usize, e: usize) -> bool
-    ensures { λ r. ⌜
-        (r ≡ true → Keeps (now (from .entry)) (now (to .entry)) k a e (now (from .exit)) (now (to .exit))) ⌝ }
+    ensures { λ r. ⌜ KeepsIf (now (from .entry)) (now (to .entry)) k a e (now (from .exit)) (now (to .exit)) r ⌝ }
 {
     if a < 65536 {
         if e < 65536 {

@@ -12,7 +12,7 @@ ghost use Rattle.calls.specs.Answered.{codeOf};
 
 // A number and a value as one number.
 fn joined(n: u64, v: usize) -> u64
-    requires { ⌜ (n < 12) × (v < 4294967296) ⌝ }
+    requires { ⌜ (n < 256) × (v < 4294967296) ⌝ }
     ensures { λ r. ⌜ r ≡ n * 4294967296 + v ⌝ }
 {
     n * 4294967296 + (v as u64)

@@ -3,9 +3,9 @@ use Prim.Native.Nat.{ℕ}
 use Rattle.octets.specs.Computing.{octets-compute}
 use Rattle.source.specs.Source.{rest, spell}
 use Rattle.names.specs.Table.{placeOf, namesIn, nth}
-use Rattle.names.specs.Keys.{keys-compute}
+use Rattle.names.specs.Packing.{packing-compute}
 use Rattle.names.specs.Matching.{sought}
 
 unfoldable pub names-compute : ℕ
-unfolding octets-compute rest spell placeOf namesIn nth keys-compute sought
+unfolding octets-compute rest spell placeOf namesIn nth packing-compute sought
 names-compute = 0

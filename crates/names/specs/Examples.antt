@@ -2,7 +2,7 @@
 use mathlib.Core.Path.{_≡_, refl}
 use mathlib.Core.Bool.{Bool, true, false}
 use mathlib.Core.List.{List, [], _∷_, map}
-use Prim.Native.Nat.{ℕ}
+use Prim.Native.Nat.{ℕ, _+_, _*_, _^_}
 use lib.ListN.{getD, take}
 use Rattle.octets.specs.Ascii.{ascii}
 use Rattle.octets.specs.Class.{upper}
@@ -10,7 +10,7 @@ use Rattle.octets.specs.Words.{isOneOf}
 use Rattle.source.specs.Source.{rest}
 use Rattle.names.specs.Case.{cased, caseOf}
 use Rattle.names.specs.Table.{placeOf, namesIn}
-use Rattle.names.specs.Keys.{keyOf}
+use Rattle.names.specs.Packing.{highOf, lowOf}
 use Rattle.names.specs.laws.Known.{by-place, unknown-list}
 use Rattle.names.specs.Computing.{names-compute}
 
@@ -25,10 +25,14 @@ places :
 unfolding names-compute
 places = refl
 
--- keys of two names and of a word that is none
-keys : map keyOf (ascii "VEVENT" ∷ ascii "VTODO" ∷ ascii "VTODOS" ∷ []) ≡ (9 ∷ 91 ∷ 17 ∷ [])
+-- the halves of words' numbers; a word of 17 bytes has none
+lows : map lowOf (ascii "GEO" ∷ ascii "VTODO" ∷ []) ≡ ((((128 + 71) * 128 + 69) * 128 + 79) ∷ 0xd6a93e24f ∷ [])
 unfolding names-compute
-keys = refl
+lows = refl
+
+highs : map highOf (ascii "VTODO" ∷ ascii "VJOURNAL" ∷ ascii "VCALENDAR" ∷ ascii "A-WORD-OF-17-BYTE" ∷ []) ≡ (0 ∷ 1 ∷ (128 + 86) ∷ (2 ^ 63) ∷ [])
+unfolding names-compute
+highs = refl
 
 -- in XML a word stands as it is
 by-format : map (λ xcal. placeOf (cased (caseOf xcal) (ascii "daily")) (namesIn (ascii "WEEKLY\nDAILY\n"))) (true ∷ false ∷ []) ≡ (2 ∷ 1 ∷ [])

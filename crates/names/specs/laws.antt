@@ -6,8 +6,7 @@
 --     Matching  the walk over a table
 --     Runs      a run of bytes, and the loops that compare and write a word
 --     Plain     the same loops over bytes as they stand
---     Keys      names found by a key
---     Keying    the loops that make a key
+--     Packing   names found by their numbers, and the loops that make a number
 --     Numbered  names by number, in the arms of a `match`
 pub mod Case
 pub mod Table
@@ -16,6 +15,5 @@ pub mod Places
 pub mod Matching
 pub mod Runs
 pub mod Plain
-pub mod Keys
-pub mod Keying
+pub mod Packing
 pub mod Numbered

@@ -1,9 +1,8 @@
 // Names and words over a cursor (crate source): compared and written in a given case, looked up in a table.
 // The source is cut at the word's end by the caller: the word is all that stands from the cursor on.
-mod keys;
+pub mod packed;
 mod plain;
 
-use keys::key;
 use octets::is_name_char;
 use octets::lower_unit;
 use octets::unit::END;
@@ -17,14 +16,13 @@ use source::unit;
 ghost use mathlib.Core.Path.{_≡_};
 ghost use Prim.Native.Nat.{_≤_};
 ghost use lib.ListN.{length};
-ghost use Rattle.octets.specs.Pick.{pick, _and_};
+ghost use Rattle.octets.specs.Pick.{_and_};
 ghost use Rattle.octets.specs.Class.{isNameChar, upper, lower};
 ghost use Rattle.octets.specs.Words.{same, isEmpty};
 ghost use Rattle.source.specs.Source.{rest};
 ghost use Rattle.sink.specs.Sink.{Put};
 ghost use Rattle.names.specs.Case.{cased, casedByte, caseOf};
 ghost use Rattle.names.specs.Table.{placeOf, namesIn};
-ghost use Rattle.names.specs.Keys.{keyOf};
 ghost use Rattle.names.specs.Matching.{Turned, Passes};
 ghost use Rattle.names.specs.Runs.{RunEnds};
 
@@ -144,24 +142,6 @@ pub fn find_name(mode: usize, s: &[u8], at: usize, table: &[u8]) -> usize
     ensures { λ r. ⌜ r ≡ placeOf (upper (rest mode (now (s .entry)) at)) (namesIn (now (table .entry))) ⌝ }
 {
     find_cased(Case::Capital, mode, s, at, table)
-}
-
-// The key of a name, in any case.
-pub fn name_key(mode: usize, s: &[u8], at: usize) -> usize
-    ensures { λ r. ⌜ r ≡ keyOf (upper (rest mode (now (s .entry)) at)) ⌝ }
-{
-    key(Case::Capital, mode, s, at)
-}
-
-// The number `n` if the name, in any case, is `w`; else `none`.
-pub fn named(mode: usize, s: &[u8], at: usize, w: &[u8], n: usize, none: usize) -> usize
-    ensures { λ r. ⌜ r ≡ pick (same (upper (rest mode (now (s .entry)) at)) (now (w .entry))) n none ⌝ }
-{
-    let ok = is_cased(Case::Capital, mode, s, at, w);
-    if ok {
-        return n;
-    }
-    none
 }
 
 // The number of a word, in any case in text, as it stands in XML.

@@ -6,9 +6,7 @@ use mathlib.Core.List.{List}
 use mathlib.Core.Option.{Option, none, some}
 use Prim.Native.Nat.{ℕ, _≤_}
 use Rattle.calendar.specs.Calendar.{ValueType}
-use Rattle.names.specs.Table.{placeOf}
-use Rattle.schema.specs.Properties.{propertyNames}
-use Rattle.schema.specs.Numbers.{typeAt}
+use Rattle.schema.specs.Numbers.{typeAt, propertyName}
 use Rattle.read_text_line.specs.Cursor.{paramsAt}
 use Rattle.text.specs.Parameters.{statedType}
 use Rattle.read_text_parameters.specs.declared.TypeRead.{TypeRead}
@@ -26,5 +24,5 @@ pub record TypeOf (o : Option ValueType) (r : TypeRead) : Type 0 where
 -- ---- the parameters of a line
 
 pub record StatedAt (p m : ℕ) (s : List ℕ) (e : ℕ) (r : TypeRead) : Type 0 where
-  pub is : (w : List ℕ) → p ≡ placeOf w propertyNames → statedType w (paramsAt m s e) ≡ typeRead r
+  pub is : statedType (propertyName p) (paramsAt m s e) ≡ typeRead r
   pub known : (t : ℕ) → r ≡ Known t → t ≤ 14

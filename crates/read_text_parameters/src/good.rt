@@ -9,17 +9,12 @@ use schema::permits_parameter;
 use schema::value_type;
 ghost use mathlib.Core.Path.{_≡_};
 ghost use mathlib.Core.Bool.{true, not};
-ghost use mathlib.Core.List.{List};
-ghost use Prim.Native.Nat.{ℕ, _≤_};
 ghost use lib.Dec.{eqb};
 ghost use Rattle.octets.specs.Pick.{_or_};
 ghost use Rattle.octets.specs.Lists.{every, anyOne};
-ghost use Rattle.names.specs.Table.{placeOf};
-ghost use Rattle.schema.specs.Properties.{propertyNames};
-ghost use Rattle.schema.specs.Numbers.{typeAt};
 ghost use Rattle.source.specs.Source.{cuts};
 ghost use Rattle.read_text_line.specs.Cursor.{paramsAt};
-ghost use Rattle.text.specs.Parameters.{isBase64, parametersGood};
+ghost use Rattle.text.specs.Parameters.{isBase64};
 ghost use Rattle.read_text_parameters.specs.Cutting.{nameCut};
 ghost use Rattle.read_text_parameters.specs.Permitted.{permitsName, permitsIt, goodAt};
 
@@ -72,7 +67,8 @@ fn is_encoded(t: usize, mode: usize, s: &[u8], e: usize) -> bool
     true
 }
 
-fn are_good_at(p: usize, t: usize, mode: usize, s: &[u8], e: usize) -> bool
+// The parameters from the cursor `e` on are those of the property of the number `p` with values of the type `t`.
+pub fn are_good(p: usize, t: usize, mode: usize, s: &[u8], e: usize) -> bool
     requires { ⌜ cuts mode ≡ true ⌝ }
     ensures { λ r. ⌜ r ≡ goodAt p t (paramsAt mode (now (s .entry)) e) ⌝ }
 {
@@ -89,16 +85,4 @@ fn are_good_at(p: usize, t: usize, mode: usize, s: &[u8], e: usize) -> bool
         return false;
     }
     false
-}
-
-// The parameters from the cursor `e` on are those of the property of the number `p` with values of the type `t`.
-pub fn are_good(p: usize, t: usize, mode: usize, s: &[u8], e: usize) -> bool
-    requires { ⌜ cuts mode ≡ true ⌝ }
-    ensures { λ r. ⌜
-        ((w : List ℕ) →
-        p ≡ placeOf w propertyNames →
-        t ≤ 14 →
-        r ≡ parametersGood w (typeAt t) (paramsAt mode (now (s .entry)) e)) ⌝ }
-{
-    are_good_at(p, t, mode, s, e)
 }

@@ -13,8 +13,6 @@ pub use cut::is_value_name;
 pub use good::are_good;
 pub use read::are_read;
 pub use stated::stated_type;
-pub use typed::is_of_type;
-pub use typed::is_value;
 
 // The type that a line states, by its number; or VALUE that names none.
 pub enum TypeRead {

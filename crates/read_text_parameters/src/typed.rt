@@ -1,36 +1,19 @@
 // One value of a parameter, by the parameter's number. See specs/Typing.antt.
+use schema::WordRead;
 use schema::is_quoted_parameter;
-use schema::is_word_of_parameter;
 use schema::parameter_has_words;
 use schema::parameter_type;
+use schema::read_word_of_parameter;
 use schema::value_type;
 use values::ValueRead;
 use values::read_value;
 ghost use mathlib.Core.Path.{_≡_};
 ghost use mathlib.Core.Bool.{true};
-ghost use mathlib.Core.List.{List};
-ghost use Prim.Native.Nat.{ℕ};
 ghost use Rattle.octets.specs.Reading.{isRead};
-ghost use Rattle.calendar.specs.Calendar.{ical};
 ghost use Rattle.source.specs.Source.{rest, cuts};
-ghost use Rattle.names.specs.Table.{placeOf};
-ghost use Rattle.schema.specs.Parameters.{parameterNames};
-ghost use Rattle.schema.specs.Numbers.{typeAt, parameterAt};
-ghost use Rattle.values.specs.ReadValue.{readValue};
-ghost use Rattle.text.specs.Parameters.{readTyped, readWord, readParamValue};
+ghost use Rattle.schema.specs.Numbers.{parameterAt};
+ghost use Rattle.text.specs.Parameters.{readTyped, readWord};
 ghost use Rattle.read_text_parameters.specs.Typing.{readBy};
-
-// A value of the type of the number `t`.
-pub fn is_of_type(t: usize, mode: usize, s: &[u8], at: usize) -> bool
-    requires { ⌜ cuts mode ≡ true ⌝ }
-    ensures { λ r. ⌜ r ≡ isRead (readValue ical (typeAt t) (rest mode (now (s .entry)) at)) ⌝ }
-{
-    let v = read_value(false, t, mode, s, at);
-    match v {
-        ValueRead::Good(_) => true,
-        ValueRead::Bad => false,
-    }
-}
 
 // A value of the parameter's type. TEXT is any characters.
 fn is_typed(q: usize, mode: usize, s: &[u8], at: usize) -> bool
@@ -41,7 +24,10 @@ fn is_typed(q: usize, mode: usize, s: &[u8], at: usize) -> bool
     if t == value_type::TEXT {
         return true;
     }
-    is_of_type(t, mode, s, at)
+    let ValueRead::Good(v) = read_value(false, t, mode, s, at) else {
+        return false;
+    };
+    true
 }
 
 // A word of the parameter's closed set, or a value of its type.
@@ -52,7 +38,10 @@ fn is_chosen(q: usize, mode: usize, s: &[u8], at: usize) -> bool
 {
     let closed = parameter_has_words(q);
     if closed {
-        return is_word_of_parameter(q, false, mode, s, at);
+        let WordRead::At(i) = read_word_of_parameter(q, false, mode, s, at) else {
+            return false;
+        };
+        return true;
     }
     is_typed(q, mode, s, at)
 }
@@ -71,15 +60,4 @@ pub fn is_value_at(q: usize, quoted: bool, mode: usize, s: &[u8], at: usize) -> 
         return false;
     }
     is_chosen(q, mode, s, at)
-}
-
-// Whether a parameter's value, which stood between quotes or not, and whose characters stand from the cursor on, is one.
-pub fn is_value(q: usize, quoted: bool, mode: usize, s: &[u8], at: usize) -> bool
-    requires { ⌜ cuts mode ≡ true ⌝ }
-    ensures { λ r. ⌜
-        ((w : List ℕ) →
-        q ≡ placeOf w parameterNames →
-        r ≡ isRead (readParamValue w (record { quoted = quoted; chars = rest mode (now (s .entry)) at }))) ⌝ }
-{
-    is_value_at(q, quoted, mode, s, at)
 }

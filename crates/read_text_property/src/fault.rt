@@ -9,28 +9,14 @@ use refusals::PARAMETER;
 use refusals::VALUE;
 ghost use mathlib.Core.Path.{_≡_};
 ghost use mathlib.Core.Bool.{true};
-ghost use mathlib.Core.List.{List};
-ghost use Prim.Native.Nat.{ℕ};
-ghost use Rattle.octets.specs.Class.{upper};
 ghost use Rattle.source.specs.Source.{rest, cuts};
-ghost use Rattle.names.specs.Table.{placeOf};
-ghost use Rattle.schema.specs.Components.{componentNames};
-ghost use Rattle.schema.specs.Properties.{propertyNames};
-ghost use Rattle.read_text_line.specs.ContentLine.{ContentLine};
 ghost use Rattle.read_text_line.specs.Cursor.{paramsAt};
-ghost use Rattle.text.specs.Statement.{propertyFault};
-ghost use Rattle.read_text_property.specs.Faults.{faultNumber};
+ghost use Rattle.read_text_property.specs.Faults.{faultAt};
 
 // The lowest fault of a line of the property `p` in the component `k`, PARAMETER or VALUE, or NO_FAULT: its parameters stand from `e` on, its value from `v` on.
 pub fn property_fault(k: usize, p: usize, mode: usize, s: &[u8], e: usize, v: usize) -> u8
     requires { ⌜ cuts mode ≡ true ⌝ }
-    ensures { λ r. ⌜
-        ((c : List ℕ) (l : ContentLine) →
-        k ≡ placeOf c componentNames →
-        p ≡ placeOf (upper (l .name)) propertyNames →
-        l .parameters ≡ paramsAt mode (now (s .entry)) e →
-        l .value ≡ rest mode (now (s .entry)) v →
-        r ≡ faultNumber (propertyFault c l)) ⌝ }
+    ensures { λ r. ⌜ r ≡ faultAt k p (paramsAt mode (now (s .entry)) e) (rest mode (now (s .entry)) v) ⌝ }
 {
     let TypeRead::Type(t) = stated_type(p, mode, s, e) else {
         return PARAMETER;

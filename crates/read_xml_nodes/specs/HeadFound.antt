@@ -1,6 +1,7 @@
 -- The head of the node at a place: all of it but the end of an element.
 --     afterTag, endOfTag   what follows an element, and the place of its end, by the place behind its tag
 --     headOf, HeadAt       what a head that was found says of the content from its place on, and its bounds: the contract of `node_head`
+--     Takes                a node takes bytes
 --     NodeEnded            the contract of `node_end`
 use mathlib.Core.Path.{_≡_}
 use mathlib.Core.Bool.{Bool, false}
@@ -36,12 +37,12 @@ headBy Referred s at h = referred at (spell (h .unit)) (nodesAt s (h .next))
 abbrev pub headOf : List ℕ → ℕ → Head → Nodes
 headOf s at h = headBy (h .kind) s at h
 
--- a head, unless there is no node, takes bytes
-abbrev pub HeadTakes : NodeKind → ℕ → Head → Type 0
-HeadTakes None at h = Unit {0}
-HeadTakes Element at h = (at < h .next) × (at < h .inside)
-HeadTakes Literal at h = at < h .next
-HeadTakes Referred at h = at < h .next
+-- a node of the kind k, unless it is none, takes bytes; so does an element's start tag
+abbrev pub Takes : (k : NodeKind) (at inside next : ℕ) → Type 0
+Takes None at inside next = Unit {0}
+Takes Element at inside next = (at < next) × (at < inside)
+Takes Literal at inside next = at < next
+Takes Referred at inside next = at < next
 
 pub record HeadAt (s : List ℕ) (at : ℕ) (h : Head) : Type 0 where
   pub is : nodesAt s at ≡ headOf s at h
@@ -49,7 +50,7 @@ pub record HeadAt (s : List ℕ) (at : ℕ) (h : Head) : Type 0 where
   pub name-within : h .«name_end» ≤ length s
   pub inside-within : h .inside ≤ length s
   pub next-within : h .next ≤ length s
-  pub takes : HeadTakes (h .kind) at h
+  pub takes : Takes (h .kind) at (h .inside) (h .next)
 
 pub record NodeEnded (s : List ℕ) (at : ℕ) (opens : Bool) (next : ℕ) (r : Ended) : Type 0 where
   pub place : endOfTag s at opens next ≡ r .place

@@ -2,13 +2,13 @@
 --     nodeOf, NodeAt     what a node that was found says of the content from its place on, and its bounds: the contract of `next_node`
 use mathlib.Core.Path.{_≡_}
 use mathlib.Core.List.{List}
-use Prim.{Unit}
-use Prim.Native.Nat.{ℕ, _≤_, _<_}
+use Prim.Native.Nat.{ℕ, _≤_}
 use lib.ListN.{length, take}
 use Rattle.utf8.specs.Spell.{spell}
 use Rattle.source.specs.Source.{rest}
 use Rattle.xml.specs.Nodes.{Nodes, noNodes, element, literal, referred}
 use Rattle.xml.specs.NodesAt.{nodesAt}
+use Rattle.read_xml_nodes.specs.HeadFound.{Takes}
 use Rattle.read_xml_nodes.specs.declared.Node.{Node}
 use Rattle.read_xml_nodes.specs.declared.NodeKind.{NodeKind}
 use Rattle.read_xml_nodes.specs.declared.NodeKind.the-variants.{None, Element, Literal, Referred}
@@ -23,20 +23,13 @@ nodeBy Referred s at r = referred at (spell (r .unit)) (nodesAt s (r .next))
 abbrev pub nodeOf : List ℕ → ℕ → Node → Nodes
 nodeOf s at r = nodeBy (r .kind) s at r
 
--- a node, unless it is none, takes bytes; so does an element's start tag
-abbrev pub Takes : NodeKind → ℕ → Node → Type 0
-Takes None at r = Unit {0}
-Takes Element at r = (at < r .next) × (at < r .inside)
-Takes Literal at r = at < r .next
-Takes Referred at r = at < r .next
-
 pub record NodeAt (s : List ℕ) (at : ℕ) (r : Node) : Type 0 where
   pub is : nodesAt s at ≡ nodeOf s at r
   pub named : r .name ≤ r .«name_end»
   pub name-within : r .«name_end» ≤ length s
   pub inside-within : r .inside ≤ length s
   pub next-within : r .next ≤ length s
-  pub takes : Takes (r .kind) at r
+  pub takes : Takes (r .kind) at (r .inside) (r .next)
 
 -- ---- what `next_node` answers
 

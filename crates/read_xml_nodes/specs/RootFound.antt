@@ -1,20 +1,25 @@
 -- The root of a document, found by its tag.
---     RootNode      the contract of `root_node`: of a document within the XML profile, what it is
---     noRoot        what is answered without a root's tag
+--     RootNode      the contract of `root_node`: what the root is, always that of a document within the XML profile; `noRoot` where there is none
+--     noRoot        what is answered without a root's tag;   rootOf: the element that an answer stands for
 use mathlib.Core.Path.{_≡_}
 use mathlib.Core.List.{List}
 use Prim.Native.Nat.{ℕ, _≤_}
 use lib.ListN.{length, take}
 use Rattle.calendar.specs.Refusal.{fine}
 use Rattle.source.specs.Source.{rest}
-use Rattle.xml.specs.Nodes.{noNodes, element, documentNodes}
+use Rattle.xml.specs.Nodes.{Nodes, noNodes, element, documentNodes}
 use Rattle.xml.specs.NodesAt.{nodesAt}
 use Rattle.xml.specs.WellFormed.{xmlVerdict}
 use Rattle.read_xml_nodes.specs.declared.RootElement.{RootElement}
 
-pub record RootNode (s : List ℕ) (r : RootElement) : Type 0 where
-  pub is : xmlVerdict s ≡ fine → documentNodes s ≡ element (r .place) (rest 0 (take (r .«name_end») s) (r .name)) (r .end) (nodesAt s (r .inside)) noNodes
-  pub name-within : r .«name_end» ≤ length s
-
 abbrev pub noRoot : RootElement
 noRoot = record { place = 0; name = 0; «name_end» = 0; inside = 0; end = 0 }
+
+abbrev pub rootOf : List ℕ → RootElement → Nodes
+rootOf s r = element (r .place) (rest 0 (take (r .«name_end») s) (r .name)) (r .end) (nodesAt s (r .inside)) noNodes
+
+pub record RootNode (s : List ℕ) (r : RootElement) : Type 0 where
+  pub is : xmlVerdict s ≡ fine → documentNodes s ≡ rootOf s r
+  pub found : (documentNodes s ≡ noNodes → ⊥) → documentNodes s ≡ rootOf s r
+  pub missing : documentNodes s ≡ noNodes → r ≡ noRoot
+  pub name-within : r .«name_end» ≤ length s

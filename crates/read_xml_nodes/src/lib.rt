@@ -2,6 +2,7 @@
 mod closing;
 mod content;
 mod ending;
+mod first;
 mod heads;
 mod plain;
 mod readers;

@@ -1,11 +1,9 @@
 // What all readers of elements ask of them. See crate xcal, specs/Layout.antt.
 use crate::Judged;
-use crate::NodeKind;
-use crate::heads::token_head;
-use crate::plain::is_plain;
+use crate::first::FirstElement;
+use crate::first::first_element;
 use octets::is_capital;
 use octets::unit::END;
-use octets::wide;
 use refusals::FRAME;
 use refusals::NAME;
 use source::unit;
@@ -61,62 +59,20 @@ pub fn unexpected(s: &[u8], place: usize, name: usize, end: usize) -> Judged
 pub fn inner_element(s: &[u8], at: usize) -> Judged
     ensures { λ r. ⌜ innerElement (nodesAt (now (s .entry)) at) ≡ judgedAs r ⌝ }
 {
-    let mut c = at;
-    while c < s.len() {
-        let b = wide(s[c]);
-        let plain = is_plain(b);
-        if plain {
-            c += 1;
-        } else {
-            let n = token_head(s, c);
-            let kind = n.kind;
-            match kind {
-                NodeKind::None => {
-                    return Judged::Fine;
-                }
-                NodeKind::Element => {
-                    return unexpected(s, c, n.name, n.name_end);
-                }
-                NodeKind::Literal => {
-                    c = n.next;
-                }
-                NodeKind::Referred => {
-                    c = n.next;
-                }
-            }
-        }
+    let f = first_element(s, at);
+    match f {
+        FirstElement::At(place, name, end) => unexpected(s, place, name, end),
+        FirstElement::NoElement => Judged::Fine,
     }
-    Judged::Fine
 }
 
 // An element stands from `at` on.
 pub fn has_element(s: &[u8], at: usize) -> bool
     ensures { λ r. ⌜ r ≡ hasElement (nodesAt (now (s .entry)) at) ⌝ }
 {
-    let mut c = at;
-    while c < s.len() {
-        let b = wide(s[c]);
-        let plain = is_plain(b);
-        if plain {
-            c += 1;
-        } else {
-            let n = token_head(s, c);
-            let kind = n.kind;
-            match kind {
-                NodeKind::None => {
-                    return false;
-                }
-                NodeKind::Element => {
-                    return true;
-                }
-                NodeKind::Literal => {
-                    c = n.next;
-                }
-                NodeKind::Referred => {
-                    c = n.next;
-                }
-            }
-        }
+    let f = first_element(s, at);
+    match f {
+        FirstElement::At(place, name, end) => true,
+        FirstElement::NoElement => false,
     }
-    false
 }

@@ -4,9 +4,10 @@ use octets::unit::END;
 use octets::unit::LF;
 use octets::unit::QUOTE;
 use read_xml_nodes::has_element;
-use schema::is_word_of_parameter;
+use schema::WordRead;
 use schema::parameter_has_words;
 use schema::parameter_type;
+use schema::read_word_of_parameter;
 use source::xml_unit;
 use values::ValueRead;
 use values::read_value;
@@ -15,10 +16,7 @@ ghost use Prim.Native.Nat.{_≤_};
 ghost use lib.ListN.{length};
 ghost use Rattle.octets.specs.Words.{holds};
 ghost use Rattle.octets.specs.Reading.{isRead};
-ghost use Rattle.calendar.specs.Calendar.{xcal};
 ghost use Rattle.source.specs.Source.{rest};
-ghost use Rattle.schema.specs.Numbers.{typeAt};
-ghost use Rattle.values.specs.ReadValue.{readValue};
 ghost use Rattle.xml.specs.Nodes.{charactersOf};
 ghost use Rattle.xcal.specs.ParameterNodes.{readWordIn};
 ghost use Rattle.xml.specs.NodesAt.{nodesAt};
@@ -51,27 +49,22 @@ pub fn has_byte(b: usize, s: &[u8], at: usize) -> bool
     }
 }
 
-// A value of the type of the number `t`.
-fn is_of_type(t: usize, s: &[u8], at: usize) -> bool
-    ensures { λ r. ⌜ r ≡ isRead (readValue xcal (typeAt t) (rest 1 (now (s .entry)) at)) ⌝ }
-{
-    let v = read_value(true, t, 1, s, at);
-    match v {
-        ValueRead::Good(_) => true,
-        ValueRead::Bad => false,
-    }
-}
-
 // A word of the closed set of the parameter of the number `q`, or a value of its type.
 fn is_chosen(q: usize, s: &[u8], at: usize) -> bool
     ensures { λ r. ⌜ r ≡ isRead (readWordIn (rowAt q .words) (rowAt q .type) (rest 1 (now (s .entry)) at)) ⌝ }
 {
     let closed = parameter_has_words(q);
     if closed {
-        return is_word_of_parameter(q, true, 1, s, at);
+        let WordRead::At(i) = read_word_of_parameter(q, true, 1, s, at) else {
+            return false;
+        };
+        return true;
     }
     let t = parameter_type(q);
-    is_of_type(t, s, at)
+    let ValueRead::Good(v) = read_value(true, t, 1, s, at) else {
+        return false;
+    };
+    true
 }
 
 // The content that begins at `inside` is a value of the parameter.

@@ -1,5 +1,5 @@
 -- The prolog at the front of the input.
---     eq-is, declaration-is    Eq and XMLDecl, as their parts one after another
+--     attribute    white space and an attribute of a given name
 use mathlib.Core.List.{List}
 use Prim.Native.Nat.{ℕ}
 use Rattle.xml.specs.Pieces.{Piece, exactly, S, _then_, Eq, quoted}

@@ -3,6 +3,7 @@ use crate::pieces::any_case_attribute_at;
 use crate::pieces::attribute_at;
 use crate::pieces::blank_at;
 use crate::pieces::exactly_at;
+use markup::declaration;
 ghost use mathlib.Core.Path.{_≡_};
 ghost use Prim.Native.Nat.{_≤_};
 ghost use lib.ListN.{length};
@@ -12,11 +13,11 @@ ghost use Rattle.read_xml_tokens.specs.Ends.{Ends};
 fn declaration_at(s: &[u8], at: usize) -> usize
     ensures { λ r. ⌜ Ends XMLDecl (now (s .entry)) at r ⌝ }
 {
-    let a = exactly_at(s, at, b"<?xml");
-    let b = attribute_at(s, a, b"version", b"1.0");
-    let c = any_case_attribute_at(s, b, b"encoding", b"utf-8");
+    let a = exactly_at(s, at, &declaration::START);
+    let b = attribute_at(s, a, &declaration::VERSION, &declaration::ONE);
+    let c = any_case_attribute_at(s, b, &declaration::ENCODING, &declaration::UTF8);
     let d = blank_at(s, c);
-    exactly_at(s, d, b"?>")
+    exactly_at(s, d, &declaration::END)
 }
 
 // The place of the root's tag.

@@ -6,6 +6,7 @@ use crate::pieces::blank_at;
 use crate::pieces::exactly_at;
 use crate::pieces::name_at;
 use crate::prolog::prolog_end;
+use markup::namespace;
 ghost use mathlib.Core.Path.{_≡_};
 ghost use Prim.Native.Nat.{_+_, _≤_, _<_};
 ghost use lib.ListN.{length};
@@ -106,7 +107,7 @@ pub fn root_at(s: &[u8]) -> TokenAt
     let a = exactly_at(s, at, b"<");
     if a <= s.len() {
         let n = name_at(s, a);
-        let v = attribute_at(s, n, b"xmlns", b"urn:ietf:params:xml:ns:icalendar-2.0");
+        let v = attribute_at(s, n, &namespace::XMLNS, &namespace::ICALENDAR);
         let e = blank_at(s, v);
         return opened_at(s, at, a, n, e);
     }

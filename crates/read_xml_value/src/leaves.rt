@@ -1,9 +1,11 @@
 // An element of character data. See crate xcal, specs/Layout.antt.
 use read_xml_nodes::Judged;
 use read_xml_nodes::inner_element;
-use recur::item::is_item;
+use recur::item::ItemRead;
+use recur::item::read_item;
 use refusals::VALUE;
-use schema::is_word_of;
+use schema::WordRead;
+use schema::read_word_of;
 use values::ValueRead;
 use values::read_value;
 ghost use mathlib.Core.Path.{_≡_};
@@ -25,64 +27,81 @@ ghost use Rattle.xml.specs.NodesAt.{nodesAt};
 ghost use Rattle.read_xml_nodes.specs.Judging.{judgedAs};
 ghost use Rattle.read_xml_value.specs.Leaves.{leafBy};
 
-// A value that passed its test, or not.
-fn tested(ok: bool, place: usize) -> Judged
-    ensures { λ r. ⌜ judgedAs r ≡ pick ok fine (refuse VALUE place) ⌝ }
-{
-    if ok {
-        return Judged::Fine;
-    }
-    Judged::Refused(VALUE, place)
-}
-
-// The element whose start tag is at `place` and whose content begins at `inside`: no element stands there, and its characters passed their test.
-pub fn leaf(ok: bool, s: &[u8], place: usize, inside: usize) -> Judged
-    ensures { λ r. ⌜ judgedAs r ≡ leafBy ok place (nodesAt (now (s .entry)) inside) ⌝ }
+// The element whose content begins at `inside`: no element stands there, and its characters are judged already.
+pub fn leaf(chars: Judged, s: &[u8], inside: usize) -> Judged
+    ensures { λ r. ⌜ judgedAs r ≡ leafBy (judgedAs chars) (nodesAt (now (s .entry)) inside) ⌝ }
 {
     let inner = inner_element(s, inside);
     match inner {
-        Judged::Fine => tested(ok, place),
+        Judged::Fine => chars,
         Judged::Refused(n, p) => Judged::Refused(n, p),
     }
 }
 
 // The characters are a value of the type of the number `t`.
-fn is_value(t: usize, s: &[u8], inside: usize) -> bool
+fn value_chars(t: usize, s: &[u8], place: usize, inside: usize) -> Judged
     requires { ⌜ (length (now s) ≤ 65535) × (inside ≤ length (now s)) ⌝ }
-    ensures { λ r. ⌜ r ≡ isRead (readValue xcal (typeAt t) (rest 1 (now (s .entry)) (2 * inside))) ⌝ }
+    ensures { λ r. ⌜
+        judgedAs r
+        ≡ pick (isRead (readValue xcal (typeAt t) (rest 1 (now (s .entry)) (2 * inside)))) fine (refuse VALUE place) ⌝ }
 {
-    let v = read_value(true, t, 1, s, 2 * inside);
-    match v {
-        ValueRead::Good(_) => true,
-        ValueRead::Bad => false,
-    }
+    let ValueRead::Good(v) = read_value(true, t, 1, s, 2 * inside) else {
+        return Judged::Refused(VALUE, place);
+    };
+    Judged::Fine
 }
 
+// The element whose start tag is at `place` and whose content begins at `inside`: a value of the type of the number `t`.
 pub fn leaf_value(t: usize, s: &[u8], place: usize, inside: usize) -> Judged
     requires { ⌜ (length (now s) ≤ 65535) × (inside ≤ length (now s)) ⌝ }
     ensures { λ r. ⌜
         judgedAs r ≡ leaf (λ l. isRead (readValue xcal (typeAt t) l)) place (nodesAt (now (s .entry)) inside) ⌝ }
 {
-    let ok = is_value(t, s, inside);
-    leaf(ok, s, place, inside)
+    let chars = value_chars(t, s, place, inside);
+    leaf(chars, s, inside)
 }
 
-// A word of the closed set of a property in a component.
+// The characters are a word of the closed set of a property in a component.
+fn word_chars(k: usize, p: usize, s: &[u8], place: usize, inside: usize) -> Judged
+    requires { ⌜ (length (now s) ≤ 65535) × (inside ≤ length (now s)) ⌝ }
+    ensures { λ r. ⌜
+        judgedAs r
+        ≡ pick (isWordOf (wordsAt k p) (rest 1 (now (s .entry)) (2 * inside))) fine (refuse VALUE place) ⌝ }
+{
+    let WordRead::At(i) = read_word_of(k, p, true, 1, s, 2 * inside) else {
+        return Judged::Refused(VALUE, place);
+    };
+    Judged::Fine
+}
+
 pub fn leaf_word(k: usize, p: usize, s: &[u8], place: usize, inside: usize) -> Judged
     requires { ⌜ (length (now s) ≤ 65535) × (inside ≤ length (now s)) ⌝ }
     ensures { λ r. ⌜ judgedAs r ≡ leaf (λ l. isWordOf (wordsAt k p) l) place (nodesAt (now (s .entry)) inside) ⌝ }
 {
-    let ok = is_word_of(k, p, true, 1, s, 2 * inside);
-    leaf(ok, s, place, inside)
+    let chars = word_chars(k, p, s, place, inside);
+    leaf(chars, s, inside)
 }
 
-// An item of the rule part of the number `i`.
+// The characters are an item of the rule part of the number `i`.
+fn item_chars(i: usize, s: &[u8], place: usize, inside: usize) -> Judged
+    requires { ⌜ (length (now s) ≤ 65535) × (inside ≤ length (now s)) ⌝ }
+    ensures { λ r. ⌜
+        judgedAs r
+        ≡ pick (isRead (readItem xcal (getD partNames i []) (rest 1 (now (s .entry)) (2 * inside)))) fine
+        (refuse VALUE place) ⌝ }
+{
+    let ItemRead::Good(n) = read_item(i, true, 1, s, 2 * inside) else {
+        return Judged::Refused(VALUE, place);
+    };
+    Judged::Fine
+}
+
 pub fn leaf_item(i: usize, s: &[u8], place: usize, inside: usize) -> Judged
     requires { ⌜ (length (now s) ≤ 65535) × (inside ≤ length (now s)) ⌝ }
     ensures { λ r. ⌜
         judgedAs r
         ≡ leaf (λ l. isRead (readItem xcal (getD partNames i []) l)) place (nodesAt (now (s .entry)) inside) ⌝ }
 {
-    let ok = is_item(i, true, 1, s, 2 * inside);
-    leaf(ok, s, place, inside)
+    let chars = item_chars(i, s, place, inside);
+    leaf(chars, s, inside)
 }

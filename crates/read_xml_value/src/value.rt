@@ -119,7 +119,7 @@ pub fn value_verdict(
         return leaf_value(value_type::FLOAT, s, place, inside);
     }
     if p == property::REQUEST_STATUS {
-        return leaf(true, s, place, inside);
+        return leaf(Judged::Fine, s, inside);
     }
     let m = element_type(s, name, name_end);
     match m {

@@ -1,5 +1,6 @@
 -- RECUR (RFC 5545, section 3.3.10): recurrence rules.
 --     Parts        the parts of a rule in the schema's order, and what an item of each is
+--     Packs        the numbers by which code finds the parts' names
 --     Item         one item of a part, read and written
 --     Rule         a whole rule in text, read and written
 --     Numeral      numbers as the code reads them through the cursor
@@ -11,6 +12,7 @@
 --     Examples     computed examples
 --     laws         laws of these, and what proofs need
 pub mod Parts
+pub mod Packs
 pub mod Item
 pub mod Rule
 pub mod Numeral

@@ -16,6 +16,13 @@ ghost use Rattle.calendar.specs.Calendar.{formatOf};
 ghost use Rattle.source.specs.Source.{rest};
 ghost use Rattle.recur.specs.Parts.{partNames};
 ghost use Rattle.recur.specs.Item.{readItem};
+ghost use Rattle.recur.specs.Fits.{itemRead};
+
+// There is an item, of the part at this place; or none.
+pub enum ItemRead {
+    Good(usize),
+    Bad,
+}
 
 // FREQ, UNTIL, COUNT, INTERVAL.
 fn is_limit(p: usize, xcal: bool, mode: usize, s: &[u8], at: usize) -> bool
@@ -75,7 +82,7 @@ fn is_day_part(p: usize, xcal: bool, mode: usize, s: &[u8], at: usize) -> bool
 }
 
 // An item of the part at the place `p`.
-pub fn is_item(p: usize, xcal: bool, mode: usize, s: &[u8], at: usize) -> bool
+fn is_item(p: usize, xcal: bool, mode: usize, s: &[u8], at: usize) -> bool
     ensures { λ r. ⌜ r ≡ isRead (readItem (formatOf xcal) (getD partNames p []) (rest mode (now (s .entry)) at)) ⌝ }
 {
     if p < part::BYSECOND {
@@ -88,4 +95,16 @@ pub fn is_item(p: usize, xcal: bool, mode: usize, s: &[u8], at: usize) -> bool
         return is_day_part(p, xcal, mode, s, at);
     }
     false
+}
+
+// The item of the part at the place `p`, from the cursor to the end.
+pub fn read_item(p: usize, xcal: bool, mode: usize, s: &[u8], at: usize) -> ItemRead
+    ensures { λ r. ⌜
+        r ≡ itemRead p (isRead (readItem (formatOf xcal) (getD partNames p []) (rest mode (now (s .entry)) at))) ⌝ }
+{
+    let fits = is_item(p, xcal, mode, s, at);
+    if fits {
+        return ItemRead::Good(p);
+    }
+    ItemRead::Bad
 }

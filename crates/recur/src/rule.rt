@@ -1,8 +1,8 @@
 // A whole rule in text, over an encoding whose cursors are indices. See specs/Pieces.antt and specs/Noted.antt.
-use crate::item::is_item;
+use crate::item::ItemRead;
+use crate::item::read_item;
 use crate::part;
-use names::name_key;
-use names::named;
+use names::packed::pack;
 use octets::unit::COMMA;
 use octets::unit::END;
 use octets::unit::EQUALS;
@@ -18,7 +18,9 @@ ghost use Rattle.octets.specs.Reading.{isRead};
 ghost use Rattle.octets.specs.Front.{past};
 ghost use Rattle.source.specs.Source.{rest, cuts, Within};
 ghost use Rattle.names.specs.Table.{placeOf};
+ghost use Rattle.names.specs.Packing.{lookup};
 ghost use Rattle.recur.specs.Parts.{partNames, partOf, isListed};
+ghost use Rattle.recur.specs.Packs.{partRows1, partRows2};
 ghost use Rattle.recur.specs.Rule.{isEquals, readPart, readRule};
 ghost use Rattle.recur.specs.Pieces.{Ends, placeAt, areItems, good};
 ghost use Rattle.recur.specs.Noted.{Parted, wholeIn};
@@ -56,28 +58,69 @@ pub fn byte_end(k: usize, mode: usize, s: &[u8], at: usize) -> usize
     }
 }
 
-// The place of a part's name, in any case, by its key (specs/Keys.antt of crate names); part::KNOWN where no part has that name.
+fn part_1(high: u64, low: u64) -> usize
+    ensures { λ r. ⌜ r ≡ lookup high low partRows1 14 ⌝ }
+{
+    if (low == 0x18d4a2d1) & (high == 0x0) {
+        return part::FREQ;
+    }
+    if (low == 0x1af2e9d4) & (high == 0x0) {
+        return part::WKST;
+    }
+    if (low == 0xc2b3120d9) & (high == 0x0) {
+        return part::BYDAY;
+    }
+    if (low == 0xc39f56754) & (high == 0x0) {
+        return part::COUNT;
+    }
+    if (low == 0xd59d524cc) & (high == 0x0) {
+        return part::UNTIL;
+    }
+    if (low == 0x6159913ead2) & (high == 0x0) {
+        return part::BYHOUR;
+    }
+    if (low == 0x30accd9f3aa48) & (high == 0x0) {
+        return part::BYMONTH;
+    }
+    part::KNOWN
+}
+
+fn part_2(high: u64, low: u64) -> usize
+    ensures { λ r. ⌜ r ≡ lookup high low partRows2 14 ⌝ }
+{
+    if (low == 0x85666c99d56a45) & (high == 0x1) {
+        return part::BYMINUTE;
+    }
+    if (low == 0x85669c5873e744) & (high == 0x1) {
+        return part::BYSECOND;
+    }
+    if (low == 0x85669c5a9427d3) & (high == 0x1) {
+        return part::BYSETPOS;
+    }
+    if (low == 0x8566bc58b2e74f) & (high == 0x1) {
+        return part::BYWEEKNO;
+    }
+    if (low == 0x933aa45a55a0cc) & (high == 0x1) {
+        return part::INTERVAL;
+    }
+    if (low == 0x9b3e75491120d9) & (high == 0x6159) {
+        return part::BYMONTHDAY;
+    }
+    if (low == 0xb3662c1a5120d9) & (high == 0xc2) {
+        return part::BYYEARDAY;
+    }
+    part::KNOWN
+}
+
+// The place of a part's name, in any case, by its number (specs/Packing.antt of crate names); part::KNOWN where no part has that name.
 fn part_number(mode: usize, s: &[u8], at: usize) -> usize
     ensures { λ r. ⌜ r ≡ placeOf (upper (rest mode (now (s .entry)) at)) partNames ⌝ }
 {
-    let h = name_key(mode, s, at);
-    match h {
-        76 => named(mode, s, at, b"FREQ", part::FREQ, part::KNOWN),
-        229 => named(mode, s, at, b"UNTIL", part::UNTIL, part::KNOWN),
-        221 => named(mode, s, at, b"COUNT", part::COUNT, part::KNOWN),
-        125 => named(mode, s, at, b"INTERVAL", part::INTERVAL, part::KNOWN),
-        170 => named(mode, s, at, b"BYSECOND", part::BYSECOND, part::KNOWN),
-        52 => named(mode, s, at, b"BYMINUTE", part::BYMINUTE, part::KNOWN),
-        32 => named(mode, s, at, b"BYHOUR", part::BYHOUR, part::KNOWN),
-        217 => named(mode, s, at, b"BYDAY", part::BYDAY, part::KNOWN),
-        176 => named(mode, s, at, b"BYMONTHDAY", part::BYMONTHDAY, part::KNOWN),
-        12 => named(mode, s, at, b"BYYEARDAY", part::BYYEARDAY, part::KNOWN),
-        15 => named(mode, s, at, b"BYWEEKNO", part::BYWEEKNO, part::KNOWN),
-        62 => named(mode, s, at, b"BYMONTH", part::BYMONTH, part::KNOWN),
-        174 => named(mode, s, at, b"BYSETPOS", part::BYSETPOS, part::KNOWN),
-        161 => named(mode, s, at, b"WKST", part::WKST, part::KNOWN),
-        _ => part::KNOWN,
+    let w = pack(mode, s, at);
+    if w.low < 0x85666c99d56a45 {
+        return part_1(w.high, w.low);
     }
+    part_2(w.high, w.low)
 }
 
 // The place of a piece's name.
@@ -122,17 +165,15 @@ fn are_items(p: usize, mode: usize, s: &[u8], at: usize) -> bool
     let mut c = at;
     loop {
         let e = byte_end(COMMA, mode, s, c);
-        let fits = is_item(p, false, mode, &s[..e], c);
-        if fits {
-            let n = unit(mode, s, e);
-            let u = n.u;
-            if u == END {
-                return true;
-            }
-            c = n.next;
-        } else {
+        let ItemRead::Good(i) = read_item(p, false, mode, &s[..e], c) else {
             return false;
+        };
+        let n = unit(mode, s, e);
+        let u = n.u;
+        if u == END {
+            return true;
         }
+        c = n.next;
     }
 }
 
@@ -146,7 +187,10 @@ fn is_part(p: usize, mode: usize, s: &[u8], at: usize) -> bool
     if listed {
         return are_items(p, mode, s, v);
     }
-    is_item(p, false, mode, s, v)
+    let ItemRead::Good(i) = read_item(p, false, mode, s, v) else {
+        return false;
+    };
+    true
 }
 
 // FREQ is there; UNTIL and COUNT are not both there.

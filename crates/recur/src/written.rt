@@ -1,5 +1,6 @@
 // One item of a rule part, written from its characters. See specs/Shown.antt.
-use crate::item::is_item;
+use crate::item::ItemRead;
+use crate::item::read_item;
 use crate::number::after_sign;
 use crate::number::numeral_of;
 use crate::part;
@@ -156,9 +157,8 @@ pub fn put_item(
         Put (now (out .entry)) (now (out .exit)) o r (orNothing (writeItem (formatOf to))
         (readItem (formatOf from) (getD partNames p []) (rest mode (now (s .entry)) at))) ⌝ }
 {
-    let fits = is_item(p, from, mode, s, at);
-    if fits {
-        return put_shown(out, o, p, from, to, mode, s, at);
-    }
-    o
+    let ItemRead::Good(i) = read_item(p, from, mode, s, at) else {
+        return o;
+    };
+    put_shown(out, o, p, from, to, mode, s, at)
 }

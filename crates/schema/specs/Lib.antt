@@ -7,6 +7,7 @@
 --     Properties  properties: types, parameters, whether listed, closed sets
 --     Counts      the tallies of a component compared with its list (refusal 9)
 --     Numbers     names by their numbers, and the rows of numbers
+--     Packs       the numbers by which code finds names
 --     Cells       tables that a definition fills
 --     Columns     what the tables say, by numbers
 --     Sets        closed sets, by numbers
@@ -21,6 +22,7 @@ pub mod Components
 pub mod Properties
 pub mod Counts
 pub mod Numbers
+pub mod Packs
 pub mod Cells
 pub mod Columns
 pub mod Sets

@@ -1,20 +1,23 @@
 -- Closed sets of words, by numbers.
---     wordSets             the sets of properties: of CALSCALE, VERSION, CLASS, TRANSP, ACTION, and of STATUS in VEVENT, VTODO, VJOURNAL
---     setAt, wordsAt       the number of the set of a property in a component, 8 where it has none, and the set
---     parameterSets, parameterSet, parameterWordsAt    the same of parameters
+--     wordSets             the sets of properties: of CALSCALE, VERSION, CLASS, TRANSP, ACTION, and of STATUS in VEVENT, VTODO, VJOURNAL; then those of parameters
+--     setAt, wordsAt       the number of the set of a property in a component, 16 where it has none, and the set
+--     parameterSet, parameterWordsAt    the same of a parameter
 --     isWordOf             a word of a set, where there is one
+--     wordIn               the answer of a reader of words: the place of the word in the set
 use mathlib.Core.Bool.{Bool, false}
 use mathlib.Core.List.{List, [], _∷_}
 use mathlib.Core.Option.{Option, none, some}
 use Prim.Native.Nat.{ℕ}
-use lib.Dec.{eqb}
-use lib.ListN.{getD}
+use lib.Dec.{eqb, ltb}
+use lib.ListN.{length, getD}
 use Rattle.octets.specs.Ascii.{ascii}
 use Rattle.octets.specs.Pick.{pick}
 use Rattle.octets.specs.Words.{isOneOf}
-use Rattle.names.specs.Table.{nth}
+use Rattle.names.specs.Table.{placeOf, nth}
 use Rattle.schema.specs.Parameters.{cutypes, encodings, fbtypes, partstats, ranges, trigrels, reltypes, roles}
 use Rattle.schema.specs.Numbers.{parameterAt}
+use Rattle.schema.specs.declared.WordRead.{WordRead}
+use Rattle.schema.specs.declared.WordRead.the-variants.{At, NoWord}
 
 abbrev pub wordSets : List (List (List ℕ))
 wordSets =
@@ -26,15 +29,23 @@ wordSets =
     (ascii "TENTATIVE" ∷ ascii "CONFIRMED" ∷ ascii "CANCELLED" ∷ []) ∷
     (ascii "NEEDS-ACTION" ∷ ascii "COMPLETED" ∷ ascii "IN-PROCESS" ∷ ascii "CANCELLED" ∷ []) ∷
     (ascii "DRAFT" ∷ ascii "FINAL" ∷ ascii "CANCELLED" ∷ []) ∷
+    cutypes ∷
+    encodings ∷
+    fbtypes ∷
+    partstats ∷
+    ranges ∷
+    trigrels ∷
+    reltypes ∷
+    roles ∷
     []
 
 -- of STATUS, by component: VEVENT, VTODO, VJOURNAL
 abbrev pub statusSet : ℕ → ℕ
-statusSet k = pick (eqb k 1) 5 (pick (eqb k 2) 6 (pick (eqb k 3) 7 8))
+statusSet k = pick (eqb k 1) 5 (pick (eqb k 2) 6 (pick (eqb k 3) 7 16))
 
 -- CALSCALE, VERSION, CLASS, TRANSP, ACTION
 abbrev pub propertySet : ℕ → ℕ
-propertySet p = pick (eqb p 0) 0 (pick (eqb p 3) 1 (pick (eqb p 6) 2 (pick (eqb p 22) 3 (pick (eqb p 38) 4 8))))
+propertySet p = pick (eqb p 0) 0 (pick (eqb p 3) 1 (pick (eqb p 6) 2 (pick (eqb p 22) 3 (pick (eqb p 38) 4 16))))
 
 -- 14 is STATUS
 abbrev pub setAt : ℕ → ℕ → ℕ
@@ -46,16 +57,21 @@ wordsAt k p = nth wordSets (setAt k p)
 abbrev pub parameterWordsAt : ℕ → Option (List (List ℕ))
 parameterWordsAt q = parameterAt q .words
 
-abbrev pub parameterSets : List (List (List ℕ))
-parameterSets = cutypes ∷ encodings ∷ fbtypes ∷ partstats ∷ ranges ∷ trigrels ∷ reltypes ∷ roles ∷ []
-
--- by parameter: CUTYPE, ENCODING, FBTYPE, PARTSTAT, RANGE, RELATED, RELTYPE, ROLE; 8 where it has none
+-- by parameter: CUTYPE, ENCODING, FBTYPE, PARTSTAT, RANGE, RELATED, RELTYPE, ROLE; 16 where it has none
 abbrev pub parameterSetNumbers : List ℕ
-parameterSetNumbers = 8 ∷ 8 ∷ 0 ∷ 8 ∷ 8 ∷ 8 ∷ 1 ∷ 8 ∷ 2 ∷ 8 ∷ 8 ∷ 3 ∷ 4 ∷ 5 ∷ 6 ∷ 7 ∷ 8 ∷ 8 ∷ 8 ∷ []
+parameterSetNumbers = 16 ∷ 16 ∷ 8 ∷ 16 ∷ 16 ∷ 16 ∷ 9 ∷ 16 ∷ 10 ∷ 16 ∷ 16 ∷ 11 ∷ 12 ∷ 13 ∷ 14 ∷ 15 ∷ 16 ∷ 16 ∷ 16 ∷ []
 
 abbrev pub parameterSet : ℕ → ℕ
-parameterSet q = getD parameterSetNumbers q 8
+parameterSet q = getD parameterSetNumbers q 16
 
 abbrev pub isWordOf : Option (List (List ℕ)) → List ℕ → Bool
 isWordOf none w = false
 isWordOf (some ws) w = isOneOf w ws
+
+-- the place i in a set of n words
+abbrev pub wordAmong : ℕ → ℕ → WordRead
+wordAmong n i = pick (ltb i n) (At i) NoWord
+
+abbrev pub wordIn : Option (List (List ℕ)) → List ℕ → WordRead
+wordIn none w = NoWord
+wordIn (some ws) w = wordAmong (length ws) (placeOf w ws)

@@ -9,6 +9,7 @@ mod counts;
 mod numbers;
 pub mod parameter;
 pub mod property;
+mod set;
 pub mod value_type;
 mod words;
 
@@ -30,6 +31,12 @@ pub use numbers::property_number;
 pub use numbers::type_number;
 pub use words::action_number;
 pub use words::has_words;
-pub use words::is_word_of;
-pub use words::is_word_of_parameter;
 pub use words::parameter_has_words;
+pub use words::read_word_of;
+pub use words::read_word_of_parameter;
+
+// A word of a closed set, at this place in it; or none.
+pub enum WordRead {
+    At(usize),
+    NoWord,
+}

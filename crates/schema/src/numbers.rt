@@ -1,158 +1,421 @@
-// The number of a name that stands from a cursor on (crate source), in any case: by its key (specs/Keys.antt of crate names) it is compared with one name.
-// A key or a number that is wrong is refused by the check.
+// The number of a name that stands from a cursor on (crate source), in any case: its bytes are packed (specs/Packing.antt of crate names) and compared with the packed names,
+// in groups of at most eight (specs/Packs.antt). `tools/packed-names.py` prints them; one that is wrong is refused by the check.
 use crate::component;
 use crate::parameter;
 use crate::property;
 use crate::value_type;
-use names::name_key;
-use names::named;
+use names::packed::pack;
 ghost use mathlib.Core.Path.{_≡_};
 ghost use Rattle.octets.specs.Class.{upper};
 ghost use Rattle.source.specs.Source.{rest};
 ghost use Rattle.names.specs.Table.{placeOf};
+ghost use Rattle.names.specs.Packing.{lookup};
 ghost use Rattle.schema.specs.Numbers.{typeNames};
 ghost use Rattle.schema.specs.Components.{componentNames};
 ghost use Rattle.schema.specs.Properties.{propertyNames};
 ghost use Rattle.schema.specs.Parameters.{parameterNames};
+ghost use Rattle.schema.specs.Packs.{typeRows1, typeRows2};
+ghost use Rattle.schema.specs.Packs.{componentRows1, componentRows2};
+ghost use Rattle.schema.specs.Packs.{propertyRows1, propertyRows2, propertyRows3, propertyRows4, propertyRows5, propertyRows6};
+ghost use Rattle.schema.specs.Packs.{parameterRows1, parameterRows2, parameterRows3};
+
+fn type_1(high: u64, low: u64) -> usize
+    ensures { λ r. ⌜ r ≡ lookup high low typeRows1 14 ⌝ }
+{
+    if (low == 0x356949) & (high == 0x0) {
+        return value_type::URI;
+    }
+    if (low == 0x18906a45) & (high == 0x0) {
+        return value_type::DATE;
+    }
+    if (low == 0x1a916c54) & (high == 0x0) {
+        return value_type::TEXT;
+    }
+    if (low == 0x1a9266c5) & (high == 0x0) {
+        return value_type::TIME;
+    }
+    if (low == 0xc6993e0d4) & (high == 0x0) {
+        return value_type::FLOAT;
+    }
+    if (low == 0xd28b0ead2) & (high == 0x0) {
+        return value_type::RECUR;
+    }
+    if (low == 0x61499d06959) & (high == 0x0) {
+        return value_type::BINARY;
+    }
+    value_type::KNOWN
+}
+
+fn type_2(high: u64, low: u64) -> usize
+    ensures { λ r. ⌜ r ≡ lookup high low typeRows2 14 ⌝ }
+{
+    if (low == 0x6845a5267c4) & (high == 0x0) {
+        return value_type::PERIOD;
+    }
+    if (low == 0x30a7cf99160ce) & (high == 0x0) {
+        return value_type::BOOLEAN;
+    }
+    if (low == 0x3267548b1e2d2) & (high == 0x0) {
+        return value_type::INTEGER;
+    }
+    if (low == 0x5b06244a5169d3) & (high == 0x30e0cc) {
+        return value_type::CAL_ADDRESS;
+    }
+    if (low == 0x83522ada9266c5) & (high == 0xc4) {
+        return value_type::DATE_TIME;
+    }
+    if (low == 0x86b67c68d4e2d4) & (high == 0x6ad4) {
+        return value_type::UTC_OFFSET;
+    }
+    if (low == 0x8956941a9267ce) & (high == 0x1) {
+        return value_type::DURATION;
+    }
+    value_type::KNOWN
+}
 
 // The number of a value type, 14 (UNKNOWN) where there is none of that name.
 pub fn type_number(mode: usize, s: &[u8], at: usize) -> usize
     ensures { λ r. ⌜ r ≡ placeOf (upper (rest mode (now (s .entry)) at)) typeNames ⌝ }
 {
-    let h = name_key(mode, s, at);
-    match h {
-        80 => named(mode, s, at, b"BINARY", value_type::BINARY, 14),
-        190 => named(mode, s, at, b"BOOLEAN", value_type::BOOLEAN, 14),
-        251 => named(mode, s, at, b"CAL-ADDRESS", value_type::CAL_ADDRESS, 14),
-        71 => named(mode, s, at, b"DATE", value_type::DATE, 14),
-        1 => named(mode, s, at, b"DATE-TIME", value_type::DATE_TIME, 14),
-        87 => named(mode, s, at, b"DURATION", value_type::DURATION, 14),
-        197 => named(mode, s, at, b"FLOAT", value_type::FLOAT, 14),
-        19 => named(mode, s, at, b"INTEGER", value_type::INTEGER, 14),
-        70 => named(mode, s, at, b"PERIOD", value_type::PERIOD, 14),
-        255 => named(mode, s, at, b"RECUR", value_type::RECUR, 14),
-        95 => named(mode, s, at, b"TEXT", value_type::TEXT, 14),
-        25 => named(mode, s, at, b"TIME", value_type::TIME, 14),
-        179 => named(mode, s, at, b"URI", value_type::URI, 14),
-        127 => named(mode, s, at, b"UTC-OFFSET", value_type::UTC_OFFSET, 14),
-        _ => 14,
+    let w = pack(mode, s, at);
+    if w.low < 0x6845a5267c4 {
+        return type_1(w.high, w.low);
     }
+    type_2(w.high, w.low)
+}
+
+fn component_1(high: u64, low: u64) -> usize
+    ensures { λ r. ⌜ r ≡ lookup high low componentRows1 9 ⌝ }
+{
+    if (low == 0xd6a93e24f) & (high == 0x0) {
+        return component::VTODO;
+    }
+    if (low == 0x6b41990694d) & (high == 0x0) {
+        return component::VALARM;
+    }
+    if (low == 0x6b45ad16754) & (high == 0x0) {
+        return component::VEVENT;
+    }
+    if (low == 0x87066459d120d2) & (high == 0xd6) {
+        return component::VCALENDAR;
+    }
+    component::KNOWN
+}
+
+fn component_2(high: u64, low: u64) -> usize
+    ensures { λ r. ⌜ r ≡ lookup high low componentRows2 9 ⌝ }
+{
+    if (low == 0x8906ccc931e454) & (high == 0x1) {
+        return component::DAYLIGHT;
+    }
+    if (low == 0x8d4a2c585569d9) & (high == 0xd6) {
+        return component::VFREEBUSY;
+    }
+    if (low == 0xa7520ce8906944) & (high == 0x1) {
+        return component::STANDARD;
+    }
+    if (low == 0xa9266c5b53e745) & (high == 0xd6) {
+        return component::VTIMEZONE;
+    }
+    if (low == 0xad2a7d5a53a0cc) & (high == 0x1) {
+        return component::VJOURNAL;
+    }
+    component::KNOWN
 }
 
 // The number of a component, 9 (KNOWN) where there is none of that name.
 pub fn component_number(mode: usize, s: &[u8], at: usize) -> usize
     ensures { λ r. ⌜ r ≡ placeOf (upper (rest mode (now (s .entry)) at)) componentNames ⌝ }
 {
-    let h = name_key(mode, s, at);
-    match h {
-        169 => named(mode, s, at, b"VCALENDAR", component::VCALENDAR, 9),
-        9 => named(mode, s, at, b"VEVENT", component::VEVENT, 9),
-        91 => named(mode, s, at, b"VTODO", component::VTODO, 9),
-        96 => named(mode, s, at, b"VJOURNAL", component::VJOURNAL, 9),
-        146 => named(mode, s, at, b"VFREEBUSY", component::VFREEBUSY, 9),
-        205 => named(mode, s, at, b"VTIMEZONE", component::VTIMEZONE, 9),
-        235 => named(mode, s, at, b"STANDARD", component::STANDARD, 9),
-        190 => named(mode, s, at, b"DAYLIGHT", component::DAYLIGHT, 9),
-        226 => named(mode, s, at, b"VALARM", component::VALARM, 9),
-        _ => 9,
+    let w = pack(mode, s, at);
+    if w.low < 0x8906ccc931e454 {
+        return component_1(w.high, w.low);
     }
+    component_2(w.high, w.low)
+}
+
+fn property_1(high: u64, low: u64) -> usize
+    ensures { λ r. ⌜ r ≡ lookup high low propertyRows1 46 ⌝ }
+{
+    if (low == 0x312ac5) & (high == 0x0) {
+        return property::DUE;
+    }
+    if (low == 0x31e2cf) & (high == 0x0) {
+        return property::GEO;
+    }
+    if (low == 0x3564c4) & (high == 0x0) {
+        return property::UID;
+    }
+    if (low == 0x35694c) & (high == 0x0) {
+        return property::URL;
+    }
+    if (low == 0x1a96a4c4) & (high == 0x0) {
+        return property::TZID;
+    }
+    if (low == 0xc399069d3) & (high == 0x0) {
+        return property::CLASS;
+    }
+    if (low == 0xc4a916744) & (high == 0x0) {
+        return property::DTEND;
+    }
+    property::KNOWN
+}
+
+fn property_2(high: u64, low: u64) -> usize
+    ensures { λ r. ⌜ r ≡ lookup high low propertyRows2 46 ⌝ }
+{
+    if (low == 0xd28906a45) & (high == 0x0) {
+        return property::RDATE;
+    }
+    if (low == 0xd2a556645) & (high == 0x0) {
+        return property::RRULE;
+    }
+    if (low == 0xd4b55694c) & (high == 0x0) {
+        return property::TZURL;
+    }
+    if (low == 0x60c3a9267ce) & (high == 0x0) {
+        return property::ACTION;
+    }
+    if (low == 0x60d4a9061c8) & (high == 0x0) {
+        return property::ATTACH;
+    }
+    if (low == 0x62d88906a45) & (high == 0x0) {
+        return property::EXDATE;
+    }
+    if (low == 0x66c5a9227c4) & (high == 0x0) {
+        return property::METHOD;
+    }
+    if (low == 0x68529f124c4) & (high == 0x0) {
+        return property::PRODID;
+    }
+    property::KNOWN
+}
+
+fn property_3(high: u64, low: u64) -> usize
+    ensures { λ r. ⌜ r ≡ lookup high low propertyRows3 46 ⌝ }
+{
+    if (low == 0x6945a1160d4) & (high == 0x0) {
+        return property::REPEAT;
+    }
+    if (low == 0x69d48352ad3) & (high == 0x0) {
+        return property::STATUS;
+    }
+    if (low == 0x6a52833a9d0) & (high == 0x0) {
+        return property::TRANSP;
+    }
+    if (low == 0x6a5a9d066c5) & (high == 0x0) {
+        return property::TZNAME;
+    }
+    if (low == 0x30e7cd9b16754) & (high == 0x0) {
+        return property::COMMENT;
+    }
+    if (low == 0x30e7cea9061d4) & (high == 0x0) {
+        return property::CONTACT;
+    }
+    if (low == 0x30e94583522c4) & (high == 0x0) {
+        return property::CREATED;
+    }
+    if (low == 0x312a53a9066d0) & (high == 0x0) {
+        return property::DTSTAMP;
+    }
+    property::KNOWN
+}
+
+fn property_4(high: u64, low: u64) -> usize
+    ensures { λ r. ⌜ r ≡ lookup high low propertyRows4 46 ⌝ }
+{
+    if (low == 0x312a53a906954) & (high == 0x0) {
+        return property::DTSTART;
+    }
+    if (low == 0x34eacd9b06959) & (high == 0x0) {
+        return property::SUMMARY;
+    }
+    if (low == 0x3529498f1e2d2) & (high == 0x0) {
+        return property::TRIGGER;
+    }
+    if (low == 0x35a2d2a7267ce) & (high == 0x0) {
+        return property::VERSION;
+    }
+    if (low == 0x8352a459d122c5) & (high == 0x1) {
+        return property::ATTENDEE;
+    }
+    if (low == 0x87066538706645) & (high == 0x1) {
+        return property::CALSCALE;
+    }
+    if (low == 0x873e6d09916a45) & (high == 0x1a1169438b3aa2d) {
+        return property::PERCENT_COMPLETE;
+    }
+    property::KNOWN
+}
+
+fn property_5(high: u64, low: u64) -> usize
+    ensures { λ r. ⌜ r ≡ lookup high low propertyRows5 46 ⌝ }
+{
+    if (low == 0x874a4d0a9267ce) & (high == 0x3122d3) {
+        return property::DESCRIPTION;
+    }
+    if (low == 0x8956941a9267ce) & (high == 0x1) {
+        return property::DURATION;
+    }
+    if (low == 0x8b4e7d5a50e2d3) & (high == 0xd2) {
+        return property::RESOURCES;
+    }
+    if (low == 0x8d4a2c585569d9) & (high == 0x1) {
+        return property::FREEBUSY;
+    }
+    if (low == 0x8d4e2d48d4a7cd) & (high == 0x1a96a7c6) {
+        return property::TZOFFSETFROM;
+    }
+    if (low == 0x9906a4588b6a4f) & (high == 0x6945) {
+        return property::RELATED_TO;
+    }
+    if (low == 0x993e1c1a9267ce) & (high == 0x1) {
+        return property::LOCATION;
+    }
+    if (low == 0x9b3e2498d262c4) & (high == 0xcc834ea2d) {
+        return property::LAST_MODIFIED;
+    }
+    property::KNOWN
+}
+
+fn property_6(high: u64, low: u64) -> usize
+    ensures { λ r. ⌜ r ≡ lookup high low propertyRows6 46 ⌝ }
+{
+    if (low == 0x9f1a3538b52a4f) & (high == 0x6a5a) {
+        return property::TZOFFSETTO;
+    }
+    if (low == 0x9f3684c8b522c4) & (high == 0xc3) {
+        return property::COMPLETED;
+    }
+    if (low == 0xa14a4cfa526a59) & (high == 0x1) {
+        return property::PRIORITY;
+    }
+    if (low == 0xa5167438ab64c4) & (high == 0xd28b0ead2) {
+        return property::RECURRENCE_ID;
+    }
+    if (low == 0xa51e0ce936a2d2) & (high == 0xcf) {
+        return property::ORGANIZER;
+    }
+    if (low == 0xa7168d58b3a1c5) & (high == 0x1) {
+        return property::SEQUENCE;
+    }
+    if (low == 0xa8b69d48352ad3) & (high == 0x6945a3562d3) {
+        return property::REQUEST_STATUS;
+    }
+    if (low == 0xa9163cfa5262d3) & (high == 0x61c1) {
+        return property::CATEGORIES;
+    }
+    property::KNOWN
 }
 
 // The number of a property, 46 (KNOWN) where there is none of that name.
 pub fn property_number(mode: usize, s: &[u8], at: usize) -> usize
     ensures { λ r. ⌜ r ≡ placeOf (upper (rest mode (now (s .entry)) at)) propertyNames ⌝ }
 {
-    let h = name_key(mode, s, at);
-    match h {
-        131 => named(mode, s, at, b"CALSCALE", property::CALSCALE, 46),
-        200 => named(mode, s, at, b"METHOD", property::METHOD, 46),
-        88 => named(mode, s, at, b"PRODID", property::PRODID, 46),
-        188 => named(mode, s, at, b"VERSION", property::VERSION, 46),
-        213 => named(mode, s, at, b"ATTACH", property::ATTACH, 46),
-        161 => named(mode, s, at, b"CATEGORIES", property::CATEGORIES, 46),
-        112 => named(mode, s, at, b"CLASS", property::CLASS, 46),
-        159 => named(mode, s, at, b"COMMENT", property::COMMENT, 46),
-        111 => named(mode, s, at, b"DESCRIPTION", property::DESCRIPTION, 46),
-        210 => named(mode, s, at, b"GEO", property::GEO, 46),
-        217 => named(mode, s, at, b"LOCATION", property::LOCATION, 46),
-        194 => named(
-            mode,
-            s,
-            at,
-            b"PERCENT-COMPLETE",
-            property::PERCENT_COMPLETE,
-            46,
-        ),
-        11 => named(mode, s, at, b"PRIORITY", property::PRIORITY, 46),
-        227 => named(mode, s, at, b"RESOURCES", property::RESOURCES, 46),
-        146 => named(mode, s, at, b"STATUS", property::STATUS, 46),
-        117 => named(mode, s, at, b"SUMMARY", property::SUMMARY, 46),
-        160 => named(mode, s, at, b"COMPLETED", property::COMPLETED, 46),
-        122 => named(mode, s, at, b"DTEND", property::DTEND, 46),
-        135 => named(mode, s, at, b"DUE", property::DUE, 46),
-        84 => named(mode, s, at, b"DTSTART", property::DTSTART, 46),
-        87 => named(mode, s, at, b"DURATION", property::DURATION, 46),
-        93 => named(mode, s, at, b"FREEBUSY", property::FREEBUSY, 46),
-        222 => named(mode, s, at, b"TRANSP", property::TRANSP, 46),
-        34 => named(mode, s, at, b"TZID", property::TZID, 46),
-        174 => named(mode, s, at, b"TZNAME", property::TZNAME, 46),
-        114 => named(mode, s, at, b"TZOFFSETFROM", property::TZOFFSETFROM, 46),
-        81 => named(mode, s, at, b"TZOFFSETTO", property::TZOFFSETTO, 46),
-        142 => named(mode, s, at, b"TZURL", property::TZURL, 46),
-        186 => named(mode, s, at, b"ATTENDEE", property::ATTENDEE, 46),
-        204 => named(mode, s, at, b"CONTACT", property::CONTACT, 46),
-        37 => named(mode, s, at, b"ORGANIZER", property::ORGANIZER, 46),
-        98 => named(mode, s, at, b"RECURRENCE-ID", property::RECURRENCE_ID, 46),
-        203 => named(mode, s, at, b"RELATED-TO", property::RELATED_TO, 46),
-        179 => named(mode, s, at, b"URL", property::URL, 46),
-        130 => named(mode, s, at, b"UID", property::UID, 46),
-        62 => named(mode, s, at, b"EXDATE", property::EXDATE, 46),
-        140 => named(mode, s, at, b"RDATE", property::RDATE, 46),
-        99 => named(mode, s, at, b"RRULE", property::RRULE, 46),
-        113 => named(mode, s, at, b"ACTION", property::ACTION, 46),
-        232 => named(mode, s, at, b"REPEAT", property::REPEAT, 46),
-        234 => named(mode, s, at, b"TRIGGER", property::TRIGGER, 46),
-        58 => named(mode, s, at, b"CREATED", property::CREATED, 46),
-        170 => named(mode, s, at, b"DTSTAMP", property::DTSTAMP, 46),
-        126 => named(mode, s, at, b"LAST-MODIFIED", property::LAST_MODIFIED, 46),
-        108 => named(mode, s, at, b"SEQUENCE", property::SEQUENCE, 46),
-        14 => named(mode, s, at, b"REQUEST-STATUS", property::REQUEST_STATUS, 46),
-        _ => 46,
+    let w = pack(mode, s, at);
+    if w.low < 0xd28906a45 {
+        return property_1(w.high, w.low);
     }
+    if w.low < 0x6945a1160d4 {
+        return property_2(w.high, w.low);
+    }
+    if w.low < 0x312a53a906954 {
+        return property_3(w.high, w.low);
+    }
+    if w.low < 0x874a4d0a9267ce {
+        return property_4(w.high, w.low);
+    }
+    if w.low < 0x9f1a3538b52a4f {
+        return property_5(w.high, w.low);
+    }
+    property_6(w.high, w.low)
+}
+
+fn parameter_1(high: u64, low: u64) -> usize
+    ensures { λ r. ⌜ r ≡ lookup high low parameterRows1 19 ⌝ }
+{
+    if (low == 0x61ce) & (high == 0x0) {
+        return parameter::CN;
+    }
+    if (low == 0x3124d2) & (high == 0x0) {
+        return parameter::DIR;
+    }
+    if (low == 0x1a53e645) & (high == 0x0) {
+        return parameter::ROLE;
+    }
+    if (low == 0x1a54eb50) & (high == 0x0) {
+        return parameter::RSVP;
+    }
+    if (low == 0x1a96a4c4) & (high == 0x0) {
+        return parameter::TZID;
+    }
+    if (low == 0xd2833a3c5) & (high == 0x0) {
+        return parameter::RANGE;
+    }
+    parameter::KNOWN
+}
+
+fn parameter_2(high: u64, low: u64) -> usize
+    ensures { λ r. ⌜ r ≡ lookup high low parameterRows2 19 ⌝ }
+{
+    if (low == 0x60cca94a2d0) & (high == 0x0) {
+        return parameter::ALTREP;
+    }
+    if (low == 0x61d5a966845) & (high == 0x0) {
+        return parameter::CUTYPE;
+    }
+    if (low == 0x6342a966845) & (high == 0x0) {
+        return parameter::FBTYPE;
+    }
+    if (low == 0x66c59b0a2d2) & (high == 0x0) {
+        return parameter::MEMBER;
+    }
+    if (low == 0x31a6d4a966845) & (high == 0x0) {
+        return parameter::FMTTYPE;
+    }
+    if (low == 0x34a2cc83522c4) & (high == 0x0) {
+        return parameter::RELATED;
+    }
+    parameter::KNOWN
+}
+
+fn parameter_3(high: u64, low: u64) -> usize
+    ensures { λ r. ⌜ r ≡ lookup high low parameterRows3 19 ⌝ }
+{
+    if (low == 0x34a2cca966845) & (high == 0x0) {
+        return parameter::RELTYPE;
+    }
+    if (low == 0x34e2cea8b6159) & (high == 0x0) {
+        return parameter::SENT_BY;
+    }
+    if (low == 0x8b3a1cf8926747) & (high == 0x1) {
+        return parameter::ENCODING;
+    }
+    if (low == 0x8f06a4588b6a4f) & (high == 0x18916645) {
+        return parameter::DELEGATED_TO;
+    }
+    if (low == 0x9906747ab063c5) & (high == 0x1) {
+        return parameter::LANGUAGE;
+    }
+    if (low == 0xa106954a7520d4) & (high == 0x1) {
+        return parameter::PARTSTAT;
+    }
+    if (low == 0xa91622d8d4a7cd) & (high == 0x624599163c1) {
+        return parameter::DELEGATED_FROM;
+    }
+    parameter::KNOWN
 }
 
 // The number of a parameter, 19 (KNOWN) where there is none of that name.
 pub fn parameter_number(mode: usize, s: &[u8], at: usize) -> usize
     ensures { λ r. ⌜ r ≡ placeOf (upper (rest mode (now (s .entry)) at)) parameterNames ⌝ }
 {
-    let h = name_key(mode, s, at);
-    match h {
-        233 => named(mode, s, at, b"ALTREP", parameter::ALTREP, 19),
-        232 => named(mode, s, at, b"CN", parameter::CN, 19),
-        157 => named(mode, s, at, b"CUTYPE", parameter::CUTYPE, 19),
-        78 => named(
-            mode,
-            s,
-            at,
-            b"DELEGATED-FROM",
-            parameter::DELEGATED_FROM,
-            19,
-        ),
-        144 => named(mode, s, at, b"DELEGATED-TO", parameter::DELEGATED_TO, 19),
-        245 => named(mode, s, at, b"DIR", parameter::DIR, 19),
-        56 => named(mode, s, at, b"ENCODING", parameter::ENCODING, 19),
-        15 => named(mode, s, at, b"FMTTYPE", parameter::FMTTYPE, 19),
-        173 => named(mode, s, at, b"FBTYPE", parameter::FBTYPE, 19),
-        158 => named(mode, s, at, b"LANGUAGE", parameter::LANGUAGE, 19),
-        184 => named(mode, s, at, b"MEMBER", parameter::MEMBER, 19),
-        45 => named(mode, s, at, b"PARTSTAT", parameter::PARTSTAT, 19),
-        19 => named(mode, s, at, b"RANGE", parameter::RANGE, 19),
-        196 => named(mode, s, at, b"RELATED", parameter::RELATED, 19),
-        178 => named(mode, s, at, b"RELTYPE", parameter::RELTYPE, 19),
-        85 => named(mode, s, at, b"ROLE", parameter::ROLE, 19),
-        218 => named(mode, s, at, b"RSVP", parameter::RSVP, 19),
-        153 => named(mode, s, at, b"SENT-BY", parameter::SENT_BY, 19),
-        34 => named(mode, s, at, b"TZID", parameter::TZID, 19),
-        _ => 19,
+    let w = pack(mode, s, at);
+    if w.low < 0x60cca94a2d0 {
+        return parameter_1(w.high, w.low);
     }
+    if w.low < 0x34a2cca966845 {
+        return parameter_2(w.high, w.low);
+    }
+    parameter_3(w.high, w.low)
 }

@@ -1,25 +1,29 @@
 // Closed sets of words: of a property in a component, and of a parameter. A word is compared in any case in text, as it stands in XML.
+use crate::WordRead;
 use crate::component;
 use crate::parameter;
 use crate::property;
+use crate::set;
 use names::find_word;
 use octets::wide;
 ghost use mathlib.Core.Path.{_≡_};
-ghost use lib.Dec.{ltb};
 ghost use Rattle.octets.specs.Reading.{isRead};
 ghost use Rattle.source.specs.Source.{rest};
 ghost use Rattle.names.specs.Case.{cased, caseOf};
 ghost use Rattle.names.specs.Table.{placeOf, namesIn, nth};
 ghost use Rattle.schema.specs.Completing.{actionNames};
-ghost use Rattle.schema.specs.Sets.{wordSets, statusSet, propertySet, setAt, wordsAt, parameterSets, parameterSet, parameterWordsAt, isWordOf};
+ghost use Rattle.schema.specs.Sets.{wordSets, statusSet, propertySet, setAt, wordsAt, parameterSet, parameterWordsAt, wordAmong, wordIn};
 
-// The word is one of a table of `n` words.
-fn is_word_in(n: usize, xcal: bool, mode: usize, s: &[u8], at: usize, table: &[u8]) -> bool
+// The place of the word in a table of `n` words.
+fn read_word_in(n: usize, xcal: bool, mode: usize, s: &[u8], at: usize, table: &[u8]) -> WordRead
     ensures { λ r. ⌜
-        r ≡ ltb (placeOf (cased (caseOf xcal) (rest mode (now (s .entry)) at)) (namesIn (now (table .entry)))) n ⌝ }
+        r ≡ wordAmong n (placeOf (cased (caseOf xcal) (rest mode (now (s .entry)) at)) (namesIn (now (table .entry)))) ⌝ }
 {
     let i = find_word(xcal, mode, s, at, table);
-    i < n
+    if i < n {
+        return WordRead::At(i);
+    }
+    WordRead::NoWord
 }
 
 // The number of the set of STATUS in a component.
@@ -27,15 +31,15 @@ fn status_set(k: usize) -> usize
     ensures { λ r. ⌜ r ≡ statusSet k ⌝ }
 {
     if k == component::VEVENT {
-        return 5;
+        return set::EVENT_STATUS;
     }
     if k == component::VTODO {
-        return 6;
+        return set::TODO_STATUS;
     }
     if k == component::VJOURNAL {
-        return 7;
+        return set::JOURNAL_STATUS;
     }
-    8
+    set::NONE
 }
 
 // The number of the set of a property other than STATUS.
@@ -43,24 +47,24 @@ fn property_set(p: usize) -> usize
     ensures { λ r. ⌜ r ≡ propertySet p ⌝ }
 {
     if p == property::CALSCALE {
-        return 0;
+        return set::CALSCALE;
     }
     if p == property::VERSION {
-        return 1;
+        return set::VERSION;
     }
     if p == property::CLASS {
-        return 2;
+        return set::CLASS;
     }
     if p == property::TRANSP {
-        return 3;
+        return set::TRANSP;
     }
     if p == property::ACTION {
-        return 4;
+        return set::ACTION;
     }
-    8
+    set::NONE
 }
 
-// The number of the set of a property in a component, 8 where it has none.
+// The number of the set of a property in a component, set::NONE where it has none.
 fn set_at(k: usize, p: usize) -> usize
     ensures { λ r. ⌜ r ≡ setAt k p ⌝ }
 {
@@ -70,37 +74,30 @@ fn set_at(k: usize, p: usize) -> usize
     property_set(p)
 }
 
-// The word is one of the set `n`.
-fn is_in_set(n: usize, xcal: bool, mode: usize, s: &[u8], at: usize) -> bool
-    ensures { λ r. ⌜ r ≡ isWordOf (nth wordSets n) (cased (caseOf xcal) (rest mode (now (s .entry)) at)) ⌝ }
+// The place of the word in the set `n`.
+fn read_in_set(n: usize, xcal: bool, mode: usize, s: &[u8], at: usize) -> WordRead
+    ensures { λ r. ⌜ r ≡ wordIn (nth wordSets n) (cased (caseOf xcal) (rest mode (now (s .entry)) at)) ⌝ }
 {
-    // CALSCALE
-    if n < 1 {
-        return is_word_in(1, xcal, mode, s, at, b"GREGORIAN\n");
+    if n <= set::CALSCALE {
+        return read_word_in(1, xcal, mode, s, at, b"GREGORIAN\n");
     }
-    // VERSION
-    if n < 2 {
-        return is_word_in(1, xcal, mode, s, at, b"2.0\n");
+    if n <= set::VERSION {
+        return read_word_in(1, xcal, mode, s, at, b"2.0\n");
     }
-    // CLASS
-    if n < 3 {
-        return is_word_in(3, xcal, mode, s, at, b"PUBLIC\nPRIVATE\nCONFIDENTIAL\n");
+    if n <= set::CLASS {
+        return read_word_in(3, xcal, mode, s, at, b"PUBLIC\nPRIVATE\nCONFIDENTIAL\n");
     }
-    // TRANSP
-    if n < 4 {
-        return is_word_in(2, xcal, mode, s, at, b"OPAQUE\nTRANSPARENT\n");
+    if n <= set::TRANSP {
+        return read_word_in(2, xcal, mode, s, at, b"OPAQUE\nTRANSPARENT\n");
     }
-    // ACTION
-    if n < 5 {
-        return is_word_in(3, xcal, mode, s, at, b"AUDIO\nDISPLAY\nEMAIL\n");
+    if n <= set::ACTION {
+        return read_word_in(3, xcal, mode, s, at, b"AUDIO\nDISPLAY\nEMAIL\n");
     }
-    // STATUS of VEVENT
-    if n < 6 {
-        return is_word_in(3, xcal, mode, s, at, b"TENTATIVE\nCONFIRMED\nCANCELLED\n");
+    if n <= set::EVENT_STATUS {
+        return read_word_in(3, xcal, mode, s, at, b"TENTATIVE\nCONFIRMED\nCANCELLED\n");
     }
-    // STATUS of VTODO
-    if n < 7 {
-        return is_word_in(
+    if n <= set::TODO_STATUS {
+        return read_word_in(
             4,
             xcal,
             mode,
@@ -109,48 +106,11 @@ fn is_in_set(n: usize, xcal: bool, mode: usize, s: &[u8], at: usize) -> bool
             b"NEEDS-ACTION\nCOMPLETED\nIN-PROCESS\nCANCELLED\n",
         );
     }
-    // STATUS of VJOURNAL
-    if n < 8 {
-        return is_word_in(3, xcal, mode, s, at, b"DRAFT\nFINAL\nCANCELLED\n");
+    if n <= set::JOURNAL_STATUS {
+        return read_word_in(3, xcal, mode, s, at, b"DRAFT\nFINAL\nCANCELLED\n");
     }
-    false
-}
-
-// Whether a property has a closed set in a component.
-pub fn has_words(k: usize, p: usize) -> bool
-    ensures { λ r. ⌜ r ≡ isRead (wordsAt k p) ⌝ }
-{
-    let n = set_at(k, p);
-    n < 8
-}
-
-// Whether the word is one of the closed set of a property in a component.
-pub fn is_word_of(k: usize, p: usize, xcal: bool, mode: usize, s: &[u8], at: usize) -> bool
-    ensures { λ r. ⌜ r ≡ isWordOf (wordsAt k p) (cased (caseOf xcal) (rest mode (now (s .entry)) at)) ⌝ }
-{
-    let n = set_at(k, p);
-    is_in_set(n, xcal, mode, s, at)
-}
-
-// The number of the set of each parameter, 8 where it has none.
-const PARAMETER_SETS: [u8; 19] = [8, 8, 0, 8, 8, 8, 1, 8, 2, 8, 8, 3, 4, 5, 6, 7, 8, 8, 8];
-
-fn parameter_set(q: usize) -> usize
-    ensures { λ r. ⌜ r ≡ parameterSet q ⌝ }
-{
-    if q < parameter::KNOWN {
-        return wide(PARAMETER_SETS[q]);
-    }
-    8
-}
-
-// The word is one of the set `n` of parameters.
-fn is_in_parameter_set(n: usize, xcal: bool, mode: usize, s: &[u8], at: usize) -> bool
-    ensures { λ r. ⌜ r ≡ isWordOf (nth parameterSets n) (cased (caseOf xcal) (rest mode (now (s .entry)) at)) ⌝ }
-{
-    // CUTYPE
-    if n < 1 {
-        return is_word_in(
+    if n <= set::CUTYPE {
+        return read_word_in(
             5,
             xcal,
             mode,
@@ -159,13 +119,11 @@ fn is_in_parameter_set(n: usize, xcal: bool, mode: usize, s: &[u8], at: usize) -
             b"INDIVIDUAL\nGROUP\nRESOURCE\nROOM\nUNKNOWN\n",
         );
     }
-    // ENCODING
-    if n < 2 {
-        return is_word_in(2, xcal, mode, s, at, b"8BIT\nBASE64\n");
+    if n <= set::ENCODING {
+        return read_word_in(2, xcal, mode, s, at, b"8BIT\nBASE64\n");
     }
-    // FBTYPE
-    if n < 3 {
-        return is_word_in(
+    if n <= set::FBTYPE {
+        return read_word_in(
             4,
             xcal,
             mode,
@@ -174,9 +132,8 @@ fn is_in_parameter_set(n: usize, xcal: bool, mode: usize, s: &[u8], at: usize) -
             b"FREE\nBUSY\nBUSY-UNAVAILABLE\nBUSY-TENTATIVE\n",
         );
     }
-    // PARTSTAT
-    if n < 4 {
-        return is_word_in(
+    if n <= set::PARTSTAT {
+        return read_word_in(
             7,
             xcal,
             mode,
@@ -185,21 +142,17 @@ fn is_in_parameter_set(n: usize, xcal: bool, mode: usize, s: &[u8], at: usize) -
             b"NEEDS-ACTION\nACCEPTED\nDECLINED\nTENTATIVE\nDELEGATED\nCOMPLETED\nIN-PROCESS\n",
         );
     }
-    // RANGE
-    if n < 5 {
-        return is_word_in(1, xcal, mode, s, at, b"THISANDFUTURE\n");
+    if n <= set::RANGE {
+        return read_word_in(1, xcal, mode, s, at, b"THISANDFUTURE\n");
     }
-    // RELATED
-    if n < 6 {
-        return is_word_in(2, xcal, mode, s, at, b"START\nEND\n");
+    if n <= set::RELATED {
+        return read_word_in(2, xcal, mode, s, at, b"START\nEND\n");
     }
-    // RELTYPE
-    if n < 7 {
-        return is_word_in(3, xcal, mode, s, at, b"PARENT\nCHILD\nSIBLING\n");
+    if n <= set::RELTYPE {
+        return read_word_in(3, xcal, mode, s, at, b"PARENT\nCHILD\nSIBLING\n");
     }
-    // ROLE
-    if n < 8 {
-        return is_word_in(
+    if n <= set::ROLE {
+        return read_word_in(
             4,
             xcal,
             mode,
@@ -208,7 +161,55 @@ fn is_in_parameter_set(n: usize, xcal: bool, mode: usize, s: &[u8], at: usize) -
             b"CHAIR\nREQ-PARTICIPANT\nOPT-PARTICIPANT\nNON-PARTICIPANT\n",
         );
     }
-    false
+    WordRead::NoWord
+}
+
+// Whether a property has a closed set in a component.
+pub fn has_words(k: usize, p: usize) -> bool
+    ensures { λ r. ⌜ r ≡ isRead (wordsAt k p) ⌝ }
+{
+    let n = set_at(k, p);
+    n < set::NONE
+}
+
+// The place of the word in the closed set of a property in a component.
+pub fn read_word_of(k: usize, p: usize, xcal: bool, mode: usize, s: &[u8], at: usize) -> WordRead
+    ensures { λ r. ⌜ r ≡ wordIn (wordsAt k p) (cased (caseOf xcal) (rest mode (now (s .entry)) at)) ⌝ }
+{
+    let n = set_at(k, p);
+    read_in_set(n, xcal, mode, s, at)
+}
+
+// The number of the set of each parameter.
+const PARAMETER_SETS: [u8; 19] = [
+    16,
+    16,
+    8,
+    16,
+    16,
+    16,
+    9,
+    16,
+    10,
+    16,
+    16,
+    11,
+    12,
+    13,
+    14,
+    15,
+    16,
+    16,
+    16,
+];
+
+fn parameter_set(q: usize) -> usize
+    ensures { λ r. ⌜ r ≡ parameterSet q ⌝ }
+{
+    if q < parameter::KNOWN {
+        return wide(PARAMETER_SETS[q]);
+    }
+    set::NONE
 }
 
 // Whether a parameter has a closed set.
@@ -216,15 +217,15 @@ pub fn parameter_has_words(q: usize) -> bool
     ensures { λ r. ⌜ r ≡ isRead (parameterWordsAt q) ⌝ }
 {
     let n = parameter_set(q);
-    n < 8
+    n < set::NONE
 }
 
-// Whether the word is one of the closed set of a parameter.
-pub fn is_word_of_parameter(q: usize, xcal: bool, mode: usize, s: &[u8], at: usize) -> bool
-    ensures { λ r. ⌜ r ≡ isWordOf (parameterWordsAt q) (cased (caseOf xcal) (rest mode (now (s .entry)) at)) ⌝ }
+// The place of the word in the closed set of a parameter.
+pub fn read_word_of_parameter(q: usize, xcal: bool, mode: usize, s: &[u8], at: usize) -> WordRead
+    ensures { λ r. ⌜ r ≡ wordIn (parameterWordsAt q) (cased (caseOf xcal) (rest mode (now (s .entry)) at)) ⌝ }
 {
     let n = parameter_set(q);
-    is_in_parameter_set(n, xcal, mode, s, at)
+    read_in_set(n, xcal, mode, s, at)
 }
 
 // The number of ACTION's word among AUDIO, DISPLAY, EMAIL, action::NONE where it is none of them.

@@ -1,9 +1,11 @@
 // Writing XML: character data with its entities, and tags. The definitions are in crate xml, specs/Escape.antt.
+use names::put_lower;
 use octets::unit::END;
 use sink::put;
 use sink::put_all;
 use source::unit;
 ghost use mathlib.Core.Path.{_≡_};
+ghost use Rattle.octets.specs.Class.{lower};
 ghost use Rattle.sink.specs.Sink.{Put};
 ghost use Rattle.source.specs.Source.{rest};
 ghost use Rattle.xml.specs.Escape.{escapedByte, escaped, startTag, endTag};
@@ -55,4 +57,22 @@ pub fn put_end_tag(out: &mut [u8], at: usize, name: &[u8]) -> usize
     let o = put_all(out, at, b"</");
     let e = put_all(out, o, name);
     put_all(out, e, b">")
+}
+
+// The start tag of the name that stands from the cursor on, in small letters.
+pub fn put_small_start(out: &mut [u8], o: usize, mode: usize, s: &[u8], at: usize) -> usize
+    ensures { λ r. ⌜ Put (now (out .entry)) (now (out .exit)) o r (startTag (lower (rest mode (now (s .entry)) at))) ⌝ }
+{
+    let a = put_all(out, o, b"<");
+    let b = put_lower(out, a, mode, s, at);
+    put_all(out, b, b">")
+}
+
+// Its end tag.
+pub fn put_small_end(out: &mut [u8], o: usize, mode: usize, s: &[u8], at: usize) -> usize
+    ensures { λ r. ⌜ Put (now (out .entry)) (now (out .exit)) o r (endTag (lower (rest mode (now (s .entry)) at))) ⌝ }
+{
+    let a = put_all(out, o, b"</");
+    let b = put_lower(out, a, mode, s, at);
+    put_all(out, b, b">")
 }

@@ -5,6 +5,7 @@ use folding::unfolding::place_of;
 use folding::unfolding::unfold;
 use read_text::Checked;
 use read_text::check;
+use refusals::Refusal;
 use utf8::Found;
 use utf8::first_bad;
 use write_xml::put_document;
@@ -44,7 +45,7 @@ fn measured(kept: &[u8], out: &mut [u8]) -> Answer
         put_document(out, 0, 0, kept);
         return Answer::Written(need);
     }
-    Answer::Room(need)
+    Answer::Needs(need)
 }
 
 // The XML of an unfolded text: it has no more than 19 bytes for each byte of the text, and 109.
@@ -88,7 +89,7 @@ fn converted(input: &[u8], kept: &[u8], out: &mut [u8]) -> Answer
     match first_bad(kept) {
         Found::At(p) => {
             let q = place_of(input, p);
-            Answer::Character(q)
+            Answer::Refused(Refusal::Character, q)
         }
         Found::Nothing => checked(input, kept, out),
     }
@@ -106,7 +107,7 @@ pub fn to_xml(input: &[u8], work: &mut [u8], out: &mut [u8]) -> Answer
             let n = unfold(input, work);
             return converted(input, &work[..n], out);
         }
-        return Answer::Work(0);
+        return Answer::Refused(Refusal::Work, 0);
     }
-    Answer::Length(0)
+    Answer::Refused(Refusal::Length, 0)
 }

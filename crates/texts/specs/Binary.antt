@@ -2,6 +2,7 @@
 --     isBinary s       whole groups of four, `=` only at the end of the last one, zero padding bits; may be empty
 --     readBinary f s   the characters; from xCal without white space
 --     base64Value b    what a character is worth, RFC 4648, table 1
+-- It goes a character at a time, as the code does. BinaryGrammar says the same group by group, as the RFC does.
 use mathlib.Core.Bool.{Bool}
 use mathlib.Core.List.{List, [], _∷_}
 use mathlib.Core.Option.{Option}

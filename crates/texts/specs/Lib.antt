@@ -4,6 +4,9 @@
 --     RequestStatus   REQUEST-STATUS, two or three TEXT
 --     Uri             URI and CAL-ADDRESS
 --     Binary          BINARY, base64 characters
+--     TextGrammar     TEXT and lists of it, URI and BINARY by the grammars of the RFCs: what the three above read, by laws
+--     UriGrammar
+--     BinaryGrammar
 --     Unknown         values of the type unknown
 --     Quoting         parameter values between double quotes
 --     Unescaped       TEXT followed a byte at a time
@@ -21,6 +24,9 @@ pub mod TextList
 pub mod RequestStatus
 pub mod Uri
 pub mod Binary
+pub mod TextGrammar
+pub mod UriGrammar
+pub mod BinaryGrammar
 pub mod Unknown
 pub mod Quoting
 pub mod Unescaped

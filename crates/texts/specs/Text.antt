@@ -3,6 +3,7 @@
 --     splitText c s    the unescaped texts between bare separators c (44 comma, 59 semicolon, 0 none); a bare comma or semicolon that is not c is a fault
 --     readText s       one TEXT, unescaped
 --     writeText s      escaped
+-- It goes a byte at a time, as the code does. TextGrammar says the same as the RFC does.
 use mathlib.Core.Bool.{Bool, false}
 use mathlib.Core.List.{List, [], _∷_}
 use mathlib.Core.Option.{Option, none, some}

@@ -1,6 +1,7 @@
 -- URI of RFC 5545, section 3.3.13, and CAL-ADDRESS of 3.3.3, which is a URI: the characters are kept as they stand, in text and in xCal alike.
 --     isUri s      a scheme, a colon, then characters of a URI
 --     readUri s    the characters
+-- It goes a character at a time, as the code does. UriGrammar says the same as the RFC does.
 use mathlib.Core.Bool.{Bool, false}
 use mathlib.Core.List.{List, [], _∷_}
 use mathlib.Core.Option.{Option}

@@ -5,6 +5,9 @@
 --     RequestStatus  REQUEST-STATUS, two or three TEXT
 --     Uri            URI and CAL-ADDRESS
 --     Binary         BINARY, base64 characters
+--     TextGrammar    Text reads exactly what the grammar has
+--     UriGrammar     so does Uri
+--     BinaryGrammar  so does Binary
 --     Unknown        values of the type unknown
 --     Quoting        parameter values between double quotes
 --     Unescaped      TEXT followed a byte at a time
@@ -21,6 +24,9 @@ pub mod TextList
 pub mod RequestStatus
 pub mod Uri
 pub mod Binary
+pub mod TextGrammar
+pub mod UriGrammar
+pub mod BinaryGrammar
 pub mod Unknown
 pub mod Quoting
 pub mod Unescaped

@@ -3,6 +3,7 @@ use crate::is_kept;
 use crate::items::item_end;
 use crate::text::read_text;
 use crate::written::put_text_xml;
+use markup::element;
 use octets::smaller;
 use octets::unit::COMMA;
 use octets::unit::END;
@@ -46,7 +47,7 @@ fn put_item_xml(out: &mut [u8], at: usize, mode: usize, s: &[u8], from: usize, e
         Put (now (out .entry)) (now (out .exit)) at r
         (elementOf (ascii "text") (orNothing escaped (readText (rest mode (take end (now (s .entry))) from)))) ⌝ }
 {
-    put_text_element(out, at, b"text", mode, s, from, end)
+    put_text_element(out, at, &element::TEXT, mode, s, from, end)
 }
 
 fn put_items_xml(out: &mut [u8], at: usize, mode: usize, s: &[u8], from: usize) -> usize

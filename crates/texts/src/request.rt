@@ -4,6 +4,7 @@ use crate::elements::put_text_element;
 use crate::is_kept;
 use crate::items::item_end;
 use crate::text::read_text;
+use markup::element;
 use octets::unit::END;
 use octets::unit::SEMICOLON;
 use source::unit;
@@ -70,7 +71,7 @@ fn put_data_xml(out: &mut [u8], at: usize, mode: usize, s: &[u8], from: usize) -
     if u == END {
         return at;
     }
-    put_text_element(out, at, b"data", mode, s, n.next, s.len())
+    put_text_element(out, at, &element::DATA, mode, s, n.next, s.len())
 }
 
 fn put_parts_xml(
@@ -85,8 +86,8 @@ fn put_parts_xml(
 ) -> usize
     ensures { λ r. ⌜ Put (now (out .entry)) (now (out .exit)) at r (partsXml mode (now (s .entry)) from a d b) ⌝ }
 {
-    let o = put_text_element(out, at, b"code", mode, s, from, a);
-    let e = put_text_element(out, o, b"description", mode, s, d, b);
+    let o = put_text_element(out, at, &element::CODE, mode, s, from, a);
+    let e = put_text_element(out, o, &element::DESCRIPTION, mode, s, d, b);
     put_data_xml(out, e, mode, s, b)
 }
 

@@ -17,17 +17,13 @@ use crate::time::is_time;
 use crate::time::is_utc_offset;
 use schema::value_type;
 ghost use mathlib.Core.Path.{_≡_};
-ghost use mathlib.Core.Bool.{true, false};
-ghost use Rattle.octets.specs.Reading.{isRead};
-ghost use Rattle.calendar.specs.Calendar.{formatOf};
-ghost use Rattle.source.specs.Source.{rest, cuts};
+ghost use Rattle.source.specs.Source.{rest};
 ghost use Rattle.schema.specs.Numbers.{typeAt};
-ghost use Rattle.values.specs.ReadValue.{readValue};
-ghost use Rattle.values.specs.ValueAt.{fromTime, fromInteger, fromDate, fromBinary, valueRead};
+ghost use Rattle.values.specs.ValueAt.{fromTime, fromInteger, fromDate, fromBinary, valueRead, isReadAt};
 
 // A value of TIME, or of a type after it.
 fn is_from_time(xcal: bool, t: usize, mode: usize, s: &[u8], at: usize) -> bool
-    ensures { λ r. ⌜ r ≡ isRead (readValue (formatOf xcal) (fromTime t) (rest mode (now (s .entry)) at)) ⌝ }
+    ensures { λ r. ⌜ r ≡ isReadAt xcal mode (fromTime t) (rest mode (now (s .entry)) at) ⌝ }
 {
     if t == value_type::TIME {
         return is_time(xcal, mode, s, at);
@@ -43,9 +39,7 @@ fn is_from_time(xcal: bool, t: usize, mode: usize, s: &[u8], at: usize) -> bool
 
 // A value of INTEGER, or of a type after it.
 fn is_from_integer(xcal: bool, t: usize, mode: usize, s: &[u8], at: usize) -> bool
-    ensures { λ r. ⌜
-        ((xcal ≡ false → cuts mode ≡ true) →
-        r ≡ isRead (readValue (formatOf xcal) (fromInteger t) (rest mode (now (s .entry)) at))) ⌝ }
+    ensures { λ r. ⌜ r ≡ isReadAt xcal mode (fromInteger t) (rest mode (now (s .entry)) at) ⌝ }
 {
     if t == value_type::INTEGER {
         return is_integer(xcal, mode, s, at);
@@ -64,9 +58,7 @@ fn is_from_integer(xcal: bool, t: usize, mode: usize, s: &[u8], at: usize) -> bo
 
 // A value of DATE, or of a type after it.
 fn is_from_date(xcal: bool, t: usize, mode: usize, s: &[u8], at: usize) -> bool
-    ensures { λ r. ⌜
-        ((xcal ≡ false → cuts mode ≡ true) →
-        r ≡ isRead (readValue (formatOf xcal) (fromDate t) (rest mode (now (s .entry)) at))) ⌝ }
+    ensures { λ r. ⌜ r ≡ isReadAt xcal mode (fromDate t) (rest mode (now (s .entry)) at) ⌝ }
 {
     if t == value_type::DATE {
         return is_date(xcal, mode, s, at);
@@ -85,9 +77,7 @@ fn is_from_date(xcal: bool, t: usize, mode: usize, s: &[u8], at: usize) -> bool
 
 // A value of BINARY, or of a type after it.
 fn is_from_binary(xcal: bool, t: usize, mode: usize, s: &[u8], at: usize) -> bool
-    ensures { λ r. ⌜
-        ((xcal ≡ false → cuts mode ≡ true) →
-        r ≡ isRead (readValue (formatOf xcal) (fromBinary t) (rest mode (now (s .entry)) at))) ⌝ }
+    ensures { λ r. ⌜ r ≡ isReadAt xcal mode (fromBinary t) (rest mode (now (s .entry)) at) ⌝ }
 {
     if t == value_type::BINARY {
         return is_binary(xcal, mode, s, at);
@@ -101,11 +91,9 @@ fn is_from_binary(xcal: bool, t: usize, mode: usize, s: &[u8], at: usize) -> boo
     is_from_date(xcal, t, mode, s, at)
 }
 
-// The value of the type at the place `t`, from the cursor to the end; of the text format in an encoding that can be cut.
+// The value of the type at the place `t`, from the cursor to the end; RECUR of text only in an encoding that can be cut.
 pub fn read_value(xcal: bool, t: usize, mode: usize, s: &[u8], at: usize) -> ValueRead
-    ensures { λ r. ⌜
-        ((xcal ≡ false → cuts mode ≡ true) →
-        r ≡ valueRead t (isRead (readValue (formatOf xcal) (typeAt t) (rest mode (now (s .entry)) at)))) ⌝ }
+    ensures { λ r. ⌜ r ≡ valueRead t (isReadAt xcal mode (typeAt t) (rest mode (now (s .entry)) at)) ⌝ }
 {
     let ok = is_from_binary(xcal, t, mode, s, at);
     if ok {

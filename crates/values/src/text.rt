@@ -7,12 +7,13 @@ use texts::read_one_text;
 use texts::read_unknown;
 use texts::read_uri;
 ghost use mathlib.Core.Path.{_≡_};
-ghost use mathlib.Core.Bool.{true, false};
+ghost use mathlib.Core.Bool.{true};
 ghost use Rattle.octets.specs.Reading.{isRead};
 ghost use Rattle.calendar.specs.Calendar.{formatOf, BINARY, CAL-ADDRESS, RECUR, TEXT, URI, UNKNOWN};
 ghost use Rattle.source.specs.Source.{rest, cuts};
 ghost use Rattle.recur.specs.Rule.{readRule};
 ghost use Rattle.values.specs.ReadValue.{readValue};
+ghost use Rattle.values.specs.ValueAt.{isReadAt};
 
 pub fn is_binary(xcal: bool, mode: usize, s: &[u8], at: usize) -> bool
     ensures { λ r. ⌜ r ≡ isRead (readValue (formatOf xcal) BINARY (rest mode (now (s .entry)) at)) ⌝ }
@@ -39,11 +40,9 @@ fn is_rule(mode: usize, s: &[u8], at: usize) -> bool
     }
 }
 
-// RECUR is made of elements in XML, and in text it stands in an encoding that can be cut.
+// RECUR is made of elements in XML, and in text it is read in an encoding that can be cut.
 pub fn is_recur(xcal: bool, mode: usize, s: &[u8], at: usize) -> bool
-    ensures { λ r. ⌜
-        ((xcal ≡ false → cuts mode ≡ true) →
-        r ≡ isRead (readValue (formatOf xcal) RECUR (rest mode (now (s .entry)) at))) ⌝ }
+    ensures { λ r. ⌜ r ≡ isReadAt xcal mode RECUR (rest mode (now (s .entry)) at) ⌝ }
 {
     if xcal {
         return false;

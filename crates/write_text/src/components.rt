@@ -12,12 +12,13 @@ ghost use lib.ListN.{length};
 ghost use Rattle.octets.specs.Ascii.{ascii};
 ghost use Rattle.octets.specs.Append.{_⊕_};
 ghost use Rattle.octets.specs.Class.{upper};
-ghost use Rattle.sink.specs.Sink.{Put};
+ghost use Rattle.sink.specs.Sink.{overwrite};
 ghost use Rattle.folding.specs.Fold.{foldedLine};
 ghost use Rattle.text.specs.WriteText.{endLine, writeCalendar};
 ghost use Rattle.xcal.specs.ComponentNodes.{readComponents};
 ghost use Rattle.xml.specs.NodesAt.{nodesAt};
 ghost use Rattle.write_text.specs.Children.{InsideAt, nameIn};
+ghost use Rattle.write_text.specs.Filled.{calendarRoom, headRoom, PutBy};
 ghost use Rattle.write_text.specs.Walks.{headText};
 
 // The line of `word` and the name from `name` to `end` in capitals.
@@ -32,8 +33,10 @@ fn put_name_line(
 ) -> usize
     requires { ⌜ (end ≤ length (now s)) × (length (now word) + length (now s) ≤ length (now line)) ⌝ }
     ensures { λ r. ⌜
-        Put (now (out .entry)) (now (out .exit)) o r
-        (foldedLine (now (word .entry) ⊕ upper (nameIn (now (s .entry)) name end))) ⌝ }
+        PutBy (now (out .entry)) (now (out .exit)) o r
+        (foldedLine (now (word .entry) ⊕ upper (nameIn (now (s .entry)) name end)))
+        (now (line .exit))
+        (overwrite (now (line .entry)) 0 (now (word .entry) ⊕ upper (nameIn (now (s .entry)) name end))) ⌝ }
 {
     let a = put_all(line, 0, word);
     let n = put_upper(line, a, 0, &s[..end], name);
@@ -52,8 +55,10 @@ fn put_head(
 ) -> usize
     requires { ⌜ (length (now s) ≤ 65535) × (length (now line) ≡ 262144) × (end ≤ length (now s)) ⌝ }
     ensures { λ r. ⌜
-        Put (now (out .entry)) (now (out .exit)) o r
-        (headText (nameIn (now (s .entry)) name end) (nodesAt (now (s .entry)) inside)) ⌝ }
+        PutBy (now (out .entry)) (now (out .exit)) o r
+        (headText (nameIn (now (s .entry)) name end) (nodesAt (now (s .entry)) inside))
+        (now (line .exit))
+        (headRoom (nameIn (now (s .entry)) name end) (nodesAt (now (s .entry)) inside) (now (line .entry))) ⌝ }
 {
     let a = put_name_line(out, o, line, b"BEGIN:", s, name, end);
     let from = inside_of(s, inside, b"properties");
@@ -64,7 +69,10 @@ fn put_head(
 fn put_tail(out: &mut [u8], o: usize, line: &mut [u8], s: &[u8], name: usize, end: usize) -> usize
     requires { ⌜ (length (now s) ≤ 65535) × (length (now line) ≡ 262144) × (end ≤ length (now s)) ⌝ }
     ensures { λ r. ⌜
-        Put (now (out .entry)) (now (out .exit)) o r (endLine (upper (nameIn (now (s .entry)) name end))) ⌝ }
+        PutBy (now (out .entry)) (now (out .exit)) o r
+        (endLine (upper (nameIn (now (s .entry)) name end)))
+        (now (line .exit))
+        (overwrite (now (line .entry)) 0 (ascii "END:" ⊕ upper (nameIn (now (s .entry)) name end))) ⌝ }
 {
     put_name_line(out, o, line, b"END:", s, name, end)
 }
@@ -80,8 +88,10 @@ fn components_inside(s: &[u8], inside: usize) -> usize
 pub fn put_calendar(out: &mut [u8], o: usize, line: &mut [u8], s: &[u8], from: usize) -> usize
     requires { ⌜ (length (now s) ≤ 65535) × (length (now line) ≡ 262144) ⌝ }
     ensures { λ r. ⌜
-        Put (now (out .entry)) (now (out .exit)) o r
-        (writeCalendar (readComponents (nodesAt (now (s .entry)) from))) ⌝ }
+        PutBy (now (out .entry)) (now (out .exit)) o r
+        (writeCalendar (readComponents (nodesAt (now (s .entry)) from)))
+        (now (line .exit))
+        (calendarRoom (readComponents (nodesAt (now (s .entry)) from)) (now (line .entry))) ⌝ }
 {
     let mut p = o;
     let mut at = from;

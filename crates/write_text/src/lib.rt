@@ -5,7 +5,4 @@ mod content;
 mod properties;
 mod types;
 
-pub use children::inside_of;
-pub use children::parameters_inside;
 pub use components::put_calendar;
-pub use properties::put_properties;

@@ -6,13 +6,14 @@ use read_xml_nodes::next_node;
 ghost use mathlib.Core.Path.{_≡_};
 ghost use Prim.Native.Nat.{_≤_};
 ghost use lib.ListN.{length};
-ghost use Rattle.sink.specs.Sink.{Put};
+ghost use Rattle.sink.specs.Sink.{overwrite};
 ghost use Rattle.folding.specs.Fold.{foldedLine};
 ghost use Rattle.text.specs.WriteText.{propertyLines};
 ghost use Rattle.xcal.specs.PropertyNodes.{readProperties};
 ghost use Rattle.xml.specs.NodesAt.{nodesAt};
 ghost use Rattle.write_text.specs.Children.{nameIn};
 ghost use Rattle.write_text.specs.Content.{lineText};
+ghost use Rattle.write_text.specs.Filled.{propertiesRoom, PutBy};
 
 // The line of the property whose name is from `name` to `name_end` and whose content begins at `inside`.
 fn put_property_line(
@@ -30,8 +31,11 @@ fn put_property_line(
         × (inside ≤ length (now s))
         × (length (lineText (nameIn (now s) name «name_end») (nodesAt (now s) inside)) ≤ length (now line)) ⌝ }
     ensures { λ r. ⌜
-        Put (now (out .entry)) (now (out .exit)) o r
-        (foldedLine (lineText (nameIn (now (s .entry)) name «name_end») (nodesAt (now (s .entry)) inside))) ⌝ }
+        PutBy (now (out .entry)) (now (out .exit)) o r
+        (foldedLine (lineText (nameIn (now (s .entry)) name «name_end») (nodesAt (now (s .entry)) inside)))
+        (now (line .exit))
+        (overwrite (now (line .entry)) 0
+        (lineText (nameIn (now (s .entry)) name «name_end») (nodesAt (now (s .entry)) inside))) ⌝ }
 {
     let n = put_content_line(line, 0, s, name, name_end, inside);
     put_folded(out, o, &line[..n])
@@ -41,8 +45,10 @@ fn put_property_line(
 pub fn put_properties(out: &mut [u8], o: usize, line: &mut [u8], s: &[u8], from: usize) -> usize
     requires { ⌜ (length (now s) ≤ 65535) × (length (now line) ≡ 262144) ⌝ }
     ensures { λ r. ⌜
-        Put (now (out .entry)) (now (out .exit)) o r
-        (propertyLines (readProperties (nodesAt (now (s .entry)) from))) ⌝ }
+        PutBy (now (out .entry)) (now (out .exit)) o r
+        (propertyLines (readProperties (nodesAt (now (s .entry)) from)))
+        (now (line .exit))
+        (propertiesRoom (readProperties (nodesAt (now (s .entry)) from)) (now (line .entry))) ⌝ }
 {
     let mut p = o;
     let mut at = from;

@@ -2,13 +2,15 @@
 use schema::default_type;
 use schema::value_type;
 use sink::put_all;
+ghost use Prim.Native.Nat.{_≤_, _<_};
 ghost use Rattle.sink.specs.Sink.{Put};
 ghost use Rattle.schema.specs.Types.{typeName};
 ghost use Rattle.schema.specs.Numbers.{typeAt};
 ghost use Rattle.write_text.specs.Typing.{valueAt};
 
-// The name of the type of the number `t`, in capitals.
-fn put_type_name(out: &mut [u8], o: usize, t: usize) -> usize
+// The names of the first seven types.
+fn put_type_low(out: &mut [u8], o: usize, t: usize) -> usize
+    requires { ⌜ t < 7 ⌝ }
     ensures { λ r. ⌜ Put (now (out .entry)) (now (out .exit)) o r (typeName (typeAt t)) ⌝ }
 {
     match t {
@@ -18,7 +20,16 @@ fn put_type_name(out: &mut [u8], o: usize, t: usize) -> usize
         value_type::DATE => put_all(out, o, b"DATE"),
         value_type::DATE_TIME => put_all(out, o, b"DATE-TIME"),
         value_type::DURATION => put_all(out, o, b"DURATION"),
-        value_type::FLOAT => put_all(out, o, b"FLOAT"),
+        _ => put_all(out, o, b"FLOAT"),
+    }
+}
+
+// The names of the others.
+fn put_type_high(out: &mut [u8], o: usize, t: usize) -> usize
+    requires { ⌜ 7 ≤ t ⌝ }
+    ensures { λ r. ⌜ Put (now (out .entry)) (now (out .exit)) o r (typeName (typeAt t)) ⌝ }
+{
+    match t {
         value_type::INTEGER => put_all(out, o, b"INTEGER"),
         value_type::PERIOD => put_all(out, o, b"PERIOD"),
         value_type::RECUR => put_all(out, o, b"RECUR"),
@@ -28,6 +39,16 @@ fn put_type_name(out: &mut [u8], o: usize, t: usize) -> usize
         value_type::UTC_OFFSET => put_all(out, o, b"UTC-OFFSET"),
         _ => put_all(out, o, b"UNKNOWN"),
     }
+}
+
+// The name of the type of the number `t`, in capitals.
+fn put_type_name(out: &mut [u8], o: usize, t: usize) -> usize
+    ensures { λ r. ⌜ Put (now (out .entry)) (now (out .exit)) o r (typeName (typeAt t)) ⌝ }
+{
+    if t < value_type::INTEGER {
+        return put_type_low(out, o, t);
+    }
+    put_type_high(out, o, t)
 }
 
 // The parameter VALUE, where `t` is not the default type of the property of the number `p`.

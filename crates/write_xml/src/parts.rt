@@ -2,11 +2,12 @@
 // stands there from `v` on, and its other lines begin at `from`.
 use crate::properties::Walked;
 use crate::properties::put_properties_element;
+use markup::element;
 use names::is_word_any_case;
-use names::put_lower;
 use schema::component_number;
-use sink::put_all;
 use tags::put_end_tag;
+use tags::put_small_end;
+use tags::put_small_start;
 use tags::put_start_tag;
 ghost use mathlib.Core.Path.{_≡_};
 ghost use mathlib.Core.List.{[]};
@@ -14,7 +15,7 @@ ghost use Prim.Native.Nat.{_≤_};
 ghost use lib.ListN.{length, take};
 ghost use Rattle.octets.specs.Ascii.{ascii};
 ghost use Rattle.octets.specs.Pick.{pick};
-ghost use Rattle.octets.specs.Class.{upper, lower};
+ghost use Rattle.octets.specs.Class.{upper};
 ghost use Rattle.source.specs.Source.{rest};
 ghost use Rattle.read_text_line.specs.Ready.{Ready};
 ghost use Rattle.sink.specs.Sink.{Put};
@@ -37,31 +38,12 @@ fn has_components(mode: usize, s: &[u8], v: usize, bare: bool) -> bool
     true
 }
 
-// The tags of the element whose name, in small letters, stands from the cursor on.
-fn put_name_start(out: &mut [u8], o: usize, mode: usize, s: &[u8], v: usize) -> usize
-    ensures { λ r. ⌜
-        Put (now (out .entry)) (now (out .exit)) o r (startTag (lower (upper (rest mode (now (s .entry)) v)))) ⌝ }
-{
-    let a = put_all(out, o, b"<");
-    let b = put_lower(out, a, mode, s, v);
-    put_all(out, b, b">")
-}
-
-fn put_name_end(out: &mut [u8], o: usize, mode: usize, s: &[u8], v: usize) -> usize
-    ensures { λ r. ⌜
-        Put (now (out .entry)) (now (out .exit)) o r (endTag (lower (upper (rest mode (now (s .entry)) v)))) ⌝ }
-{
-    let a = put_all(out, o, b"</");
-    let b = put_lower(out, a, mode, s, v);
-    put_all(out, b, b">")
-}
-
 // The tags of `components`, where there is one.
 fn put_components_start(out: &mut [u8], o: usize, there: bool) -> usize
     ensures { λ r. ⌜ Put (now (out .entry)) (now (out .exit)) o r (pick there (startTag (ascii "components")) []) ⌝ }
 {
     if there {
-        return put_start_tag(out, o, b"components");
+        return put_start_tag(out, o, &element::COMPONENTS);
     }
     o
 }
@@ -70,7 +52,7 @@ fn put_components_end(out: &mut [u8], o: usize, there: bool) -> usize
     ensures { λ r. ⌜ Put (now (out .entry)) (now (out .exit)) o r (pick there (endTag (ascii "components")) []) ⌝ }
 {
     if there {
-        return put_end_tag(out, o, b"components");
+        return put_end_tag(out, o, &element::COMPONENTS);
     }
     o
 }
@@ -92,7 +74,7 @@ pub fn put_head(
         (now (s .entry)) from r ⌝ }
 {
     let k = component_number(mode, &s[..e], v);
-    let a = put_name_start(out, o, mode, &s[..e], v);
+    let a = put_small_start(out, o, mode, &s[..e], v);
     let b = put_properties_element(out, a, k, mode, s, from);
     let there = has_components(mode, &s[..e], v, b.bare);
     let c = put_components_start(out, b.to, there);
@@ -111,5 +93,5 @@ pub fn put_tail(out: &mut [u8], o: usize, mode: usize, s: &[u8], v: usize, bare:
 {
     let there = has_components(mode, s, v, bare);
     let a = put_components_end(out, o, there);
-    put_name_end(out, a, mode, s, v)
+    put_small_end(out, a, mode, s, v)
 }

@@ -2,6 +2,7 @@
 use crate::entry::Kind;
 use crate::entry::entry_at;
 use crate::passing::pass_component;
+use markup::element;
 use tags::put_end_tag;
 use tags::put_start_tag;
 use write_xml_property::put_property;
@@ -133,9 +134,9 @@ pub fn put_properties_element(
         (elementOf (ascii "properties") (ownXml (componentName k) (entriesAt mode (now (s .entry)) from))) mode
         (now (s .entry)) from r ⌝ }
 {
-    let a = put_start_tag(out, o, b"properties");
+    let a = put_start_tag(out, o, &element::PROPERTIES);
     let b = put_properties(out, a, k, mode, s, from);
-    let c = put_end_tag(out, b.to, b"properties");
+    let c = put_end_tag(out, b.to, &element::PROPERTIES);
     Walked {
         to: c,
         inner: b.inner,

@@ -1,5 +1,6 @@
 // The parameters of a line as an element.
 use crate::parameter::put_cut_own;
+use markup::element;
 use read_text_line::next_param;
 use read_text_parameters::are_read;
 use read_text_parameters::is_value_name;
@@ -73,9 +74,9 @@ fn put_element(out: &mut [u8], o: usize, mode: usize, s: &[u8], at: usize) -> us
         Put (now (out .entry)) (now (out .exit)) o r
         (elementOf (ascii "parameters") (parametersShown (paramsAt mode (now (s .entry)) at))) ⌝ }
 {
-    let a = put_start_tag(out, o, b"parameters");
+    let a = put_start_tag(out, o, &element::PARAMETERS);
     let b = put_each(out, a, mode, s, at);
-    put_end_tag(out, b, b"parameters")
+    put_end_tag(out, b, &element::PARAMETERS)
 }
 
 // The element `parameters` of the line whose name ends at the cursor `e`: nothing where there is no parameter besides VALUE, or where one is not readable.

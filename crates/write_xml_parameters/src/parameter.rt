@@ -1,37 +1,17 @@
 // A parameter as an element. See specs/Shown.antt.
 use crate::value::put_values;
 use names::is_word_any_case;
-use names::put_lower;
 use octets::smaller;
 use schema::parameter_number;
-use sink::put_all;
+use tags::put_small_end;
+use tags::put_small_start;
 ghost use mathlib.Core.Path.{_≡_};
 ghost use mathlib.Core.Bool.{true};
-ghost use Rattle.octets.specs.Class.{lower};
 ghost use Rattle.sink.specs.Sink.{Put};
 ghost use Rattle.source.specs.Source.{rest, cuts};
 ghost use Rattle.read_text_line.specs.Cursor.{valuesAt};
-ghost use Rattle.xml.specs.Escape.{startTag, endTag};
 ghost use Rattle.read_text_parameters.specs.Cutting.{paramCut};
 ghost use Rattle.write_xml_parameters.specs.Shown.{shown, ownShown};
-
-// The start tag of the name that stands from the cursor on, in small letters.
-fn put_start(out: &mut [u8], o: usize, mode: usize, n: &[u8], at: usize) -> usize
-    ensures { λ r. ⌜ Put (now (out .entry)) (now (out .exit)) o r (startTag (lower (rest mode (now (n .entry)) at))) ⌝ }
-{
-    let a = put_all(out, o, b"<");
-    let b = put_lower(out, a, mode, n, at);
-    put_all(out, b, b">")
-}
-
-// Its end tag.
-fn put_end(out: &mut [u8], o: usize, mode: usize, n: &[u8], at: usize) -> usize
-    ensures { λ r. ⌜ Put (now (out .entry)) (now (out .exit)) o r (endTag (lower (rest mode (now (n .entry)) at))) ⌝ }
-{
-    let a = put_all(out, o, b"</");
-    let b = put_lower(out, a, mode, n, at);
-    put_all(out, b, b">")
-}
 
 // The parameter whose name stands in `n` from the cursor on, and whose values stand in `s` from the cursor `first` on.
 fn put_parameter(
@@ -49,9 +29,9 @@ fn put_parameter(
         (shown (record { name = rest mode (now (n .entry)) at; values = valuesAt mode (now (s .entry)) first })) ⌝ }
 {
     let q = parameter_number(mode, n, at);
-    let a = put_start(out, o, mode, n, at);
+    let a = put_small_start(out, o, mode, n, at);
     let b = put_values(out, a, q, mode, s, first);
-    put_end(out, b, mode, n, at)
+    put_small_end(out, b, mode, n, at)
 }
 
 // The same, but nothing of VALUE.

@@ -1,4 +1,5 @@
 // GEO in text, written as its elements. See specs/Geo.antt.
+use markup::element;
 use numbers::float::put_float;
 use numbers::float::put_float_to;
 use numbers::geo::GeoRead;
@@ -23,9 +24,9 @@ fn put_latitude(out: &mut [u8], o: usize, mode: usize, s: &[u8], at: usize) -> u
         Put (now (out .entry)) (now (out .exit)) o r
         (elementOf (ascii "latitude") (orNothing writeFloat (readFloat (until 59 mode (now (s .entry)) at)))) ⌝ }
 {
-    let a = put_start_tag(out, o, b"latitude");
+    let a = put_start_tag(out, o, &element::LATITUDE);
     let b = put_float_to(out, a, SEMICOLON, mode, s, at);
-    put_end_tag(out, b, b"latitude")
+    put_end_tag(out, b, &element::LATITUDE)
 }
 
 fn put_longitude(out: &mut [u8], o: usize, mode: usize, s: &[u8], at: usize) -> usize
@@ -33,9 +34,9 @@ fn put_longitude(out: &mut [u8], o: usize, mode: usize, s: &[u8], at: usize) -> 
         Put (now (out .entry)) (now (out .exit)) o r
         (elementOf (ascii "longitude") (orNothing writeFloat (readFloat (rest mode (now (s .entry)) at)))) ⌝ }
 {
-    let a = put_start_tag(out, o, b"longitude");
+    let a = put_start_tag(out, o, &element::LONGITUDE);
     let b = put_float(out, a, mode, s, at);
-    put_end_tag(out, b, b"longitude")
+    put_end_tag(out, b, &element::LONGITUDE)
 }
 
 fn put_coordinates(out: &mut [u8], o: usize, mode: usize, s: &[u8], at: usize, g: usize) -> usize

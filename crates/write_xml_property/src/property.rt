@@ -1,38 +1,19 @@
 // A content line written as the element of its property. See specs/Property.antt.
 use crate::shown::put_values;
-use names::put_lower;
 use read_text_parameters::TypeRead;
 use read_text_parameters::stated_type;
 use schema::property_number;
 use schema::value_type;
-use sink::put_all;
+use tags::put_small_end;
+use tags::put_small_start;
 use write_xml_parameters::put_parameters;
 ghost use mathlib.Core.Path.{_≡_};
 ghost use mathlib.Core.Bool.{true};
 ghost use Prim.Native.Nat.{_≤_};
 ghost use lib.ListN.{length};
-ghost use Rattle.octets.specs.Class.{lower};
 ghost use Rattle.sink.specs.Sink.{Put};
-ghost use Rattle.source.specs.Source.{rest, cuts};
-ghost use Rattle.xml.specs.Escape.{startTag, endTag};
+ghost use Rattle.source.specs.Source.{cuts};
 ghost use Rattle.write_xml_property.specs.Property.{statedXml, contentXml, partsXml};
-
-// The start tag of a name in small letters.
-fn put_small_start(out: &mut [u8], o: usize, mode: usize, s: &[u8], at: usize) -> usize
-    ensures { λ r. ⌜ Put (now (out .entry)) (now (out .exit)) o r (startTag (lower (rest mode (now (s .entry)) at))) ⌝ }
-{
-    let a = put_all(out, o, b"<");
-    let b = put_lower(out, a, mode, s, at);
-    put_all(out, b, b">")
-}
-
-fn put_small_end(out: &mut [u8], o: usize, mode: usize, s: &[u8], at: usize) -> usize
-    ensures { λ r. ⌜ Put (now (out .entry)) (now (out .exit)) o r (endTag (lower (rest mode (now (s .entry)) at))) ⌝ }
-{
-    let a = put_all(out, o, b"</");
-    let b = put_lower(out, a, mode, s, at);
-    put_all(out, b, b">")
-}
 
 // The values from the cursor `v` on, of the type that the line states: its name ends at the cursor `e`.
 fn put_stated(

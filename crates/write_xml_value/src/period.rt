@@ -1,4 +1,5 @@
 // PERIOD as an element. See specs/PutPeriod.antt.
+use markup::element;
 use tags::put_end_tag;
 use tags::put_start_tag;
 use times::period::PeriodRead;
@@ -19,9 +20,9 @@ ghost use Rattle.write_xml_value.specs.PutPeriod.{startElement, endEleme
 fn put_start_element(out: &mut [u8], o: usize, mode: usize, s: &[u8], at: usize) -> usize
     ensures { λ r. ⌜ Put (now (out .entry)) (now (out .exit)) o r (startElement (rest mode (now (s .entry)) at)) ⌝ }
 {
-    let p = put_start_tag(out, o, b"start");
+    let p = put_start_tag(out, o, &element::START);
     let q = put_period_start(out, p, mode, s, at);
-    put_end_tag(out, q, b"start")
+    put_end_tag(out, q, &element::START)
 }
 
 // What follows the start, as the element `name`.
@@ -47,9 +48,9 @@ fn put_end_element(
         Put (now (out .entry)) (now (out .exit)) o r (endElement explicit (rest mode (now (s .entry)) at)) ⌝ }
 {
     if explicit {
-        return put_end_named(out, o, b"end", mode, s, at);
+        return put_end_named(out, o, &element::END, mode, s, at);
     }
-    put_end_named(out, o, b"duration", mode, s, at)
+    put_end_named(out, o, &element::DURATION, mode, s, at)
 }
 
 fn put_period_xml(
@@ -63,10 +64,10 @@ fn put_period_xml(
     ensures { λ r. ⌜
         Put (now (out .entry)) (now (out .exit)) o r (periodXml explicit (rest mode (now (s .entry)) at)) ⌝ }
 {
-    let a = put_start_tag(out, o, b"period");
+    let a = put_start_tag(out, o, &element::PERIOD);
     let b = put_start_element(out, a, mode, s, at);
     let c = put_end_element(out, b, explicit, mode, s, at);
-    put_end_tag(out, c, b"period")
+    put_end_tag(out, c, &element::PERIOD)
 }
 
 // The period from the cursor `at` to the end; nothing where it is none.

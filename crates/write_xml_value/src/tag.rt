@@ -3,6 +3,7 @@ use recur::part;
 use schema::value_type;
 use sink::put_all;
 ghost use mathlib.Core.List.{[]};
+ghost use Prim.Native.Nat.{_≤_, _<_};
 ghost use lib.ListN.{getD};
 ghost use Rattle.octets.specs.Class.{lower};
 ghost use Rattle.sink.specs.Sink.{Put};
@@ -10,7 +11,9 @@ ghost use Rattle.xml.specs.Escape.{startTag, endTag};
 ghost use Rattle.recur.specs.Parts.{partNames};
 ghost use Rattle.write_xml_value.specs.Tags.{typeLabel};
 
-fn put_part_name(out: &mut [u8], o: usize, p: usize) -> usize
+// The names of the first seven parts.
+fn put_part_low(out: &mut [u8], o: usize, p: usize) -> usize
+    requires { ⌜ p < 7 ⌝ }
     ensures { λ r. ⌜ Put (now (out .entry)) (now (out .exit)) o r (lower (getD partNames p [])) ⌝ }
 {
     match p {
@@ -20,7 +23,16 @@ fn put_part_name(out: &mut [u8], o: usize, p: usize) -> usize
         part::INTERVAL => put_all(out, o, b"interval"),
         part::BYSECOND => put_all(out, o, b"bysecond"),
         part::BYMINUTE => put_all(out, o, b"byminute"),
-        part::BYHOUR => put_all(out, o, b"byhour"),
+        _ => put_all(out, o, b"byhour"),
+    }
+}
+
+// The names of the others; none for a number that is no part's.
+fn put_part_high(out: &mut [u8], o: usize, p: usize) -> usize
+    requires { ⌜ 7 ≤ p ⌝ }
+    ensures { λ r. ⌜ Put (now (out .entry)) (now (out .exit)) o r (lower (getD partNames p [])) ⌝ }
+{
+    match p {
         part::BYDAY => put_all(out, o, b"byday"),
         part::BYMONTHDAY => put_all(out, o, b"bymonthday"),
         part::BYYEARDAY => put_all(out, o, b"byyearday"),
@@ -32,7 +44,19 @@ fn put_part_name(out: &mut [u8], o: usize, p: usize) -> usize
     }
 }
 
-fn put_type_name(out: &mut [u8], o: usize, t: usize) -> usize
+// The name of the part of the number `p`, in small letters.
+fn put_part_name(out: &mut [u8], o: usize, p: usize) -> usize
+    ensures { λ r. ⌜ Put (now (out .entry)) (now (out .exit)) o r (lower (getD partNames p [])) ⌝ }
+{
+    if p < part::BYDAY {
+        return put_part_low(out, o, p);
+    }
+    put_part_high(out, o, p)
+}
+
+// The names of the first seven types.
+fn put_type_low(out: &mut [u8], o: usize, t: usize) -> usize
+    requires { ⌜ t < 7 ⌝ }
     ensures { λ r. ⌜ Put (now (out .entry)) (now (out .exit)) o r (typeLabel t) ⌝ }
 {
     match t {
@@ -42,7 +66,16 @@ fn put_type_name(out: &mut [u8], o: usize, t: usize) -> usize
         value_type::DATE => put_all(out, o, b"date"),
         value_type::DATE_TIME => put_all(out, o, b"date-time"),
         value_type::DURATION => put_all(out, o, b"duration"),
-        value_type::FLOAT => put_all(out, o, b"float"),
+        _ => put_all(out, o, b"float"),
+    }
+}
+
+// The names of the others.
+fn put_type_high(out: &mut [u8], o: usize, t: usize) -> usize
+    requires { ⌜ 7 ≤ t ⌝ }
+    ensures { λ r. ⌜ Put (now (out .entry)) (now (out .exit)) o r (typeLabel t) ⌝ }
+{
+    match t {
         value_type::INTEGER => put_all(out, o, b"integer"),
         value_type::PERIOD => put_all(out, o, b"period"),
         value_type::RECUR => put_all(out, o, b"recur"),
@@ -52,6 +85,16 @@ fn put_type_name(out: &mut [u8], o: usize, t: usize) -> usize
         value_type::UTC_OFFSET => put_all(out, o, b"utc-offset"),
         _ => put_all(out, o, b"unknown"),
     }
+}
+
+// The name of the type of the number `t`, in small letters.
+fn put_type_name(out: &mut [u8], o: usize, t: usize) -> usize
+    ensures { λ r. ⌜ Put (now (out .entry)) (now (out .exit)) o r (typeLabel t) ⌝ }
+{
+    if t < value_type::INTEGER {
+        return put_type_low(out, o, t);
+    }
+    put_type_high(out, o, t)
 }
 
 pub fn put_part_start(out: &mut [u8], o: usize, p: usize) -> usize

@@ -3,6 +3,7 @@ use crate::period::put_period_element;
 use crate::rule::put_parts_xml;
 use crate::tag::put_type_end;
 use crate::tag::put_type_start;
+use markup::element;
 use recur::rule::read_parts;
 use schema::value_type;
 use tags::put_end_tag;
@@ -42,9 +43,9 @@ fn put_recur_xml(
         Put (now (out .entry)) (now (out .exit)) o r
         (elementOf (ascii "recur") (namedXml partNames (cutAt 59 (rest mode (now (s .entry)) at)))) ⌝ }
 {
-    let p = put_start_tag(out, o, b"recur");
+    let p = put_start_tag(out, o, &element::RECUR);
     let q = put_parts_xml(out, p, mode, s, at, begins);
-    put_end_tag(out, q, b"recur")
+    put_end_tag(out, q, &element::RECUR)
 }
 
 fn put_recur_element(out: &mut [u8], o: usize, mode: usize, s: &[u8], at: usize) -> usize

@@ -1,4 +1,5 @@
 // A text as it stands, and a word in capitals, each as an element `text`. See specs/laws/Words.antt.
+use markup::element;
 use octets::unit::END;
 use octets::upper_unit;
 use source::unit;
@@ -17,9 +18,9 @@ ghost use Rattle.xcal.specs.WriteXml.{valueXml};
 pub fn put_raw_element(out: &mut [u8], o: usize, mode: usize, s: &[u8], at: usize) -> usize
     ensures { λ r. ⌜ Put (now (out .entry)) (now (out .exit)) o r (valueXml (text (rest mode (now (s .entry)) at))) ⌝ }
 {
-    let p = put_start_tag(out, o, b"text");
+    let p = put_start_tag(out, o, &element::TEXT);
     let q = put_escaped(out, p, mode, s, at);
-    put_end_tag(out, q, b"text")
+    put_end_tag(out, q, &element::TEXT)
 }
 
 fn put_capitals(out: &mut [u8], o: usize, mode: usize, s: &[u8], at: usize) -> usize
@@ -44,7 +45,7 @@ pub fn put_word_element(out: &mut [u8], o: usize, mode: usize, s: &[u8], at: usi
     ensures { λ r. ⌜
         Put (now (out .entry)) (now (out .exit)) o r (valueXml (text (upper (rest mode (now (s .entry)) at)))) ⌝ }
 {
-    let p = put_start_tag(out, o, b"text");
+    let p = put_start_tag(out, o, &element::TEXT);
     let q = put_capitals(out, p, mode, s, at);
-    put_end_tag(out, q, b"text")
+    put_end_tag(out, q, &element::TEXT)
 }

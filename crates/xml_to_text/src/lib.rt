@@ -6,6 +6,7 @@ use read_xml_nodes::Judged;
 use read_xml_nodes::root_node;
 use read_xml_tokens::Xml;
 use read_xml_tokens::well_formed;
+use refusals::Refusal;
 use utf8::Found;
 use utf8::first_bad;
 use write_text::put_calendar;
@@ -53,7 +54,7 @@ fn measured(s: &[u8], from: usize, line: &mut [u8], out: &mut [u8]) -> Answer
         put_calendar(out, 0, line, s, from);
         return Answer::Written(need);
     }
-    Answer::Room(need)
+    Answer::Needs(need)
 }
 
 // The text of the components from `from` on: it has no more than 6 bytes for each byte of the document.
@@ -110,7 +111,7 @@ fn formed(s: &[u8], out: &mut [u8]) -> Answer
         (now (out .exit)) r ⌝ }
 {
     match well_formed(s) {
-        Xml::Refused(p) => Answer::Xml(p),
+        Xml::Refused(p) => Answer::Refused(Refusal::Xml, p),
         Xml::Fine => judged(s, out),
     }
 }
@@ -124,12 +125,12 @@ pub fn to_text(input: &[u8], out: &mut [u8]) -> Answer
     if input.len() <= 65535 {
         match first_bad(input) {
             Found::At(p) => {
-                return Answer::Character(p);
+                return Answer::Refused(Refusal::Character, p);
             }
             Found::Nothing => {
                 return formed(input, out);
             }
         }
     }
-    Answer::Length(0)
+    Answer::Refused(Refusal::Length, 0)
 }

@@ -1,27 +1,76 @@
 -- Laws of what specs/Answered.antt defines.
---     answer-refusal    it stands for that refusal
-use mathlib.Core.Path.{_≡_, refl, _∙_}
+--     value-told        the one value of an answer is its place or its length: the other is 0
+--     number-small      every refusal's number is one byte
+--     cast-fits, cast-back   what a cast of an enum to its number asks, and gives
+--     answer-refusal    the answer of a number stands for the refusal of that number
+--     done-..           what the steps of a conversion do
+use mathlib.Core.Path.{_≡_, refl, sym, ap, _∙_}
+use mathlib.Core.Bool.{Bool, true, false}
 use mathlib.Core.List.{List, [], _++_}
-use Prim.Native.Nat.{ℕ, zero, suc, _^_, _≤_, _<_}
+use Prim.Native.Nat.{ℕ, zero, suc, _+_, _^_, _≤_, _<_}
+use mir.Syntax.{w64}
+use mir.Val.{Fits, toZ}
+use mir.Facts.{toZ-pos}
 use native.Mathlib.Numerals.{unary-clauses}
 use native.Mathlib.Omega.{arith}
+use lib.Dec.{T}
+use lib.IntN.{pos, natAbs}
+use lib.Signed.{nonNeg}
 use lib.ListN.{length}
 use borrow.Author.Tests.{le-leb, lt-leb, ne-eqb}
 use Rattle.octets.specs.Pick.{pick}
 use Rattle.octets.specs.Append.{_⊕_}
-use Rattle.calendar.specs.Refusal.{Refusal, LENGTH, refusalAt}
+use Rattle.calendar.specs.Refusal.{Refusal, LENGTH, WORK, CHARACTER, LINE, NAME, FRAME, PARAMETER, VALUE, COUNT, ROOM, XML, numberOf, refusalAt}
 use Rattle.sink.specs.Sink.{Put, far, overwrite}
 use Rattle.sink.specs.laws.Sink.{overwrite-fits}
-use Rattle.calls.specs.Conversion.{result, fault, refusal, outcome, contents}
-use Rattle.calls.specs.Answered.{outcomeOf, answerAt, Done}
+use Rattle.calls.specs.Conversion.{result, fault, Outcome, written, refusal, isRoom, told, numbers, outcome, contents}
+use Rattle.refusals.specs.declared.Refusal as coded
+use Rattle.calls.specs.Answered.{refusalOf, outcomeOf, answerAt, Done}
 use Rattle.calls.specs.declared.Answer.{Answer}
-use Rattle.calls.specs.declared.Answer.the-variants.{Written, Room}
+use Rattle.calls.specs.declared.Answer.the-variants.{Written, Needs}
+
+pub value-told : (o : Outcome) → (numbers o .0 ≡ told o .number) × (numbers o .1 ≡ told o .place + told o .size)
+unfolding pick
+value-told (written n) = (refl, omega arith)
+value-told (refusal r v) = (refl, go (isRoom r))
+  where
+    go : (t : Bool) → v ≡ pick t 0 v + pick t v 0
+    go true = omega arith
+    go false = omega arith
+
+pub number-small : (r : Refusal) → numberOf r < 256
+number-small LENGTH = omega arith
+number-small WORK = omega arith
+number-small CHARACTER = omega arith
+number-small LINE = omega arith
+number-small NAME = omega arith
+number-small FRAME = omega arith
+number-small PARAMETER = omega arith
+number-small VALUE = omega arith
+number-small COUNT = omega arith
+number-small ROOM = omega arith
+number-small XML = omega arith
+
+-- a cast reads an enum's number as a signed one; a small number is the same
+module _ (r : coded.Refusal) where
+  signed : toZ w64 (numberOf (refusalOf r)) ≡ pos (numberOf (refusalOf r))
+  signed = toZ-pos w64 {n = numberOf (refusalOf r)} (omega (arith, number-small (refusalOf r)))
+
+  pub cast-fits : T (nonNeg (toZ w64 (numberOf (refusalOf r)))) × Fits w64 (natAbs (toZ w64 (numberOf (refusalOf r))))
+  cast-fits = rw signed (tt, record { fits = omega (arith, number-small (refusalOf r)) })
+
+  pub cast-back : natAbs (toZ w64 (numberOf (refusalOf r))) ≡ numberOf (refusalOf r)
+  cast-back = ap natAbs signed
+
+pub number-told : {r s : coded.Refusal} → r ≡ s → numberOf (refusalOf s) ≡ numberOf (refusalOf r)
+number-told e = ap (λ (x : coded.Refusal). numberOf (refusalOf x)) (sym e)
 
 -- the answer of a number stands for the refusal of that number
 other : (n p : ℕ) → 12 ≤ n → outcomeOf (answerAt n p) ≡ refusal LENGTH p
 unfolding pick
 other n p h =
     rw (
+      ne-eqb n 10 (λ e. omega arith),
       ne-eqb n 4 (λ e. omega arith),
       ne-eqb n 5 (λ e. omega arith),
       ne-eqb n 6 (λ e. omega arith),
@@ -30,7 +79,6 @@ other n p h =
       ne-eqb n 9 (λ e. omega arith),
       ne-eqb n 2 (λ e. omega arith),
       ne-eqb n 3 (λ e. omega arith),
-      ne-eqb n 10 (λ e. omega arith),
       ne-eqb n 11 (λ e. omega arith),
     )
 
@@ -80,7 +128,7 @@ module _ {bs e₁ : List ℕ} {n : ℕ} (short : length bs < 2 ^ 63) (p : Put []
       let f : length bs ≤ length d = omega arith in
       record { answer = rw (le-leb (length bs) (length d) f, k); left = rw (le-leb (length bs) (length d) f) (w₁ .is ∙ overwrite-fits d bs f) }
 
-  pub done-room : {d : List ℕ} → length (e₁ ++ d) < n → Done (result bs) d (e₁ ++ d) (Room n)
+  pub done-room : {d : List ℕ} → length (e₁ ++ d) < n → Done (result bs) d (e₁ ++ d) (Needs n)
   unfolding outcome contents pick
   done-room {d} h =
       let h₁ : length d < n = rw (empty-back p) at h in

@@ -11,7 +11,7 @@ use lib.Dec.{leb}
 use lib.ListN.{length}
 use borrow.Author.Tests.{leb-true, lt-leb}
 use Rattle.octets.specs.Pick.{pick}
-use Rattle.calendar.specs.Refusal.{Refusal, LENGTH, WORK, CHARACTER, LINE, NAME, FRAME, PARAMETER, VALUE, COUNT, ROOM, XML, numberOf, Verdict, fine, refuse, answer}
+use Rattle.calendar.specs.Refusal.{LENGTH, WORK, ROOM, Verdict, fine, refuse, answer}
 use Rattle.folding.specs.Unfold.{unfolded, origin}
 use Rattle.folding.specs.laws.Unfold.{origin-inside, origin-past, length-unfolded}
 use Rattle.folding.specs.Lines.{lines}
@@ -29,6 +29,7 @@ use Rattle.calls.specs.Conversion.{Converted, result, fault, converted, Outcome
 use Rattle.calls.specs.ToXml.{toXml, toXmlOutcome}
 use Rattle.calls.specs.ToText.{toText, toTextOutcome}
 use Rattle.calls.specs.Answered.{outcomeOf, codeOf}
+use Rattle.calls.specs.laws.Answered.{number-small}
 use Rattle.calls.specs.declared.Answer.{Answer}
 
 -- a place among the lent bytes, or their end
@@ -74,20 +75,7 @@ to-text-small s d = go (decLe (length s) 65535)
     go (yes h) = by-verdict (documentVerdict s) refl h
     go (no h) = rw (lt-leb (length s) 65535 (omega (arith, h))) (omega arith)
 
-number-small : (r : Refusal) → numberOf r < 12
-number-small LENGTH = omega arith
-number-small WORK = omega arith
-number-small CHARACTER = omega arith
-number-small LINE = omega arith
-number-small NAME = omega arith
-number-small FRAME = omega arith
-number-small PARAMETER = omega arith
-number-small VALUE = omega arith
-number-small COUNT = omega arith
-number-small ROOM = omega arith
-number-small XML = omega arith
-
-pub numbers-small : (o : Outcome) → numbers o .0 < 12
+pub numbers-small : (o : Outcome) → numbers o .0 < 256
 numbers-small (written n) = omega arith
 numbers-small (refusal r p) = number-small r
 
@@ -95,7 +83,7 @@ numbers-small (refusal r p) = number-small r
 pub code-of : (a : Answer) {o : Outcome} {n v r : ℕ} → outcomeOf a ≡ o → n ≡ numbers (outcomeOf a) .0 → v ≡ numbers (outcomeOf a) .1 → r ≡ n * 4294967296 + v → r ≡ codeOf o
 code-of a {o} {n} {v} {r} e f g h = h ∙ rw (f, g, e)
 
-pub code-fits : (a : Answer) {o : Outcome} {n v : ℕ} → numbers o .1 < 4294967296 → outcomeOf a ≡ o → n ≡ numbers (outcomeOf a) .0 → v ≡ numbers (outcomeOf a) .1 → (n < 12) × (v < 4294967296)
+pub code-fits : (a : Answer) {o : Outcome} {n v : ℕ} → numbers o .1 < 4294967296 → outcomeOf a ≡ o → n ≡ numbers (outcomeOf a) .0 → v ≡ numbers (outcomeOf a) .1 → (n < 256) × (v < 4294967296)
 code-fits a h e f g = (rw f (numbers-small (outcomeOf a)), rw (g, e) h)
 
 pub code-back : (o : Outcome) → numbers o .1 < 4294967296 → (codeOf o / 4294967296 ≡ numbers o .0) × (codeOf o % 4294967296 ≡ numbers o .1)

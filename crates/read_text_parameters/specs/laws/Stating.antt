@@ -1,13 +1,15 @@
 -- Laws of what specs/Stating.antt defines.
 --     Stating        the invariant of the walk over them;   stated-..: its laws
-use mathlib.Core.Path.{_≡_, refl, ap, _∙_}
+--     stated-same, stated-names   what they state of each name that has the property's number
+use mathlib.Core.Path.{_≡_, refl, sym, ap, _∙_}
 use mathlib.Core.Bool.{Bool, true, false}
 use mathlib.Core.List.{List, [], _∷_}
 use mathlib.Core.Option.{Option, none, some}
 use Prim.Native.Nat.{ℕ, zero, suc, _≤_, _<_}
 use native.Mathlib.Omega.{arith}
 use native.Mathlib.Nat.{not-suc-le-zero, le-of-suc-le-suc}
-use lib.ListN.{length, getD, take}
+use native.Mathlib.Decide.{decLe}
+use lib.ListN.{length, getD, take, List·getD-eq-default}
 use Rattle.octets.specs.Ascii.{ascii}
 use Rattle.octets.specs.Pick.{pick}
 use Rattle.octets.specs.Class.{upper}
@@ -17,20 +19,20 @@ use Rattle.source.specs.Source.{rest, cuts}
 use Rattle.names.specs.Table.{placeOf, nth}
 use Rattle.schema.specs.Types.{valueTypes, typeNamed, typePlace}
 use Rattle.schema.specs.laws.Types.{place-type}
-use Rattle.schema.specs.Properties.{PropertyRow}
-use Rattle.schema.specs.Numbers.{typeNames, propertyAt}
+use Rattle.schema.specs.Properties.{PropertyRow, propertyTable, propertyNames, propertyRow, unrecognisedProperty}
+use Rattle.schema.specs.Numbers.{typeNames, propertyAt, propertyName}
 use Rattle.schema.specs.laws.Numbers.{property-place, type-place}
-use Rattle.schema.specs.laws.Places.{type-known}
-use Rattle.read_text_line.specs.ContentLine.{paramValue, nextValue, nextParam}
+use Rattle.schema.specs.laws.Places.{property-at, no-property, type-known}
+use Rattle.read_text_line.specs.ContentLine.{RawParameter, paramValue, nextValue, nextParam}
 use Rattle.read_text_line.specs.Items.{items}
 use Rattle.read_text_line.specs.Cursor.{valuesAt, paramsAt}
 use Rattle.read_text_line.specs.Values.{ValueAt}
 use Rattle.read_text_line.specs.Params.{ParamOf}
 use Rattle.read_text_line.specs.declared.ParamAt.{ParamAt}
 use Rattle.read_text_line.specs.declared.ParamRead.{ParamRead}
-use Rattle.text.specs.Parameters.{typeIn, statedType}
+use Rattle.text.specs.Parameters.{isValueParameter, typeIn, statedType}
 use Rattle.read_text_parameters.specs.laws.Cutting.{params-step, params-over, params-fault, values-first, values-none}
-use Rattle.read_text_parameters.specs.Stating.{TypeOf, StatedAt}
+use Rattle.read_text_parameters.specs.Stating.{typeRead, TypeOf, StatedAt}
 use Rattle.read_text_parameters.specs.declared.TypeRead.{TypeRead}
 use Rattle.read_text_parameters.specs.declared.TypeRead.the-variants.{«Type» as Known, Bad}
 
@@ -88,29 +90,49 @@ module _ {m : ℕ} {s : List ℕ} {c : ℕ} {r : ParamAt} (y : cuts m ≡ true) 
 
 -- ---- the parameters of a line
 
+-- the row of a number's name
+row-name : (p : ℕ) → propertyRow (propertyName p) ≡ propertyAt p
+row-name p = property-place (propertyName p) ∙ go (decLe 46 p)
+  where
+    go : Dec (46 ≤ p) → propertyAt (placeOf (propertyName p) propertyNames) ≡ propertyAt p
+    go (yes k) = rw (List·getD-eq-default propertyNames [] k, no-property, List·getD-eq-default propertyTable unrecognisedProperty k)
+    go (no k) = rw (property-at p (omega (arith, k)))
+
+-- of a property's name only its default matters
+default-same : (v w : List ℕ) → propertyRow v ≡ propertyRow w → (rs : List RawParameter) → statedType v rs ≡ statedType w rs
+unfolding statedType pick
+default-same v w h [] = ap (λ (x : PropertyRow). some (x .default)) h
+default-same v w h (r ∷ rs) = ap (λ (o : Option ValueType). pick (isValueParameter r) (typeIn (r .values)) o) (default-same v w h rs)
+
+pub stated-same : (p : ℕ) (w : List ℕ) (rs : List RawParameter) → p ≡ placeOf w propertyNames → statedType (propertyName p) rs ≡ statedType w rs
+stated-same p w rs h = default-same (propertyName p) w (row-name p ∙ rw h (sym (property-place w))) rs
+
+pub stated-names : {p m : ℕ} {s : List ℕ} {e : ℕ} {r : TypeRead} → StatedAt p m s e r → (w : List ℕ) → p ≡ placeOf w propertyNames → statedType w (paramsAt m s e) ≡ typeRead r
+stated-names {p} {m} {s} {e} a w h = sym (stated-same p w (paramsAt m s e) h) ∙ a .is
+
 -- VALUE is not among those before c
-pub record Stating (m : ℕ) (s : List ℕ) (e c : ℕ) : Type 0 where
-  pub is : (w : List ℕ) → statedType w (paramsAt m s e) ≡ statedType w (paramsAt m s c)
+pub record Stating (p m : ℕ) (s : List ℕ) (e c : ℕ) : Type 0 where
+  pub is : statedType (propertyName p) (paramsAt m s e) ≡ statedType (propertyName p) (paramsAt m s c)
 
-pub stated-start : (m : ℕ) (s : List ℕ) (e : ℕ) → Stating m s e e
-stated-start m s e = record { is = λ w. refl }
+pub stated-start : (p m : ℕ) (s : List ℕ) (e : ℕ) → Stating p m s e e
+stated-start p m s e = record { is = refl }
 
-module _ {m : ℕ} {s : List ℕ} {e c : ℕ} {r : ParamRead} (y : cuts m ≡ true) (i : Stating m s e c) (a : ParamOf nextParam m s c r) where
+module _ {p m : ℕ} {s : List ℕ} {e c : ℕ} {r : ParamRead} (y : cuts m ≡ true) (i : Stating p m s e c) (a : ParamOf nextParam m s c r) where
   module _ {b : Bool} (h : r .there ≡ true) (k : r .ok ≡ true) (q : b ≡ same (upper (rest m (take (r .end) s) (r .name))) (ascii "VALUE")) where
-    pub stated-more : b ≡ false → Stating m s e (r .next)
+    pub stated-more : b ≡ false → Stating p m s e (r .next)
     unfolding statedType pick
-    stated-more z = record { is = λ w. params-step y (statedType w) (i .is w) a h k ∙ rw (← q, z) }
+    stated-more z = record { is = params-step y (statedType (propertyName p)) (i .is) a h k ∙ rw (← q, z) }
 
-    pub stated-here : {t : TypeRead} (p : ℕ) → b ≡ true → TypeOf (typeIn (valuesAt m s (r .first))) t → StatedAt p m s e t
+    pub stated-here : {t : TypeRead} → b ≡ true → TypeOf (typeIn (valuesAt m s (r .first))) t → StatedAt p m s e t
     unfolding statedType pick
-    stated-here p z o = record { is = λ w u. params-step y (statedType w) (i .is w) a h k ∙ rw (← q, z) (o .is); known = o .known }
+    stated-here z o = record { is = params-step y (statedType (propertyName p)) (i .is) a h k ∙ rw (← q, z) (o .is); known = o .known }
 
-  ended : {t : TypeRead} (p : ℕ) → ((w : List ℕ) → statedType w (paramsAt m s e) ≡ statedType w []) → TypeOf (some (propertyAt p .default)) t → StatedAt p m s e t
+  ended : {t : TypeRead} → statedType (propertyName p) (paramsAt m s e) ≡ statedType (propertyName p) [] → TypeOf (some (propertyAt p .default)) t → StatedAt p m s e t
   unfolding statedType
-  ended p f o = record { is = λ w u. f w ∙ ap (λ (x : PropertyRow). some (x .default)) (property-place w) ∙ rw (← u) (o .is); known = o .known }
+  ended f o = record { is = f ∙ ap (λ (x : PropertyRow). some (x .default)) (row-name p) ∙ o .is; known = o .known }
 
-  pub stated-over : {t : TypeRead} (p : ℕ) → r .there ≡ false → TypeOf (some (propertyAt p .default)) t → StatedAt p m s e t
-  stated-over p h = ended p (λ w. params-over y (statedType w) (i .is w) a h)
+  pub stated-over : {t : TypeRead} → r .there ≡ false → TypeOf (some (propertyAt p .default)) t → StatedAt p m s e t
+  stated-over h = ended (params-over y (statedType (propertyName p)) (i .is) a h)
 
-  pub stated-fault : {t : TypeRead} (p : ℕ) → r .there ≡ true → r .ok ≡ false → TypeOf (some (propertyAt p .default)) t → StatedAt p m s e t
-  stated-fault p h k = ended p (λ w. params-fault y (statedType w) (i .is w) a h k)
+  pub stated-fault : {t : TypeRead} → r .there ≡ true → r .ok ≡ false → TypeOf (some (propertyAt p .default)) t → StatedAt p m s e t
+  stated-fault h k = ended (params-fault y (statedType (propertyName p)) (i .is) a h k)

@@ -28,9 +28,6 @@ pub value-place : (w : List ℕ) (v : ParamValue) → readParamValue w v ≡ rea
 unfolding readParamValue
 value-place w v = ap (λ (p : ParameterRow). readBy p v) (parameter-place w)
 
-pub value-named : {r : Bool} (q : ℕ) (v : ParamValue) → r ≡ isRead (readBy (parameterAt q) v) → (w : List ℕ) → q ≡ placeOf w parameterNames → r ≡ isRead (readParamValue w v)
-value-named q v e w h = e ∙ rw (value-place w v, h)
-
 -- ---- for code
 
 -- 10 is TEXT

@@ -1,5 +1,6 @@
 -- Laws of what specs/Listed.antt defines.
 --     each-bad, each-last, each-more          the loop over pieces;   each-gone: past the end
+--     kept-yes, kept-no                       what the reader of TEXT says
 --     listed-text, listed-other               a list of TEXT, and of another type
 use mathlib.Core.Path.{_≡_, refl, sym, ap, _∙_}
 use mathlib.Core.Bool.{Bool, true, false}
@@ -23,6 +24,9 @@ use Rattle.schema.specs.laws.Places.{type-back}
 use Rattle.recur.specs.Pieces.{Ends}
 use Rattle.recur.specs.laws.PieceLaws.{Left, step-less, pieces-any, pieces-last, pieces-more, cons-read}
 use Rattle.texts.specs.TextList.{readTexts}
+use Rattle.texts.specs.Kept.{isKept}
+use Rattle.texts.specs.declared.Kept.{Kept}
+use Rattle.texts.specs.declared.Kept.the-variants.{Good, Bad}
 use Rattle.values.specs.ReadValue.{readValue}
 use Rattle.values.specs.laws.ValueAt.{mapped}
 use Rattle.text.specs.Values.{readListed}
@@ -73,6 +77,13 @@ not-text t h = go (decLe 14 t)
     go : Dec (14 ≤ t) → sameType (typeAt t) TEXT ≡ false
     go (yes k) = rw (List·getD-eq-default valueTypes UNKNOWN k)
     go (no k) = let z : t < 14 = omega (arith, k) in rw (type-back t (omega arith)) (ne-eqb t 10 h)
+
+module _ {k : Kept} {b : Bool} (e : isKept k ≡ b) where
+  pub kept-yes : k ≡ Good → true ≡ b
+  kept-yes h = rw h at e
+
+  pub kept-no : k ≡ Bad → false ≡ b
+  kept-no h = rw h at e
 
 module _ {r : Bool} (t : ℕ) (l : List ℕ) where
   pub listed-text : t ≡ 10 → r ≡ isRead (readTexts l) → r ≡ isRead (readListed (typeAt t) l)

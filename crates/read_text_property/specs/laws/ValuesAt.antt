@@ -1,13 +1,13 @@
 -- Laws of what specs/ValuesAt.antt defines.
 --     areGood         whether they are;   good-values: whether they were read
---     values-place    it is what `readValues` says of the names
---     geo-yes, status-yes, chosen-word, chosen-value, values-good ..   the ways of the code
+--     values-place    it is what `readValues` says of the names;   values-named: so is the answer
+--     values-yes, values-no, values-as, own-take, own-skip             the answer, by tests
+--     geo-yes, status-yes, chosen-word, chosen-value ..                the ways of the code
 use mathlib.Core.Path.{_≡_, refl, sym, ap, _∙_}
 use mathlib.Core.Bool.{Bool, true, false, false≢true}
 use mathlib.Core.List.{List, [], _∷_}
 use mathlib.Core.Option.{Option, none, some}
 use Prim.Native.Nat.{ℕ}
-use borrow.Author.Needs.{needs}
 use Rattle.octets.specs.Pick.{pick}
 use Rattle.octets.specs.Class.{upper}
 use Rattle.octets.specs.Words.{isOneOf}
@@ -45,6 +45,27 @@ areGood Bad = false
 pub good-values : (t : ℕ) (b : Bool) {r : ValuesRead} → r ≡ valuesRead t b → b ≡ areGood r
 good-values t true e = rw e
 good-values t false e = rw e
+
+module _ (t : ℕ) where
+  module _ {b : Bool} where
+    pub values-yes : true ≡ b → Good t ≡ valuesRead t b
+    values-yes h = rw (← h)
+
+    pub values-no : false ≡ b → Bad ≡ valuesRead t b
+    values-no h = rw (← h)
+
+  module _ {r : ValuesRead} where
+    pub values-as : {a b : Bool} → r ≡ valuesRead t a → a ≡ b → r ≡ valuesRead t b
+    values-as e h = rw (← h) e
+
+    module _ {x : Bool} (a b : Bool) where
+      pub own-take : x ≡ true → r ≡ valuesRead t a → r ≡ valuesRead t (pick x a b)
+      unfolding pick
+      own-take h e = rw h e
+
+      pub own-skip : x ≡ false → r ≡ valuesRead t b → r ≡ valuesRead t (pick x a b)
+      unfolding pick
+      own-skip h e = rw h e
 
 -- ---- names and their numbers
 
@@ -95,8 +116,6 @@ module _ {m : ℕ} {s : List ℕ} {c : ℕ} where
   pub status-no : {r : Status} → StatusEnds m s c r → r ≡ NoStatus → false ≡ isRead (readRequestStatus (rest m s c))
   status-no p h = rw (← (p .is), h)
 
-pub ruleset one-own = (geo-yes, geo-no, status-yes, status-no, needs)
-
 module _ {a r : Bool} (o : Option (List (List ℕ))) (t : ValueType) (l : List ℕ) (e : a ≡ isRead o) where
   pub chosen-word : a ≡ true → r ≡ isWordOf o (upper l) → r ≡ isRead (readChosen o t l)
   unfolding isRead
@@ -116,12 +135,7 @@ module _ {a r : Bool} (o : Option (List (List ℕ))) (t : ValueType) (l : List �
 
 -- ---- the answer
 
-module _ {g : Bool} (k p t : ℕ) (l : List ℕ) (e : g ≡ goodAt k p t l) (c w : List ℕ) (i : k ≡ placeOf c componentNames) (j : p ≡ placeOf w propertyNames) where
-  read-is : isRead (readValues c w (typeAt t) l) ≡ g
-  read-is = values-place c w t l ∙ rw (← i, ← j) (sym e)
-
-  pub values-good : g ≡ true → Good t ≡ valuesRead t (isRead (readValues c w (typeAt t) l))
-  values-good h = rw (read-is, h)
-
-  pub values-bad : g ≡ false → Bad ≡ valuesRead t (isRead (readValues c w (typeAt t) l))
-  values-bad h = rw (read-is, h)
+-- of names that have these numbers
+pub values-named : {r : ValuesRead} (k p t : ℕ) (l : List ℕ) → r ≡ valuesRead t (goodAt k p t l) → (c w : List ℕ) → k ≡ placeOf c componentNames → p ≡ placeOf w propertyNames →
+    r ≡ valuesRead t (isRead (readValues c w (typeAt t) l))
+values-named k p t l e c w i j = e ∙ rw (values-place c w t l, i, j)

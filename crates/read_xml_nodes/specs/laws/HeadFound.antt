@@ -23,7 +23,7 @@ use Rattle.read_xml_nodes.specs.laws.Tokens.{marked, token-onward, name-
 use Rattle.read_xml_tokens.specs.TokenAt.{Reads, tokenIn}
 use Rattle.read_xml_nodes.specs.Closing.{EndedAt}
 use Rattle.read_xml_nodes.specs.laws.Closing.{nodes-are}
-use Rattle.read_xml_nodes.specs.HeadFound.{afterTag, endOfTag, headBy, HeadTakes, HeadAt, NodeEnded, noHead, characterHead}
+use Rattle.read_xml_nodes.specs.HeadFound.{afterTag, endOfTag, headBy, Takes, HeadAt, NodeEnded, noHead, characterHead}
 use Rattle.read_xml_nodes.specs.declared.Ended.{Ended}
 use Rattle.read_xml_nodes.specs.declared.Head.{Head}
 use Rattle.read_xml_nodes.specs.declared.NodeKind.{NodeKind}
@@ -37,8 +37,8 @@ module _ {s : List ℕ} {at : ℕ} {h : Head} (n : HeadAt s at h) where
   by-kind : (k : NodeKind) → h .kind ≡ k → nodesAt s at ≡ headBy k s at h
   by-kind k q = n .is ∙ ap (λ (x : NodeKind). headBy x s at h) q
 
-  takes-by : (k : NodeKind) → h .kind ≡ k → HeadTakes k at h
-  takes-by k q = subst (λ (x : NodeKind). HeadTakes x at h) q (n .takes)
+  takes-by : (k : NodeKind) → h .kind ≡ k → Takes k at (h .inside) (h .next)
+  takes-by k q = subst (λ (x : NodeKind). Takes x at (h .inside) (h .next)) q (n .takes)
 
   pub head-none : h .kind ≡ None → nodesAt s at ≡ noNodes
   head-none q = by-kind None q

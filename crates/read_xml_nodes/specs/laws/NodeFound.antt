@@ -12,9 +12,9 @@ use Rattle.utf8.specs.Spell.{spell}
 use Rattle.source.specs.Source.{rest}
 use Rattle.xml.specs.Nodes.{noNodes, element, literal, referred}
 use Rattle.xml.specs.NodesAt.{nodesAt}
-use Rattle.read_xml_nodes.specs.HeadFound.{HeadAt, NodeEnded}
+use Rattle.read_xml_nodes.specs.HeadFound.{Takes, HeadAt, NodeEnded}
 use Rattle.read_xml_nodes.specs.laws.HeadFound.{head-none, tag-within, head-whole, head-onward, end-onward, head-literal, head-literal-onward, head-referred, head-referred-onward}
-use Rattle.read_xml_nodes.specs.NodeFound.{nodeBy, Takes, NodeAt, noNode, characterNode}
+use Rattle.read_xml_nodes.specs.NodeFound.{nodeBy, NodeAt, noNode, characterNode}
 use Rattle.read_xml_nodes.specs.declared.Ended.{Ended}
 use Rattle.read_xml_nodes.specs.declared.Head.{Head}
 use Rattle.read_xml_nodes.specs.declared.Node.{Node}
@@ -27,8 +27,8 @@ module _ {s : List ℕ} {at : ℕ} {r : Node} (n : NodeAt s at r) where
   by-kind : (k : NodeKind) → r .kind ≡ k → nodesAt s at ≡ nodeBy k s at r
   by-kind k q = n .is ∙ ap (λ (x : NodeKind). nodeBy x s at r) q
 
-  takes-by : (k : NodeKind) → r .kind ≡ k → Takes k at r
-  takes-by k q = subst (λ (x : NodeKind). Takes x at r) q (n .takes)
+  takes-by : (k : NodeKind) → r .kind ≡ k → Takes k at (r .inside) (r .next)
+  takes-by k q = subst (λ (x : NodeKind). Takes x at (r .inside) (r .next)) q (n .takes)
 
   pub node-none : r .kind ≡ None → nodesAt s at ≡ noNodes
   node-none q = by-kind None q

@@ -1,20 +1,14 @@
 -- Laws of what specs/Leaves.antt defines.
---     tested-.., leaf-..   for code
+--     tested-yes, tested-no    the verdict on characters
+--     leaf-fine, leaf-inner    the element;   leaf-as: its characters are those from the cursor on
 use mathlib.Core.Path.{_≡_, _∙_}
 use mathlib.Core.Bool.{Bool, true, false}
 use mathlib.Core.List.{List}
-use mathlib.Core.Option.{Option}
 use Prim.Native.Nat.{ℕ, _*_}
 use borrow.Author.Needs.{needs}
 use Rattle.octets.specs.Pick.{pick}
-use Rattle.octets.specs.Reading.{isRead}
-use Rattle.calendar.specs.Calendar.{xcal, ValueType}
 use Rattle.calendar.specs.Refusal.{VALUE, Verdict, fine, refuse, _otherwise_}
 use Rattle.source.specs.Source.{rest}
-use Rattle.schema.specs.Sets.{isWordOf}
-use Rattle.recur.specs.Item.{readItem}
-use Rattle.values.specs.ReadValue.{readValue}
-use Rattle.values.specs.laws.ValueAt.{good-yes, good-no}
 use Rattle.xml.specs.Nodes.{Nodes}
 use Rattle.xcal.specs.Layout.{innerElement, leaf}
 use Rattle.xml.specs.NodesAt.{nodesAt}
@@ -34,27 +28,18 @@ module _ {ok : Bool} (p : ℕ) where
   unfolding pick
   tested-no h = rw h (is-value p)
 
-module _ (ok : Bool) (p : ℕ) (kids : Nodes) {j : Judged} (e : innerElement kids ≡ judgedAs j) where
-  pub leaf-fine : {v : Verdict} → j ≡ Fine → v ≡ pick ok fine (refuse VALUE p) → v ≡ leafBy ok p kids
+module _ (v : Verdict) (kids : Nodes) {j : Judged} (e : innerElement kids ≡ judgedAs j) where
+  pub leaf-fine : j ≡ Fine → v ≡ leafBy v kids
   unfolding _otherwise_
-  leaf-fine h q = rw (e, h) q
+  leaf-fine h = rw (e, h)
 
-  pub leaf-inner : {n q : ℕ} → j ≡ Refused n q → judgedAs (Refused n q) ≡ leafBy ok p kids
+  pub leaf-inner : {n q : ℕ} → j ≡ Refused n q → judgedAs (Refused n q) ≡ leafBy v kids
   unfolding _otherwise_
   leaf-inner h = rw (e, h)
 
 -- the characters are those from the cursor on
-leaf-as : (good : List ℕ → Bool) (s : List ℕ) (p q : ℕ) {ok : Bool} {v : Verdict} → ok ≡ good (rest 1 s (2 * q)) → v ≡ leafBy ok p (nodesAt s q) → v ≡ leaf good p (nodesAt s q)
+pub leaf-as : (good : List ℕ → Bool) (s : List ℕ) (p q : ℕ) {c v : Verdict} →
+    c ≡ pick (good (rest 1 s (2 * q))) fine (refuse VALUE p) → v ≡ leafBy c (nodesAt s q) → v ≡ leaf good p (nodesAt s q)
 leaf-as good s p q e h = h ∙ rw (e, characters-at s q)
 
-module _ (s : List ℕ) (p q : ℕ) {ok : Bool} {v : Verdict} where
-  pub leaf-value-as : (t : ValueType) → ok ≡ isRead (readValue xcal t (rest 1 s (2 * q))) → v ≡ leafBy ok p (nodesAt s q) → v ≡ leaf (λ l. isRead (readValue xcal t l)) p (nodesAt s q)
-  leaf-value-as t e h = leaf-as (λ l. isRead (readValue xcal t l)) s p q e h
-
-  pub leaf-word-as : (o : Option (List (List ℕ))) → ok ≡ isWordOf o (rest 1 s (2 * q)) → v ≡ leafBy ok p (nodesAt s q) → v ≡ leaf (λ l. isWordOf o l) p (nodesAt s q)
-  leaf-word-as o e h = leaf-as (λ l. isWordOf o l) s p q e h
-
-  pub leaf-item-as : (n : List ℕ) → ok ≡ isRead (readItem xcal n (rest 1 s (2 * q))) → v ≡ leafBy ok p (nodesAt s q) → v ≡ leaf (λ l. isRead (readItem xcal n l)) p (nodesAt s q)
-  leaf-item-as n e h = leaf-as (λ l. isRead (readItem xcal n l)) s p q e h
-
-pub ruleset leaves = (tested-yes, tested-no, leaf-fine, leaf-inner, leaf-value-as, leaf-word-as, leaf-item-as, good-yes, good-no, needs)
+pub ruleset leaves = (leaf-fine, leaf-inner, needs)

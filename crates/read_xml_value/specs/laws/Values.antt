@@ -13,7 +13,7 @@ use Rattle.octets.specs.laws.Pick.{branching-joined}
 use Rattle.octets.specs.Reading.{isRead}
 use Rattle.names.specs.Table.{placeOf}
 use Rattle.calendar.specs.Calendar.{xcal, ValueType, FLOAT, float}
-use Rattle.calendar.specs.Refusal.{VALUE, Verdict, refuse}
+use Rattle.calendar.specs.Refusal.{VALUE, Verdict, fine, refuse}
 use Rattle.schema.specs.Types.{sameType}
 use Rattle.schema.specs.Components.{componentNames}
 use Rattle.schema.specs.Properties.{propertyNames}
@@ -51,7 +51,7 @@ module _ (c w : List ℕ) (place : ℕ) (n : List ℕ) (e : ℕ) (kids : Nodes) 
   geo-as t h = rw (geo-place w, eq-eqb (placeOf w propertyNames) 9 h)
 
   module _ (g : placeOf w propertyNames ≡ 9 → ⊥) where
-    status-as : (t : ValueType) → placeOf w propertyNames ≡ 45 → valueVerdict c w t place n e kids ≡ leafBy true place kids
+    status-as : (t : ValueType) → placeOf w propertyNames ≡ 45 → valueVerdict c w t place n e kids ≡ leafBy fine kids
     unfolding valueVerdict pick
     status-as t h = rw (geo-place w, ne-eqb (placeOf w propertyNames) 9 g, request-status-place w, eq-eqb (placeOf w propertyNames) 45 h)
 
@@ -90,7 +90,7 @@ module _ {k p : ℕ} (t place : ℕ) (n : List ℕ) (e : ℕ) (kids : Nodes) whe
   value-geo h q c w x y l = q ∙ rw (geo-as c w place n e kids (typeAt t) (sym y ∙ h), mapped float (readFloat (charactersOf kids)))
 
   module _ (g : p ≡ 9 → ⊥) where
-    pub value-status : {v : Verdict} → p ≡ 45 → v ≡ leafBy true place kids →
+    pub value-status : {v : Verdict} → p ≡ 45 → v ≡ leafBy fine kids →
         (c w : List ℕ) → k ≡ placeOf c componentNames → p ≡ placeOf w propertyNames → t ≤ 14 → v ≡ valueVerdict c w (typeAt t) place n e kids
     value-status h q c w x y l = q ∙ sym (status-as c w place n e kids (λ z. g (y ∙ z)) (typeAt t) (sym y ∙ h))
 

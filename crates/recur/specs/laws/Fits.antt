@@ -1,6 +1,7 @@
 -- Laws of what specs/Fits.antt defines.
 --     form-read    it is that
 --     item-at            an item of the part at a place in the schema's order;   item-beyond: of no part
+--     item-good, item-bad     the answer of `read_item`;   item-yes, item-no: what it says
 use mathlib.Core.Path.{_≡_, refl, sym, ap, _∙_}
 use mathlib.Core.Bool.{Bool, true, false, false≢true}
 use mathlib.Core.List.{List, [], _∷_, map}
@@ -28,7 +29,9 @@ use Rattle.names.specs.laws.Table.{one-of-place}
 use Rattle.numbers.specs.Sign.{unsigned as afterSign}
 use Rattle.recur.specs.Parts.{ItemForm, wordOf, enddate, counting, unsigned, signed, weekdaynum, Part, partOf, partTable, partNames, frequencies, weekdays}
 use Rattle.recur.specs.Item.{inCapitals, isNumeral, readOrdinal, orOther, readEnddate, readWord, readForm, readItem}
-use Rattle.recur.specs.Fits.{isNumeralOf, fitsOrdinal, fitsForm}
+use Rattle.recur.specs.Fits.{isNumeralOf, fitsOrdinal, fitsForm, itemRead}
+use Rattle.recur.specs.declared.item.ItemRead.{ItemRead}
+use Rattle.recur.specs.declared.item.ItemRead.the-variants.{Good, Bad}
 
 -- ---- an item by its form
 
@@ -91,6 +94,30 @@ module _ (f : Format) (s : List ℕ) where
   pub item-beyond : (p : ℕ) → 14 ≤ p → false ≡ isRead (readItem f (getD partNames p []) s)
   unfolding andThen isRead
   item-beyond p h = sym (rw (part-at p, beyond (map (λ (r : Part). some r) partTable) p h))
+
+-- ---- the answer
+
+module _ (p : ℕ) {b r : Bool} (e : r ≡ b) where
+  pub item-good : r ≡ true → Good p ≡ itemRead p b
+  item-good h = rw (← e, h)
+
+  pub item-bad : r ≡ false → Bad ≡ itemRead p b
+  item-bad h = rw (← e, h)
+
+abbrev pub isItemRead : ItemRead → Bool
+isItemRead (Good p) = true
+isItemRead Bad = false
+
+item-is : (p : ℕ) (b : Bool) → isItemRead (itemRead p b) ≡ b
+item-is p true = refl
+item-is p false = refl
+
+module _ (p : ℕ) {b : Bool} {r : ItemRead} (e : r ≡ itemRead p b) where
+  pub item-yes : {i : ℕ} → r ≡ Good i → b ≡ true
+  item-yes h = sym (item-is p b) ∙ rw (← e, h)
+
+  pub item-no : r ≡ Bad → b ≡ false
+  item-no h = sym (item-is p b) ∙ rw (← e, h)
 
 -- ---- words
 

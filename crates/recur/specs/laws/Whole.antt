@@ -26,11 +26,12 @@ use Rattle.calendar.specs.Calendar.{ical, RulePart}
 use Rattle.source.specs.Source.{rest, cuts, Reads}
 use Rattle.source.specs.laws.Facts.{rest-byte, rest-end, rest-past}
 use Rattle.source.specs.declared.Step.{Step}
-use Rattle.names.specs.Keys.{apart, keys-compute}
+use Rattle.names.specs.Packing.{agree, packing-compute}
 use Rattle.names.specs.Table.{placeOf, nth}
 use Rattle.names.specs.laws.Table.{row-place, one-of-place}
 use Rattle.names.specs.laws.Places.{same-place}
 use Rattle.recur.specs.Parts.{Part, partOf, partNames, partTable, isListed, isListPart}
+use Rattle.recur.specs.Packs.{partRows, partRows2}
 use Rattle.recur.specs.Item.{readItem}
 use Rattle.recur.specs.Rule.{rulePart, isEquals, itemsOf, readPart, nameOf, hasPart, isComplete, inOrder, ruled, readRule}
 use Rattle.recur.specs.laws.Fits.{part-at, beyond, read-then, provided-is}
@@ -56,9 +57,10 @@ past-from p (b ∷ s) = go (p b) (past-from p s)
 
 -- ---- one part
 
-pub names-apart : apart partNames ≡ true
-unfolding keys-compute
-names-apart = refl
+-- the numbers of the code are those of the names
+pub names-packed : agree partRows partRows2 partNames ≡ true
+unfolding packing-compute
+names-packed = refl
 
 pub name-found : (m : ℕ) (s : List ℕ) (c e : ℕ) {n : ℕ} → Ends 61 m s c e → n ≡ placeOf (upper (rest m (take e s) c)) partNames → n ≡ placeAt (rest m s c)
 unfolding placeAt

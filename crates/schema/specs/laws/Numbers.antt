@@ -1,6 +1,6 @@
 -- Laws of what specs/Numbers.antt defines.
 --     property-place, parameter-place, component-place, type-place    the row of a name is the row of its number
---     types-apart, components-apart, parameters-apart, properties-apart    the keys of the names are all different
+--     types-packed, components-packed, parameters-packed, properties-packed    the numbers of the code are those of the names
 --     type-words-are   a table of names in the code
 use mathlib.Core.Path.{_≡_, refl}
 use mathlib.Core.Bool.{true}
@@ -9,7 +9,7 @@ use Prim.Native.Nat.{ℕ}
 use Rattle.octets.specs.Ascii.{ascii}
 use Rattle.octets.specs.Pick.{pick}
 use Rattle.octets.specs.Reading.{readOr}
-use Rattle.names.specs.Keys.{apart, keys-compute}
+use Rattle.names.specs.Packing.{agree, packing-compute}
 use Rattle.names.specs.Table.{placeOf, namesIn, nth}
 use Rattle.names.specs.laws.Table.{row-place, row-or}
 use Rattle.calendar.specs.Calendar.{UNKNOWN}
@@ -18,6 +18,7 @@ use Rattle.schema.specs.Parameters.{parameterTable, parameterNames, unre
 use Rattle.schema.specs.Components.{componentTable, componentNames, unknownComponent, componentRow}
 use Rattle.schema.specs.Properties.{propertyTable, propertyNames, unrecognisedProperty, propertyRow}
 use Rattle.schema.specs.Numbers.{typeNames, typeWords, typeAt, componentAt, propertyAt, parameterAt}
+use Rattle.schema.specs.Packs.{typeRows, typeRows2, componentRows, componentRows2, parameterRows, parameterRows3, propertyRows, propertyRows6}
 
 -- ---- rows
 
@@ -44,21 +45,21 @@ type-place-or w = row-or typeName w (λ t. t) UNKNOWN valueTypes
 
 -- ---- the names of the code
 
-pub types-apart : apart typeNames ≡ true
-unfolding keys-compute
-types-apart = refl
+pub types-packed : agree typeRows typeRows2 typeNames ≡ true
+unfolding packing-compute
+types-packed = refl
 
-pub components-apart : apart componentNames ≡ true
-unfolding keys-compute
-components-apart = refl
+pub components-packed : agree componentRows componentRows2 componentNames ≡ true
+unfolding packing-compute
+components-packed = refl
 
-pub parameters-apart : apart parameterNames ≡ true
-unfolding keys-compute
-parameters-apart = refl
+pub parameters-packed : agree parameterRows parameterRows3 parameterNames ≡ true
+unfolding packing-compute
+parameters-packed = refl
 
-pub properties-apart : apart propertyNames ≡ true
-unfolding keys-compute
-properties-apart = refl
+pub properties-packed : agree propertyRows propertyRows6 propertyNames ≡ true
+unfolding packing-compute
+properties-packed = refl
 
 pub type-words-are : namesIn (ascii "binary\nboolean\ncal-address\ndate\ndate-time\nduration\nfloat\ninteger\nperiod\nrecur\ntext\ntime\nuri\nutc-offset\nunknown\n") ≡ typeWords
 unfolding namesIn pick

@@ -3,11 +3,12 @@
 --     words-place, parameter-words-place     the same of names
 --     event-place ..       a name by its number
 --     word-in, word-none, nth-read           for code
+--     word-yes, word-no    what the answer of a reader of words says
 use mathlib.Core.Path.{_≡_, refl, sym, ap, _∙_}
 use mathlib.Core.Bool.{Bool, true, false}
 use mathlib.Core.List.{List, [], _∷_}
-use mathlib.Core.Option.{Option, some}
-use Prim.Native.Nat.{ℕ, zero, suc, _≤_}
+use mathlib.Core.Option.{Option, none, some}
+use Prim.Native.Nat.{ℕ, zero, suc, _≤_, _<_}
 use native.Mathlib.Nat.{not-suc-le-zero, le-of-suc-le-suc}
 use native.Mathlib.Omega.{arith}
 use lib.Dec.{eqb, ltb}
@@ -25,7 +26,9 @@ use Rattle.schema.specs.Parameters.{ParameterRow, parameterTable, unreco
 use Rattle.schema.specs.Components.{componentNames}
 use Rattle.schema.specs.Properties.{WordsRow, propertyNames, wordsTable, statusTable, propertyWords}
 use Rattle.schema.specs.laws.Numbers.{parameter-place}
-use Rattle.schema.specs.Sets.{wordSets, statusSet, propertySet, wordsAt, parameterWordsAt, parameterSets, parameterSetNumbers, parameterSet, isWordOf}
+use Rattle.schema.specs.Sets.{wordSets, statusSet, propertySet, wordsAt, parameterWordsAt, parameterSetNumbers, parameterSet, isWordOf, wordAmong, wordIn}
+use Rattle.schema.specs.declared.WordRead.{WordRead}
+use Rattle.schema.specs.declared.WordRead.the-variants.{At, NoWord}
 
 -- ---- names by their numbers
 
@@ -101,14 +104,14 @@ choose m n true f g = f
 choose m n false f g = g
 
 of-status : (c : List ℕ) → wordsOf (rowOf (λ r. r .name) c statusTable) ≡
-    nth wordSets (pick (same c (ascii "VEVENT")) 5 (pick (same c (ascii "VTODO")) 6 (pick (same c (ascii "VJOURNAL")) 7 8)))
+    nth wordSets (pick (same c (ascii "VEVENT")) 5 (pick (same c (ascii "VTODO")) 6 (pick (same c (ascii "VJOURNAL")) 7 16)))
 unfolding rowOf andThen nth
-of-status c = step _ _ _ 5 _ refl (step _ _ _ 6 _ refl (step _ _ _ 7 8 refl refl))
+of-status c = step _ _ _ 5 _ refl (step _ _ _ 6 _ refl (step _ _ _ 7 16 refl refl))
 
 of-property : (p : List ℕ) → wordsOf (rowOf (λ r. r .name) p wordsTable) ≡
-    nth wordSets (pick (same p (ascii "CALSCALE")) 0 (pick (same p (ascii "VERSION")) 1 (pick (same p (ascii "CLASS")) 2 (pick (same p (ascii "TRANSP")) 3 (pick (same p (ascii "ACTION")) 4 8)))))
+    nth wordSets (pick (same p (ascii "CALSCALE")) 0 (pick (same p (ascii "VERSION")) 1 (pick (same p (ascii "CLASS")) 2 (pick (same p (ascii "TRANSP")) 3 (pick (same p (ascii "ACTION")) 4 16)))))
 unfolding rowOf andThen nth
-of-property p = step _ _ _ 0 _ refl (step _ _ _ 1 _ refl (step _ _ _ 2 _ refl (step _ _ _ 3 _ refl (step _ _ _ 4 8 refl refl))))
+of-property p = step _ _ _ 0 _ refl (step _ _ _ 1 _ refl (step _ _ _ 2 _ refl (step _ _ _ 3 _ refl (step _ _ _ 4 16 refl refl))))
 
 pub words-place : (c p : List ℕ) → propertyWords c p ≡ wordsAt (placeOf c componentNames) (placeOf p propertyNames)
 unfolding propertyWords
@@ -119,9 +122,9 @@ words-place c p = rw (status-place p) (choose (statusSet (placeOf c componentNam
 pub parameter-words-place : (w : List ℕ) → parameterWords w ≡ parameterWordsAt (placeOf w parameterNames)
 parameter-words-place w = ap (λ (r : ParameterRow). r .words) (parameter-place w)
 
-pub parameter-set : (q : ℕ) → nth parameterSets (parameterSet q) ≡ parameterWordsAt q
+pub parameter-set : (q : ℕ) → nth wordSets (parameterSet q) ≡ parameterWordsAt q
 unfolding nth
-parameter-set q = sym (List·getD-map (nth parameterSets) parameterSetNumbers q 8) ∙ List·getD-map (λ r. r .words) parameterTable q unrecognisedParameter
+parameter-set q = sym (List·getD-map (nth wordSets) parameterSetNumbers q 16) ∙ List·getD-map (λ r. r .words) parameterTable q unrecognisedParameter
 
 -- ---- for code
 
@@ -135,13 +138,45 @@ nth-read (a ∷ l) (suc n) = below-both n (length l) (ltb n (length l)) refl ∙
     below-both n m true e = lt-ltb (suc n) (suc m) (omega (arith, ltb-true n m e)) ∙ sym e
     below-both n m false e = le-ltb (suc n) (suc m) (omega (arith, ltb-false n m e)) ∙ sym e
 
--- the set of the number n, which is i, is a table's words
-pub word-in : (sets : List (List (List ℕ))) (n i : ℕ) (ws l : List (List ℕ)) (w : List ℕ) {r : Bool} →
-    n ≡ i → nth sets i ≡ some ws → l ≡ ws → r ≡ ltb (placeOf w l) (length ws) → r ≡ isWordOf (nth sets n) w
-word-in sets n i ws l w e g f h = h ∙ rw (e, g, f) (sym (one-of-place w ws))
+-- a word among a set of n
+module _ {n i j : ℕ} (h : i ≡ j) where
+  pub among-yes : i < n → At i ≡ wordAmong n j
+  unfolding pick
+  among-yes l = rw (← h, lt-ltb i n l)
 
-pub word-none : (sets : List (List (List ℕ))) (n : ℕ) (w : List ℕ) → length sets ≤ n → false ≡ isWordOf (nth sets n) w
+  pub among-no : n ≤ i → NoWord ≡ wordAmong n j
+  unfolding pick
+  among-no l = rw (← h, le-ltb i n l)
+
+-- the set of the number n, which is i, is a table's words
+pub word-in : (sets : List (List (List ℕ))) (n i : ℕ) (ws l : List (List ℕ)) (w : List ℕ) {r : WordRead} →
+    n ≡ i → nth sets i ≡ some ws → l ≡ ws → r ≡ wordAmong (length ws) (placeOf w l) → r ≡ wordIn (nth sets n) w
+word-in sets n i ws l w e g f h = h ∙ rw (e, g, f)
+
+pub word-none : (sets : List (List (List ℕ))) (n : ℕ) (w : List ℕ) → length sets ≤ n → NoWord ≡ wordIn (nth sets n) w
 unfolding nth
 word-none [] n w h = refl
 word-none (x ∷ sets) zero w h = absurd (not-suc-le-zero h)
 word-none (x ∷ sets) (suc n) w h = word-none sets n w (le-of-suc-le-suc h)
+
+-- ---- the answer
+
+abbrev pub isWord : WordRead → Bool
+isWord (At i) = true
+isWord NoWord = false
+
+among-is : (t : Bool) (i : ℕ) → isWord (pick t (At i) NoWord) ≡ t
+unfolding pick
+among-is true i = refl
+among-is false i = refl
+
+word-is : (o : Option (List (List ℕ))) (w : List ℕ) → isWord (wordIn o w) ≡ isWordOf o w
+word-is none w = refl
+word-is (some ws) w = among-is (ltb (placeOf w ws) (length ws)) (placeOf w ws) ∙ sym (one-of-place w ws)
+
+module _ (o : Option (List (List ℕ))) (w : List ℕ) {r : WordRead} (e : r ≡ wordIn o w) where
+  pub word-yes : {i : ℕ} → r ≡ At i → true ≡ isWordOf o w
+  word-yes h = sym (sym (word-is o w) ∙ rw (← e, h))
+
+  pub word-no : r ≡ NoWord → false ≡ isWordOf o w
+  word-no h = sym (sym (word-is o w) ∙ rw (← e, h))

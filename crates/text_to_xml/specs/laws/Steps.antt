@@ -21,7 +21,8 @@ use Rattle.utf8.specs.Utf8.{firstBad}
 use Rattle.text.specs.Tree.{calendarOf}
 use Rattle.text.specs.ReadText.{linesVerdict, keptVerdict, placed, textVerdict, readCalendar}
 use Rattle.read_text.specs.Answers.{Checks}
-use Rattle.read_text.specs.declared.Checked.the-variants.{Fine, Refused}
+use Rattle.refusals.specs.declared.Refusal.the-variants.{Length, Work, Character}
+use Rattle.read_text.specs.declared.Checked.the-variants as checked
 use Rattle.xcal.specs.WriteXml.{writeDocument}
 use Rattle.lengths_xml.specs.laws.Documents.{xml-short}
 use Rattle.calls.specs.Conversion.{converted, refusal, outcome, contents}
@@ -29,7 +30,7 @@ use Rattle.calls.specs.ToXml.{toXml, toXmlOutcome, toXmlOutput, toXmlWork}
 use Rattle.calls.specs.Answered.{outcomeOf, answerAt, Done}
 use Rattle.calls.specs.laws.Answered.{answer-refusal, done-fault}
 use Rattle.calls.specs.declared.Answer.{Answer}
-use Rattle.calls.specs.declared.Answer.the-variants.{Length, Work, Character}
+use Rattle.calls.specs.declared.Answer.the-variants.{Refused}
 use Rattle.text_to_xml.specs.Steps.{keptGives}
 
 -- the contract of the call: all that it answers, and leaves in the output and in the work room
@@ -43,10 +44,10 @@ unfolding rest pick
 kept-plain u = refl
 
 module _ {u : List ℕ} where
-  pub check-fine : Checks 0 u Fine → linesVerdict (length u) (lines u) ≡ fine
+  pub check-fine : Checks 0 u checked.Fine → linesVerdict (length u) (lines u) ≡ fine
   check-fine k = rw (kept-plain u) at (k .is)
 
-  pub check-refused : {n p : ℕ} → Checks 0 u (Refused n p) → linesVerdict (length u) (lines u) ≡ refuse (refusalAt n) p
+  pub check-refused : {n p : ℕ} → Checks 0 u (checked.Refused n p) → linesVerdict (length u) (lines u) ≡ refuse (refusalAt n) p
   check-refused {n} {p} k = (rw (kept-plain u) at (k .is)) ∙ ap (refuse (refusalAt n)) (index-plain u p (k .place))
 
 pub put-kept : (u : List ℕ) {d e : List ℕ} {o r : ℕ} → Put d e o r (writeDocument (calendarOf (lines (rest 0 u 0)))) → Put d e o r (writeDocument (calendarOf (lines u)))
@@ -70,7 +71,7 @@ module _ (s u d : List ℕ) where
   unfolding keptVerdict _otherwise_
   kept-good h g = rw h g
 
-  pub kept-bad : {p q : ℕ} → firstBad u ≡ some p → q ≡ origin s p → Done (keptGives s u (keptVerdict u)) d d (Character q)
+  pub kept-bad : {p q : ℕ} → firstBad u ≡ some p → q ≡ origin s p → Done (keptGives s u (keptVerdict u)) d d (Refused Character q)
   unfolding keptVerdict _otherwise_ placed
   kept-bad h e = rw h (done-fault d (rw e))
 
@@ -90,11 +91,11 @@ module _ {s w w′ : List ℕ} {n : ℕ} (u : Unfolds s w w′ n) (k : length s 
   kept-limit h = rw kept-is (omega (arith, length-unfolded s))
 
 module _ (s w d : List ℕ) where
-  pub too-long : 65535 < length s → Converts s w w d d (Length 0)
+  pub too-long : 65535 < length s → Converts s w w d d (Refused Length 0)
   unfolding toXml toXmlWork readCalendar textVerdict outcome contents pick
   too-long h = let e : leb (length s) 65535 ≡ false = lt-leb (length s) 65535 h in (rw e, rw e, rw e)
 
-  pub no-room : length s ≤ 65535 → length w < length s → Converts s w w d d (Work 0)
+  pub no-room : length s ≤ 65535 → length w < length s → Converts s w w d d (Refused Work 0)
   unfolding toXml toXmlWork readCalendar textVerdict outcome contents pick
   no-room h k =
       let e : leb (length s) 65535 ≡ true = le-leb (length s) 65535 h in

@@ -54,7 +54,7 @@ pub split-one : (c : ℕ) (p : List ℕ) → splitText c (writeText p) ≡ some 
 unfolding splitFrom pick
 split-one c p = ap (splitText c) (sym (append-none (writeText p))) ∙ split-front c p [] ∙ front-one p []
 
-separator-read : (c : ℕ) → isBreak c ≡ true → (r : List ℕ) → splitText c (c ∷ r) ≡ consRead [] (splitText c r)
+pub separator-read : (c : ℕ) → isBreak c ≡ true → (r : List ℕ) → splitText c (c ∷ r) ≡ consRead [] (splitText c r)
 unfolding splitFrom pick _or_
 separator-read c h r = go (eqb c 44) refl (eqb c 59) refl h
   where

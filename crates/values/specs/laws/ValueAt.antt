@@ -1,10 +1,11 @@
 -- Laws of what specs/ValueAt.antt defines.
 --     isGood       whether it is a value;   good-value, good-yes, good-no: whether one was read
+--     at-plain, at-cut, value-there    `isReadAt` is what `readValue` says: of any type but RECUR; in XML, and in an encoding that can be cut
 --     from-binary  it is the type at that place
 --     mapped       what was read, made into another thing
 --     timing, counting, keeping, choosing    the rules for types of dates and times, of numbers, of characters; for the choice of a type
-use mathlib.Core.Path.{_≡_, refl, sym, _∙_}
-use mathlib.Core.Bool.{Bool, true, false, false≢true}
+use mathlib.Core.Path.{_≡_, refl, sym, ap, _∙_}
+use mathlib.Core.Bool.{Bool, true, false, not, false≢true}
 use mathlib.Core.List.{List}
 use mathlib.Core.Option.{Option, none, some, Option·map}
 use Prim.Native.Nat.{ℕ, zero, suc, _≤_}
@@ -12,10 +13,12 @@ use native.Mathlib.Omega.{arith}
 use lib.Dec.{eqb}
 use borrow.Author.Needs.{needs}
 use borrow.Author.Tests.{eq-eqb, ne-eqb}
-use Rattle.octets.specs.Pick.{pick}
+use Rattle.octets.specs.Pick.{pick, _and_, _or_}
+use Rattle.octets.specs.laws.Pick.{or-right}
 use Rattle.octets.specs.Reading.{isRead}
 use Rattle.calendar.specs.Calendar.{Format, formatOf, ValueType, BINARY, BOOLEAN, CAL-ADDRESS, DATE, DATE-TIME, DURATION, FLOAT, INTEGER, PERIOD, RECUR, TEXT, TIME, URI, UTC-OFFSET, UNKNOWN}
 use Rattle.source.specs.Source.{rest, cuts}
+use Rattle.schema.specs.Types.{typePlace}
 use Rattle.schema.specs.Numbers.{typeAt}
 use Rattle.times.specs.Date.{readDate}
 use Rattle.times.specs.DateAlong.{dayOf}
@@ -62,7 +65,7 @@ use Rattle.recur.specs.Pieces.{good}
 use Rattle.recur.specs.declared.rule.RuleRead.{RuleRead}
 use Rattle.recur.specs.declared.rule.RuleRead.the-variants.{Rule, Bad as NoRule}
 use Rattle.values.specs.ReadValue.{readValue}
-use Rattle.values.specs.ValueAt.{valueRead, fromBinary}
+use Rattle.values.specs.ValueAt.{valueRead, isReadAt, fromBinary}
 use Rattle.values.specs.declared.ValueRead.{ValueRead}
 use Rattle.values.specs.declared.ValueRead.the-variants.{Good, Bad}
 
@@ -122,20 +125,37 @@ from-binary (suc (suc (suc (suc (suc (suc (suc (suc (suc (suc (suc (suc zero))))
 from-binary (suc (suc (suc (suc (suc (suc (suc (suc (suc (suc (suc (suc (suc zero))))))))))))) = refl
 from-binary (suc (suc (suc (suc (suc (suc (suc (suc (suc (suc (suc (suc (suc (suc n)))))))))))))) = other (suc (suc (suc (suc (suc (suc (suc (suc (suc (suc (suc (suc (suc (suc n)))))))))))))) (omega arith)
 
-module _ {b : Bool} (f : Format) (l : List ℕ) (t k : ℕ) (x z : ValueType) where
-  pub type-yes : t ≡ k → b ≡ isRead (readValue f x l) → b ≡ isRead (readValue f (pick (eqb t k) x z) l)
+-- ---- in an encoding
+
+pub at-plain : {b : Bool} (x : Bool) (m : ℕ) (t : ValueType) (l : List ℕ) → eqb (typePlace t) 9 ≡ false → b ≡ isRead (readValue (formatOf x) t l) → b ≡ isReadAt x m t l
+unfolding isReadAt _and_
+at-plain x m t l h e = rw (or-right x _ (or-right (cuts m) (not (eqb (typePlace t) 9)) (rw h))) e
+
+pub at-cut : (x : Bool) (m : ℕ) (t : ValueType) (l : List ℕ) → (x ≡ false → cuts m ≡ true) → isReadAt x m t l ≡ isRead (readValue (formatOf x) t l)
+unfolding isReadAt _and_ _or_
+at-cut true m t l h = refl
+at-cut false m t l h = rw (h refl)
+
+-- what `read_value` says, where the encoding is XML's or can be cut
+pub value-there : {r : ValueRead} (t : ℕ) (x : Bool) (m : ℕ) (u : ValueType) (l : List ℕ) → r ≡ valueRead t (isReadAt x m u l) → (x ≡ false → cuts m ≡ true) → r ≡ valueRead t (isRead (readValue (formatOf x) u l))
+value-there t x m u l e h = e ∙ ap (valueRead t) (at-cut x m u l h)
+
+-- ---- the choice of a type
+
+module _ {b : Bool} (y : Bool) (m : ℕ) (l : List ℕ) (t k : ℕ) (x z : ValueType) where
+  pub type-yes : t ≡ k → b ≡ isReadAt y m x l → b ≡ isReadAt y m (pick (eqb t k) x z) l
   unfolding pick
   type-yes h e = rw (eq-eqb t k h) e
 
-  pub type-no : (t ≡ k → ⊥) → b ≡ isRead (readValue f z l) → b ≡ isRead (readValue f (pick (eqb t k) x z) l)
+  pub type-no : (t ≡ k → ⊥) → b ≡ isReadAt y m z l → b ≡ isReadAt y m (pick (eqb t k) x z) l
   unfolding pick
   type-no h e = rw (ne-eqb t k h) e
 
-module _ {b : Bool} (f : Format) (l : List ℕ) (t : ℕ) (e : b ≡ isRead (readValue f (fromBinary t) l)) where
-  pub value-yes : b ≡ true → Good t ≡ valueRead t (isRead (readValue f (typeAt t) l))
+module _ {b : Bool} (y : Bool) (m : ℕ) (l : List ℕ) (t : ℕ) (e : b ≡ isReadAt y m (fromBinary t) l) where
+  pub value-yes : b ≡ true → Good t ≡ valueRead t (isReadAt y m (typeAt t) l)
   value-yes h = rw (← (from-binary t), ← e, h)
 
-  pub value-no : b ≡ false → Bad ≡ valueRead t (isRead (readValue f (typeAt t) l))
+  pub value-no : b ≡ false → Bad ≡ valueRead t (isReadAt y m (typeAt t) l)
   value-no h = rw (← (from-binary t), ← e, h)
 
 -- ---- dates and times
@@ -278,9 +298,9 @@ module _ (l : List ℕ) {r : RuleRead} (p : isRead (readRule l) ≡ good r) wher
   pub rule-no : r ≡ NoRule → false ≡ isRead (readRule l)
   rule-no h = rw (p, h)
 
-pub recur-xml : {x : Bool} (l : List ℕ) → x ≡ true → false ≡ isRead (readValue (formatOf x) RECUR l)
-unfolding readValue isRead
-recur-xml l h = rw h
+pub recur-xml : {x : Bool} (m : ℕ) (l : List ℕ) → x ≡ true → false ≡ isReadAt x m RECUR l
+unfolding isReadAt readValue isRead _and_ _or_
+recur-xml m l h = rw h
 
 pub cuts-plain : (m : ℕ) → m ≡ 0 → cuts m ≡ true
 cuts-plain m h = rw h
@@ -288,20 +308,21 @@ cuts-plain m h = rw h
 pub cuts-folded : (m : ℕ) → m ≡ 2 → cuts m ≡ true
 cuts-folded m h = rw h
 
-module _ {x : Bool} (m : ℕ) (s : List ℕ) (c : ℕ) (e : x ≡ false) where
-  pub recur-is : {b : Bool} → b ≡ isRead (readRule (rest m s c)) → b ≡ isRead (readValue (formatOf x) RECUR (rest m s c))
+module _ {x : Bool} (m : ℕ) (l : List ℕ) (e : x ≡ false) where
+  pub recur-is : {b : Bool} → cuts m ≡ true → b ≡ isRead (readRule l) → b ≡ isReadAt x m RECUR l
   unfolding readValue
-  recur-is q = rw e (q ∙ sym (mapped _ (readRule (rest m s c))))
+  recur-is h q = sym (at-cut x m RECUR l (λ z. h) ∙ rw e (mapped _ (readRule l)) ∙ sym q)
 
-  -- the text format is read from an encoding that can be cut
-  pub recur-no : {b : Bool} → (m ≡ 0 → ⊥) → (m ≡ 2 → ⊥) → (x ≡ false → cuts m ≡ true) → b ≡ isRead (readValue (formatOf x) RECUR (rest m s c))
-  recur-no h k g = absurd (go m h k (g e))
+  -- in no other encoding
+  pub recur-no : (m ≡ 0 → ⊥) → (m ≡ 2 → ⊥) → false ≡ isReadAt x m RECUR l
+  unfolding isReadAt _and_ _or_
+  recur-no h k = rw (e, go m h k)
     where
-      go : (m : ℕ) → (m ≡ 0 → ⊥) → (m ≡ 2 → ⊥) → cuts m ≡ true → ⊥
-      go zero h k y = h refl
-      go (suc zero) h k y = false≢true y
-      go (suc (suc zero)) h k y = k refl
-      go (suc (suc (suc m))) h k y = false≢true y
+      go : (m : ℕ) → (m ≡ 0 → ⊥) → (m ≡ 2 → ⊥) → cuts m ≡ false
+      go zero h k = absurd (h refl)
+      go (suc zero) h k = refl
+      go (suc (suc zero)) h k = absurd (k refl)
+      go (suc (suc (suc m))) h k = refl
 
 pub ruleset timing = (date-yes, date-no, date-time-yes, date-time-no, time-yes, time-no, offset-yes, offset-no, duration-yes, duration-no, period-xml, period-yes, period-no, needs)
 
@@ -309,4 +330,4 @@ pub ruleset counting = (boolean-yes, boolean-no, integer-yes, integer-no, float-
 
 pub ruleset keeping = (binary-is, address-is, uri-is, unknown-is, text-xml, text-is, rule-yes, rule-no, recur-xml, recur-is, recur-no, cuts-plain, cuts-folded, needs)
 
-pub ruleset choosing = (type-yes, type-no, value-yes, value-no, needs)
+pub ruleset choosing = (type-yes, type-no, value-yes, value-no, at-plain, needs)

@@ -1,7 +1,7 @@
 -- Laws of what specs/Parts.antt defines.
 --     component-parts          the element is made of these
 --     head-put, tail-put       for code
-use mathlib.Core.Path.{_≡_, refl, sym, ap, _∙_}
+use mathlib.Core.Path.{_≡_, refl, sym, ap, subst, _∙_}
 use mathlib.Core.Bool.{Bool, true, false}
 use mathlib.Core.List.{List, [], _∷_}
 use Prim.Native.Nat.{ℕ}
@@ -9,7 +9,8 @@ use Rattle.octets.specs.Ascii.{ascii}
 use Rattle.octets.specs.Pick.{pick}
 use Rattle.octets.specs.Append.{_⊕_}
 use Rattle.octets.specs.laws.Append.{append-empty, append-regroup}
-use Rattle.octets.specs.Class.{lower}
+use Rattle.octets.specs.Class.{upper, lower}
+use Rattle.octets.specs.laws.Letters.{lower-any-case}
 use Rattle.octets.specs.Words.{same}
 use Rattle.names.specs.Table.{placeOf}
 use Rattle.schema.specs.Components.{componentNames}
@@ -48,15 +49,16 @@ component-parts n es = rw (element-parts n (innerOf es 0), inner-deeper es 0) (r
 
 -- ---- for code
 
-pub head-put : (n : List ℕ) (mode : ℕ) (s : List ℕ) {from : ℕ} {w : Walked} {there : Bool} {d e f g : List ℕ} {o a r : ℕ} (k : ℕ) → k ≡ placeOf n componentNames → Put d e o a (startTag (lower n)) →
-    PropertiesPut e f a (elementOf (ascii "properties") (ownXml (componentName k) (entriesAt mode s from))) mode s from w → there ≡ hasComponents n (w .bare) →
+-- n is the name as it stands
+pub head-put : (n : List ℕ) (mode : ℕ) (s : List ℕ) {from : ℕ} {w : Walked} {there : Bool} {d e f g : List ℕ} {o a r : ℕ} (k : ℕ) → k ≡ placeOf (upper n) componentNames → Put d e o a (startTag (lower n)) →
+    PropertiesPut e f a (elementOf (ascii "properties") (ownXml (componentName k) (entriesAt mode s from))) mode s from w → there ≡ hasComponents (upper n) (w .bare) →
     Put f g (w .to) r (pick there (startTag (ascii "components")) []) →
-    PropertiesPut d g o (headXml n (w .bare) (entriesAt mode s from)) mode s from (record { to = r; inner = w .inner; bare = w .bare; next = w .next })
-head-put n mode s {from} k q u v h z =
+    PropertiesPut d g o (headXml (upper n) (w .bare) (entriesAt mode s from)) mode s from (record { to = r; inner = w .inner; bare = w .bare; next = w .next })
+head-put n mode s {from} {d = d} {e = e} {o = o} {a = a} k q u v h z =
     let es : List Entry = entriesAt mode s from in
-    let q′ : ownXml (componentName k) es ≡ ownXml n es = ap (λ (k : ℕ). ownXml (componentName k) es) q ∙ ap propertiesXml (own-place n es 0) in
-    record { put = u ▷ (rw q′ at v .put) ▷ (rw h at z); ahead = v .ahead }
+    let q′ : ownXml (componentName k) es ≡ ownXml (upper n) es = ap (λ (k : ℕ). ownXml (componentName k) es) q ∙ ap propertiesXml (own-place (upper n) es 0) in
+    record { put = subst (λ (m : List ℕ). Put d e o a (startTag m)) (sym (lower-any-case n)) u ▷ (rw q′ at v .put) ▷ (rw h at z); ahead = v .ahead }
 
-pub tail-put : (n : List ℕ) (empty : Bool) {there : Bool} {d e f : List ℕ} {o a r : ℕ} → there ≡ hasComponents n empty →
-    Put d e o a (pick there (endTag (ascii "components")) []) → Put e f a r (endTag (lower n)) → Put d f o r (tailXml n empty)
-tail-put n empty h u v = (rw h at u) ▷ v
+pub tail-put : (n : List ℕ) (empty : Bool) {there : Bool} {d e f : List ℕ} {o a r : ℕ} → there ≡ hasComponents (upper n) empty →
+    Put d e o a (pick there (endTag (ascii "components")) []) → Put e f a r (endTag (lower n)) → Put d f o r (tailXml (upper n) empty)
+tail-put n empty {e = e} {f = f} {a = a} {r = r} h u v = (rw h at u) ▷ subst (λ (m : List ℕ). Put e f a r (endTag m)) (sym (lower-any-case n)) v

@@ -32,6 +32,7 @@ use Rattle.xcal.specs.WriteXml.{valuesXml, propertyXml}
 use Rattle.write_xml_property.specs.laws.Placed.{values-named}
 use Rattle.write_xml_property.specs.Property.{nameIn, statedXml, partsXml}
 use Rattle.read_text_parameters.specs.Stating.{StatedAt}
+use Rattle.read_text_parameters.specs.laws.Stating.{stated-names}
 use Rattle.read_text_parameters.specs.declared.TypeRead.{TypeRead}
 use Rattle.read_text_parameters.specs.declared.TypeRead.the-variants.{«Type» as Typed, Bad as NoType}
 
@@ -65,11 +66,11 @@ module _ {d f : List ℕ} {at o : ℕ} (k : ℕ) {p m : ℕ} {s : List ℕ} (c :
   unfolding readOr
   put-typed t z w =
       let b : StatedAt p m s e (Typed t) = rw z at a in
-      rw (b .is (upper (nameIn m s c e)) h, ← (values-named (componentName k) (upper (nameIn m s c e)) p (typeAt t) (rest m s v) h)) w
+      rw (stated-names b (upper (nameIn m s c e)) h, ← (values-named (componentName k) (upper (nameIn m s c e)) p (typeAt t) (rest m s v) h)) w
 
   pub put-untyped : r ≡ NoType → Put d f at o (valuesXml (readOr [] (readValues (componentName k) (propertyName p) (typeAt 10) (rest m s v)))) →
       Put d f at o (statedXml k m s c e v)
   unfolding readOr
   put-untyped z w =
       let b : StatedAt p m s e NoType = rw z at a in
-      rw (b .is (upper (nameIn m s c e)) h, ← (values-named (componentName k) (upper (nameIn m s c e)) p TEXT (rest m s v) h)) w
+      rw (stated-names b (upper (nameIn m s c e)) h, ← (values-named (componentName k) (upper (nameIn m s c e)) p TEXT (rest m s v) h)) w

@@ -41,7 +41,8 @@ use Rattle.xcal.specs.WriteXml.{textElement, dataXml, valueXml, valuesXml}
 use Rattle.write_xml_property.specs.Pieces.{piecesXml, listedXml}
 use Rattle.write_xml_property.specs.laws.Placed.{ownAt, valuesAt, values-at, type-text}
 use Rattle.write_xml_property.specs.Shown.{singleXml, shownXml}
-use Rattle.read_text_property.specs.ValuesAt.{valuesRead}
+use Rattle.read_text_property.specs.ValuesAt.{valuesRead, goodAt}
+use Rattle.read_text_property.specs.laws.ValuesAt.{values-named}
 use Rattle.read_text_property.specs.declared.ValuesRead.{ValuesRead}
 use Rattle.read_text_property.specs.declared.ValuesRead.the-variants.{Good, Bad}
 
@@ -147,10 +148,9 @@ values-shown c w t l h =
 
 -- ---- for the code
 
--- the answer r of reading: whether the values of each component and property of these numbers can be read
+-- the answer r of reading: whether the values of the component and the property of these numbers can be read
 abbrev pub ValuesAsked : ℕ → ℕ → ℕ → ℕ → List ℕ → ℕ → ValuesRead → Type 0
-ValuesAsked k p t m s at r =
-    (c w : List ℕ) → k ≡ placeOf c componentNames → p ≡ placeOf w propertyNames → t ≤ 14 → r ≡ valuesRead t (isRead (readValues c w (typeAt t) (rest m s at)))
+ValuesAsked k p t m s at r = r ≡ valuesRead t (goodAt k p t (rest m s at))
 
 -- the numbers of the component, the property and the type are a, b, u, and r is what reading answered
 
@@ -166,7 +166,7 @@ module _ {a b u : ℕ} (k p t m : ℕ) (s : List ℕ) (c : ℕ) {r : ValuesRead}
     (h : (typeAt u ≡ typeAt t) × (u ≤ 14))
     (q : ValuesAsked a b u m s c r) where
   asked : r ≡ valuesRead u (isRead (readValues (componentName k) (propertyName p) (typeAt t) (rest m s c)))
-  asked = q (componentName k) (propertyName p) f g (h .1) ∙ ap (λ (x : ValueType). valuesRead u (isRead (readValues (componentName k) (propertyName p) x (rest m s c)))) (h .0)
+  asked = values-named a b u (rest m s c) q (componentName k) (propertyName p) f g ∙ ap (λ (x : ValueType). valuesRead u (isRead (readValues (componentName k) (propertyName p) x (rest m s c)))) (h .0)
 
   pub put-shown : {d e : List ℕ} {at o : ℕ} (n : ℕ) → r ≡ Good n → Put d e at o (shownXml a b u (rest m s c)) →
       Put d e at o (valuesXml (readOr [] (readValues (componentName k) (propertyName p) (typeAt t) (rest m s c))))

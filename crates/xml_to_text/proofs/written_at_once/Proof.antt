@@ -18,5 +18,5 @@ written-at-once-spec = tie.close (tie.spec
     (λ c.
     let k : length (writeCalendar (readComponents (nodesAt (c .before .before .before .before .before .before .before .before .before .before .args .s .now) (c .before .before .before .before .before .before .before .before .before .before .args .from)))) < 2 ^ 63 = omega (arith, c .before .before .before .before .before .before .before .before .before .before .pre .0, c .before .before .before .before .before .before .before .before .before .before .pre .2) in
     let f : length (writeCalendar (readComponents (nodesAt (c .before .before .before .before .before .before .before .before .before .before .args .s .now) (c .before .before .before .before .before .before .before .before .before .before .args .from)))) ≤ length (c .before .before .before .before .before .before .before .before .before .before .args .out .now) = omega (arith, c .before .before .before .before .before .before .before .before .before .before .pre .2, c .before .before .before .before .before .before .before .before .before .before .pre .3) in
-    done-at-once k f (c .before .before .before .before .put-calendar .ensures))  -- returns
+    done-at-once k f (c .before .before .before .before .put-calendar .ensures .put))  -- returns
     )

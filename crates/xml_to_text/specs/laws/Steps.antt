@@ -22,14 +22,15 @@ use Rattle.read_xml_nodes.specs.RootFound.{RootNode}
 use Rattle.read_xml_nodes.specs.Judging.{judgedAs}
 use Rattle.read_xml_nodes.specs.declared.RootElement.{RootElement}
 use Rattle.read_xml_nodes.specs.declared.Judged.{Judged}
-use Rattle.read_xml_nodes.specs.declared.Judged.the-variants.{Fine, Refused}
+use Rattle.read_xml_nodes.specs.declared.Judged.the-variants as judged
+use Rattle.refusals.specs.declared.Refusal.the-variants.{Length, Character, Xml}
 use Rattle.read_xml.specs.Roots.{RootAt}
 use Rattle.calls.specs.Conversion.{converted, outcome, contents}
 use Rattle.calls.specs.ToText.{toText, toTextOutcome, toTextOutput}
 use Rattle.calls.specs.Answered.{outcomeOf, answerAt, Done}
 use Rattle.calls.specs.laws.Answered.{answer-refusal, done-fault}
 use Rattle.calls.specs.declared.Answer.{Answer}
-use Rattle.calls.specs.declared.Answer.the-variants.{Length, Character, Xml}
+use Rattle.calls.specs.declared.Answer.the-variants.{Refused}
 use Rattle.xml_to_text.specs.Steps.{nodesGive}
 
 -- the contract of the call: all that it answers, and leaves in the output
@@ -37,12 +38,12 @@ abbrev pub Converts : List ℕ → List ℕ → List ℕ → Answer → Type 0
 Converts s d d′ r = (outcomeOf r ≡ toTextOutcome s d) × (d′ ≡ toTextOutput s d)
 
 module _ (s d : List ℕ) where
-  pub too-long : 65535 < length s → Converts s d d (Length 0)
+  pub too-long : 65535 < length s → Converts s d d (Refused Length 0)
   unfolding toText readDocument documentVerdict outcome contents pick
   too-long h = let e : leb (length s) 65535 ≡ false = lt-leb (length s) 65535 h in (rw e, rw e)
 
   -- the characters
-  pub bad-character : {p : ℕ} → length s ≤ 65535 → firstBad s ≡ some p → Converts s d d (Character p)
+  pub bad-character : {p : ℕ} → length s ≤ 65535 → firstBad s ≡ some p → Converts s d d (Refused Character p)
   unfolding toText readDocument documentVerdict outcome contents pick _otherwise_
   bad-character h k = let e : leb (length s) 65535 ≡ true = le-leb (length s) 65535 h in (rw (e, k), rw (e, k))
 
@@ -52,7 +53,7 @@ module _ (s d : List ℕ) where
   good-characters h k g = let e : leb (length s) 65535 ≡ true = le-leb (length s) 65535 h in (g .answer ∙ rw (e, k), g .left ∙ rw (e, k))
 
   -- the XML profile
-  pub xml-refused : {p : ℕ} → xmlVerdict s ≡ refuse XML p → Done (nodesGive s (xmlVerdict s otherwise rootVerdict (documentNodes s))) d d (Xml p)
+  pub xml-refused : {p : ℕ} → xmlVerdict s ≡ refuse XML p → Done (nodesGive s (xmlVerdict s otherwise rootVerdict (documentNodes s))) d d (Refused Xml p)
   unfolding _otherwise_
   xml-refused h = rw h (done-fault d refl)
 
@@ -74,9 +75,9 @@ module _ {s : List ℕ} {t : RootElement} (x : RootNode s t) (f : xmlVerdict s �
     root-judged : rootVerdict (documentNodes s) ≡ judgedAs j
     root-judged = ap rootVerdict (x .is f) ∙ v .is noNodes
 
-    pub root-refused : (n : ℕ) {p : ℕ} {r : Answer} → j ≡ Refused n p → r ≡ answerAt n p → Done (nodesGive s (rootVerdict (documentNodes s))) d d r
+    pub root-refused : (n : ℕ) {p : ℕ} {r : Answer} → j ≡ judged.Refused n p → r ≡ answerAt n p → Done (nodesGive s (rootVerdict (documentNodes s))) d d r
     root-refused n {p} e g = rw (root-judged, e) (done-fault d (ap outcomeOf g ∙ answer-refusal n p))
 
-    pub root-fine : {e : List ℕ} {r : Answer} → j ≡ Fine → Done (converted writeCalendar (answer fine (readComponents (nodesAt s (t .inside))))) d e r →
+    pub root-fine : {e : List ℕ} {r : Answer} → j ≡ judged.Fine → Done (converted writeCalendar (answer fine (readComponents (nodesAt s (t .inside))))) d e r →
         Done (nodesGive s (rootVerdict (documentNodes s))) d e r
     root-fine e g = rw (root-judged, e, root-reads) g

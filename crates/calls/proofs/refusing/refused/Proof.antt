@@ -1,18 +1,12 @@
 -- `calls::refusing::refused` meets its contract.
-use Rattle.octets.specs.Pick.{pick}
+use borrow.Author.Needs.{needs}
 use Rattle.octets.specs.laws.Pick.{branching}
 use Rattle.calls.proofs.refusing.refused.Statement.{statement}
 use Rattle.calls.proofs.refusing.refused.Tie as tie
 
 pub refused-spec : {M : Type 1} → statement M
-unfolding pick
 refused-spec = tie.close (tie.spec
     (λ c. search branching)  -- returns
-    (λ c. search branching)  -- returns-2
-    (λ c. search branching)  -- returns-3
-    (λ c. search branching)  -- returns-4
-    (λ c. search branching)  -- returns-5
-    (λ c. search branching)  -- returns-6
-    (λ c κs. search branching)  -- refused-else-requires
-    (λ c. search branching)  -- returns-7
+    (λ c κs. search needs)  -- refusal-of-requires
+    (λ c. rw (← (c .refusal-of .ensures)) (search branching))  -- returns-2
     )

@@ -1,8 +1,8 @@
 -- `distinct::keep` meets its contract.
-use mathlib.Core.Bool.{false≢true}
-use mathlib.Core.Path.{refl}
 use native.Mathlib.Omega.{arith}
 use borrow.Author.Needs.{needs}
+use Rattle.octets.specs.laws.Pick.{joined-tests}
+use Rattle.distinct.specs.laws.Keeping.{keeps-there, keeps-not}
 use Rattle.distinct.proofs.cuts.keep.Statement.{statement}
 use Rattle.distinct.proofs.cuts.keep.Tie as tie
 
@@ -16,9 +16,9 @@ keep-spec = tie.close (tie.spec
     (λ c. search needs)  -- slice-write-to
     (λ c. search needs)  -- same-length
     (λ c. search needs)  -- same-length-2
-    (λ c. λ h. record { room = omega arith; place = omega arith; first = refl; last = refl })  -- returns
-    (λ c. λ h. absurd (false≢true h))  -- returns-2
-    (λ c. λ h. absurd (false≢true h))  -- returns-3
-    (λ c. λ h. absurd (false≢true h))  -- returns-4
-    (λ c. λ h. absurd (false≢true h))  -- returns-5
+    (λ c. keeps-there (omega arith) (omega arith) (omega arith) (omega arith))  -- returns
+    (λ c. keeps-not (search joined-tests))  -- returns-2
+    (λ c. keeps-not (search joined-tests))  -- returns-3
+    (λ c. keeps-not (search joined-tests))  -- returns-4
+    (λ c. keeps-not (search joined-tests))  -- returns-5
     )

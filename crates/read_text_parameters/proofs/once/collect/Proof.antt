@@ -5,6 +5,7 @@ use native.Mathlib.Omega.{arith}
 use Prim.Native.Nat.{_*_, _-_}
 use lib.ListN.{length}
 use Rattle.read_text_line.specs.laws.Params.{param-less}
+use Rattle.distinct.specs.laws.Keeping.{keeps}
 use Rattle.read_text_parameters.specs.laws.Collecting.{Collecting, collect-start, collect-more, collect-fault, collect-over}
 use borrow.Author.Needs.{needs}
 use Rattle.read_text_parameters.proofs.once.collect.Statement.{statement}
@@ -23,9 +24,9 @@ collect-spec = tie.close (tie.spec
     (λ c. (collect-start _ _ _ _ _, refl, refl))  -- loop-holds
     (λ c κs. search needs)  -- next-param-requires
     (λ c κs. search needs)  -- keep-requires
-    (λ c. omega (arith, c .before .before .before .before .before .keep .ensures (c .if3 .taken) .room))  -- add-k
+    (λ c. omega (arith, keeps (c .before .before .before .before .before .keep .ensures) (c .if3 .taken) .room))  -- add-k
     (λ c. param-less (c .before .before .before .before .before .before .before .before .before .before .next-param .ensures) (c .before .before .before .before .before .before .before .before .before .if1 .taken) (c .before .before .before .before .before .before .before .before .if2 .taken))  -- loop-less
-    (λ c. (collect-more (c .before .before .before .before .before .before .before .before .before .before .before .before .before .before .before .pre) (c .before .before .before .before .before .before .before .before .before .before .before .loop .inv .0) (c .before .before .before .before .before .before .before .before .before .before .next-param .ensures) (c .before .before .before .before .before .before .before .before .before .if1 .taken) (c .before .before .before .before .before .before .before .before .if2 .taken) (c .before .before .before .before .before .keep .ensures (c .if3 .taken)), search needs, search needs))  -- loop-again
+    (λ c. (collect-more (c .before .before .before .before .before .before .before .before .before .before .before .before .before .before .before .pre) (c .before .before .before .before .before .before .before .before .before .before .before .loop .inv .0) (c .before .before .before .before .before .before .before .before .before .before .next-param .ensures) (c .before .before .before .before .before .before .before .before .before .if1 .taken) (c .before .before .before .before .before .before .before .before .if2 .taken) (keeps (c .before .before .before .before .before .keep .ensures) (c .if3 .taken)), search needs, search needs))  -- loop-again
     (λ c. search needs)  -- same-length
     (λ c. search needs)  -- same-length-2
     (λ c. λ h. absurd (false≢true h))  -- returns

@@ -3,6 +3,7 @@ use mathlib.Core.Path.{_≡_, refl}
 use native.Mathlib.Omega.{arith}
 use Prim.Native.Nat.{_-_}
 use lib.ListN.{length}
+use Rattle.distinct.specs.laws.Keeping.{keeps}
 use Rattle.read_xml_parameters.specs.laws.Children.{child-less}
 use Rattle.read_xml_parameters.specs.laws.Fresh.{Collecting, collect-start, collect-more, collect-none}
 use borrow.Author.Needs.{needs}
@@ -22,9 +23,9 @@ collect-spec = tie.close (tie.spec
     (λ c. (collect-start _ _ _ _, refl, refl))  -- loop-holds
     (λ c κs. search needs)  -- next-child-requires
     (λ c κs. search needs)  -- keep-requires
-    (λ c. omega (arith, c .before .before .before .before .before .keep .ensures (c .if2 .taken) .room))  -- add-k
+    (λ c. omega (arith, keeps (c .before .before .before .before .before .keep .ensures) (c .if2 .taken) .room))  -- add-k
     (λ c. child-less (c .before .before .before .before .before .before .before .before .before .next-child .ensures) (c .before .before .before .before .before .before .before .before .if1 .taken))  -- loop-less
-    (λ c. (collect-more (c .before .before .before .before .before .before .before .before .before .before .loop .inv .0) (c .before .before .before .before .before .before .before .before .before .next-child .ensures) (c .before .before .before .before .before .before .before .before .if1 .taken) (c .before .before .before .before .before .keep .ensures (c .if2 .taken)), search needs, search needs))  -- loop-again
+    (λ c. (collect-more (c .before .before .before .before .before .before .before .before .before .before .loop .inv .0) (c .before .before .before .before .before .before .before .before .before .next-child .ensures) (c .before .before .before .before .before .before .before .before .if1 .taken) (keeps (c .before .before .before .before .before .keep .ensures) (c .if2 .taken)), search needs, search needs))  -- loop-again
     (λ c. search needs)  -- same-length
     (λ c. search needs)  -- same-length-2
     (λ c. collect-none _ _ _ _)  -- returns

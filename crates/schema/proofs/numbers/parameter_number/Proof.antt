@@ -1,73 +1,22 @@
 -- `schema::numbers::parameter_number` meets its contract.
 use mathlib.Core.Path.{refl}
 use borrow.Author.Needs.{needs}
-use Rattle.names.specs.Keys.{keys-compute}
-use Rattle.names.specs.laws.Keys.{by-key, by-no-key}
+use Rattle.names.specs.Packing.{find}
+use Rattle.names.specs.laws.Packing.{by-packs, finding}
 use Rattle.schema.specs.Parameters.{parameterNames}
-use Rattle.schema.specs.laws.Numbers.{parameters-apart}
+use Rattle.schema.specs.Packs.{parameterRows, parameterRows3}
+use Rattle.schema.specs.laws.Numbers.{parameters-packed}
 use Rattle.schema.proofs.numbers.parameter_number.Statement.{statement}
 use Rattle.schema.proofs.numbers.parameter_number.Tie as tie
 
 pub parameter-number-spec : {M : Type 1} → statement M
-unfolding keys-compute
+unfolding find
 parameter-number-spec = tie.close (tie.spec
-    (λ c κs. search needs)  -- name-key-requires
-    (λ c. search needs)  -- slice-aggregate-named
-    (λ c κs. search needs)  -- named-requires
-    (λ c. search needs)  -- slice-aggregate-named-2
-    (λ c κs. search needs)  -- named-requires-2
-    (λ c. search needs)  -- slice-aggregate-named-3
-    (λ c κs. search needs)  -- named-requires-3
-    (λ c. search needs)  -- slice-aggregate-named-4
-    (λ c κs. search needs)  -- named-requires-4
-    (λ c. search needs)  -- slice-aggregate-named-5
-    (λ c κs. search needs)  -- named-requires-5
-    (λ c. search needs)  -- slice-aggregate-named-6
-    (λ c κs. search needs)  -- named-requires-6
-    (λ c. search needs)  -- slice-aggregate-named-7
-    (λ c κs. search needs)  -- named-requires-7
-    (λ c. search needs)  -- slice-aggregate-named-8
-    (λ c κs. search needs)  -- named-requires-8
-    (λ c. search needs)  -- slice-aggregate-named-9
-    (λ c κs. search needs)  -- named-requires-9
-    (λ c. search needs)  -- slice-aggregate-named-10
-    (λ c κs. search needs)  -- named-requires-10
-    (λ c. search needs)  -- slice-aggregate-named-11
-    (λ c κs. search needs)  -- named-requires-11
-    (λ c. search needs)  -- slice-aggregate-named-12
-    (λ c κs. search needs)  -- named-requires-12
-    (λ c. search needs)  -- slice-aggregate-named-13
-    (λ c κs. search needs)  -- named-requires-13
-    (λ c. search needs)  -- slice-aggregate-named-14
-    (λ c κs. search needs)  -- named-requires-14
-    (λ c. search needs)  -- slice-aggregate-named-15
-    (λ c κs. search needs)  -- named-requires-15
-    (λ c. search needs)  -- slice-aggregate-named-16
-    (λ c κs. search needs)  -- named-requires-16
-    (λ c. search needs)  -- slice-aggregate-named-17
-    (λ c κs. search needs)  -- named-requires-17
-    (λ c. search needs)  -- slice-aggregate-named-18
-    (λ c κs. search needs)  -- named-requires-18
-    (λ c. search needs)  -- slice-aggregate-named-19
-    (λ c κs. search needs)  -- named-requires-19
-    (λ c. by-key _ parameterNames 233 parameters-apart (c .before .before .before .name-key .ensures) (c .before .before .match .keys1) (c .named .ensures))  -- returns
-    (λ c. by-key _ parameterNames 232 parameters-apart (c .before .before .before .name-key .ensures) (c .before .before .match .keys2) (c .named2 .ensures))  -- returns-2
-    (λ c. by-key _ parameterNames 157 parameters-apart (c .before .before .before .name-key .ensures) (c .before .before .match .keys3) (c .named3 .ensures))  -- returns-3
-    (λ c. by-key _ parameterNames 78 parameters-apart (c .before .before .before .name-key .ensures) (c .before .before .match .keys4) (c .named4 .ensures))  -- returns-4
-    (λ c. by-key _ parameterNames 144 parameters-apart (c .before .before .before .name-key .ensures) (c .before .before .match .keys5) (c .named5 .ensures))  -- returns-5
-    (λ c. by-key _ parameterNames 245 parameters-apart (c .before .before .before .name-key .ensures) (c .before .before .match .keys6) (c .named6 .ensures))  -- returns-6
-    (λ c. by-key _ parameterNames 56 parameters-apart (c .before .before .before .name-key .ensures) (c .before .before .match .keys7) (c .named7 .ensures))  -- returns-7
-    (λ c. by-key _ parameterNames 15 parameters-apart (c .before .before .before .name-key .ensures) (c .before .before .match .keys8) (c .named8 .ensures))  -- returns-8
-    (λ c. by-key _ parameterNames 173 parameters-apart (c .before .before .before .name-key .ensures) (c .before .before .match .keys9) (c .named9 .ensures))  -- returns-9
-    (λ c. by-key _ parameterNames 158 parameters-apart (c .before .before .before .name-key .ensures) (c .before .before .match .keys10) (c .named10 .ensures))  -- returns-10
-    (λ c. by-key _ parameterNames 184 parameters-apart (c .before .before .before .name-key .ensures) (c .before .before .match .keys11) (c .named11 .ensures))  -- returns-11
-    (λ c. by-key _ parameterNames 45 parameters-apart (c .before .before .before .name-key .ensures) (c .before .before .match .keys12) (c .named12 .ensures))  -- returns-12
-    (λ c. by-key _ parameterNames 19 parameters-apart (c .before .before .before .name-key .ensures) (c .before .before .match .keys13) (c .named13 .ensures))  -- returns-13
-    (λ c. by-key _ parameterNames 196 parameters-apart (c .before .before .before .name-key .ensures) (c .before .before .match .keys14) (c .named14 .ensures))  -- returns-14
-    (λ c. by-key _ parameterNames 178 parameters-apart (c .before .before .before .name-key .ensures) (c .before .before .match .keys15) (c .named15 .ensures))  -- returns-15
-    (λ c. by-key _ parameterNames 85 parameters-apart (c .before .before .before .name-key .ensures) (c .before .before .match .keys16) (c .named16 .ensures))  -- returns-16
-    (λ c. by-key _ parameterNames 218 parameters-apart (c .before .before .before .name-key .ensures) (c .before .before .match .keys17) (c .named17 .ensures))  -- returns-17
-    (λ c. by-key _ parameterNames 153 parameters-apart (c .before .before .before .name-key .ensures) (c .before .before .match .keys18) (c .named18 .ensures))  -- returns-18
-    (λ c. by-key _ parameterNames 34 parameters-apart (c .before .before .before .name-key .ensures) (c .before .before .match .keys19) (c .named19 .ensures))  -- returns-19
-    (λ c. by-no-key _ parameterNames (c .before .name-key .ensures) (c .match .rest) refl)  -- returns-20
+    (λ c κs. search needs)  -- pack-requires
+    (λ c κs. search needs)  -- parameter-1-requires
+    (λ c. by-packs _ parameterRows parameterRows3 parameterNames 19 parameters-packed refl (c .before .before .before .pack .ensures) (search finding depth 12))  -- returns
+    (λ c κs. search needs)  -- parameter-2-requires
+    (λ c. by-packs _ parameterRows parameterRows3 parameterNames 19 parameters-packed refl (c .before .before .before .before .before .pack .ensures) (search finding depth 12))  -- returns-2
+    (λ c κs. search needs)  -- parameter-3-requires
+    (λ c. by-packs _ parameterRows parameterRows3 parameterNames 19 parameters-packed refl (c .before .before .before .before .before .pack .ensures) (search finding depth 12))  -- returns-3
     )

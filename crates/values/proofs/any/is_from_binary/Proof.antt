@@ -6,11 +6,11 @@ use Rattle.values.proofs.any.is_from_binary.Tie as tie
 pub is-from-binary-spec : {M : Type 1} → statement M
 is-from-binary-spec = tie.close (tie.spec
     (λ c κs. search choosing)  -- is-binary-requires
-    (λ c g. search choosing)  -- returns
+    (λ c. search choosing)  -- returns
     (λ c κs. search choosing)  -- is-boolean-requires
-    (λ c g. search choosing)  -- returns-2
+    (λ c. search choosing)  -- returns-2
     (λ c κs. search choosing)  -- is-cal-address-requires
-    (λ c g. search choosing)  -- returns-3
+    (λ c. search choosing)  -- returns-3
     (λ c κs. search choosing)  -- is-from-date-requires
-    (λ c g. search (c .is-from-date .ensures g, choosing))  -- returns-4
+    (λ c. search choosing)  -- returns-4
     )

@@ -6,13 +6,13 @@ use Rattle.values.proofs.any.is_from_date.Tie as tie
 pub is-from-date-spec : {M : Type 1} → statement M
 is-from-date-spec = tie.close (tie.spec
     (λ c κs. search choosing)  -- is-date-requires
-    (λ c g. search choosing)  -- returns
+    (λ c. search choosing)  -- returns
     (λ c κs. search choosing)  -- is-date-time-requires
-    (λ c g. search choosing)  -- returns-2
+    (λ c. search choosing)  -- returns-2
     (λ c κs. search choosing)  -- is-duration-requires
-    (λ c g. search choosing)  -- returns-3
+    (λ c. search choosing)  -- returns-3
     (λ c κs. search choosing)  -- is-float-requires
-    (λ c g. search choosing)  -- returns-4
+    (λ c. search choosing)  -- returns-4
     (λ c κs. search choosing)  -- is-from-integer-requires
-    (λ c g. search (c .is-from-integer .ensures g, choosing))  -- returns-5
+    (λ c. search choosing)  -- returns-5
     )

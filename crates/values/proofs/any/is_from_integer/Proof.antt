@@ -6,13 +6,13 @@ use Rattle.values.proofs.any.is_from_integer.Tie as tie
 pub is-from-integer-spec : {M : Type 1} → statement M
 is-from-integer-spec = tie.close (tie.spec
     (λ c κs. search choosing)  -- is-integer-requires
-    (λ c g. search choosing)  -- returns
+    (λ c. search choosing)  -- returns
     (λ c κs. search choosing)  -- is-period-requires
-    (λ c g. search choosing)  -- returns-2
+    (λ c. search choosing)  -- returns-2
     (λ c κs. search choosing)  -- is-recur-requires
-    (λ c g. search (c .is-recur .ensures g, choosing))  -- returns-3
+    (λ c. search choosing)  -- returns-3
     (λ c κs. search choosing)  -- is-text-requires
-    (λ c g. search choosing)  -- returns-4
+    (λ c. search choosing)  -- returns-4
     (λ c κs. search choosing)  -- is-from-time-requires
-    (λ c g. search choosing)  -- returns-5
+    (λ c. search choosing)  -- returns-5
     )

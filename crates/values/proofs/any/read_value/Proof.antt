@@ -6,6 +6,6 @@ use Rattle.values.proofs.any.read_value.Tie as tie
 pub read-value-spec : {M : Type 1} → statement M
 read-value-spec = tie.close (tie.spec
     (λ c κs. search choosing)  -- is-from-binary-requires
-    (λ c g. search (c .before .is-from-binary .ensures g, choosing))  -- returns
-    (λ c g. search (c .before .is-from-binary .ensures g, choosing))  -- returns-2
+    (λ c. search choosing)  -- returns
+    (λ c. search choosing)  -- returns-2
     )

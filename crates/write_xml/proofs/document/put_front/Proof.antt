@@ -5,11 +5,9 @@ use Rattle.write_xml.proofs.document.put_front.Tie as tie
 
 pub put-front-spec : {M : Type 1} → statement M
 put-front-spec = tie.close (tie.spec
-    (λ c. search writing)  -- slice-aggregate-put-all
-    (λ c κs. search writing)  -- put-all-requires
+    (λ c κs. search writing)  -- put-declaration-requires
     (λ c κs. search writing)  -- put-requires
-    (λ c. search writing)  -- slice-aggregate-put-all-2
-    (λ c κs. search writing)  -- put-all-requires-2
+    (λ c κs. search writing)  -- put-root-start-requires
     (λ c. search writing)  -- same-length
     (λ c. search writing)  -- returns
     )

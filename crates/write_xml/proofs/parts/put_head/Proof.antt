@@ -9,8 +9,8 @@ pub put-head-spec : {M : Type 1} → statement M
 put-head-spec = tie.close (tie.spec
     (λ c. search (length-take-le, needs))  -- slice-aggregate-component-number
     (λ c κs. search needs)  -- component-number-requires
-    (λ c. search (length-take-le, needs))  -- slice-aggregate-put-name-start
-    (λ c κs. search needs)  -- put-name-start-requires
+    (λ c. search (length-take-le, needs))  -- slice-aggregate-put-small-start
+    (λ c κs. search needs)  -- put-small-start-requires
     (λ c κs. search needs)  -- put-properties-element-requires
     (λ c. search (length-take-le, needs))  -- slice-aggregate-has-components
     (λ c κs. search needs)  -- has-components-requires

@@ -8,7 +8,7 @@ pub put-tail-spec : {M : Type 1} → statement M
 put-tail-spec = tie.close (tie.spec
     (λ c κs. search needs)  -- has-components-requires
     (λ c κs. search needs)  -- put-components-end-requires
-    (λ c κs. search needs)  -- put-name-end-requires
+    (λ c κs. search needs)  -- put-small-end-requires
     (λ c. search needs)  -- same-length
     (λ c. search (tail-put, needs))  -- returns
     )

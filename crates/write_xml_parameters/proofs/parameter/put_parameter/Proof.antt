@@ -7,9 +7,9 @@ use Rattle.write_xml_parameters.proofs.parameter.put_parameter.Tie as t
 pub put-parameter-spec : {M : Type 1} → statement M
 put-parameter-spec = tie.close (tie.spec
     (λ c κs. search writing)  -- parameter-number-requires
-    (λ c κs. search writing)  -- put-start-requires
+    (λ c κs. search writing)  -- put-small-start-requires
     (λ c κs. search writing)  -- put-values-requires
-    (λ c κs. search writing)  -- put-end-requires
+    (λ c κs. search writing)  -- put-small-end-requires
     (λ c. search writing)  -- same-length
     (λ c. search (put-parameter, writing))  -- returns
     )
