@@ -1,4 +1,5 @@
 // The faults of a property's line. See specs/Faults.antt.
+use crate::Context;
 use crate::ValuesRead;
 use crate::own::read_values;
 use read_text_line::LineCursors;
@@ -25,7 +26,12 @@ pub fn property_fault(k: usize, p: usize, mode: usize, s: &[u8], l: LineCursors)
     };
     let good = are_good(p, t, mode, s, l.parameters);
     if good {
-        let ValuesRead::Good(n) = read_values(k, p, t, mode, s, l.value) else {
+        let c = Context {
+            component: k,
+            property: p,
+            value_type: t,
+        };
+        let ValuesRead::Good(n) = read_values(c, mode, s, l.value) else {
             return VALUE;
         };
         return NO_FAULT;

@@ -6,6 +6,13 @@ mod own;
 pub use fault::property_fault;
 pub use own::read_values;
 
+// Where a value stands: its component, property and type, by their numbers.
+pub struct Context {
+    pub component: usize,
+    pub property: usize,
+    pub value_type: usize,
+}
+
 // The values are good, of the type of this number; or not.
 pub enum ValuesRead {
     Good(usize),

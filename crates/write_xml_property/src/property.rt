@@ -3,6 +3,7 @@ use crate::shown::put_values;
 use read_text_line::LineCursors;
 use read_text_parameters::TypeRead;
 use read_text_parameters::stated_type;
+use read_text_property::Context;
 use schema::property_number;
 use schema::value_type;
 use tags::put_small_end;
@@ -24,9 +25,19 @@ fn put_stated(out: &mut [u8], o: usize, k: usize, mode: usize, s: &[u8], l: Line
     let e = l.parameters;
     let p = property_number(mode, &s[..e], l.name);
     let TypeRead::Type(t) = stated_type(p, mode, s, e) else {
-        return put_values(out, o, k, p, value_type::TEXT, mode, s, l.value);
+        let untyped = Context {
+            component: k,
+            property: p,
+            value_type: value_type::TEXT,
+        };
+        return put_values(out, o, untyped, mode, s, l.value);
     };
-    put_values(out, o, k, p, t, mode, s, l.value)
+    let c = Context {
+        component: k,
+        property: p,
+        value_type: t,
+    };
+    put_values(out, o, c, mode, s, l.value)
 }
 
 // The parameters and the values.

@@ -60,18 +60,22 @@ module _ {m : ℕ} {s : List ℕ} {c : ℕ} {l : LineCursors} (y : cuts m ≡ tr
 
 -- ---- for the code
 
+-- a line by the cursors of its name, its parameters and its value
+abbrev cursors : ℕ → ℕ → ℕ → LineCursors
+cursors c e v = record { name = c; parameters = e; value = v }
+
 -- the values, by the number of the line's name and by the type that was found
-module _ {d f : List ℕ} {at o : ℕ} (k : ℕ) {p m : ℕ} {s : List ℕ} (l : LineCursors) {r : TypeRead} (h : p ≡ placeOf (upper (nameIn m s l)) propertyNames) (a : StatedAt p m s (l .parameters) r) where
-  pub put-typed : (t : ℕ) → r ≡ Typed t → Put d f at o (valuesXml (readOr [] (readValues (componentName k) (propertyName p) (typeAt t) (rest m s (l .value))))) →
-      Put d f at o (statedXml k m s l)
+module _ {d f : List ℕ} {at o : ℕ} (k : ℕ) {p m : ℕ} {s : List ℕ} (c : ℕ) {e : ℕ} (v : ℕ) {r : TypeRead} (h : p ≡ placeOf (upper (nameIn m s (cursors c e v))) propertyNames) (a : StatedAt p m s e r) where
+  pub put-typed : (t : ℕ) → r ≡ Typed t → Put d f at o (valuesXml (readOr [] (readValues (componentName k) (propertyName p) (typeAt t) (rest m s v)))) →
+      Put d f at o (statedXml k m s (cursors c e v))
   unfolding readOr
   put-typed t z w =
-      let b : StatedAt p m s (l .parameters) (Typed t) = rw z at a in
-      rw (stated-names b (upper (nameIn m s l)) h, ← (values-named (componentName k) (upper (nameIn m s l)) p (typeAt t) (rest m s (l .value)) h)) w
+      let b : StatedAt p m s e (Typed t) = rw z at a in
+      rw (stated-names b (upper (nameIn m s (cursors c e v))) h, ← (values-named (componentName k) (upper (nameIn m s (cursors c e v))) p (typeAt t) (rest m s v) h)) w
 
-  pub put-untyped : r ≡ NoType → Put d f at o (valuesXml (readOr [] (readValues (componentName k) (propertyName p) (typeAt 10) (rest m s (l .value))))) →
-      Put d f at o (statedXml k m s l)
+  pub put-untyped : r ≡ NoType → Put d f at o (valuesXml (readOr [] (readValues (componentName k) (propertyName p) (typeAt 10) (rest m s v)))) →
+      Put d f at o (statedXml k m s (cursors c e v))
   unfolding readOr
   put-untyped z w =
-      let b : StatedAt p m s (l .parameters) NoType = rw z at a in
-      rw (stated-names b (upper (nameIn m s l)) h, ← (values-named (componentName k) (upper (nameIn m s l)) p TEXT (rest m s (l .value)) h)) w
+      let b : StatedAt p m s e NoType = rw z at a in
+      rw (stated-names b (upper (nameIn m s (cursors c e v))) h, ← (values-named (componentName k) (upper (nameIn m s (cursors c e v))) p TEXT (rest m s v) h)) w
