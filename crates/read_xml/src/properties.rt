@@ -4,6 +4,7 @@ use crate::children::child_slot;
 use crate::children::children_verdict;
 use crate::counting::count;
 use crate::counting::none_counted;
+use markup::element;
 use names::is_word;
 use octets::is_space;
 use read_text_line::is_carried_name;
@@ -17,6 +18,7 @@ use read_xml_value::type_of_nodes;
 use refusals::FRAME;
 use refusals::NAME;
 use refusals::PARAMETER;
+use schema::Context;
 use schema::may_stand;
 use schema::property;
 use schema::property_number;
@@ -95,11 +97,11 @@ fn bad_name(s: &[u8], name: usize, name_end: usize) -> bool
     }
     let carried = is_carried_name(0, &s[..name_end], name);
     if carried {
-        let begin = is_word(0, &s[..name_end], name, b"begin");
+        let begin = is_word(0, &s[..name_end], name, &element::BEGIN);
         if begin {
             return true;
         }
-        return is_word(0, &s[..name_end], name, b"end");
+        return is_word(0, &s[..name_end], name, &element::END);
     }
     true
 }
@@ -146,7 +148,12 @@ fn property_verdict(k: usize, p: usize, s: &[u8], at: usize, n: Node) -> Judged
     if lacks {
         return Judged::Refused(PARAMETER, at);
     }
-    children_verdict(k, p, t, s, n.inside, n.end)
+    let context = Context {
+        component: k,
+        property: p,
+        value_type: t,
+    };
+    children_verdict(context, s, n.inside, n.end)
 }
 
 // The children of the `properties` of a component of the number `k`, and what is kept of them.
