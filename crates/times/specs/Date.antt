@@ -1,5 +1,5 @@
 -- DATE (RFC 5545, section 3.3.4; RFC 6321, section 3.6.4): a day of the Gregorian calendar, years 0000 to 9999. 20240504 in text, 2024-05-04 in XML.
---     isLeapYear, daysInMonth    the Gregorian rule
+--     isLeapYear, daysInMonth    the Gregorian rule, in code src/month.rt; that DATE accepts exactly its days is shown in MonthRule
 --     isDate                     a kept value: eight digits of a real day
 --     readDate, writeDate
 use mathlib.Core.Bool.{Bool}
@@ -16,7 +16,7 @@ use Rattle.octets.specs.Reading.{andThen}
 use Rattle.calendar.specs.Calendar.{Format, ical, xcal}
 use Rattle.times.specs.Spelling.{Mark, mark, withMarks, withoutMarks, keep}
 
--- every fourth year, but of the full centuries only every fourth
+-- every fourth year, but of the full centuries only every fourth: 2024 and 2000 are leap years, 2023 and 1900 are not
 unfoldable pub isLeapYear : ℕ → Bool
 isLeapYear y = pick (eqb (y % 100) 0) (eqb (y % 400) 0) (eqb (y % 4) 0)
 
