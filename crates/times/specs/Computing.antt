@@ -2,7 +2,8 @@
 use Prim.Native.Nat.{ℕ}
 use Rattle.octets.specs.Computing.{octets-compute}
 use Rattle.times.specs.Spelling.{isTimeChar, keep, begins, putMark, takeMark, withMarks, withoutMarks, fits}
-use Rattle.times.specs.Date.{isLeapYear, hasThirtyDays, daysInMonth, isDay, isDate, readDate, writeDate}
+use Rattle.gregorian.specs.Month.{isLeapYear, hasThirtyDays, daysInMonth, isDay}
+use Rattle.times.specs.Date.{isDate, readDate, writeDate}
 use Rattle.times.specs.Digits.{twoDigits, dateOf}
 use Rattle.times.specs.DateText.{dateText}
 use Rattle.times.specs.Time.{isClock, isTime, readTime, writeTime}

@@ -14,7 +14,7 @@ use Rattle.octets.specs.Append.{_⊕_}
 use Rattle.octets.specs.Reading.{isRead}
 use Rattle.calendar.specs.Calendar.{Format, ical, xcal}
 use Rattle.times.specs.Digits.{twoDigits, dateOf}
-use Rattle.times.specs.Date.{daysInMonth}
+use Rattle.gregorian.specs.Month.{daysInMonth}
 use Rattle.times.specs.Time.{readTime}
 use Rattle.times.specs.Period.{slashAt}
 

@@ -5,7 +5,7 @@
 --     Letters    characters from a cursor on
 --     Followed   what following a pattern answers
 --     Digits     the digits of dates and times
---     Date       DATE, and the Gregorian month
+--     Date       DATE
 --     DateText   a date as a text, and where dates stand in DATE-TIME and PERIOD
 --     MonthRule  shown: in every month DATE accepts exactly the days from 1 to its length
 --     DateAlong  DATE by its pattern

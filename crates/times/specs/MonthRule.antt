@@ -1,5 +1,5 @@
 -- The month rule, shown: in every month DATE accepts exactly the days from 1 to the month's length by the Gregorian calendar, in the years 0000 to 9999, in text
--- and in XML. The length is `daysInMonth` (Date), in code src/month.rt.
+-- and in XML. The length is `daysInMonth` of crate gregorian.
 --     month-rule        any year, month and day: the text of the date is read exactly when the month is one of twelve and the day is from 1 to its length
 --     month-days        the same within a month
 --     only-days         and nothing else is a DATE
@@ -17,7 +17,8 @@ use Rattle.octets.specs.Append.{_⊕_}
 use Rattle.octets.specs.Reading.{isRead}
 use Rattle.octets.specs.laws.Reading.{read-some}
 use Rattle.calendar.specs.Calendar.{Format}
-use Rattle.times.specs.Date.{daysInMonth, readDate}
+use Rattle.gregorian.specs.Month.{daysInMonth}
+use Rattle.times.specs.Date.{readDate}
 use Rattle.times.specs.Time.{readTime}
 use Rattle.times.specs.DateTime.{readDateTime}
 use Rattle.times.specs.DateText.{dateText, DayOf}

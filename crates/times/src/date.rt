@@ -1,9 +1,9 @@
-// DATE. See specs/Date.antt and specs/DateAlong.antt; which days there are, month.rt.
+// DATE. See specs/Date.antt and specs/DateAlong.antt; which days there are, crate gregorian.
 use crate::follow::Walk;
 use crate::follow::follow;
 use crate::letters::ended;
-use crate::month::is_day;
 use crate::written::put_day;
+use gregorian::is_day;
 ghost use mathlib.Core.Path.{_≡_};
 ghost use mathlib.Core.Bool.{true};
 ghost use Rattle.octets.specs.Reading.{orNothing};

@@ -4,7 +4,6 @@ pub mod date_time;
 pub mod duration;
 mod follow;
 mod letters;
-mod month;
 pub mod offset;
 pub mod period;
 pub mod time;

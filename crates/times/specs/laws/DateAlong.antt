@@ -25,7 +25,8 @@ use Rattle.source.specs.Source.{rest}
 use Rattle.times.specs.Spelling.{keep, withMarks, withoutMarks, putMark, fits}
 use Rattle.times.specs.Pattern.{reached, lost, along, zeros, digitsAt, followedBy, isMark, areMarks}
 use Rattle.times.specs.laws.Pattern.{along-marks, along-digits, worth2, worth4}
-use Rattle.times.specs.Date.{isDay, isDate, readDate, dateMarks}
+use Rattle.gregorian.specs.Month.{isDay}
+use Rattle.times.specs.Date.{isDate, readDate, dateMarks}
 use Rattle.times.specs.Digits.{dateOf}
 use Rattle.times.specs.Letters.{cased}
 use Rattle.times.specs.Followed.{walked, Walks}

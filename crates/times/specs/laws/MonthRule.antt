@@ -23,7 +23,8 @@ use Rattle.calendar.specs.Calendar.{Format, ical, xcal}
 use Rattle.times.specs.Spelling.{keep, withMarks, putMark, fits}
 use Rattle.times.specs.laws.Spelling.{keep-yes, keep-read, marks-taken-out}
 use Rattle.times.specs.Digits.{twoDigits, dateOf}
-use Rattle.times.specs.Date.{isLeapYear, hasThirtyDays, daysInMonth, isDay, isDate, dateMarks, readDate, writeDate}
+use Rattle.gregorian.specs.Month.{isLeapYear, hasThirtyDays, daysInMonth, isDay}
+use Rattle.times.specs.Date.{isDate, dateMarks, readDate, writeDate}
 use Rattle.times.specs.laws.Date.{date-length, date-accepted, date-exact}
 use Rattle.times.specs.DateAlong.{dayFrom}
 use Rattle.times.specs.laws.DateAlong.{eight-day}

@@ -5,11 +5,11 @@
 // So of the years that 100 divides only those are leap years that 400 divides too: 2000 is one, 1700, 1800 and 1900
 // are not, though 4 divides them. Here the rule holds for all years from 0000, also for those before it was made.
 //
-// specs/Date.antt defines the same rule. specs/MonthRule.antt shows that in every month DATE accepts exactly the days
+// specs/Month.antt defines the same rule. Crate times, specs/MonthRule.antt, shows that in every month DATE accepts exactly the days
 // from 1 to the length that is given here.
 ghost use mathlib.Core.Path.{_≡_};
 ghost use Rattle.octets.specs.Pick.{within};
-ghost use Rattle.times.specs.Date.{isLeapYear, hasThirtyDays, daysInMonth, isDay};
+ghost use Rattle.gregorian.specs.Month.{isLeapYear, hasThirtyDays, daysInMonth, isDay};
 
 const FEBRUARY: u8 = 2;
 
