@@ -2,8 +2,10 @@
 use Prim.Native.Nat.{ℕ}
 use Rattle.octets.specs.Computing.{octets-compute}
 use Rattle.times.specs.Spelling.{isTimeChar, keep, begins, putMark, takeMark, withMarks, withoutMarks, fits}
-use Rattle.times.specs.Date.{isLeapYear, hasThirtyDays, daysInMonth, isDay, isDate, readDate, writeDate}
-use Rattle.times.specs.MonthRule.{twoDigits, dateOf}
+use Rattle.gregorian.specs.Month.{isLeapYear, hasThirtyDays, daysInMonth, isDay}
+use Rattle.times.specs.Date.{isDate, readDate, writeDate}
+use Rattle.times.specs.Digits.{twoDigits, dateOf}
+use Rattle.times.specs.DateText.{dateText}
 use Rattle.times.specs.Time.{isClock, isTime, readTime, writeTime}
 use Rattle.times.specs.DateTime.{isDateTime, readDateTime, writeDateTime}
 use Rattle.times.specs.Duration.{counted, optional, dur-second, dur-minute, dur-hour, dur-time, dur-date, dur-week, unsigned, isDuration, durationOf, readDuration, writeDuration}
@@ -21,5 +23,5 @@ use Rattle.times.specs.PeriodAlong.{slashed, afterStart, periodUpper, pe
 use Rattle.times.specs.PeriodWritten.{ofPeriod, startXml, endXml, endBytes}
 
 unfoldable pub times-compute : ℕ
-unfolding octets-compute isTimeChar keep begins putMark takeMark withMarks withoutMarks fits isLeapYear hasThirtyDays daysInMonth isDay isDate readDate writeDate twoDigits dateOf isClock isTime readTime writeTime isDateTime readDateTime writeDateTime counted optional dur-second dur-minute dur-hour dur-time dur-date dur-week unsigned isDuration durationOf readDuration writeDuration isShift isSomeShift isUtcOffset readUtcOffset writeUtcOffset isNoSlash isPeriodChar periodFrom readPeriod writePeriod passes tally along followedBy isMark areMarks zeros digitsAt cased dayFrom dated isHms isZone hms clockFrom timed zone timeOf clockBy joinTime momentFrom momentBy moment marked yearDigits dayBytes clockBytes momentBytes whole shiftBytes offsetBy isMinus offsetOf signOf lastBytes offsetBytes slashed afterStart periodUpper periodBy cutPeriod periodAfter ofPeriod startXml endXml endBytes
+unfolding octets-compute isTimeChar keep begins putMark takeMark withMarks withoutMarks fits isLeapYear hasThirtyDays daysInMonth isDay isDate readDate writeDate twoDigits dateOf dateText isClock isTime readTime writeTime isDateTime readDateTime writeDateTime counted optional dur-second dur-minute dur-hour dur-time dur-date dur-week unsigned isDuration durationOf readDuration writeDuration isShift isSomeShift isUtcOffset readUtcOffset writeUtcOffset isNoSlash isPeriodChar periodFrom readPeriod writePeriod passes tally along followedBy isMark areMarks zeros digitsAt cased dayFrom dated isHms isZone hms clockFrom timed zone timeOf clockBy joinTime momentFrom momentBy moment marked yearDigits dayBytes clockBytes momentBytes whole shiftBytes offsetBy isMinus offsetOf signOf lastBytes offsetBytes slashed afterStart periodUpper periodBy cutPeriod periodAfter ofPeriod startXml endXml endBytes
 times-compute = 0

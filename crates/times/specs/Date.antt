@@ -1,35 +1,21 @@
 -- DATE (RFC 5545, section 3.3.4; RFC 6321, section 3.6.4): a day of the Gregorian calendar, years 0000 to 9999. 20240504 in text, 2024-05-04 in XML.
---     isLeapYear, daysInMonth    the Gregorian rule
+-- Its days are those of the Gregorian rule (crate gregorian); that DATE accepts exactly these is shown in MonthRule.
 --     isDate                     a kept value: eight digits of a real day
 --     readDate, writeDate
 use mathlib.Core.Bool.{Bool}
 use mathlib.Core.List.{List, [], _∷_}
 use mathlib.Core.Option.{Option}
-use Prim.Native.Nat.{ℕ, _%_}
+use Prim.Native.Nat.{ℕ}
 use lib.Dec.{eqb}
 use lib.ListN.{length, take, drop}
-use Rattle.octets.specs.Pick.{pick, _and_, _or_, within}
+use Rattle.octets.specs.Pick.{_and_}
 use Rattle.octets.specs.Scan.{allOf}
 use Rattle.octets.specs.Class.{isDigit}
 use Rattle.octets.specs.Decimal.{value}
 use Rattle.octets.specs.Reading.{andThen}
 use Rattle.calendar.specs.Calendar.{Format, ical, xcal}
+use Rattle.gregorian.specs.Month.{isDay}
 use Rattle.times.specs.Spelling.{Mark, mark, withMarks, withoutMarks, keep}
-
--- every fourth year, but of the full centuries only every fourth
-unfoldable pub isLeapYear : ℕ → Bool
-isLeapYear y = pick (eqb (y % 100) 0) (eqb (y % 400) 0) (eqb (y % 4) 0)
-
--- April, June, September, November
-unfoldable pub hasThirtyDays : ℕ → Bool
-hasThirtyDays m = eqb m 4 or eqb m 6 or eqb m 9 or eqb m 11
-
-unfoldable pub daysInMonth : ℕ → ℕ → ℕ
-daysInMonth y m = pick (eqb m 2) (pick (isLeapYear y) 29 28) (pick (hasThirtyDays m) 30 31)
-
--- a year, a month of 1 to 12 and a day of that month
-unfoldable pub isDay : ℕ → ℕ → ℕ → Bool
-isDay y m d = within 1 12 m and within 1 (daysInMonth y m) d
 
 -- date-value = date-fullyear date-month date-mday
 -- date-fullyear = 4DIGIT;   date-month = 2DIGIT ;01-12;   date-mday = 2DIGIT ;01-28, 01-29, 01-30, 01-31 based on month/year

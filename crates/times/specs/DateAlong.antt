@@ -11,8 +11,8 @@ use Rattle.octets.specs.Words.{isEmpty}
 use Rattle.octets.specs.Reading.{provided}
 use Rattle.calendar.specs.Calendar.{Format, ical, xcal}
 use Rattle.times.specs.Pattern.{Followed, reached, lost}
-use Rattle.times.specs.Date.{isDay}
-use Rattle.times.specs.MonthRule.{dateOf}
+use Rattle.gregorian.specs.Month.{isDay}
+use Rattle.times.specs.Digits.{dateOf}
 use Rattle.times.specs.declared.date.DateRead.{DateRead}
 use Rattle.times.specs.declared.date.DateRead.the-variants.{Day, NoDate}
 

@@ -10,7 +10,7 @@ use Rattle.octets.specs.Ascii.{ascii}
 use Rattle.octets.specs.Reading.{andThen}
 use Rattle.calendar.specs.Calendar.{Format, ical, xcal}
 use Rattle.times.specs.Pattern.{Followed, reached, lost}
-use Rattle.times.specs.MonthRule.{dateOf}
+use Rattle.times.specs.Digits.{dateOf}
 use Rattle.times.specs.DateAlong.{dayFrom}
 use Rattle.times.specs.TimeAlong.{timeOf, clockFrom, clockBy}
 use Rattle.times.specs.declared.date_time.DateTimeRead.{DateTimeRead}

@@ -4,7 +4,8 @@ use mathlib.Core.List.{[], _∷_, map}
 use mathlib.Core.Option.{none, some}
 use Rattle.octets.specs.Ascii.{ascii}
 use Rattle.calendar.specs.Calendar.{ical, xcal, periodExplicit, periodStart}
-use Rattle.times.specs.Date.{daysInMonth, readDate, writeDate}
+use Rattle.gregorian.specs.Month.{daysInMonth}
+use Rattle.times.specs.Date.{readDate, writeDate}
 use Rattle.times.specs.Time.{readTime, writeTime}
 use Rattle.times.specs.DateTime.{readDateTime, writeDateTime}
 use Rattle.times.specs.Duration.{readDuration}

@@ -4,8 +4,10 @@
 --     Pattern    a spelling followed along a pattern
 --     Letters    characters from a cursor on
 --     Followed   what following a pattern answers
---     Date       DATE, and the Gregorian month
---     MonthRule  the days that DATE accepts in a month are those from 1 to its length
+--     Digits     the digits of dates and times
+--     Date       DATE
+--     DateText   a date as a text, and where dates stand in DATE-TIME and PERIOD
+--     MonthRule  shown: in every month DATE accepts exactly the days from 1 to its length
 --     DateAlong  DATE by its pattern
 --     Time       TIME
 --     TimeAlong  TIME by its pattern
@@ -28,7 +30,9 @@ pub mod Spelling
 pub mod Pattern
 pub mod Letters
 pub mod Followed
+pub mod Digits
 pub mod Date
+pub mod DateText
 pub mod MonthRule
 pub mod DateAlong
 pub mod Time

@@ -19,7 +19,7 @@ use Rattle.source.specs.Source.{rest}
 use Rattle.times.specs.Spelling.{begins}
 use Rattle.times.specs.Pattern.{Followed, reached, lost, along}
 use Rattle.times.specs.TimeAlong.{isHms}
-use Rattle.times.specs.MonthRule.{twoDigits}
+use Rattle.times.specs.Digits.{twoDigits}
 use Rattle.times.specs.declared.follow.Walk.{Walk}
 use Rattle.times.specs.declared.offset.OffsetRead.{OffsetRead}
 use Rattle.times.specs.declared.offset.OffsetRead.the-variants.{Shift, NoOffset}

@@ -5,7 +5,7 @@ use mathlib.Core.List.{List, [], _∷_}
 use Prim.Native.Nat.{ℕ}
 use Rattle.octets.specs.Pick.{pick}
 use Rattle.octets.specs.Append.{_⊕_}
-use Rattle.times.specs.MonthRule.{twoDigits}
+use Rattle.times.specs.Digits.{twoDigits}
 use Rattle.times.specs.Written.{marked}
 
 -- 45 is -, 43 is +

@@ -15,7 +15,7 @@ use Rattle.octets.specs.Words.{isEmpty, same}
 use Rattle.octets.specs.Reading.{provided}
 use Rattle.calendar.specs.Calendar.{Format, ical, xcal}
 use Rattle.times.specs.Pattern.{Followed, reached, lost}
-use Rattle.times.specs.MonthRule.{twoDigits}
+use Rattle.times.specs.Digits.{twoDigits}
 use Rattle.times.specs.declared.time.TimeRead.{TimeRead}
 use Rattle.times.specs.declared.time.TimeRead.the-variants.{Clock, NoTime}
 

@@ -5,7 +5,7 @@ use mathlib.Core.List.{List, [], _∷_}
 use Prim.Native.Nat.{ℕ, _/_, _%_}
 use Rattle.octets.specs.Pick.{pick}
 use Rattle.octets.specs.Append.{_⊕_}
-use Rattle.times.specs.MonthRule.{twoDigits}
+use Rattle.times.specs.Digits.{twoDigits}
 
 abbrev pub markBytes : Bool → ℕ → List ℕ
 markBytes on c = pick on (c ∷ []) []

@@ -5,7 +5,8 @@
 --     Letters        characters from a cursor on
 --     Followed       what following a pattern answers
 --     Date           DATE, and the Gregorian month
---     MonthRule      the days that DATE accepts in a month are those from 1 to its length
+--     MonthRule      the month rule
+--     DateParts      the dates of DATE-TIME and PERIOD are read as DATE is
 --     DateAlong      DATE by its pattern
 --     Time           TIME
 --     TimeAlong      TIME by its pattern
@@ -28,6 +29,7 @@ pub mod Letters
 pub mod Followed
 pub mod Date
 pub mod MonthRule
+pub mod DateParts
 pub mod DateAlong
 pub mod Time
 pub mod TimeAlong

@@ -1,16 +1,16 @@
-// DATE. See specs/Date.antt and specs/DateAlong.antt.
+// DATE. See specs/Date.antt and specs/DateAlong.antt; which days there are, crate gregorian.
 use crate::follow::Walk;
 use crate::follow::follow;
 use crate::letters::ended;
 use crate::written::put_day;
+use gregorian::is_day;
 ghost use mathlib.Core.Path.{_≡_};
 ghost use mathlib.Core.Bool.{true};
-ghost use Rattle.octets.specs.Pick.{within};
 ghost use Rattle.octets.specs.Reading.{orNothing};
 ghost use Rattle.calendar.specs.Calendar.{formatOf};
 ghost use Rattle.source.specs.Source.{rest};
 ghost use Rattle.sink.specs.Sink.{Put};
-ghost use Rattle.times.specs.Date.{isLeapYear, hasThirtyDays, daysInMonth, isDay, readDate, writeDate};
+ghost use Rattle.times.specs.Date.{readDate, writeDate};
 ghost use Rattle.times.specs.DateAlong.{datePattern, dayFrom, dayOf};
 ghost use Rattle.times.specs.Followed.{Walks};
 
@@ -18,65 +18,6 @@ ghost use Rattle.times.specs.Followed.{Walks};
 pub enum DateRead {
     Day(u16, u8, u8),
     NoDate,
-}
-
-fn is_leap_year(y: u16) -> bool
-    ensures { λ r. ⌜ r ≡ isLeapYear y ⌝ }
-{
-    if y % 100 == 0 {
-        return y % 400 == 0;
-    }
-    y % 4 == 0
-}
-
-fn has_thirty_days(m: u8) -> bool
-    ensures { λ r. ⌜ r ≡ hasThirtyDays m ⌝ }
-{
-    if m == 4 {
-        return true;
-    }
-    if m == 6 {
-        return true;
-    }
-    if m == 9 {
-        return true;
-    }
-    m == 11
-}
-
-fn days_in_month(y: u16, m: u8) -> u8
-    ensures { λ r. ⌜ r ≡ daysInMonth y m ⌝ }
-{
-    if m == 2 {
-        if is_leap_year(y) {
-            return 29;
-        }
-        return 28;
-    }
-    if has_thirty_days(m) {
-        return 30;
-    }
-    31
-}
-
-fn is_within(lo: u8, hi: u8, x: u8) -> bool
-    ensures { λ r. ⌜ r ≡ within lo hi x ⌝ }
-{
-    if x < lo {
-        return false;
-    }
-    x <= hi
-}
-
-// A year, a month of 1 to 12 and a day of that month.
-pub fn is_day(y: u16, m: u8, d: u8) -> bool
-    ensures { λ r. ⌜ r ≡ isDay y m d ⌝ }
-{
-    let n = days_in_month(y, m);
-    if is_within(1, 12, m) {
-        return is_within(1, n, d);
-    }
-    false
 }
 
 // The day of eight digits that are worth `n`.

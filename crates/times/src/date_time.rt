@@ -14,7 +14,7 @@ ghost use Rattle.octets.specs.Reading.{orNothing};
 ghost use Rattle.calendar.specs.Calendar.{formatOf};
 ghost use Rattle.source.specs.Source.{rest};
 ghost use Rattle.sink.specs.Sink.{Put};
-ghost use Rattle.times.specs.MonthRule.{dateOf};
+ghost use Rattle.times.specs.Digits.{dateOf};
 ghost use Rattle.times.specs.TimeAlong.{clockOf};
 ghost use Rattle.times.specs.DateTime.{readDateTime, writeDateTime};
 ghost use Rattle.times.specs.DateTimeAlong.{dateTimePattern, joinTime, momentBy, momentOf};

@@ -3,7 +3,7 @@ use sink::put;
 ghost use mathlib.Core.Path.{_≡_};
 ghost use Prim.Native.Nat.{_<_};
 ghost use Rattle.sink.specs.Sink.{Put};
-ghost use Rattle.times.specs.MonthRule.{twoDigits};
+ghost use Rattle.times.specs.Digits.{twoDigits};
 ghost use Rattle.times.specs.Written.{markBytes, marked, yearDigits, dayBytes, clockBytes};
 
 // The byte of the digit 0, to be added to a number.

@@ -1,4 +1,5 @@
 -- Laws of what specs/DateAlong.antt defines.
+--     eight          a list of eight characters
 --     date-along     a date is what follows the pattern to the end and is a day
 use mathlib.Core.Path.{_≡_, refl, sym, ap, _∙_}
 use mathlib.Core.Bool.{Bool, true, false}
@@ -24,8 +25,9 @@ use Rattle.source.specs.Source.{rest}
 use Rattle.times.specs.Spelling.{keep, withMarks, withoutMarks, putMark, fits}
 use Rattle.times.specs.Pattern.{reached, lost, along, zeros, digitsAt, followedBy, isMark, areMarks}
 use Rattle.times.specs.laws.Pattern.{along-marks, along-digits, worth2, worth4}
-use Rattle.times.specs.Date.{isDay, isDate, readDate, dateMarks}
-use Rattle.times.specs.MonthRule.{dateOf}
+use Rattle.gregorian.specs.Month.{isDay}
+use Rattle.times.specs.Date.{isDate, readDate, dateMarks}
+use Rattle.times.specs.Digits.{dateOf}
 use Rattle.times.specs.Letters.{cased}
 use Rattle.times.specs.Followed.{walked, Walks}
 use Rattle.times.specs.laws.Digits.{digit-is, digit-small, two-of, drop-longer}
@@ -35,7 +37,7 @@ use Rattle.times.specs.declared.follow.Walk.{Walk}
 -- ---- eight digits
 
 -- a list of eight
-eight : (P : List ℕ → Type 0) → ((a b c d e f g h : ℕ) → P (a ∷ b ∷ c ∷ d ∷ e ∷ f ∷ g ∷ h ∷ [])) → (v : List ℕ) → length v ≡ 8 → P v
+pub eight : (P : List ℕ → Type 0) → ((a b c d e f g h : ℕ) → P (a ∷ b ∷ c ∷ d ∷ e ∷ f ∷ g ∷ h ∷ [])) → (v : List ℕ) → length v ≡ 8 → P v
 eight P q [] l = absurd (omega arith)
 eight P q (a ∷ []) l = absurd (omega arith)
 eight P q (a ∷ b ∷ []) l = absurd (omega arith)

@@ -13,7 +13,7 @@ use Rattle.octets.specs.laws.Pick.{and-both}
 use Rattle.octets.specs.Class.{isDigit}
 use Rattle.octets.specs.Words.{isEmpty}
 use Rattle.octets.specs.Decimal.{digitOf}
-use Rattle.times.specs.MonthRule.{twoDigits}
+use Rattle.times.specs.Digits.{twoDigits}
 
 pub digit-is : (b : ℕ) → isDigit b ≡ true → b ≡ 48 + digitOf b
 unfolding pick

@@ -11,7 +11,7 @@ use Rattle.octets.specs.Reading.{orNothing}
 use Rattle.calendar.specs.Calendar.{formatOf}
 use Rattle.sink.specs.Sink.{Put}
 use Rattle.times.specs.Spelling.{withMarks, putMark}
-use Rattle.times.specs.MonthRule.{twoDigits}
+use Rattle.times.specs.Digits.{twoDigits}
 use Rattle.times.specs.Written.{marked}
 use Rattle.times.specs.UtcOffset.{writeUtcOffset}
 use Rattle.times.specs.OffsetAlong.{shiftBytes, shiftOf}

@@ -5,7 +5,7 @@
 use mathlib.Core.Path.{_≡_, refl, ap, _∙_}
 use mathlib.Core.Bool.{Bool, true, false, false≢true}
 use mathlib.Core.List.{List, [], _∷_}
-use mathlib.Core.Option.{Option, some}
+use mathlib.Core.Option.{Option, none, some}
 use Prim.Native.Nat.{ℕ, zero, suc, _+_, _≤_}
 use native.Mathlib.Omega.{arith}
 use lib.Dec.{eqb}
@@ -19,7 +19,7 @@ use Rattle.octets.specs.Class.{isDigit, isSmall, isVisible, upper}
 use Rattle.octets.specs.laws.Letters.{upper-same}
 use Rattle.octets.specs.Words.{holds, isEmpty}
 use Rattle.octets.specs.laws.Words.{all-without}
-use Rattle.octets.specs.Reading.{andThen, consRead}
+use Rattle.octets.specs.Reading.{andThen, isRead, consRead}
 use Rattle.octets.specs.laws.Reading.{provided-some, andThen-some, consRead-some, none-some}
 use Rattle.times.specs.Spelling.{isTimeChar, keep, begins, Mark, putMark, takeMark, withMarks, withoutMarks, fits}
 
@@ -100,6 +100,15 @@ keep-is test s v h = provided-some (test s) s v h .1
 pub keep-accepted : (test : List ℕ → Bool) (s v : List ℕ) → keep test s ≡ some v → test v ≡ true
 unfolding keep
 keep-accepted test s v h = let p = provided-some (test s) s v h in rw (← (p .1)) (p .0)
+
+-- what is kept is read exactly where it passes
+pub keep-read : (test : List ℕ → Bool) (s : List ℕ) → isRead (keep test s) ≡ test s
+unfolding keep isRead pick
+keep-read test s = go (test s)
+  where
+    go : (t : Bool) → isRead (pick t (some s) none) ≡ t
+    go true = refl
+    go false = refl
 
 pub marked-accepted : (test : List ℕ → Bool) (o : Option (List ℕ)) (v : List ℕ) → andThen o (keep test) ≡ some v → test v ≡ true
 marked-accepted test o v h = let q = andThen-some o (keep test) v h in keep-accepted test (q .0) v (q .2)

@@ -11,7 +11,7 @@ use Rattle.octets.specs.Reading.{orNothing}
 use Rattle.calendar.specs.Calendar.{formatOf}
 use Rattle.sink.specs.Sink.{Put}
 use Rattle.times.specs.Spelling.{withMarks, putMark}
-use Rattle.times.specs.MonthRule.{twoDigits, dateOf}
+use Rattle.times.specs.Digits.{twoDigits, dateOf}
 use Rattle.times.specs.Date.{writeDate}
 use Rattle.times.specs.Time.{writeTime}
 use Rattle.times.specs.DateAlong.{dayOf}

@@ -1,7 +1,7 @@
 -- `times::written::put_two` meets its contract.
 use Rattle.sink.specs.laws.Sink.{_▷_, writing}
 use Rattle.octets.specs.Append.{_⊕_}
-use Rattle.times.specs.MonthRule.{twoDigits}
+use Rattle.times.specs.Digits.{twoDigits}
 use Rattle.times.proofs.written.put_two.Statement.{statement}
 use Rattle.times.proofs.written.put_two.Tie as tie
 

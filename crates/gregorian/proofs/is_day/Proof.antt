@@ -1,8 +1,8 @@
--- `times::date::is_day` meets its contract.
+-- `gregorian::is_day` meets its contract.
 use Rattle.octets.specs.laws.Pick.{branching}
-use Rattle.times.specs.Date.{isDay}
-use Rattle.times.proofs.date.is_day.Statement.{statement}
-use Rattle.times.proofs.date.is_day.Tie as tie
+use Rattle.gregorian.specs.Month.{isDay}
+use Rattle.gregorian.proofs.is_day.Statement.{statement}
+use Rattle.gregorian.proofs.is_day.Tie as tie
 
 pub is-day-spec : {M : Type 1} → statement M
 unfolding isDay

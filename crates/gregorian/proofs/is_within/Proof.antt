@@ -1,7 +1,7 @@
--- `times::date::is_within` meets its contract.
+-- `gregorian::is_within` meets its contract.
 use Rattle.octets.specs.laws.Pick.{branching}
-use Rattle.times.proofs.date.is_within.Statement.{statement}
-use Rattle.times.proofs.date.is_within.Tie as tie
+use Rattle.gregorian.proofs.is_within.Statement.{statement}
+use Rattle.gregorian.proofs.is_within.Tie as tie
 
 pub is-within-spec : {M : Type 1} → statement M
 is-within-spec = tie.close (tie.spec

@@ -1,8 +1,8 @@
--- `times::date::days_in_month` meets its contract.
+-- `gregorian::days_in_month` meets its contract.
 use Rattle.octets.specs.laws.Pick.{branching}
-use Rattle.times.specs.Date.{daysInMonth}
-use Rattle.times.proofs.date.days_in_month.Statement.{statement}
-use Rattle.times.proofs.date.days_in_month.Tie as tie
+use Rattle.gregorian.specs.Month.{daysInMonth}
+use Rattle.gregorian.proofs.days_in_month.Statement.{statement}
+use Rattle.gregorian.proofs.days_in_month.Tie as tie
 
 pub days-in-month-spec : {M : Type 1} → statement M
 unfolding daysInMonth

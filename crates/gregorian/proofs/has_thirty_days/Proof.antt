@@ -1,8 +1,8 @@
--- `times::date::has_thirty_days` meets its contract.
+-- `gregorian::has_thirty_days` meets its contract.
 use Rattle.octets.specs.laws.Pick.{branching}
-use Rattle.times.specs.Date.{hasThirtyDays}
-use Rattle.times.proofs.date.has_thirty_days.Statement.{statement}
-use Rattle.times.proofs.date.has_thirty_days.Tie as tie
+use Rattle.gregorian.specs.Month.{hasThirtyDays}
+use Rattle.gregorian.proofs.has_thirty_days.Statement.{statement}
+use Rattle.gregorian.proofs.has_thirty_days.Tie as tie
 
 pub has-thirty-days-spec : {M : Type 1} → statement M
 unfolding hasThirtyDays

@@ -1,0 +1,3 @@
+-- The months of the Gregorian calendar.
+--     Month    leap years, the length of a month, days
+pub mod Month
