@@ -167,8 +167,8 @@ both-accepted (literal p b more) =
     let r = both-accepted more in (
       λ k method any e g h. r .0 k method any e g (test-fine (isSpace b) _ FRAME p h .1),
       λ n counts c e g h.
-      let i = r .1 n counts c e g (test-fine (isSpace b) _ FRAME p h .1) in
-      record { inner = i .inner; properties = i .properties; counted = i .counted; came = i .came },
+          let i = r .1 n counts c e g (test-fine (isSpace b) _ FRAME p h .1) in
+          record { inner = i .inner; properties = i .properties; counted = i .counted; came = i .came },
     )
 both-accepted (referred p bs more) = (λ k method any e g h. refused-not FRAME p h, λ n counts c e g h. refused-not FRAME p h)
 both-accepted (element p m x kids more) =
