@@ -1,6 +1,8 @@
 // Names of elements, in small letters.
-// The root, and what a component is made of.
+// The root, a calendar in it, and what a component is made of.
 pub const ICALENDAR: [u8; 9] = *b"icalendar";
+
+pub const VCALENDAR: [u8; 9] = *b"vcalendar";
 
 pub const PROPERTIES: [u8; 10] = *b"properties";
 
@@ -31,3 +33,6 @@ pub const PERIOD: [u8; 6] = *b"period";
 pub const RECUR: [u8; 5] = *b"recur";
 
 pub const TEXT: [u8; 4] = *b"text";
+
+// Names of lines that no property has.
+pub const BEGIN: [u8; 5] = *b"begin";

@@ -3,3 +3,4 @@
 pub mod declaration;
 pub mod element;
 pub mod namespace;
+pub mod table;

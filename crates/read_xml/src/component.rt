@@ -6,6 +6,7 @@ use crate::Part;
 use crate::Which;
 use crate::counting::none_counted;
 use crate::properties::properties_verdict;
+use markup::element;
 use names::is_word;
 use octets::is_space;
 use read_xml_nodes::Judged;
@@ -103,9 +104,9 @@ fn is_part(properties: bool, s: &[u8], name: usize, name_end: usize) -> bool
     ensures { λ r. ⌜ r ≡ same (rest 0 (take «name_end» (now (s .entry))) name) (partName properties) ⌝ }
 {
     if properties {
-        return is_word(0, &s[..name_end], name, b"properties");
+        return is_word(0, &s[..name_end], name, &element::PROPERTIES);
     }
-    is_word(0, &s[..name_end], name, b"components")
+    is_word(0, &s[..name_end], name, &element::COMPONENTS)
 }
 
 // Which child of the component of the number `k` the element `n` is, before its `components`; `properties` has come or not.

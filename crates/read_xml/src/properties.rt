@@ -4,6 +4,7 @@ use crate::children::child_slot;
 use crate::children::children_verdict;
 use crate::counting::count;
 use crate::counting::none_counted;
+use markup::element;
 use names::is_word;
 use octets::is_space;
 use read_text_line::is_carried_name;
@@ -95,11 +96,11 @@ fn bad_name(s: &[u8], name: usize, name_end: usize) -> bool
     }
     let carried = is_carried_name(0, &s[..name_end], name);
     if carried {
-        let begin = is_word(0, &s[..name_end], name, b"begin");
+        let begin = is_word(0, &s[..name_end], name, &element::BEGIN);
         if begin {
             return true;
         }
-        return is_word(0, &s[..name_end], name, b"end");
+        return is_word(0, &s[..name_end], name, &element::END);
     }
     true
 }

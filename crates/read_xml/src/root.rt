@@ -1,5 +1,6 @@
 // The calendars of a document, and its root. See crate xcal, specs/ComponentNodes.antt.
 use crate::subcomponents::component_verdict;
+use markup::element;
 use names::is_word;
 use octets::is_space;
 use read_xml_nodes::Judged;
@@ -21,7 +22,7 @@ fn is_calendar(s: &[u8], name: usize, name_end: usize) -> bool
     requires { ⌜ «name_end» ≤ length (now s) ⌝ }
     ensures { λ r. ⌜ r ≡ same (rest 0 (take «name_end» (now (s .entry))) name) (ascii "vcalendar") ⌝ }
 {
-    is_word(0, &s[..name_end], name, b"vcalendar")
+    is_word(0, &s[..name_end], name, &element::VCALENDAR)
 }
 
 // The children of `icalendar`, whose content begins at `inside`, and whose end tag is at `e`.
@@ -85,7 +86,7 @@ pub fn root_verdict(
     requires { ⌜ (length (now s) ≤ 65535) × («name_end» ≤ length (now s)) ⌝ }
     ensures { λ r. ⌜ RootAt (now (s .entry)) place (rest 0 (take «name_end» (now (s .entry))) name) inside end r ⌝ }
 {
-    let root = is_word(0, &s[..name_end], name, b"icalendar");
+    let root = is_word(0, &s[..name_end], name, &element::ICALENDAR);
     if root {
         return stream_verdict(s, inside, end);
     }

@@ -1,4 +1,5 @@
 // One value of a parameter: an element of characters. See specs/Leaves.antt.
+use markup::table;
 use names::find_word;
 use octets::unit::END;
 use octets::unit::LF;
@@ -94,13 +95,7 @@ pub fn is_value(q: usize, w: &[u8], s: &[u8], inside: usize) -> bool
     ensures { λ r. ⌜ r ≡ isValue (rowAt q) (now (w .entry)) (nodesAt (now (s .entry)) inside) ⌝ }
 {
     let t = parameter_type(q);
-    let k = find_word(
-        true,
-        0,
-        w,
-        0,
-        b"binary\nboolean\ncal-address\ndate\ndate-time\nduration\nfloat\ninteger\nperiod\nrecur\ntext\ntime\nuri\nutc-offset\nunknown\n",
-    );
+    let k = find_word(true, 0, w, 0, &table::TYPES);
     if k == t {
         return is_leaf(q, s, inside);
     }

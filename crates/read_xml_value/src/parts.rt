@@ -1,6 +1,7 @@
 // The children of PERIOD and RECUR, by the numbers of their names. `rule` is true for RECUR. See specs/Parts.antt.
 use crate::leaves::leaf_item;
 use crate::leaves::leaf_value;
+use markup::table;
 use names::find_word;
 use octets::is_within;
 use read_xml_nodes::Judged;
@@ -32,13 +33,7 @@ fn part_word(rule: bool, s: &[u8], at: usize) -> usize
     ensures { λ r. ⌜ r ≡ placeOf (rest 0 (now (s .entry)) at) (namesOf rule) ⌝ }
 {
     if rule {
-        return find_word(
-            true,
-            0,
-            s,
-            at,
-            b"freq\nuntil\ncount\ninterval\nbysecond\nbyminute\nbyhour\nbyday\nbymonthday\nbyyearday\nbyweekno\nbymonth\nbysetpos\nwkst\n",
-        );
+        return find_word(true, 0, s, at, &table::PARTS);
     }
     find_word(true, 0, s, at, b"start\nend\nduration\n")
 }

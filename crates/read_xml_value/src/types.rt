@@ -1,5 +1,6 @@
 // The types that elements are named as. See crate xcal, specs/ValueNodes.antt.
 use crate::Named;
+use markup::table;
 use names::find_word;
 use read_xml_nodes::NodeKind;
 use read_xml_nodes::node_end;
@@ -22,13 +23,7 @@ ghost use Rattle.read_xml_value.specs.ElementTypes.{TypeNamed};
 fn type_word(s: &[u8], at: usize) -> usize
     ensures { λ r. ⌜ r ≡ placeOf (rest 0 (now (s .entry)) at) typeWords ⌝ }
 {
-    find_word(
-        true,
-        0,
-        s,
-        at,
-        b"binary\nboolean\ncal-address\ndate\ndate-time\nduration\nfloat\ninteger\nperiod\nrecur\ntext\ntime\nuri\nutc-offset\nunknown\n",
-    )
+    find_word(true, 0, s, at, &table::TYPES)
 }
 
 // The same of the name from `name` to `name_end`.

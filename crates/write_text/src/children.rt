@@ -1,4 +1,5 @@
 // Children by their names. See specs/Children.antt, Parameters.antt.
+use markup::element;
 use names::find_word;
 use names::is_word;
 use read_xml_nodes::NodeKind;
@@ -27,7 +28,7 @@ fn is_parameters(s: &[u8], name: usize, end: usize) -> bool
     requires { ⌜ end ≤ length (now s) ⌝ }
     ensures { λ r. ⌜ r ≡ same (nameIn (now (s .entry)) name end) (ascii "parameters") ⌝ }
 {
-    is_named(s, name, end, b"parameters")
+    is_named(s, name, end, &element::PARAMETERS)
 }
 
 // Where the content of the first element named `w` from `from` on begins; the end of the bytes where there is none.

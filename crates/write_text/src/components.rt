@@ -2,6 +2,7 @@
 use crate::children::inside_of;
 use crate::properties::put_properties;
 use folding::folded::put_folded;
+use markup::element;
 use names::put_upper;
 use read_xml_nodes::NodeKind;
 use read_xml_nodes::next_node;
@@ -61,7 +62,7 @@ fn put_head(
         (headRoom (nameIn (now (s .entry)) name end) (nodesAt (now (s .entry)) inside) (now (line .entry))) ⌝ }
 {
     let a = put_name_line(out, o, line, b"BEGIN:", s, name, end);
-    let from = inside_of(s, inside, b"properties");
+    let from = inside_of(s, inside, &element::PROPERTIES);
     put_properties(out, a, line, s, from)
 }
 
@@ -81,7 +82,7 @@ fn put_tail(out: &mut [u8], o: usize, line: &mut [u8], s: &[u8], name: usize, en
 fn components_inside(s: &[u8], inside: usize) -> usize
     ensures { λ r. ⌜ InsideAt (ascii "components") (now (s .entry)) inside r ⌝ }
 {
-    inside_of(s, inside, b"components")
+    inside_of(s, inside, &element::COMPONENTS)
 }
 
 // The lines of the components whose elements stand from `from` on. `line` is the room for a line.

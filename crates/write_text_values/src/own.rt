@@ -2,6 +2,7 @@
 use crate::child::Child;
 use crate::child::child_inside;
 use crate::child::find_child;
+use markup::element;
 use numbers::float::FloatRead;
 use numbers::float::put_float;
 use numbers::float::read_float;
@@ -40,9 +41,9 @@ pub fn put_geo(out: &mut [u8], o: usize, s: &[u8], inside: usize) -> usize
     ensures { λ r. ⌜
         Put (now (out .entry)) (now (out .exit)) o r (writeValue (geoOf (nodesAt (now (s .entry)) inside))) ⌝ }
 {
-    let a = put_coordinate(out, o, s, inside, b"latitude");
+    let a = put_coordinate(out, o, s, inside, &element::LATITUDE);
     let b = put_all(out, a, b";");
-    put_coordinate(out, b, s, inside, b"longitude")
+    put_coordinate(out, b, s, inside, &element::LONGITUDE)
 }
 
 // The text in the child of a name.
@@ -74,7 +75,7 @@ fn put_data(out: &mut [u8], o: usize, s: &[u8], inside: usize) -> usize
         Put (now (out .entry)) (now (out .exit)) o r
         (dataText (childNamed (ascii "data") (nodesAt (now (s .entry)) inside))) ⌝ }
 {
-    let f = find_child(s, inside, b"data");
+    let f = find_child(s, inside, &element::DATA);
     match f {
         Child::Found(i) => put_data_text(out, o, s, i),
         Child::Missing => o,
@@ -86,8 +87,8 @@ pub fn put_status(out: &mut [u8], o: usize, s: &[u8], inside: usize) -> usize
     ensures { λ r. ⌜
         Put (now (out .entry)) (now (out .exit)) o r (writeValue (statusOf (nodesAt (now (s .entry)) inside))) ⌝ }
 {
-    let a = put_child_text(out, o, s, inside, b"code");
+    let a = put_child_text(out, o, s, inside, &element::CODE);
     let b = put_all(out, a, b";");
-    let c = put_child_text(out, b, s, inside, b"description");
+    let c = put_child_text(out, b, s, inside, &element::DESCRIPTION);
     put_data(out, c, s, inside)
 }

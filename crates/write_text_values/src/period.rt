@@ -2,6 +2,7 @@
 use crate::child::Child;
 use crate::child::child_inside;
 use crate::child::find_child;
+use markup::element;
 use sink::put_all;
 use times::date_time::put_date_time;
 use times::duration::put_duration;
@@ -32,10 +33,10 @@ fn put_end(out: &mut [u8], o: usize, s: &[u8], inside: usize) -> usize
         Put (now (out .entry)) (now (out .exit)) o r
         (endOf (childNamed (ascii "duration") (nodesAt (now (s .entry)) inside)) (nodesAt (now (s .entry)) inside)) ⌝ }
 {
-    let f = find_child(s, inside, b"duration");
+    let f = find_child(s, inside, &element::DURATION);
     match f {
         Child::Found(i) => put_duration(out, o, true, false, 1, s, 2 * i),
-        Child::Missing => put_moment(out, o, s, inside, b"end"),
+        Child::Missing => put_moment(out, o, s, inside, &element::END),
     }
 }
 
@@ -46,7 +47,7 @@ pub fn put_period(out: &mut [u8], o: usize, s: &[u8], inside: usize) -> usize
         (childNamed (ascii "duration") (nodesAt (now (s .entry)) inside))
         (nodesAt (now (s .entry)) inside))) ⌝ }
 {
-    let a = put_moment(out, o, s, inside, b"start");
+    let a = put_moment(out, o, s, inside, &element::START);
     let b = put_all(out, a, b"/");
     put_end(out, b, s, inside)
 }

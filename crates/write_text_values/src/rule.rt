@@ -1,5 +1,6 @@
 // RECUR, which is made of elements: for each part in the schema's order its items, with commas between them. See specs/Rules.antt and specs/PutRule.antt.
 use crate::between::put_between;
+use markup::table;
 use names::find_word;
 use names::put_upper;
 use read_xml_nodes::NodeKind;
@@ -40,13 +41,7 @@ fn part_number(s: &[u8], name: usize, name_end: usize) -> usize
     requires { ⌜ «name_end» ≤ length (now s) ⌝ }
     ensures { λ r. ⌜ r ≡ placeOf (rest 0 (take «name_end» (now (s .entry))) name) recurNames ⌝ }
 {
-    find_word(
-        true,
-        0,
-        &s[..name_end],
-        name,
-        b"freq\nuntil\ncount\ninterval\nbysecond\nbyminute\nbyhour\nbyday\nbymonthday\nbyyearday\nbyweekno\nbymonth\nbysetpos\nwkst\n",
-    )
+    find_word(true, 0, &s[..name_end], name, &table::PARTS)
 }
 
 // The first item, from `at` on, of the part of the number `p`.

@@ -24,7 +24,8 @@ use Rattle.read_xml_nodes.specs.declared.Ended.{Ended}
 use Rattle.read_xml_nodes.specs.declared.Head.{Head}
 use Rattle.read_xml_nodes.specs.declared.NodeKind.the-variants.{None, Element, Literal, Referred}
 use Rattle.read_xml_nodes.specs.laws.Characters.{characters-at}
-use Rattle.write_text_values.specs.laws.Walking.{Skips, Seeking, seek-start, seek-at, seek-past, seek-literal, seek-referred}
+use Rattle.read_xml_nodes.specs.laws.Walks.{Skips}
+use Rattle.write_text_values.specs.laws.Walking.{Seeking, seek-start, seek-at, seek-past, seek-literal, seek-referred}
 use Rattle.write_text_values.specs.Children.{ChildAt, TextAt}
 use Rattle.write_text_values.specs.declared.child.Child.{Child}
 use Rattle.write_text_values.specs.declared.child.Child.the-variants.{Found, Missing}

@@ -29,7 +29,8 @@ use Rattle.read_xml_nodes.specs.laws.NodeFound.{node-none, node-element, node-l
 use Rattle.read_xml_nodes.specs.declared.Node.{Node}
 use Rattle.read_xml_nodes.specs.declared.NodeKind.the-variants.{None, Element, Literal, Referred}
 use Rattle.read_xml_value.specs.Parts.{recurNames}
-use Rattle.write_text_values.specs.laws.Walking.{Skips, Seeking, seek-start, seek-at, seek-past, seek-literal, seek-referred}
+use Rattle.read_xml_nodes.specs.laws.Walks.{Skips}
+use Rattle.write_text_values.specs.laws.Walking.{Seeking, seek-start, seek-at, seek-past, seek-literal, seek-referred}
 use Rattle.write_text_values.specs.Rules.{partName, ItemAt}
 use Rattle.write_text_values.specs.declared.rule.ItemFound.the-variants.{Item, Last}
 

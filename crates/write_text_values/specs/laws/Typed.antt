@@ -38,7 +38,8 @@ use Rattle.read_xml_nodes.specs.declared.Ended.{Ended}
 use Rattle.read_xml_nodes.specs.declared.Head.{Head}
 use Rattle.read_xml_nodes.specs.declared.NodeKind.the-variants.{None, Element, Literal, Referred}
 use Rattle.read_xml_value.specs.ElementTypes.{TypeNamed, smallType}
-use Rattle.write_text_values.specs.laws.Walking.{Skips, Seeking, seek-start, seek-at, seek-past, seek-literal, seek-referred}
+use Rattle.read_xml_nodes.specs.laws.Walks.{Skips}
+use Rattle.write_text_values.specs.laws.Walking.{Seeking, seek-start, seek-at, seek-past, seek-literal, seek-referred}
 use Rattle.write_text_values.specs.laws.Children.{put-chars}
 use Rattle.write_text_values.specs.Leaves.{valueText}
 use Rattle.write_text_values.specs.laws.Leaves.{value-or}

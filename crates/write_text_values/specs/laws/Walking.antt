@@ -1,5 +1,4 @@
 -- A walk over nodes to the first that is sought.
---     Skips f      characters say nothing to f
 --     Seeking f    the invariant of the walk: what f says of the content is the same from here on
 --     seek-..      the ways of the walk, by the content from here on
 use mathlib.Core.Path.{_≡_, refl, ap, _∙_}
@@ -8,10 +7,7 @@ use Prim.Native.Nat.{ℕ, _≤_, _<_}
 use native.Mathlib.Omega.{arith}
 use Rattle.xml.specs.Nodes.{Nodes, literal, referred}
 use Rattle.xml.specs.NodesAt.{nodesAt}
-
-pub record Skips {A : Type 0} (f : Nodes → A) : Type 0 where
-  pub over-literal : (p b : ℕ) (m : Nodes) → f (literal p b m) ≡ f m
-  pub over-referred : (p : ℕ) (bs : List ℕ) (m : Nodes) → f (referred p bs m) ≡ f m
+use Rattle.read_xml_nodes.specs.laws.Walks.{Skips}
 
 pub record Seeking {A : Type 0} (f : Nodes → A) (s : List ℕ) (from at : ℕ) : Type 0 where
   pub is : f (nodesAt s from) ≡ f (nodesAt s at)
