@@ -79,9 +79,9 @@ unfolding pick
 handed c o method true kids t i = sym (rw (i refl .tallied, o) (method-tallies c (readProperties (insideOf (ascii "properties") kids)) method))
 handed c o method false kids t i = refl
 
-pub method-had : (k : ℕ) (t : Kept) {had method r : Bool} → had ≡ true → r ≡ methodAt k (t .counts) method → r ≡ methodKept k t had method
+pub method-had : (k : ℕ) (t : Kept) (method : Bool) {had r : Bool} → had ≡ true → r ≡ methodAt k (t .counts) method → r ≡ methodKept k t had method
 unfolding pick
-method-had k t h e = rw h e
+method-had k t method h e = rw h e
 
 pub method-bare : (k : ℕ) (t : Kept) {had method : Bool} → had ≡ false → method ≡ methodKept k t had method
 unfolding pick
