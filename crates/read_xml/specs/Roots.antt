@@ -6,7 +6,9 @@ use Prim.Native.Nat.{ℕ}
 use Rattle.xml.specs.Nodes.{Nodes, element}
 use Rattle.xcal.specs.ComponentNodes.{streamVerdict, rootVerdict}
 use Rattle.xml.specs.NodesAt.{nodesAt}
+use Rattle.read_xml_nodes.specs.Elements.{nameAt}
 use Rattle.read_xml_nodes.specs.Judging.{judgedAs}
+use Rattle.read_xml_nodes.specs.declared.Element.{Element}
 use Rattle.read_xml_nodes.specs.declared.Judged.{Judged}
 
 -- ---- the children of `icalendar`
@@ -16,5 +18,5 @@ pub record StreamAt (s : List ℕ) (from e : ℕ) (r : Judged) : Type 0 where
 
 -- ---- the root
 
-pub record RootAt (s : List ℕ) (place : ℕ) (m : List ℕ) (inside end : ℕ) (r : Judged) : Type 0 where
-  pub is : (more : Nodes) → rootVerdict (element place m end (nodesAt s inside) more) ≡ judgedAs r
+pub record RootAt (s : List ℕ) (root : Element) (r : Judged) : Type 0 where
+  pub is : (more : Nodes) → rootVerdict (element (root .place) (nameAt s root) (root .end) (nodesAt s (root .inside)) more) ≡ judgedAs r

@@ -1,5 +1,5 @@
 -- A walk over the children of a property, a node a turn.
---     Holder       the numbers of the component, the property and the type of its values, and the names
+--     Holder       the numbers of a context are those of a component and a property of these names, and of a type
 --     ChildAt      the contract of `child`: a child that is fine, and the slot after it, or the refusal
 --     Turns        the contract of `turn`: where the next turn begins, or the verdict
 use Prim.{Unit}
@@ -20,6 +20,7 @@ use Rattle.xcal.specs.PropertyNodes.{childVerdict}
 use Rattle.read_xml_value.specs.Sequencing.{walked}
 use Rattle.xml.specs.NodesAt.{nodesAt}
 use Rattle.read_xml_nodes.specs.Judging.{judgedAs}
+use Rattle.read_xml_value.specs.declared.Context.{Context}
 use Rattle.read_xml.specs.Children.{slotsAt, flagsAt}
 use Rattle.read_xml.specs.declared.After.{After}
 use Rattle.read_xml.specs.declared.After.the-variants.{Slot as Then, Nowhere}
@@ -28,10 +29,10 @@ use Rattle.read_xml.specs.declared.Tried.the-variants.{Good, Stops}
 use Rattle.read_xml.specs.declared.Next.{Next}
 use Rattle.read_xml.specs.declared.Next.the-variants.{Goes, Ends}
 
-pub record Holder (k p t : ℕ) (c w : List ℕ) : Type 0 where
-  pub component : k ≡ placeOf c componentNames
-  pub property : p ≡ placeOf w propertyNames
-  pub small : t ≤ 14
+pub record Holder (context : Context) (c w : List ℕ) : Type 0 where
+  pub component : context .component ≡ placeOf c componentNames
+  pub property : context .property ≡ placeOf w propertyNames
+  pub small : context .«value_type» ≤ 14
 
 -- ---- a child's number, and the slot after it
 
@@ -45,9 +46,9 @@ abbrev pub childOf : Tried → (ℕ → Verdict) → Verdict
 childOf (Good k) after = after k
 childOf (Stops j) after = judgedAs j
 
-pub record ChildAt (k p t next place : ℕ) (n : List ℕ) (end : ℕ) (kids : Nodes) (r : Tried) : Type 0 where
-  pub is : (c w : List ℕ) → Holder k p t c w → (after : ℕ → Verdict) →
-      admitted (afterSlot (slotOf n (slotsAt p) 0) next) place n (childVerdict c w (typeAt t) place n end kids) after ≡ childOf r after
+pub record ChildAt (context : Context) (next place : ℕ) (n : List ℕ) (end : ℕ) (kids : Nodes) (r : Tried) : Type 0 where
+  pub is : (c w : List ℕ) → Holder context c w → (after : ℕ → Verdict) →
+      admitted (afterSlot (slotOf n (slotsAt (context .property)) 0) next) place n (childVerdict c w (typeAt (context .«value_type»)) place n end kids) after ≡ childOf r after
 
 -- ---- a turn
 
@@ -60,7 +61,8 @@ abbrev pub Onward : List ℕ → ℕ → Next → Type 0
 Onward s c (Goes d next f g) = (c < d) × (d ≤ length s)
 Onward s c (Ends j) = Unit {0}
 
-pub record Turns (k p t : ℕ) (s : List ℕ) (e at next : ℕ) (f g : Bool) (r : Next) : Type 0 where
-  pub is : (c w : List ℕ) → Holder k p t c w →
-      walked (slotsAt p) (childVerdict c w (typeAt t)) (nodesAt s at) next (flagsAt p f g) e ≡ turnOf p (childVerdict c w (typeAt t)) s e r
+pub record Turns (context : Context) (s : List ℕ) (e at next : ℕ) (f g : Bool) (r : Next) : Type 0 where
+  pub is : (c w : List ℕ) → Holder context c w →
+      walked (slotsAt (context .property)) (childVerdict c w (typeAt (context .«value_type»))) (nodesAt s at) next (flagsAt (context .property) f g) e ≡
+      turnOf (context .property) (childVerdict c w (typeAt (context .«value_type»))) s e r
   pub onward : Onward s at r

@@ -4,12 +4,13 @@ use crate::Next;
 use crate::Tried;
 use names::find_word;
 use octets::is_space;
+use read_xml_nodes::Element;
 use read_xml_nodes::Judged;
-use read_xml_nodes::Node;
 use read_xml_nodes::NodeKind;
 use read_xml_nodes::next_node;
 use read_xml_nodes::unexpected;
 use read_xml_parameters::parameters_verdict;
+use read_xml_value::Context;
 use read_xml_value::value_verdict;
 use refusals::FRAME;
 use schema::is_listed;
@@ -29,9 +30,10 @@ ghost use Rattle.xcal.specs.Layout.{sequence};
 ghost use Rattle.xcal.specs.PropertyNodes.{propertySlots, childVerdict};
 ghost use Rattle.read_xml_value.specs.Sequencing.{isShort};
 ghost use Rattle.xml.specs.NodesAt.{nodesAt};
+ghost use Rattle.read_xml_nodes.specs.Elements.{nameAt};
 ghost use Rattle.read_xml_nodes.specs.Judging.{judgedAs};
 ghost use Rattle.read_xml_nodes.specs.declared.Judged.the-variants.{Refused};
-ghost use Rattle.read_xml.specs.Children.{nameOf, childWords, slotAt, afterAt, flagsAt, hasTwo};
+ghost use Rattle.read_xml.specs.Children.{childWords, slotAt, afterAt, flagsAt, hasTwo};
 ghost use Rattle.read_xml.specs.Turning.{afterOf, Holder, ChildAt, Turns};
 ghost use Rattle.read_xml.specs.declared.Next.the-variants.{Goes, Ends};
 
@@ -119,49 +121,42 @@ fn child_after(p: usize, slot: usize, next: usize) -> After
     After::Nowhere
 }
 
-// What stands in a child of a slot: its element is `n`, at `at`.
-fn child_inside(k: usize, p: usize, t: usize, slot: usize, s: &[u8], at: usize, n: Node) -> Judged
-    requires { ⌜ (length (now s) ≤ 65535) × (n .inside ≤ length (now s)) ⌝ }
+// What stands in a child of a slot.
+fn child_inside(context: Context, slot: usize, s: &[u8], e: Element) -> Judged
+    requires { ⌜ (length (now s) ≤ 65535) × (e .inside ≤ length (now s)) ⌝ }
     ensures { λ r. ⌜
         ((c w : List ℕ) →
-        Holder k p t c w →
-        slot ≡ slotAt p (placeOf (nameOf (now (s .entry)) n) (childWords p)) →
+        Holder context c w →
+        slot ≡ slotAt (context .property) (placeOf (nameAt (now (s .entry)) e) (childWords (context .property))) →
         judgedAs r
-        ≡ childVerdict c w (typeAt t) at (nameOf (now (s .entry)) n) (n .end) (nodesAt (now (s .entry)) (n .inside))) ⌝ }
+        ≡ childVerdict c w (typeAt (context .«value_type»)) (e .place) (nameAt (now (s .entry)) e) (e .end)
+        (nodesAt (now (s .entry)) (e .inside))) ⌝ }
 {
     if slot == 0 {
-        return parameters_verdict(p, t, s, n.inside);
+        return parameters_verdict(context.property, context.value_type, s, e.inside);
     }
-    value_verdict(k, p, t, s, at, n.name, n.name_end, n.inside, n.end)
+    value_verdict(context, s, e)
 }
 
-// The child of a slot, where slots before `next` have passed: its element is `n`, at `at`.
-fn child(
-    k: usize,
-    p: usize,
-    t: usize,
-    slot: usize,
-    next: usize,
-    s: &[u8],
-    at: usize,
-    n: Node,
-) -> Tried
-    requires { ⌜ (length (now s) ≤ 65535) × (n .inside ≤ length (now s)) ⌝ }
+// The child of a slot, where slots before `next` have passed.
+fn child(context: Context, slot: usize, next: usize, s: &[u8], e: Element) -> Tried
+    requires { ⌜ (length (now s) ≤ 65535) × (e .inside ≤ length (now s)) ⌝ }
     ensures { λ r. ⌜
-        (slot ≡ slotAt p (placeOf (nameOf (now (s .entry)) n) (childWords p)) →
-        ChildAt k p t next at (nameOf (now (s .entry)) n) (n .end) (nodesAt (now (s .entry)) (n .inside)) r) ⌝ }
+        (slot ≡ slotAt (context .property) (placeOf (nameAt (now (s .entry)) e) (childWords (context .property))) →
+        ChildAt context next (e .place) (nameAt (now (s .entry)) e) (e .end) (nodesAt (now (s .entry)) (e .inside))
+        r) ⌝ }
 {
-    let a = child_after(p, slot, next);
+    let a = child_after(context.property, slot, next);
     match a {
         After::Slot(m) => {
-            let j = child_inside(k, p, t, slot, s, at, n);
+            let j = child_inside(context, slot, s, e);
             match j {
                 Judged::Fine => Tried::Good(m),
                 Judged::Refused(x, q) => Tried::Stops(Judged::Refused(x, q)),
             }
         }
         After::Nowhere => {
-            let j = unexpected(s, at, n.name, n.name_end);
+            let j = unexpected(s, e.place, e.name, e.name_end);
             Tried::Stops(j)
         }
     }
@@ -218,9 +213,7 @@ fn between(unit: usize, at: usize, next: usize, slot: usize, first: bool, second
 
 // One node of the content, at `at`.
 fn turn(
-    k: usize,
-    p: usize,
-    t: usize,
+    context: Context,
     s: &[u8],
     at: usize,
     next: usize,
@@ -229,18 +222,25 @@ fn turn(
     e: usize,
 ) -> Next
     requires { ⌜ length (now s) ≤ 65535 ⌝ }
-    ensures { λ r. ⌜ Turns k p t (now (s .entry)) e at next first second r ⌝ }
+    ensures { λ r. ⌜ Turns context (now (s .entry)) e at next first second r ⌝ }
 {
     let n = next_node(s, at);
     let kind = n.kind;
     match kind {
         NodeKind::None => {
-            let j = at_end(p, first, second, e);
+            let j = at_end(context.property, first, second, e);
             Next::Ends(j)
         }
         NodeKind::Element => {
-            let slot = child_slot(p, s, n.name, n.name_end);
-            let r = child(k, p, t, slot, next, s, at, n);
+            let slot = child_slot(context.property, s, n.name, n.name_end);
+            let element = Element {
+                place: at,
+                name: n.name,
+                name_end: n.name_end,
+                inside: n.inside,
+                end: n.end,
+            };
+            let r = child(context, slot, next, s, element);
             match r {
                 Tried::Good(m) => {
                     let f = fills(slot, 1, first);
@@ -258,21 +258,22 @@ fn turn(
     }
 }
 
-// The children of the property of the number `p`, whose values have the type `t`, in the component of the number `k`. Its content begins at `inside`, its end tag is at `e`.
-pub fn children_verdict(k: usize, p: usize, t: usize, s: &[u8], inside: usize, e: usize) -> Judged
+// The children of the property of a context, whose values have its type. Its content begins at `inside`, its end tag is at `e`.
+pub fn children_verdict(context: Context, s: &[u8], inside: usize, e: usize) -> Judged
     requires { ⌜ length (now s) ≤ 65535 ⌝ }
     ensures { λ r. ⌜
         ((c w : List ℕ) →
-        Holder k p t c w →
+        Holder context c w →
         judgedAs r
-        ≡ sequence (propertySlots w) (childVerdict c w (typeAt t)) (nodesAt (now (s .entry)) inside) 0 [] e) ⌝ }
+        ≡ sequence (propertySlots w) (childVerdict c w (typeAt (context .«value_type»)))
+        (nodesAt (now (s .entry)) inside) 0 [] e) ⌝ }
 {
     let mut at = inside;
     let mut next = 0;
     let mut first = false;
     let mut second = false;
     loop {
-        let r = turn(k, p, t, s, at, next, first, second, e);
+        let r = turn(context, s, at, next, first, second, e);
         match r {
             Next::Goes(d, m, f, g) => {
                 at = d;

@@ -14,6 +14,7 @@ use read_xml_nodes::NodeKind;
 use read_xml_nodes::has_capital;
 use read_xml_nodes::next_node;
 use read_xml_parameters::has_encoding;
+use read_xml_value::Context;
 use read_xml_value::type_of_nodes;
 use refusals::FRAME;
 use refusals::NAME;
@@ -147,7 +148,12 @@ fn property_verdict(k: usize, p: usize, s: &[u8], at: usize, n: Node) -> Judged
     if lacks {
         return Judged::Refused(PARAMETER, at);
     }
-    children_verdict(k, p, t, s, n.inside, n.end)
+    let context = Context {
+        component: k,
+        property: p,
+        value_type: t,
+    };
+    children_verdict(context, s, n.inside, n.end)
 }
 
 // The children of the `properties` of a component of the number `k`, and what is kept of them.

@@ -3,6 +3,7 @@ use crate::subcomponents::component_verdict;
 use markup::element;
 use names::is_word;
 use octets::is_space;
+use read_xml_nodes::Element;
 use read_xml_nodes::Judged;
 use read_xml_nodes::NodeKind;
 use read_xml_nodes::next_node;
@@ -74,21 +75,14 @@ fn stream_verdict(s: &[u8], inside: usize, e: usize) -> Judged
     }
 }
 
-// The root: its start tag is at `place`, its name stands from `name` to `name_end`, its content begins at `inside`, its end tag is at `end`.
-pub fn root_verdict(
-    s: &[u8],
-    place: usize,
-    name: usize,
-    name_end: usize,
-    inside: usize,
-    end: usize,
-) -> Judged
-    requires { ⌜ (length (now s) ≤ 65535) × («name_end» ≤ length (now s)) ⌝ }
-    ensures { λ r. ⌜ RootAt (now (s .entry)) place (rest 0 (take «name_end» (now (s .entry))) name) inside end r ⌝ }
+// The root of a document.
+pub fn root_verdict(s: &[u8], root: Element) -> Judged
+    requires { ⌜ (length (now s) ≤ 65535) × (root .«name_end» ≤ length (now s)) ⌝ }
+    ensures { λ r. ⌜ RootAt (now (s .entry)) root r ⌝ }
 {
-    let root = is_word(0, &s[..name_end], name, &element::ICALENDAR);
-    if root {
-        return stream_verdict(s, inside, end);
+    let calendars = is_word(0, &s[..root.name_end], root.name, &element::ICALENDAR);
+    if calendars {
+        return stream_verdict(s, root.inside, root.end);
     }
-    unexpected(s, place, name, name_end)
+    unexpected(s, root.place, root.name, root.name_end)
 }

@@ -4,21 +4,21 @@
 use mathlib.Core.Path.{_≡_}
 use mathlib.Core.List.{List}
 use Prim.Native.Nat.{ℕ, _≤_}
-use lib.ListN.{length, take}
+use lib.ListN.{length}
 use Rattle.calendar.specs.Refusal.{fine}
-use Rattle.source.specs.Source.{rest}
 use Rattle.xml.specs.Nodes.{Nodes, noNodes, element, documentNodes}
 use Rattle.xml.specs.NodesAt.{nodesAt}
 use Rattle.xml.specs.WellFormed.{xmlVerdict}
-use Rattle.read_xml_nodes.specs.declared.RootElement.{RootElement}
+use Rattle.read_xml_nodes.specs.Elements.{nameAt}
+use Rattle.read_xml_nodes.specs.declared.Element.{Element}
 
-abbrev pub noRoot : RootElement
+abbrev pub noRoot : Element
 noRoot = record { place = 0; name = 0; «name_end» = 0; inside = 0; end = 0 }
 
-abbrev pub rootOf : List ℕ → RootElement → Nodes
-rootOf s r = element (r .place) (rest 0 (take (r .«name_end») s) (r .name)) (r .end) (nodesAt s (r .inside)) noNodes
+abbrev pub rootOf : List ℕ → Element → Nodes
+rootOf s r = element (r .place) (nameAt s r) (r .end) (nodesAt s (r .inside)) noNodes
 
-pub record RootNode (s : List ℕ) (r : RootElement) : Type 0 where
+pub record RootNode (s : List ℕ) (r : Element) : Type 0 where
   pub is : xmlVerdict s ≡ fine → documentNodes s ≡ rootOf s r
   pub found : (documentNodes s ≡ noNodes → ⊥) → documentNodes s ≡ rootOf s r
   pub missing : documentNodes s ≡ noNodes → r ≡ noRoot

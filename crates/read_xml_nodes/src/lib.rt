@@ -55,8 +55,8 @@ pub struct Ended {
     pub next: usize,
 }
 
-// The root of a document: the place of its start tag, its name, from `name` to `name_end`, where its content begins, and the place of its end tag.
-pub struct RootElement {
+// An element: the place of its start tag, its name, from `name` to `name_end`, where its content begins, and the place of its end tag.
+pub struct Element {
     pub place: usize,
     pub name: usize,
     pub name_end: usize,

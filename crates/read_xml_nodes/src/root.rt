@@ -1,15 +1,15 @@
 // The root of a document.
-use crate::RootElement;
+use crate::Element;
 use crate::closing::element_end;
 use read_xml_tokens::TokenKind;
 use read_xml_tokens::root_at;
 ghost use mathlib.Core.Path.{_≡_};
 ghost use Rattle.read_xml_nodes.specs.RootFound.{noRoot, RootNode};
 
-fn no_root() -> RootElement
+fn no_root() -> Element
     ensures { λ r. ⌜ r ≡ noRoot ⌝ }
 {
-    RootElement {
+    Element {
         place: 0,
         name: 0,
         name_end: 0,
@@ -19,7 +19,7 @@ fn no_root() -> RootElement
 }
 
 // The root of a document that is within the XML profile.
-pub fn root_node(s: &[u8]) -> RootElement
+pub fn root_node(s: &[u8]) -> Element
     ensures { λ r. ⌜ RootNode (now (s .entry)) r ⌝ }
 {
     let t = root_at(s);
@@ -27,7 +27,7 @@ pub fn root_node(s: &[u8]) -> RootElement
     match kind {
         TokenKind::Start => {
             let e = element_end(s, t.next);
-            RootElement {
+            Element {
                 place: t.unit,
                 name: t.name,
                 name_end: t.name_end,
@@ -35,7 +35,7 @@ pub fn root_node(s: &[u8]) -> RootElement
                 end: e.place,
             }
         }
-        TokenKind::Empty => RootElement {
+        TokenKind::Empty => Element {
             place: t.unit,
             name: t.name,
             name_end: t.name_end,

@@ -9,10 +9,11 @@ use Rattle.schema.specs.Numbers.{typeAt}
 use Rattle.schema.specs.Sets.{wordsAt}
 use Rattle.xml.specs.Nodes.{Nodes}
 use Rattle.xcal.specs.Layout.{sequence, leaf}
+use Rattle.read_xml_value.specs.declared.Context.{Context}
 use Rattle.xcal.specs.ValueNodes.{periodSlots, periodInside, recurSlots, recurInside, readWordOf}
 
-abbrev pub typedAt : ℕ → ℕ → ℕ → ℕ → ℕ → Nodes → Verdict
-typedAt k p t place e kids =
-    pick (eqb t 8) (sequence periodSlots periodInside kids 0 [] e)
-    (pick (eqb t 9) (sequence recurSlots recurInside kids 0 [] e)
-    (leaf (readWordOf (wordsAt k p) (typeAt t)) place kids))
+abbrev pub typedAt : Context → ℕ → ℕ → Nodes → Verdict
+typedAt x place e kids =
+    pick (eqb (x .«value_type») 8) (sequence periodSlots periodInside kids 0 [] e)
+    (pick (eqb (x .«value_type») 9) (sequence recurSlots recurInside kids 0 [] e)
+    (leaf (readWordOf (wordsAt (x .component) (x .property)) (typeAt (x .«value_type»))) place kids))

@@ -7,6 +7,7 @@ use crate::parts::part_after;
 use crate::parts::part_inside;
 use crate::parts::part_place;
 use octets::is_space;
+use read_xml_nodes::Element;
 use read_xml_nodes::Judged;
 use read_xml_nodes::NodeKind;
 use read_xml_nodes::next_node;
@@ -15,13 +16,13 @@ use refusals::FRAME;
 ghost use mathlib.Core.Path.{_≡_};
 ghost use mathlib.Core.List.{[]};
 ghost use Prim.Native.Nat.{_≤_};
-ghost use lib.ListN.{length, take};
+ghost use lib.ListN.{length};
 ghost use Rattle.octets.specs.Pick.{pick};
 ghost use Rattle.octets.specs.Class.{isSpace};
-ghost use Rattle.source.specs.Source.{rest};
 ghost use Rattle.names.specs.Table.{placeOf};
 ghost use Rattle.xcal.specs.Layout.{sequence};
 ghost use Rattle.xml.specs.NodesAt.{nodesAt};
+ghost use Rattle.read_xml_nodes.specs.Elements.{nameAt};
 ghost use Rattle.read_xml_nodes.specs.Judging.{judgedAs};
 ghost use Rattle.read_xml_value.specs.Parts.{namesOf, slotsOf};
 ghost use Rattle.read_xml_value.specs.PartContents.{insideOf};
@@ -41,34 +42,24 @@ pub enum Next {
     Ends(Judged),
 }
 
-// The child of the number `i` at `place`, where slots before `next` have passed.
-fn child(
-    rule: bool,
-    i: usize,
-    next: usize,
-    s: &[u8],
-    place: usize,
-    name: usize,
-    name_end: usize,
-    inside: usize,
-) -> Tried
-    requires { ⌜ (length (now s) ≤ 65535) × (inside ≤ length (now s)) ⌝ }
+// The child of the number `i`, where slots before `next` have passed.
+fn child(rule: bool, i: usize, next: usize, s: &[u8], e: Element) -> Tried
+    requires { ⌜ (length (now s) ≤ 65535) × (e .inside ≤ length (now s)) ⌝ }
     ensures { λ r. ⌜
-        (i ≡ placeOf (rest 0 (take «name_end» (now (s .entry))) name) (namesOf rule) →
-        ChildAt rule (rest 0 (take «name_end» (now (s .entry))) name) next place (nodesAt (now (s .entry)) inside)
-        r) ⌝ }
+        (i ≡ placeOf (nameAt (now (s .entry)) e) (namesOf rule) →
+        ChildAt rule (nameAt (now (s .entry)) e) next (e .place) (nodesAt (now (s .entry)) (e .inside)) r) ⌝ }
 {
     let a = part_after(rule, i, next);
     match a {
         After::Slot(k) => {
-            let j = part_inside(rule, i, s, place, inside);
+            let j = part_inside(rule, i, s, e.place, e.inside);
             match j {
                 Judged::Fine => Tried::Good(k),
                 Judged::Refused(n, p) => Tried::Stops(Judged::Refused(n, p)),
             }
         }
         After::Nowhere => {
-            let j = unexpected(s, place, name, name_end);
+            let j = unexpected(s, e.place, e.name, e.name_end);
             Tried::Stops(j)
         }
     }
@@ -100,7 +91,14 @@ fn turn(rule: bool, s: &[u8], c: usize, slot: usize, first: bool, second: bool, 
         }
         NodeKind::Element => {
             let i = part_place(rule, s, n.name, n.name_end);
-            let r = child(rule, i, slot, s, c, n.name, n.name_end, n.inside);
+            let element = Element {
+                place: c,
+                name: n.name,
+                name_end: n.name_end,
+                inside: n.inside,
+                end: n.end,
+            };
+            let r = child(rule, i, slot, s, element);
             match r {
                 Tried::Good(k) => {
                     let f = fills_first(i, first);

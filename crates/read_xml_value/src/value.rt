@@ -1,10 +1,12 @@
 // An element of a property's value. See crate xcal, specs/ValueNodes.antt.
+use crate::Context;
 use crate::Named;
 use crate::leaves::leaf;
 use crate::leaves::leaf_value;
 use crate::leaves::leaf_word;
 use crate::turns::parts_verdict;
 use crate::types::element_type;
+use read_xml_nodes::Element;
 use read_xml_nodes::Judged;
 use refusals::VALUE;
 use schema::has_words;
@@ -15,10 +17,9 @@ ghost use mathlib.Core.Path.{_≡_};
 ghost use mathlib.Core.List.{List};
 ghost use Prim.Native.Nat.{ℕ, _≤_};
 ghost use lib.Dec.{eqb};
-ghost use lib.ListN.{length, take};
+ghost use lib.ListN.{length};
 ghost use Rattle.octets.specs.Pick.{pick, _and_};
 ghost use Rattle.calendar.specs.Refusal.{VALUE, refuse};
-ghost use Rattle.source.specs.Source.{rest};
 ghost use Rattle.names.specs.Table.{placeOf};
 ghost use Rattle.schema.specs.Components.{componentNames};
 ghost use Rattle.schema.specs.Properties.{propertyNames};
@@ -28,102 +29,79 @@ ghost use Rattle.schema.specs.Sets.{wordsAt};
 ghost use Rattle.xcal.specs.Layout.{leaf};
 ghost use Rattle.xcal.specs.ValueNodes.{readWordOf, valueVerdict};
 ghost use Rattle.xml.specs.NodesAt.{nodesAt};
+ghost use Rattle.read_xml_nodes.specs.Elements.{nameAt};
 ghost use Rattle.read_xml_nodes.specs.Judging.{judgedAs};
 ghost use Rattle.read_xml_value.specs.Values.{typedAt};
 
 // Character data: a word of the closed set that the property has in the component, or a value of the type.
-fn leaf_typed(k: usize, p: usize, t: usize, s: &[u8], place: usize, inside: usize) -> Judged
-    requires { ⌜ (length (now s) ≤ 65535) × (inside ≤ length (now s)) ⌝ }
-    ensures { λ r. ⌜ judgedAs r ≡ leaf (readWordOf (wordsAt k p) (typeAt t)) place (nodesAt (now (s .entry)) inside) ⌝ }
-{
-    let closed = has_words(k, p);
-    if closed {
-        return leaf_word(k, p, s, place, inside);
-    }
-    leaf_value(t, s, place, inside)
-}
-
-// A value of the type `t`.
-fn typed_verdict(
-    k: usize,
-    p: usize,
-    t: usize,
-    s: &[u8],
-    place: usize,
-    inside: usize,
-    end: usize,
-) -> Judged
-    requires { ⌜ (length (now s) ≤ 65535) × (inside ≤ length (now s)) ⌝ }
-    ensures { λ r. ⌜ judgedAs r ≡ typedAt k p t place end (nodesAt (now (s .entry)) inside) ⌝ }
-{
-    if t == value_type::PERIOD {
-        return parts_verdict(false, s, inside, end);
-    }
-    if t == value_type::RECUR {
-        return parts_verdict(true, s, inside, end);
-    }
-    leaf_typed(k, p, t, s, place, inside)
-}
-
-// The same of an element that is named as the type `u`, where the property's first value has the type `t`.
-fn typed_as(
-    k: usize,
-    p: usize,
-    t: usize,
-    u: usize,
-    s: &[u8],
-    place: usize,
-    inside: usize,
-    end: usize,
-) -> Judged
-    requires { ⌜ (length (now s) ≤ 65535) × (inside ≤ length (now s)) ⌝ }
+fn leaf_typed(context: Context, s: &[u8], e: Element) -> Judged
+    requires { ⌜ (length (now s) ≤ 65535) × (e .inside ≤ length (now s)) ⌝ }
     ensures { λ r. ⌜
         judgedAs r
-        ≡ pick (permitsType p u and eqb u t) (typedAt k p u place end (nodesAt (now (s .entry)) inside))
-        (refuse VALUE place) ⌝ }
+        ≡ leaf (readWordOf (wordsAt (context .component) (context .property)) (typeAt (context .«value_type»)))
+        (e .place) (nodesAt (now (s .entry)) (e .inside)) ⌝ }
 {
-    let permitted = permits_type(p, u);
-    if permitted {
-        if u == t {
-            return typed_verdict(k, p, u, s, place, inside, end);
-        }
-        return Judged::Refused(VALUE, place);
+    let closed = has_words(context.component, context.property);
+    if closed {
+        return leaf_word(context.component, context.property, s, e.place, e.inside);
     }
-    Judged::Refused(VALUE, place)
+    leaf_value(context.value_type, s, e.place, e.inside)
 }
 
-// An element of the value of the property of the number `p` in the component of the number `k`, where `t` is the type of the property's first value.
-// Its start tag is at `place`, its name from `name` to `name_end`, its content begins at `inside`, its end tag is at `end`.
-pub fn value_verdict(
-    k: usize,
-    p: usize,
-    t: usize,
-    s: &[u8],
-    place: usize,
-    name: usize,
-    name_end: usize,
-    inside: usize,
-    end: usize,
-) -> Judged
-    requires { ⌜ (length (now s) ≤ 65535) × (inside ≤ length (now s)) ⌝ }
+// A value of the type.
+fn typed_verdict(context: Context, s: &[u8], e: Element) -> Judged
+    requires { ⌜ (length (now s) ≤ 65535) × (e .inside ≤ length (now s)) ⌝ }
+    ensures { λ r. ⌜ judgedAs r ≡ typedAt context (e .place) (e .end) (nodesAt (now (s .entry)) (e .inside)) ⌝ }
+{
+    if context.value_type == value_type::PERIOD {
+        return parts_verdict(false, s, e.inside, e.end);
+    }
+    if context.value_type == value_type::RECUR {
+        return parts_verdict(true, s, e.inside, e.end);
+    }
+    leaf_typed(context, s, e)
+}
+
+// The same of an element that is named as the type `u`, where the property's first value has the type of the context.
+fn typed_as(context: Context, u: usize, s: &[u8], e: Element) -> Judged
+    requires { ⌜ (length (now s) ≤ 65535) × (e .inside ≤ length (now s)) ⌝ }
+    ensures { λ r. ⌜
+        judgedAs r
+        ≡ pick (permitsType (context .property) u and eqb u (context .«value_type»))
+        (typedAt context (e .place) (e .end) (nodesAt (now (s .entry)) (e .inside)))
+        (refuse VALUE (e .place)) ⌝ }
+{
+    let permitted = permits_type(context.property, u);
+    if permitted {
+        if u == context.value_type {
+            return typed_verdict(context, s, e);
+        }
+        return Judged::Refused(VALUE, e.place);
+    }
+    Judged::Refused(VALUE, e.place)
+}
+
+// An element of a property's value: the context has the type of the property's first value.
+pub fn value_verdict(context: Context, s: &[u8], e: Element) -> Judged
+    requires { ⌜ (length (now s) ≤ 65535) × (e .inside ≤ length (now s)) ⌝ }
     ensures { λ r. ⌜
         ((c w : List ℕ) →
-        k ≡ placeOf c componentNames →
-        p ≡ placeOf w propertyNames →
-        t ≤ 14 →
+        context .component ≡ placeOf c componentNames →
+        context .property ≡ placeOf w propertyNames →
+        context .«value_type» ≤ 14 →
         judgedAs r
-        ≡ valueVerdict c w (typeAt t) place (rest 0 (take «name_end» (now (s .entry))) name) end
-        (nodesAt (now (s .entry)) inside)) ⌝ }
+        ≡ valueVerdict c w (typeAt (context .«value_type»)) (e .place) (nameAt (now (s .entry)) e) (e .end)
+        (nodesAt (now (s .entry)) (e .inside))) ⌝ }
 {
-    if p == property::GEO {
-        return leaf_value(value_type::FLOAT, s, place, inside);
+    if context.property == property::GEO {
+        return leaf_value(value_type::FLOAT, s, e.place, e.inside);
     }
-    if p == property::REQUEST_STATUS {
-        return leaf(Judged::Fine, s, inside);
+    if context.property == property::REQUEST_STATUS {
+        return leaf(Judged::Fine, s, e.inside);
     }
-    let m = element_type(s, name, name_end);
+    let m = element_type(s, e.name, e.name_end);
     match m {
-        Named::Type(u) => typed_as(k, p, t, u, s, place, inside, end),
-        Named::Bad => Judged::Refused(VALUE, place),
+        Named::Type(u) => typed_as(context, u, s, e),
+        Named::Bad => Judged::Refused(VALUE, e.place),
     }
 }

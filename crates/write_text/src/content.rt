@@ -2,6 +2,7 @@
 use crate::children::parameters_inside;
 use crate::types::put_value_parameter;
 use names::put_upper;
+use read_xml_nodes::Element;
 use read_xml_parameters::put_parameters;
 use schema::property_number;
 use sink::put_all;
@@ -17,7 +18,7 @@ ghost use Rattle.schema.specs.Properties.{propertyNames};
 ghost use Rattle.values.specs.WriteValue.{writeValues};
 ghost use Rattle.xcal.specs.ValueNodes.{readValueNodes};
 ghost use Rattle.xml.specs.NodesAt.{nodesAt};
-ghost use Rattle.write_text.specs.Children.{nameIn};
+ghost use Rattle.read_xml_nodes.specs.Elements.{nameAt};
 ghost use Rattle.write_text.specs.Content.{parametersText, lineText};
 
 // VALUE and the parameters of the property of the number `p` whose content begins at `inside`.
@@ -47,22 +48,15 @@ fn put_all_values(out: &mut [u8], o: usize, p: usize, s: &[u8], inside: usize) -
     put_values(out, a, p, s, inside)
 }
 
-// The content line of the property whose name is from `name` to `name_end` and whose content begins at `inside`.
-pub fn put_content_line(
-    out: &mut [u8],
-    o: usize,
-    s: &[u8],
-    name: usize,
-    name_end: usize,
-    inside: usize,
-) -> usize
-    requires { ⌜ (length (now s) ≤ 65535) × («name_end» ≤ length (now s)) × (inside ≤ length (now s)) ⌝ }
+// The content line of the property whose element is `e`.
+pub fn put_content_line(out: &mut [u8], o: usize, s: &[u8], e: Element) -> usize
+    requires { ⌜ (length (now s) ≤ 65535) × (e .«name_end» ≤ length (now s)) × (e .inside ≤ length (now s)) ⌝ }
     ensures { λ r. ⌜
         Put (now (out .entry)) (now (out .exit)) o r
-        (lineText (nameIn (now (s .entry)) name «name_end») (nodesAt (now (s .entry)) inside)) ⌝ }
+        (lineText (nameAt (now (s .entry)) e) (nodesAt (now (s .entry)) (e .inside))) ⌝ }
 {
-    let p = property_number(0, &s[..name_end], name);
-    let a = put_upper(out, o, 0, &s[..name_end], name);
-    let b = put_all_parameters(out, a, p, s, inside);
-    put_all_values(out, b, p, s, inside)
+    let p = property_number(0, &s[..e.name_end], e.name);
+    let a = put_upper(out, o, 0, &s[..e.name_end], e.name);
+    let b = put_all_parameters(out, a, p, s, e.inside);
+    put_all_values(out, b, p, s, e.inside)
 }

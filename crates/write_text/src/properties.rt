@@ -1,6 +1,7 @@
 // Properties as folded lines. A fold is known only when the line is there: `line` is the room in which it is written before.
 use crate::content::put_content_line;
 use folding::folded::put_folded;
+use read_xml_nodes::Element;
 use read_xml_nodes::NodeKind;
 use read_xml_nodes::next_node;
 ghost use mathlib.Core.Path.{_≡_};
@@ -11,33 +12,25 @@ ghost use Rattle.folding.specs.Fold.{foldedLine};
 ghost use Rattle.text.specs.WriteText.{propertyLines};
 ghost use Rattle.xcal.specs.PropertyNodes.{readProperties};
 ghost use Rattle.xml.specs.NodesAt.{nodesAt};
-ghost use Rattle.write_text.specs.Children.{nameIn};
+ghost use Rattle.read_xml_nodes.specs.Elements.{nameAt};
 ghost use Rattle.write_text.specs.Content.{lineText};
 ghost use Rattle.write_text.specs.Filled.{propertiesRoom, PutBy};
 
-// The line of the property whose name is from `name` to `name_end` and whose content begins at `inside`.
-fn put_property_line(
-    out: &mut [u8],
-    o: usize,
-    line: &mut [u8],
-    s: &[u8],
-    name: usize,
-    name_end: usize,
-    inside: usize,
-) -> usize
+// The line of the property whose element is `e`.
+fn put_property_line(out: &mut [u8], o: usize, line: &mut [u8], s: &[u8], e: Element) -> usize
     requires { ⌜
         (length (now s) ≤ 65535)
-        × («name_end» ≤ length (now s))
-        × (inside ≤ length (now s))
-        × (length (lineText (nameIn (now s) name «name_end») (nodesAt (now s) inside)) ≤ length (now line)) ⌝ }
+        × (e .«name_end» ≤ length (now s))
+        × (e .inside ≤ length (now s))
+        × (length (lineText (nameAt (now s) e) (nodesAt (now s) (e .inside))) ≤ length (now line)) ⌝ }
     ensures { λ r. ⌜
         PutBy (now (out .entry)) (now (out .exit)) o r
-        (foldedLine (lineText (nameIn (now (s .entry)) name «name_end») (nodesAt (now (s .entry)) inside)))
+        (foldedLine (lineText (nameAt (now (s .entry)) e) (nodesAt (now (s .entry)) (e .inside))))
         (now (line .exit))
         (overwrite (now (line .entry)) 0
-        (lineText (nameIn (now (s .entry)) name «name_end») (nodesAt (now (s .entry)) inside))) ⌝ }
+        (lineText (nameAt (now (s .entry)) e) (nodesAt (now (s .entry)) (e .inside)))) ⌝ }
 {
-    let n = put_content_line(line, 0, s, name, name_end, inside);
+    let n = put_content_line(line, 0, s, e);
     put_folded(out, o, &line[..n])
 }
 
@@ -60,7 +53,14 @@ pub fn put_properties(out: &mut [u8], o: usize, line: &mut [u8], s: &[u8], from:
                 return p;
             }
             NodeKind::Element => {
-                p = put_property_line(out, p, line, s, n.name, n.name_end, n.inside);
+                let element = Element {
+                    place: at,
+                    name: n.name,
+                    name_end: n.name_end,
+                    inside: n.inside,
+                    end: n.end,
+                };
+                p = put_property_line(out, p, line, s, element);
                 at = n.next;
             }
             NodeKind::Literal => {

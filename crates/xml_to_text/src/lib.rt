@@ -96,7 +96,7 @@ fn judged(s: &[u8], out: &mut [u8]) -> Answer
 {
     let t = root_node(s);
     let from = t.inside;
-    match root_verdict(s, t.place, t.name, t.name_end, from, t.end) {
+    match root_verdict(s, t) {
         Judged::Refused(n, p) => refused(n, p),
         Judged::Fine => lined(s, from, out),
     }

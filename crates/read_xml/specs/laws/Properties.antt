@@ -218,7 +218,7 @@ module _ (k : ℕ) (s : List ℕ) (at : ℕ) (n : Node) {p : ℕ} {b : Bool} (e 
       }
 
       pub property-children : {v : Judged} → x ≡ false →
-          ((c w : List ℕ) → Holder k p t c w → judgedAs v ≡ sequence (propertySlots w) (childVerdict c w (typeAt t)) (nodesAt s (n .inside)) 0 [] (n .end)) →
+          ((c w : List ℕ) → Holder (record { component = k; property = p; «value_type» = t }) c w → judgedAs v ≡ sequence (propertySlots w) (childVerdict c w (typeAt t)) (nodesAt s (n .inside)) 0 [] (n .end)) →
           p ≡ placeOf (upper (nameOf s n)) propertyNames → PropertyAt k s at n v
       unfolding propertyVerdict pick
       property-children {v} j q o = record {

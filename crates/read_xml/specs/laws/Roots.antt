@@ -23,8 +23,10 @@ use Rattle.xcal.specs.ComponentNodes.{streamVerdict, rootVerdict}
 use Rattle.xml.specs.NodesAt.{nodesAt}
 use Rattle.read_xml_nodes.specs.NodeFound.{NodeAt}
 use Rattle.read_xml_nodes.specs.laws.NodeFound.{node-none, node-element, node-literal, node-referred, element-less, literal-less}
+use Rattle.read_xml_nodes.specs.Elements.{nameAt}
 use Rattle.read_xml_nodes.specs.Judging.{judgedAs}
 use Rattle.read_xml_nodes.specs.laws.Judging.{is-frame}
+use Rattle.read_xml_nodes.specs.declared.Element.{Element as ElementAt}
 use Rattle.read_xml_nodes.specs.declared.Node.{Node}
 use Rattle.read_xml_nodes.specs.declared.NodeKind.the-variants.{None, Element, Literal, Referred}
 use Rattle.read_xml_nodes.specs.declared.Judged.{Judged}
@@ -88,12 +90,12 @@ pub ruleset streaming = (stream-start, stream-some, stream-empty, stream-referre
 
 -- ---- the root
 
-module _ (s : List ℕ) (place : ℕ) (m : List ℕ) (inside end : ℕ) {b : Bool} (f : b ≡ same m (ascii "icalendar")) {j : Judged} where
-  pub root-stream : b ≡ true → StreamAt s inside end j → RootAt s place m inside end j
+module _ (s : List ℕ) (root : ElementAt) {b : Bool} (f : b ≡ same (nameAt s root) (ascii "icalendar")) {j : Judged} where
+  pub root-stream : b ≡ true → StreamAt s (root .inside) (root .end) j → RootAt s root j
   unfolding rootVerdict pick
   root-stream h d = record { is = λ more. rw (← f, h) (d .is) }
 
-  pub root-other : b ≡ false → unexpected place m ≡ judgedAs j → RootAt s place m inside end j
+  pub root-other : b ≡ false → unexpected (root .place) (nameAt s root) ≡ judgedAs j → RootAt s root j
   unfolding rootVerdict pick
   root-other h u = record { is = λ more. rw (← f, h) u }
 

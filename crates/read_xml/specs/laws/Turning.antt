@@ -41,6 +41,7 @@ use Rattle.read_xml_nodes.specs.declared.Node.{Node}
 use Rattle.read_xml_nodes.specs.declared.NodeKind.the-variants.{None, Element, Literal, Referred}
 use Rattle.read_xml_nodes.specs.declared.Judged.{Judged}
 use Rattle.read_xml_nodes.specs.declared.Judged.the-variants.{Fine, Refused}
+use Rattle.read_xml_value.specs.declared.Context.{Context}
 use Rattle.read_xml.specs.Children.{geoWords, statusWords, otherWords, childWords, slotsAt, slotAt, afterAt, hasTwo, flagsOf, flagsAt}
 use Rattle.read_xml.specs.laws.Children.{slots-place, after-at, flags-start, flags-more, parameters-at}
 use Rattle.read_xml.specs.Turning.{Holder, afterOf, childOf, ChildAt, Onward, Turns}
@@ -106,34 +107,34 @@ pub ruleset aftering = (after-out, after-passed, after-several, after-one, needs
 
 -- ---- what stands in a child
 
-module _ (k p t slot place : ℕ) (n : List ℕ) (end : ℕ) (kids : Nodes) {v : Verdict} where
-  pub inside-parameters : slot ≡ 0 → ((w : List ℕ) → p ≡ placeOf w propertyNames → t ≤ 14 → v ≡ parametersVerdict w (typeAt t) kids []) →
-      (c w : List ℕ) → Holder k p t c w → slot ≡ slotAt p (placeOf n (childWords p)) → v ≡ childVerdict c w (typeAt t) place n end kids
+module _ (context : Context) (slot place : ℕ) (n : List ℕ) (end : ℕ) (kids : Nodes) {v : Verdict} where
+  pub inside-parameters : slot ≡ 0 → ((w : List ℕ) → context .property ≡ placeOf w propertyNames → context .«value_type» ≤ 14 → v ≡ parametersVerdict w (typeAt (context .«value_type»)) kids []) →
+      (c w : List ℕ) → Holder context c w → slot ≡ slotAt (context .property) (placeOf n (childWords (context .property))) → v ≡ childVerdict c w (typeAt (context .«value_type»)) place n end kids
   unfolding pick
-  inside-parameters z q c w o e = q w (o .property) (o .small) ∙ rw (parameters-at p n, ← e, eq-eqb slot 0 z)
+  inside-parameters z q c w o e = q w (o .property) (o .small) ∙ rw (parameters-at (context .property) n, ← e, eq-eqb slot 0 z)
 
-  pub inside-value : (slot ≡ 0 → ⊥) → ((c w : List ℕ) → k ≡ placeOf c componentNames → p ≡ placeOf w propertyNames → t ≤ 14 → v ≡ valueVerdict c w (typeAt t) place n end kids) →
-      (c w : List ℕ) → Holder k p t c w → slot ≡ slotAt p (placeOf n (childWords p)) → v ≡ childVerdict c w (typeAt t) place n end kids
+  pub inside-value : (slot ≡ 0 → ⊥) → ((c w : List ℕ) → context .component ≡ placeOf c componentNames → context .property ≡ placeOf w propertyNames → context .«value_type» ≤ 14 → v ≡ valueVerdict c w (typeAt (context .«value_type»)) place n end kids) →
+      (c w : List ℕ) → Holder context c w → slot ≡ slotAt (context .property) (placeOf n (childWords (context .property))) → v ≡ childVerdict c w (typeAt (context .«value_type»)) place n end kids
   unfolding pick
-  inside-value z q c w o e = q c w (o .component) (o .property) (o .small) ∙ rw (parameters-at p n, ← e, ne-eqb slot 0 z)
+  inside-value z q c w o e = q c w (o .component) (o .property) (o .small) ∙ rw (parameters-at (context .property) n, ← e, ne-eqb slot 0 z)
 
 pub ruleset insides = (inside-parameters, inside-value, needs)
 
 place-after : (p : ℕ) (n : List ℕ) {slot : ℕ} (next : ℕ) (a : After) → afterOf a ≡ afterAt (propertyAt p .listed) slot next → slot ≡ slotAt p (placeOf n (childWords p)) → afterSlot (slotOf n (slotsAt p) 0) next ≡ afterOf a
 place-after p n next a e h = after-at p n next h ∙ sym e
 
-module _ (k p t : ℕ) {slot : ℕ} (next place : ℕ) (n : List ℕ) (end : ℕ) (kids : Nodes) {a : After} (e : afterOf a ≡ afterAt (propertyAt p .listed) slot next) where
-  module _ {m : ℕ} (g : a ≡ Then m) {j : Judged} (q : (c w : List ℕ) → Holder k p t c w → slot ≡ slotAt p (placeOf n (childWords p)) → judgedAs j ≡ childVerdict c w (typeAt t) place n end kids) where
-    pub child-good : j ≡ Fine → slot ≡ slotAt p (placeOf n (childWords p)) → ChildAt k p t next place n end kids (Good m)
+module _ (context : Context) {slot : ℕ} (next place : ℕ) (n : List ℕ) (end : ℕ) (kids : Nodes) {a : After} (e : afterOf a ≡ afterAt (propertyAt (context .property) .listed) slot next) where
+  module _ {m : ℕ} (g : a ≡ Then m) {j : Judged} (q : (c w : List ℕ) → Holder context c w → slot ≡ slotAt (context .property) (placeOf n (childWords (context .property))) → judgedAs j ≡ childVerdict c w (typeAt (context .«value_type»)) place n end kids) where
+    pub child-good : j ≡ Fine → slot ≡ slotAt (context .property) (placeOf n (childWords (context .property))) → ChildAt context next place n end kids (Good m)
     unfolding _otherwise_
-    child-good f h = record { is = λ c w o after. rw (place-after p n next a e h, g, ← (q c w o h), f) }
+    child-good f h = record { is = λ c w o after. rw (place-after (context .property) n next a e h, g, ← (q c w o h), f) }
 
-    pub child-bad : {x y : ℕ} → j ≡ Refused x y → slot ≡ slotAt p (placeOf n (childWords p)) → ChildAt k p t next place n end kids (Stops (Refused x y))
+    pub child-bad : {x y : ℕ} → j ≡ Refused x y → slot ≡ slotAt (context .property) (placeOf n (childWords (context .property))) → ChildAt context next place n end kids (Stops (Refused x y))
     unfolding _otherwise_
-    child-bad f h = record { is = λ c w o after. rw (place-after p n next a e h, g, ← (q c w o h), f) }
+    child-bad f h = record { is = λ c w o after. rw (place-after (context .property) n next a e h, g, ← (q c w o h), f) }
 
-  pub child-nowhere : {j : Judged} → a ≡ Nowhere → unexpected place n ≡ judgedAs j → slot ≡ slotAt p (placeOf n (childWords p)) → ChildAt k p t next place n end kids (Stops j)
-  child-nowhere g q h = record { is = λ c w o after. rw (place-after p n next a e h, g) q }
+  pub child-nowhere : {j : Judged} → a ≡ Nowhere → unexpected place n ≡ judgedAs j → slot ≡ slotAt (context .property) (placeOf n (childWords (context .property))) → ChildAt context next place n end kids (Stops j)
+  child-nowhere g q h = record { is = λ c w o after. rw (place-after (context .property) n next a e h, g) q }
 
 pub ruleset childing = (child-good, child-bad, child-nowhere, needs)
 
@@ -165,34 +166,34 @@ pub ruleset ending = (end-first, end-one, end-both, end-second, needs)
 
 -- ---- a turn
 
-module _ (k p t : ℕ) {s : List ℕ} (e : ℕ) {at : ℕ} (next : ℕ) (f g : Bool) {r : Node} (m : NodeAt s at r) where
-  pub turn-none : {j : Judged} → r .kind ≡ None → judgedAs j ≡ pick (isShort (flagsAt p f g)) (refuse FRAME e) fine → Turns k p t s e at next f g (Ends j)
-  turn-none h q = record { is = λ c w o. walked-none (slotsAt p) (childVerdict c w (typeAt t)) next (flagsAt p f g) e (node-none m h) ∙ sym q; onward = tt }
+module _ (context : Context) {s : List ℕ} (e : ℕ) {at : ℕ} (next : ℕ) (f g : Bool) {r : Node} (m : NodeAt s at r) where
+  pub turn-none : {j : Judged} → r .kind ≡ None → judgedAs j ≡ pick (isShort (flagsAt (context .property) f g)) (refuse FRAME e) fine → Turns context s e at next f g (Ends j)
+  turn-none h q = record { is = λ c w o. walked-none (slotsAt (context .property)) (childVerdict c w (typeAt (context .«value_type»))) next (flagsAt (context .property) f g) e (node-none m h) ∙ sym q; onward = tt }
 
-  pub turn-referred : r .kind ≡ Referred → Turns k p t s e at next f g (Ends (Refused 6 at))
-  turn-referred h = record { is = λ c w o. walked-referred (slotsAt p) (childVerdict c w (typeAt t)) next (flagsAt p f g) e (node-referred m h) ∙ sym (is-frame at); onward = tt }
+  pub turn-referred : r .kind ≡ Referred → Turns context s e at next f g (Ends (Refused 6 at))
+  turn-referred h = record { is = λ c w o. walked-referred (slotsAt (context .property)) (childVerdict c w (typeAt (context .«value_type»))) next (flagsAt (context .property) f g) e (node-referred m h) ∙ sym (is-frame at); onward = tt }
 
-  pub turn-literal : {x : Next} → r .kind ≡ Literal → x ≡ pick (isSpace (r .unit)) (Goes (r .next) next f g) (Ends (Refused 6 at)) → Turns k p t s e at next f g x
+  pub turn-literal : {x : Next} → r .kind ≡ Literal → x ≡ pick (isSpace (r .unit)) (Goes (r .next) next f g) (Ends (Refused 6 at)) → Turns context s e at next f g x
   unfolding pick
   turn-literal {x} h q = go (isSpace (r .unit)) refl q
     where
-      go : (b : Bool) → isSpace (r .unit) ≡ b → x ≡ pick b (Goes (r .next) next f g) (Ends (Refused 6 at)) → Turns k p t s e at next f g x
-      go true z y = rw y (record { is = λ c w o. walked-space (slotsAt p) (childVerdict c w (typeAt t)) next (flagsAt p f g) e (node-literal m h) z; onward = (literal-onward m h, m .next-within) })
-      go false z y = rw y (record { is = λ c w o. walked-text (slotsAt p) (childVerdict c w (typeAt t)) next (flagsAt p f g) e (node-literal m h) z ∙ sym (is-frame at); onward = tt })
+      go : (b : Bool) → isSpace (r .unit) ≡ b → x ≡ pick b (Goes (r .next) next f g) (Ends (Refused 6 at)) → Turns context s e at next f g x
+      go true z y = rw y (record { is = λ c w o. walked-space (slotsAt (context .property)) (childVerdict c w (typeAt (context .«value_type»))) next (flagsAt (context .property) f g) e (node-literal m h) z; onward = (literal-onward m h, m .next-within) })
+      go false z y = rw y (record { is = λ c w o. walked-text (slotsAt (context .property)) (childVerdict c w (typeAt (context .«value_type»))) next (flagsAt (context .property) f g) e (node-literal m h) z ∙ sym (is-frame at); onward = tt })
 
-  module _ (h : r .kind ≡ Element) {slot : ℕ} (y : slot ≡ slotAt p (placeOf (rest 0 (take (r .«name_end») s) (r .name)) (childWords p)))
-      {q : Tried} (d : slot ≡ slotAt p (placeOf (rest 0 (take (r .«name_end») s) (r .name)) (childWords p)) → ChildAt k p t next at (rest 0 (take (r .«name_end») s) (r .name)) (r .end) (nodesAt s (r .inside)) q) where
-    at-child : (c w : List ℕ) → Holder k p t c w → walked (slotsAt p) (childVerdict c w (typeAt t)) (nodesAt s at) next (flagsAt p f g) e ≡
-        childOf q (λ n. walked (slotsAt p) (childVerdict c w (typeAt t)) (nodesAt s (r .next)) n (marked (slotsAt p) (rest 0 (take (r .«name_end») s) (r .name)) (flagsAt p f g)) e)
-    at-child c w o = walked-element (slotsAt p) (childVerdict c w (typeAt t)) next (flagsAt p f g) e (node-element m h) ∙ d y .is c w o _
+  module _ (h : r .kind ≡ Element) {slot : ℕ} (y : slot ≡ slotAt (context .property) (placeOf (rest 0 (take (r .«name_end») s) (r .name)) (childWords (context .property))))
+      {q : Tried} (d : slot ≡ slotAt (context .property) (placeOf (rest 0 (take (r .«name_end») s) (r .name)) (childWords (context .property))) → ChildAt context next at (rest 0 (take (r .«name_end») s) (r .name)) (r .end) (nodesAt s (r .inside)) q) where
+    at-child : (c w : List ℕ) → Holder context c w → walked (slotsAt (context .property)) (childVerdict c w (typeAt (context .«value_type»))) (nodesAt s at) next (flagsAt (context .property) f g) e ≡
+        childOf q (λ n. walked (slotsAt (context .property)) (childVerdict c w (typeAt (context .«value_type»))) (nodesAt s (r .next)) n (marked (slotsAt (context .property)) (rest 0 (take (r .«name_end») s) (r .name)) (flagsAt (context .property) f g)) e)
+    at-child c w o = walked-element (slotsAt (context .property)) (childVerdict c w (typeAt (context .«value_type»))) next (flagsAt (context .property) f g) e (node-element m h) ∙ d y .is c w o _
 
-    pub turn-good : {n : ℕ} {f′ g′ : Bool} → q ≡ Good n → f′ ≡ (eqb slot 1 or f) → g′ ≡ (eqb slot 2 or g) → Turns k p t s e at next f g (Goes (r .next) n f′ g′)
+    pub turn-good : {n : ℕ} {f′ g′ : Bool} → q ≡ Good n → f′ ≡ (eqb slot 1 or f) → g′ ≡ (eqb slot 2 or g) → Turns context s e at next f g (Goes (r .next) n f′ g′)
     turn-good {n} z a b = record {
-      is = λ c w o. at-child c w o ∙ rw (z, flags-more p (rest 0 (take (r .«name_end») s) (r .name)) f g y, ← a, ← b);
+      is = λ c w o. at-child c w o ∙ rw (z, flags-more (context .property) (rest 0 (take (r .«name_end») s) (r .name)) f g y, ← a, ← b);
       onward = (element-onward m h .0, m .next-within);
     }
 
-    pub turn-stops : {j : Judged} → q ≡ Stops j → Turns k p t s e at next f g (Ends j)
+    pub turn-stops : {j : Judged} → q ≡ Stops j → Turns context s e at next f g (Ends j)
     turn-stops z = record { is = λ c w o. at-child c w o ∙ rw z; onward = tt }
 
 pub name-inside : {s : List ℕ} {at : ℕ} {r : Node} → NodeAt s at r → r .«name_end» ≤ length s
@@ -209,20 +210,20 @@ pub ruleset turning = (turn-none, turn-referred, turn-literal, turn-good, turn-s
 
 -- ---- the walk
 
-pub record Walking (k p t : ℕ) (s : List ℕ) (from e at next : ℕ) (f g : Bool) : Type 0 where
-  pub is : (c w : List ℕ) → Holder k p t c w → sequence (propertySlots w) (childVerdict c w (typeAt t)) (nodesAt s from) 0 [] e ≡
-      walked (slotsAt p) (childVerdict c w (typeAt t)) (nodesAt s at) next (flagsAt p f g) e
+pub record Walking (context : Context) (s : List ℕ) (from e at next : ℕ) (f g : Bool) : Type 0 where
+  pub is : (c w : List ℕ) → Holder context c w → sequence (propertySlots w) (childVerdict c w (typeAt (context .«value_type»))) (nodesAt s from) 0 [] e ≡
+      walked (slotsAt (context .property)) (childVerdict c w (typeAt (context .«value_type»))) (nodesAt s at) next (flagsAt (context .property) f g) e
 
-pub walking-start : (k p t : ℕ) (s : List ℕ) (from e : ℕ) → Walking k p t s from e from 0 false false
-walking-start k p t s from e = record {
-  is = λ c w o. rw (slots-place w (o .property)) (sequence-walked (slotsAt p) (childVerdict c w (typeAt t)) (nodesAt s from) 0 [] e ∙ rw (flags-start p));
+pub walking-start : (context : Context) (s : List ℕ) (from e : ℕ) → Walking context s from e from 0 false false
+walking-start context s from e = record {
+  is = λ c w o. rw (slots-place w (o .property)) (sequence-walked (slotsAt (context .property)) (childVerdict c w (typeAt (context .«value_type»))) (nodesAt s from) 0 [] e ∙ rw (flags-start (context .property)));
 }
 
-module _ {k p t : ℕ} {s : List ℕ} {from e at next : ℕ} {f g : Bool} (m : Walking k p t s from e at next f g) {x : Next} (d : Turns k p t s e at next f g x) where
-  pub walking-on : {at′ n : ℕ} {f′ g′ : Bool} → x ≡ Goes at′ n f′ g′ → Walking k p t s from e at′ n f′ g′
+module _ {context : Context} {s : List ℕ} {from e at next : ℕ} {f g : Bool} (m : Walking context s from e at next f g) {x : Next} (d : Turns context s e at next f g x) where
+  pub walking-on : {at′ n : ℕ} {f′ g′ : Bool} → x ≡ Goes at′ n f′ g′ → Walking context s from e at′ n f′ g′
   walking-on z = record { is = λ c w o. m .is c w o ∙ d .is c w o ∙ rw z }
 
-  pub walking-ends : {j : Judged} → x ≡ Ends j → (c w : List ℕ) → Holder k p t c w → judgedAs j ≡ sequence (propertySlots w) (childVerdict c w (typeAt t)) (nodesAt s from) 0 [] e
+  pub walking-ends : {j : Judged} → x ≡ Ends j → (c w : List ℕ) → Holder context c w → judgedAs j ≡ sequence (propertySlots w) (childVerdict c w (typeAt (context .«value_type»))) (nodesAt s from) 0 [] e
   walking-ends z c w o = sym (m .is c w o ∙ d .is c w o ∙ rw z)
 
   pub walking-less : {at′ n : ℕ} {f′ g′ : Bool} → x ≡ Goes at′ n f′ g′ → length s - at′ < length s - at

@@ -22,7 +22,7 @@ use Rattle.read_xml_tokens.specs.laws.Formed.{formed-fault}
 use Rattle.read_xml_nodes.specs.Closing.{EndedAt}
 use Rattle.read_xml_nodes.specs.RootFound.{RootNode, noRoot, rootOf}
 use Rattle.read_xml_nodes.specs.declared.Ended.{Ended}
-use Rattle.read_xml_nodes.specs.declared.RootElement.{RootElement}
+use Rattle.read_xml_nodes.specs.declared.Element.{Element}
 use Rattle.read_xml_tokens.specs.declared.TokenAt.{TokenAt}
 use Rattle.read_xml_tokens.specs.declared.TokenKind.the-variants.{Start, Empty, End, Char, Reference, Fault}
 
@@ -34,7 +34,7 @@ not-fine e f = let z : _≡_ {A = ℕ} 0 1 = cc in absurd (omega arith)
 not-none : {X : Type 0} {p : ℕ} {nm : List ℕ} {e : ℕ} {inner more : Nodes} → element p nm e inner more ≡ noNodes → X
 not-none e = let z : _≡_ {A = ℕ} 0 1 = cc in absurd (omega arith)
 
-root-there : {s : List ℕ} {r : RootElement} → documentNodes s ≡ rootOf s r → r .«name_end» ≤ length s → RootNode s r
+root-there : {s : List ℕ} {r : Element} → documentNodes s ≡ rootOf s r → r .«name_end» ≤ length s → RootNode s r
 root-there q h = record { is = λ f. q; found = λ f. q; missing = λ f. not-none (sym q ∙ f); name-within = h }
 
 module _ {s : List ℕ} {t : TokenAt} (x : RootAt s t) where
@@ -58,16 +58,16 @@ module _ {s : List ℕ} {t : TokenAt} (x : RootAt s t) where
       go true q = rw (marked.root-fault x k (ltb-true (prolog s) (length s) q))
       go false q = rw (marked.root-none x (ltb-false (prolog s) (length s) q))
 
-  pub root-fault : {r : RootElement} → t .kind ≡ Fault → r ≡ noRoot → RootNode s r
+  pub root-fault : {r : Element} → t .kind ≡ Fault → r ≡ noRoot → RootNode s r
   root-fault k e = rw e (record { is = λ h. not-fine (formed-fault x k .is) h; found = λ h. absurd (h (none-there k)); missing = λ h. refl; name-within = omega arith })
 
-  pub root-end : {r : RootElement} → t .kind ≡ End → RootNode s r
+  pub root-end : {r : Element} → t .kind ≡ End → RootNode s r
   root-end k = root-other x End k refl
 
-  pub root-char : {r : RootElement} → t .kind ≡ Char → RootNode s r
+  pub root-char : {r : Element} → t .kind ≡ Char → RootNode s r
   root-char k = root-other x Char k refl
 
-  pub root-reference : {r : RootElement} → t .kind ≡ Reference → RootNode s r
+  pub root-reference : {r : Element} → t .kind ≡ Reference → RootNode s r
   root-reference k = root-other x Reference k refl
 
 pub ruleset roots = (start-within, root-start, root-empty, root-fault, root-end, root-char, root-reference, needs)

@@ -1,13 +1,13 @@
 -- Laws of what specs/Values.antt defines.
 --     typing, valuing     the rules of the code
-use mathlib.Core.Path.{_≡_, sym, subst, _∙_}
+use mathlib.Core.Path.{_≡_, refl, sym, ap, subst, _∙_}
 use mathlib.Core.Bool.{Bool, true, false, false≢true}
 use mathlib.Core.List.{List}
 use mathlib.Core.Option.{Option, none, some}
 use Prim.Native.Nat.{ℕ, _≤_}
 use lib.Dec.{eqb}
 use borrow.Author.Needs.{needs}
-use borrow.Author.Tests.{eq-eqb, ne-eqb}
+use borrow.Author.Tests.{eq-eqb, ne-eqb, eqb-true}
 use Rattle.octets.specs.Pick.{pick, _and_}
 use Rattle.octets.specs.laws.Pick.{branching-joined}
 use Rattle.octets.specs.Reading.{isRead}
@@ -34,14 +34,18 @@ use Rattle.read_xml_nodes.specs.Judging.{judgedAs}
 use Rattle.read_xml_nodes.specs.laws.Judging.{is-value}
 use Rattle.read_xml_value.specs.ElementTypes.{TypeNamed}
 use Rattle.read_xml_value.specs.Values.{typedAt}
+use Rattle.read_xml_value.specs.declared.Context.{Context}
 use Rattle.read_xml_value.specs.declared.Named.{Named}
 use Rattle.read_xml_value.specs.declared.Named.the-variants.{«Type» as Typed, Bad}
 use Rattle.read_xml_nodes.specs.declared.Judged.the-variants.{Refused}
 
 -- ---- of names
 
-typed-place : (c w : List ℕ) (u place e : ℕ) (kids : Nodes) → u ≤ 14 →
-    typedVerdict c w (typeAt u) place e kids ≡ typedAt (placeOf c componentNames) (placeOf w propertyNames) u place e kids
+-- the context of a component, a property and a type by their names
+abbrev contextOf : List ℕ → List ℕ → ℕ → Context
+contextOf c w u = record { component = placeOf c componentNames; property = placeOf w propertyNames; «value_type» = u }
+
+typed-place : (c w : List ℕ) (u place e : ℕ) (kids : Nodes) → u ≤ 14 → typedVerdict c w (typeAt u) place e kids ≡ typedAt (contextOf c w u) place e kids
 unfolding typedVerdict sameType
 typed-place c w u place e kids h = rw (type-back u h, words-place c w)
 
@@ -59,10 +63,22 @@ module _ (c w : List ℕ) (place : ℕ) (n : List ℕ) (e : ℕ) (kids : Nodes) 
     unfolding valueVerdict pick
     other-as t h = rw (geo-place w, ne-eqb (placeOf w propertyNames) 9 g, request-status-place w, ne-eqb (placeOf w propertyNames) 45 h)
 
+-- where two types are the same, either serves
+either-type : (a : Bool) (u t : ℕ) (f : ℕ → Verdict) (v : Verdict) → pick (a and eqb u t) (f u) v ≡ pick (a and eqb u t) (f t) v
+unfolding pick _and_
+either-type false u t f v = refl
+either-type true u t f v = go (eqb u t) refl
+  where
+    go : (b : Bool) → eqb u t ≡ b → pick b (f u) v ≡ pick b (f t) v
+    go true h = ap f (eqb-true u t h)
+    go false h = refl
+
 typed-as : (c w : List ℕ) (place e : ℕ) (kids : Nodes) (u t : ℕ) → u ≤ 14 → t ≤ 14 → asTyped (some (typeAt u)) c w (typeAt t) place e kids ≡
-    pick (permitsType (placeOf w propertyNames) u and eqb u t) (typedAt (placeOf c componentNames) (placeOf w propertyNames) u place e kids) (refuse VALUE place)
+    pick (permitsType (placeOf w propertyNames) u and eqb u t) (typedAt (contextOf c w t) place e kids) (refuse VALUE place)
 unfolding sameType
-typed-as c w place e kids u t h l = rw (permits-type-place w (typeAt u), type-back u h, type-back t l, typed-place c w u place e kids h)
+typed-as c w place e kids u t h l =
+    rw (permits-type-place w (typeAt u), type-back u h, type-back t l, typed-place c w u place e kids h)
+    (either-type (permitsType (placeOf w propertyNames) u) u t (λ (i : ℕ). typedAt (contextOf c w i) place e kids) (refuse VALUE place))
 
 -- ---- for code
 
@@ -83,28 +99,28 @@ module _ (o : Option (List (List ℕ))) (t : ValueType) (place : ℕ) (kids : No
       go none k = q
       go (some ws) k = absurd (false≢true (sym k))
 
-module _ {k p : ℕ} (t place : ℕ) (n : List ℕ) (e : ℕ) (kids : Nodes) where
-  pub value-geo : {v : Verdict} → p ≡ 9 → v ≡ leaf (λ l. isRead (readValue xcal FLOAT l)) place kids →
-      (c w : List ℕ) → k ≡ placeOf c componentNames → p ≡ placeOf w propertyNames → t ≤ 14 → v ≡ valueVerdict c w (typeAt t) place n e kids
+module _ (x : Context) (place : ℕ) (n : List ℕ) (e : ℕ) (kids : Nodes) where
+  pub value-geo : {v : Verdict} → x .property ≡ 9 → v ≡ leaf (λ l. isRead (readValue xcal FLOAT l)) place kids →
+      (c w : List ℕ) → x .component ≡ placeOf c componentNames → x .property ≡ placeOf w propertyNames → x .«value_type» ≤ 14 → v ≡ valueVerdict c w (typeAt (x .«value_type»)) place n e kids
   unfolding readValue
-  value-geo h q c w x y l = q ∙ rw (geo-as c w place n e kids (typeAt t) (sym y ∙ h), mapped float (readFloat (charactersOf kids)))
+  value-geo h q c w a y l = q ∙ rw (geo-as c w place n e kids (typeAt (x .«value_type»)) (sym y ∙ h), mapped float (readFloat (charactersOf kids)))
 
-  module _ (g : p ≡ 9 → ⊥) where
-    pub value-status : {v : Verdict} → p ≡ 45 → v ≡ leafBy fine kids →
-        (c w : List ℕ) → k ≡ placeOf c componentNames → p ≡ placeOf w propertyNames → t ≤ 14 → v ≡ valueVerdict c w (typeAt t) place n e kids
-    value-status h q c w x y l = q ∙ sym (status-as c w place n e kids (λ z. g (y ∙ z)) (typeAt t) (sym y ∙ h))
+  module _ (g : x .property ≡ 9 → ⊥) where
+    pub value-status : {v : Verdict} → x .property ≡ 45 → v ≡ leafBy fine kids →
+        (c w : List ℕ) → x .component ≡ placeOf c componentNames → x .property ≡ placeOf w propertyNames → x .«value_type» ≤ 14 → v ≡ valueVerdict c w (typeAt (x .«value_type»)) place n e kids
+    value-status h q c w a y l = q ∙ sym (status-as c w place n e kids (λ z. g (y ∙ z)) (typeAt (x .«value_type»)) (sym y ∙ h))
 
-    module _ (h : p ≡ 45 → ⊥) {m : Named} (d : TypeNamed n m) where
-      pub value-typed : {v : Verdict} {u : ℕ} → m ≡ Typed u → v ≡ pick (permitsType p u and eqb u t) (typedAt k p u place e kids) (refuse VALUE place) →
-          (c w : List ℕ) → k ≡ placeOf c componentNames → p ≡ placeOf w propertyNames → t ≤ 14 → v ≡ valueVerdict c w (typeAt t) place n e kids
-      value-typed {v} {u} z q c w x y l =
+    module _ (h : x .property ≡ 45 → ⊥) {m : Named} (d : TypeNamed n m) where
+      pub value-typed : {v : Verdict} {u : ℕ} → m ≡ Typed u → v ≡ pick (permitsType (x .property) u and eqb u (x .«value_type»)) (typedAt x place e kids) (refuse VALUE place) →
+          (c w : List ℕ) → x .component ≡ placeOf c componentNames → x .property ≡ placeOf w propertyNames → x .«value_type» ≤ 14 → v ≡ valueVerdict c w (typeAt (x .«value_type»)) place n e kids
+      value-typed {v} {u} z q c w a y l =
           let f : TypeNamed n (Typed u) = subst (TypeNamed n) z d in
-          q ∙ rw (x, y) (sym (other-as c w place n e kids (λ i. g (y ∙ i)) (typeAt t) (λ i. h (y ∙ i)) ∙ rw (f .is) (typed-as c w place e kids u t (f .small) l)))
+          q ∙ rw (a, y) (sym (other-as c w place n e kids (λ i. g (y ∙ i)) (typeAt (x .«value_type»)) (λ i. h (y ∙ i)) ∙ rw (f .is) (typed-as c w place e kids u (x .«value_type») (f .small) l)))
 
-      pub value-bad : m ≡ Bad → (c w : List ℕ) → k ≡ placeOf c componentNames → p ≡ placeOf w propertyNames → t ≤ 14 → judgedAs (Refused 8 place) ≡ valueVerdict c w (typeAt t) place n e kids
-      value-bad z c w x y l =
+      pub value-bad : m ≡ Bad → (c w : List ℕ) → x .component ≡ placeOf c componentNames → x .property ≡ placeOf w propertyNames → x .«value_type» ≤ 14 → judgedAs (Refused 8 place) ≡ valueVerdict c w (typeAt (x .«value_type»)) place n e kids
+      value-bad z c w a y l =
           let f : TypeNamed n Bad = subst (TypeNamed n) z d in
-          sym (other-as c w place n e kids (λ i. g (y ∙ i)) (typeAt t) (λ i. h (y ∙ i)) ∙ rw (f .is) (sym (is-value place)))
+          sym (other-as c w place n e kids (λ i. g (y ∙ i)) (typeAt (x .«value_type»)) (λ i. h (y ∙ i)) ∙ rw (f .is) (sym (is-value place)))
 
 pub ruleset typing = (typed-word, typed-other, needs)
 

@@ -5,12 +5,11 @@ use mathlib.Core.List.{List}
 use mathlib.Core.Option.{none, some}
 use Prim.Native.Nat.{ℕ, _*_, _≤_, _<_}
 use lib.Dec.{leb}
-use lib.ListN.{length, take}
+use lib.ListN.{length}
 use borrow.Author.Tests.{le-leb, lt-leb}
 use Rattle.octets.specs.Pick.{pick}
 use Rattle.calendar.specs.Refusal.{XML, fine, refuse, answer, _otherwise_}
 use Rattle.utf8.specs.Utf8.{firstBad}
-use Rattle.source.specs.Source.{rest}
 use Rattle.xml.specs.Nodes.{noNodes, documentNodes}
 use Rattle.xml.specs.NodesAt.{nodesAt}
 use Rattle.xml.specs.WellFormed.{xmlVerdict}
@@ -20,7 +19,7 @@ use Rattle.xcal.specs.ReadDocument.{documentVerdict, readDocument}
 use Rattle.lengths_text.specs.laws.Documents.{rate, text-bound}
 use Rattle.read_xml_nodes.specs.RootFound.{RootNode}
 use Rattle.read_xml_nodes.specs.Judging.{judgedAs}
-use Rattle.read_xml_nodes.specs.declared.RootElement.{RootElement}
+use Rattle.read_xml_nodes.specs.declared.Element.{Element}
 use Rattle.read_xml_nodes.specs.declared.Judged.{Judged}
 use Rattle.read_xml_nodes.specs.declared.Judged.the-variants as judged
 use Rattle.refusals.specs.declared.Refusal.the-variants.{Length, Character, Xml}
@@ -63,7 +62,7 @@ module _ (s d : List ℕ) where
   xml-fine h g = rw h g
 
 -- the root of a document within the XML profile
-module _ {s : List ℕ} {t : RootElement} (x : RootNode s t) (f : xmlVerdict s ≡ fine) where
+module _ {s : List ℕ} {t : Element} (x : RootNode s t) (f : xmlVerdict s ≡ fine) where
   root-reads : readRoot (documentNodes s) ≡ readComponents (nodesAt s (t .inside))
   unfolding readRoot
   root-reads = rw (x .is f)
@@ -71,7 +70,7 @@ module _ {s : List ℕ} {t : RootElement} (x : RootNode s t) (f : xmlVerdict s �
   pub root-bound : length (writeCalendar (readComponents (nodesAt s (t .inside)))) ≤ rate * length s
   root-bound = rw (← root-reads) (text-bound s)
 
-  module _ {j : Judged} (v : RootAt s (t .place) (rest 0 (take (t .«name_end») s) (t .name)) (t .inside) (t .end) j) (d : List ℕ) where
+  module _ {j : Judged} (v : RootAt s t j) (d : List ℕ) where
     root-judged : rootVerdict (documentNodes s) ≡ judgedAs j
     root-judged = ap rootVerdict (x .is f) ∙ v .is noNodes
 
