@@ -11,6 +11,7 @@ use Rattle.calendar.specs.Refusal.{refusalAt}
 use Rattle.source.specs.Source.{rest}
 use Rattle.schema.specs.Numbers.{componentName}
 use Rattle.read_text_line.specs.Cursor.{paramsAt}
+use Rattle.read_text_line.specs.declared.LineCursors.{LineCursors}
 use Rattle.text.specs.Nesting.{Move, on, stop, opened, begins, ends}
 use Rattle.read_text.specs.Turns.{onFrom, resumed, Ends}
 use Rattle.read_text.specs.declared.Step.{Step}
@@ -19,8 +20,8 @@ abbrev pub outward : ℕ → Move
 outward f = pick (eqb f 0) (on (opened (componentName 0) ∷ [])) (stop (refusalAt f))
 
 -- a BEGIN, by its parts
-abbrev pub beginsOuter : ℕ → List ℕ → ℕ → ℕ → Move
-beginsOuter m s e v = begins (upper (rest m s v)) (paramsAt m s e) []
+abbrev pub beginsOuter : ℕ → List ℕ → LineCursors → Move
+beginsOuter m s l = begins (upper (rest m s (l .value))) (paramsAt m s (l .parameters)) []
 
 pub record Outer (m : ℕ) (s : List ℕ) (at : ℕ) (r : Step) : Type 0 where
   pub ends : Ends m s at r

@@ -5,6 +5,7 @@ use crate::component::body;
 use crate::line::no_params;
 use names::is_word_any_case;
 use read_text_line::Ending;
+use read_text_line::LineCursors;
 use read_text_line::LineRead;
 use read_text_line::line_at;
 use read_text_line::line_end;
@@ -23,20 +24,19 @@ ghost use mathlib.Core.List.{[]};
 ghost use Prim.Native.Nat.{_≤_, _<_};
 ghost use lib.ListN.{length};
 ghost use Rattle.source.specs.Source.{rest, cuts};
-ghost use Rattle.read_text_line.specs.Line.{Parts};
+ghost use Rattle.read_text_line.specs.Line.{named, Parts};
 ghost use Rattle.text.specs.Nesting.{moveBy, move};
 ghost use Rattle.read_text_line.specs.Ready.{Ready};
-ghost use Rattle.read_text.specs.Kinds.{named};
 ghost use Rattle.read_text.specs.Outer.{outward, beginsOuter, Outer};
 ghost use Rattle.read_text.specs.Answers.{Checks};
 
 // The fault of a BEGIN where nothing is open, NO_FAULT where it has none: it begins a VCALENDAR.
-fn begin_fault(mode: usize, s: &[u8], e: usize, v: usize) -> u8
-    ensures { λ r. ⌜ beginsOuter mode (now (s .entry)) e v ≡ outward r ⌝ }
+fn begin_fault(mode: usize, s: &[u8], l: LineCursors) -> u8
+    ensures { λ r. ⌜ beginsOuter mode (now (s .entry)) l ≡ outward r ⌝ }
 {
-    let n = component_number(mode, s, v);
+    let n = component_number(mode, s, l.value);
     if n == component::VCALENDAR {
-        let bare = no_params(mode, s, e);
+        let bare = no_params(mode, s, l.parameters);
         if bare {
             return NO_FAULT;
         }
@@ -46,15 +46,17 @@ fn begin_fault(mode: usize, s: &[u8], e: usize, v: usize) -> u8
 }
 
 // The fault of a content line where nothing is open.
-fn content_fault(mode: usize, s: &[u8], at: usize, e: usize, v: usize) -> u8
-    requires { ⌜ (at ≤ length (now s)) × Parts mode (now s) at e v × (cuts mode ≡ true) ⌝ }
-    ensures { λ r. ⌜ moveBy (named mode (now (s .entry)) at e v) [] ≡ outward r ⌝ }
+fn content_fault(mode: usize, s: &[u8], l: LineCursors) -> u8
+    requires { ⌜ (l .name ≤ length (now s)) × Parts mode (now s) l × (cuts mode ≡ true) ⌝ }
+    ensures { λ r. ⌜ moveBy (named mode (now (s .entry)) l) [] ≡ outward r ⌝ }
 {
+    let at = l.name;
+    let e = l.parameters;
     let good = names_carried(mode, s, at, e);
     if good {
         let begin = is_word_any_case(mode, &s[..e], at, b"BEGIN");
         if begin {
-            return begin_fault(mode, s, e, v);
+            return begin_fault(mode, s, l);
         }
         return FRAME;
     }
@@ -66,10 +68,10 @@ fn outer_fault(mode: usize, s: &[u8], at: usize) -> u8
     requires { ⌜ (at ≤ length (now s)) × (cuts mode ≡ true) ⌝ }
     ensures { λ r. ⌜ move (rest mode (now (s .entry)) at) [] ≡ outward r ⌝ }
 {
-    let LineRead::Line(e, v) = line_at(mode, s, at) else {
+    let LineRead::Line(l) = line_at(mode, s, at) else {
         return LINE;
     };
-    content_fault(mode, s, at, e, v)
+    content_fault(mode, s, l)
 }
 
 // A calendar, from its BEGIN on.

@@ -1,6 +1,7 @@
 // What a line is in an open component, by the component's number. A line is cut at its end: it is all that stands from `at` on.
 use crate::Kind;
 use names::is_word_any_case;
+use read_text_line::LineCursors;
 use read_text_line::LineRead;
 use read_text_line::line_at;
 use read_text_line::names_carried;
@@ -34,10 +35,10 @@ ghost use Rattle.schema.specs.Numbers.{componentName};
 ghost use Rattle.schema.specs.Properties.{propertyNames};
 ghost use Rattle.schema.specs.Completing.{actionNames};
 ghost use Rattle.read_text_line.specs.Cursor.{paramsAt};
-ghost use Rattle.read_text_line.specs.Line.{Parts};
+ghost use Rattle.read_text_line.specs.Line.{lineFrom, named, Parts};
 ghost use Rattle.text.specs.Nesting.{mayHold};
 ghost use Rattle.text.specs.LineKind.{openAs, beginKind, endKind, propertyKind, kindBy, lineKind};
-ghost use Rattle.read_text.specs.Kinds.{KindIs, lineFrom, named};
+ghost use Rattle.read_text.specs.Kinds.{KindIs};
 
 // The line, whose name ends at `e`, has no parameters.
 pub fn no_params(mode: usize, s: &[u8], e: usize) -> bool
@@ -53,15 +54,15 @@ pub fn no_params(mode: usize, s: &[u8], e: usize) -> bool
     true
 }
 
-// The kind of a BEGIN, whose name ends at `e`, and whose value stands at `v`.
-fn begin_line(k: usize, mode: usize, s: &[u8], e: usize, v: usize) -> Kind
+// The kind of a BEGIN.
+fn begin_line(k: usize, mode: usize, s: &[u8], l: LineCursors) -> Kind
     requires { ⌜ k < 9 ⌝ }
-    ensures { λ r. ⌜ ((w : List ℕ) → KindIs (beginKind (componentName k) (lineFrom w mode (now (s .entry)) e v)) r) ⌝ }
+    ensures { λ r. ⌜ ((w : List ℕ) → KindIs (beginKind (componentName k) (lineFrom w mode (now (s .entry)) l)) r) ⌝ }
 {
-    let n = component_number(mode, s, v);
+    let n = component_number(mode, s, l.value);
     let may = may_begin(k, n);
     if may {
-        let bare = no_params(mode, s, e);
+        let bare = no_params(mode, s, l.parameters);
         if bare {
             return Kind::Starts(n);
         }
@@ -71,13 +72,13 @@ fn begin_line(k: usize, mode: usize, s: &[u8], e: usize, v: usize) -> Kind
 }
 
 // The kind of an END.
-fn end_line(k: usize, mode: usize, s: &[u8], e: usize, v: usize) -> Kind
+fn end_line(k: usize, mode: usize, s: &[u8], l: LineCursors) -> Kind
     requires { ⌜ k < 9 ⌝ }
-    ensures { λ r. ⌜ ((w : List ℕ) → KindIs (endKind (componentName k) (lineFrom w mode (now (s .entry)) e v)) r) ⌝ }
+    ensures { λ r. ⌜ ((w : List ℕ) → KindIs (endKind (componentName k) (lineFrom w mode (now (s .entry)) l)) r) ⌝ }
 {
-    let n = component_number(mode, s, v);
+    let n = component_number(mode, s, l.value);
     if n == k {
-        let bare = no_params(mode, s, e);
+        let bare = no_params(mode, s, l.parameters);
         if bare {
             return Kind::Stops;
         }
@@ -122,18 +123,18 @@ fn action_of(p: usize, mode: usize, s: &[u8], v: usize) -> usize
 }
 
 // The kind of a line that is a property of the number `p`.
-fn numbered_line(k: usize, inner: bool, p: usize, mode: usize, s: &[u8], e: usize, v: usize) -> Kind
+fn numbered_line(k: usize, inner: bool, p: usize, mode: usize, s: &[u8], l: LineCursors) -> Kind
     requires { ⌜ (k < 9) × (cuts mode ≡ true) ⌝ }
     ensures { λ r. ⌜
         ((w : List ℕ) →
         p ≡ placeOf (upper w) propertyNames →
-        KindIs (propertyKind (componentName k) inner (lineFrom w mode (now (s .entry)) e v)) r) ⌝ }
+        KindIs (propertyKind (componentName k) inner (lineFrom w mode (now (s .entry)) l)) r) ⌝ }
 {
     let may = may_hold(k, inner, p);
     if may {
-        let f = property_fault(k, p, mode, s, e, v);
+        let f = property_fault(k, p, mode, s, l);
         if f == NO_FAULT {
-            let a = action_of(p, mode, s, v);
+            let a = action_of(p, mode, s, l.value);
             return Kind::Holds(p, a);
         }
         return Kind::Faulty(f);
@@ -142,38 +143,33 @@ fn numbered_line(k: usize, inner: bool, p: usize, mode: usize, s: &[u8], e: usiz
 }
 
 // The kind of a line that is a property.
-fn property_line(
-    k: usize,
-    inner: bool,
-    mode: usize,
-    s: &[u8],
-    at: usize,
-    e: usize,
-    v: usize,
-) -> Kind
-    requires { ⌜ (k < 9) × (at ≤ length (now s)) × Parts mode (now s) at e v × (cuts mode ≡ true) ⌝ }
-    ensures { λ r. ⌜ KindIs (propertyKind (componentName k) inner (named mode (now (s .entry)) at e v)) r ⌝ }
+fn property_line(k: usize, inner: bool, mode: usize, s: &[u8], l: LineCursors) -> Kind
+    requires { ⌜ (k < 9) × (l .name ≤ length (now s)) × Parts mode (now s) l × (cuts mode ≡ true) ⌝ }
+    ensures { λ r. ⌜ KindIs (propertyKind (componentName k) inner (named mode (now (s .entry)) l)) r ⌝ }
 {
-    let p = property_number(mode, &s[..e], at);
-    numbered_line(k, inner, p, mode, s, e, v)
+    let e = l.parameters;
+    let p = property_number(mode, &s[..e], l.name);
+    numbered_line(k, inner, p, mode, s, l)
 }
 
 // The kind of a content line.
-fn content_line(k: usize, inner: bool, mode: usize, s: &[u8], at: usize, e: usize, v: usize) -> Kind
-    requires { ⌜ (k < 9) × (at ≤ length (now s)) × Parts mode (now s) at e v × (cuts mode ≡ true) ⌝ }
-    ensures { λ r. ⌜ KindIs (kindBy (componentName k) inner (named mode (now (s .entry)) at e v)) r ⌝ }
+fn content_line(k: usize, inner: bool, mode: usize, s: &[u8], l: LineCursors) -> Kind
+    requires { ⌜ (k < 9) × (l .name ≤ length (now s)) × Parts mode (now s) l × (cuts mode ≡ true) ⌝ }
+    ensures { λ r. ⌜ KindIs (kindBy (componentName k) inner (named mode (now (s .entry)) l)) r ⌝ }
 {
+    let at = l.name;
+    let e = l.parameters;
     let good = names_carried(mode, s, at, e);
     if good {
         let begin = is_word_any_case(mode, &s[..e], at, b"BEGIN");
         if begin {
-            return begin_line(k, mode, s, e, v);
+            return begin_line(k, mode, s, l);
         }
         let end = is_word_any_case(mode, &s[..e], at, b"END");
         if end {
-            return end_line(k, mode, s, e, v);
+            return end_line(k, mode, s, l);
         }
-        return property_line(k, inner, mode, s, at, e, v);
+        return property_line(k, inner, mode, s, l);
     }
     Kind::Faulty(NAME)
 }
@@ -183,8 +179,8 @@ pub fn line_kind(k: usize, inner: bool, mode: usize, s: &[u8], at: usize) -> Kin
     requires { ⌜ (k < 9) × (at ≤ length (now s)) × (cuts mode ≡ true) ⌝ }
     ensures { λ r. ⌜ KindIs (lineKind (componentName k) inner (rest mode (now (s .entry)) at)) r ⌝ }
 {
-    let LineRead::Line(e, v) = line_at(mode, s, at) else {
+    let LineRead::Line(l) = line_at(mode, s, at) else {
         return Kind::Faulty(LINE);
     };
-    content_line(k, inner, mode, s, at, e, v)
+    content_line(k, inner, mode, s, l)
 }

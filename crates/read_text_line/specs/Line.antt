@@ -1,6 +1,7 @@
 -- A content line read through a cursor.
---     lineOf m s c r     what the answer r says of the line that stands from the cursor c on
---     LineAt             the contract of `line_at`: that this is the line, and where its parts stand
+--     lineFrom, named    the line whose parts stand at cursors
+--     Parts              where a line's parts stand
+--     LineAt             the contract of `line_at`: that this is the line from a cursor on, and where its parts stand
 --     TailAt             ":" value, behind a name and its parameters
 use mathlib.Core.Path.{_≡_}
 use mathlib.Core.List.{List}
@@ -15,6 +16,7 @@ use Rattle.read_text_line.specs.ContentLine.{RawParameter, ContentLine, 
 use Rattle.read_text_line.specs.Cursor.{Onward, paramsAt}
 use Rattle.read_text_line.specs.Params.{NameEnds}
 use Rattle.read_text_line.specs.declared.AllRead.{AllRead}
+use Rattle.read_text_line.specs.declared.LineCursors.{LineCursors}
 use Rattle.read_text_line.specs.declared.LineRead.{LineRead}
 use Rattle.read_text_line.specs.declared.LineRead.the-variants.{Line, Bad}
 
@@ -26,19 +28,27 @@ pub record TailAt (m : ℕ) (s : List ℕ) (c : ℕ) (r : AllRead) : Type 0 wher
 
 -- ---- the line
 
-abbrev pub lineOf : ℕ → List ℕ → ℕ → LineRead → Option ContentLine
-lineOf m s c (Line e v) = some (record { name = runOf isNameChar (rest m s c); parameters = paramsAt m s e; value = rest m s v })
-lineOf m s c Bad = none
+-- the line of the name w, whose parameters and value stand at the cursors l
+abbrev pub lineFrom : List ℕ → ℕ → List ℕ → LineCursors → ContentLine
+lineFrom w m s l = record { name = w; parameters = paramsAt m s (l .parameters); value = rest m s (l .value) }
 
--- its name ends at the cursor e, and its value stands from the cursor v on
-pub record Parts (m : ℕ) (s : List ℕ) (c e v : ℕ) : Type 0 where
-  pub name : NameEnds m s c e
-  pub value : Onward m s e v
+-- whose name stands there too
+abbrev pub named : ℕ → List ℕ → LineCursors → ContentLine
+named m s l = lineFrom (runOf isNameChar (rest m s (l .name))) m s l
+
+abbrev pub lineOf : ℕ → List ℕ → LineRead → Option ContentLine
+lineOf m s (Line l) = some (named m s l)
+lineOf m s Bad = none
+
+-- its name ends where its parameters begin, and its value stands behind them
+pub record Parts (m : ℕ) (s : List ℕ) (l : LineCursors) : Type 0 where
+  pub name : NameEnds m s (l .name) (l .parameters)
+  pub value : Onward m s (l .parameters) (l .value)
 
 abbrev pub PartsOf : ℕ → List ℕ → ℕ → LineRead → Type 0
-PartsOf m s c (Line e v) = Parts m s c e v
+PartsOf m s c (Line l) = (l .name ≡ c) × Parts m s l
 PartsOf m s c Bad = Unit {0}
 
 pub record LineAt (m : ℕ) (s : List ℕ) (c : ℕ) (r : LineRead) : Type 0 where
-  pub is : contentLine (rest m s c) ≡ lineOf m s c r
+  pub is : contentLine (rest m s c) ≡ lineOf m s r
   pub parts : PartsOf m s c r

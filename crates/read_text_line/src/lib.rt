@@ -52,9 +52,16 @@ pub struct AllRead {
     pub next: usize,
 }
 
-// A content line: the cursor at its name's end, and that of its value; or a line that is against the grammar.
+// A content line by cursors: its name, its parameters, which begin at the name's end, and its value.
+pub struct LineCursors {
+    pub name: usize,
+    pub parameters: usize,
+    pub value: usize,
+}
+
+// A content line, or a line that is against the grammar.
 pub enum LineRead {
-    Line(usize, usize),
+    Line(LineCursors),
     Bad,
 }
 

@@ -1,6 +1,7 @@
 // Content lines: RFC 5545's contentline = name *(";" param ) ":" value CRLF, without CRLF.
 use crate::AllRead;
 use crate::Chars;
+use crate::LineCursors;
 use crate::LineRead;
 use crate::param::next_params;
 use crate::param::no_name;
@@ -44,7 +45,12 @@ pub fn line_at(mode: usize, s: &[u8], at: usize) -> LineRead
     if p.ok {
         let v = value_at(mode, s, p.next);
         if v.ok {
-            return LineRead::Line(e, v.next);
+            let l = LineCursors {
+                name: at,
+                parameters: e,
+                value: v.next,
+            };
+            return LineRead::Line(l);
         }
         return LineRead::Bad;
     }

@@ -3,6 +3,7 @@ use crate::ValuesRead;
 use crate::list::read_listed;
 use numbers::geo::GeoRead;
 use numbers::geo::read_geo;
+use schema::Context;
 use schema::WordRead;
 use schema::has_words;
 use schema::is_listed;
@@ -45,50 +46,57 @@ fn read_status(t: usize, mode: usize, s: &[u8], at: usize) -> ValuesRead
 }
 
 // One value: a word of the property's closed set where it has one.
-fn read_chosen(k: usize, p: usize, t: usize, mode: usize, s: &[u8], at: usize) -> ValuesRead
+fn read_chosen(c: Context, mode: usize, s: &[u8], at: usize) -> ValuesRead
     requires { ⌜ cuts mode ≡ true ⌝ }
     ensures { λ r. ⌜
-        r ≡ valuesRead t (isRead (readChosen (wordsAt k p) (typeAt t) (rest mode (now (s .entry)) at))) ⌝ }
+        r ≡ valuesRead (c .«value_type») (isRead
+        (readChosen (wordsAt (c .component) (c .property)) (typeAt (c .«value_type»))
+        (rest mode (now (s .entry)) at))) ⌝ }
 {
-    let closed = has_words(k, p);
+    let closed = has_words(c.component, c.property);
     if closed {
-        let WordRead::At(i) = read_word_of(k, p, false, mode, s, at) else {
+        let WordRead::At(i) = read_word_of(c.component, c.property, false, mode, s, at) else {
             return ValuesRead::Bad;
         };
-        return ValuesRead::Good(t);
+        return ValuesRead::Good(c.value_type);
     }
-    let ValueRead::Good(v) = read_value(false, t, mode, s, at) else {
+    let ValueRead::Good(v) = read_value(false, c.value_type, mode, s, at) else {
         return ValuesRead::Bad;
     };
-    ValuesRead::Good(t)
+    ValuesRead::Good(c.value_type)
 }
 
 // The values of a property.
-fn read_own(k: usize, p: usize, t: usize, mode: usize, s: &[u8], at: usize) -> ValuesRead
+fn read_own(c: Context, mode: usize, s: &[u8], at: usize) -> ValuesRead
     requires { ⌜ cuts mode ≡ true ⌝ }
-    ensures { λ r. ⌜ r ≡ valuesRead t (ownAt k p t (rest mode (now (s .entry)) at)) ⌝ }
+    ensures { λ r. ⌜
+        r ≡ valuesRead (c .«value_type»)
+        (ownAt (c .component) (c .property) (c .«value_type») (rest mode (now (s .entry)) at)) ⌝ }
 {
+    let p = c.property;
     if p == property::GEO {
-        return read_geo_value(t, mode, s, at);
+        return read_geo_value(c.value_type, mode, s, at);
     }
     if p == property::REQUEST_STATUS {
-        return read_status(t, mode, s, at);
+        return read_status(c.value_type, mode, s, at);
     }
     let many = is_listed(p);
     if many {
-        return read_listed(t, mode, s, at);
+        return read_listed(c.value_type, mode, s, at);
     }
-    read_chosen(k, p, t, mode, s, at)
+    read_chosen(c, mode, s, at)
 }
 
-// The values of the type `t` of the property `p` in the component `k`, from the cursor to the end, where the property permits the type.
-pub fn read_values(k: usize, p: usize, t: usize, mode: usize, s: &[u8], at: usize) -> ValuesRead
+// The values from the cursor to the end, where the property permits the type.
+pub fn read_values(c: Context, mode: usize, s: &[u8], at: usize) -> ValuesRead
     requires { ⌜ cuts mode ≡ true ⌝ }
-    ensures { λ r. ⌜ r ≡ valuesRead t (goodAt k p t (rest mode (now (s .entry)) at)) ⌝ }
+    ensures { λ r. ⌜
+        r ≡ valuesRead (c .«value_type»)
+        (goodAt (c .component) (c .property) (c .«value_type») (rest mode (now (s .entry)) at)) ⌝ }
 {
-    let fits = permits_type(p, t);
+    let fits = permits_type(c.property, c.value_type);
     if fits {
-        return read_own(k, p, t, mode, s, at);
+        return read_own(c, mode, s, at);
     }
     ValuesRead::Bad
 }

@@ -20,7 +20,7 @@ use Rattle.xcal.specs.PropertyNodes.{childVerdict}
 use Rattle.read_xml_value.specs.Sequencing.{walked}
 use Rattle.xml.specs.NodesAt.{nodesAt}
 use Rattle.read_xml_nodes.specs.Judging.{judgedAs}
-use Rattle.read_xml_value.specs.declared.Context.{Context}
+use Rattle.schema.specs.declared.Context.{Context}
 use Rattle.read_xml.specs.Children.{slotsAt, flagsAt}
 use Rattle.read_xml.specs.declared.After.{After}
 use Rattle.read_xml.specs.declared.After.the-variants.{Slot as Then, Nowhere}

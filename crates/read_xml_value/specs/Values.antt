@@ -9,7 +9,7 @@ use Rattle.schema.specs.Numbers.{typeAt}
 use Rattle.schema.specs.Sets.{wordsAt}
 use Rattle.xml.specs.Nodes.{Nodes}
 use Rattle.xcal.specs.Layout.{sequence, leaf}
-use Rattle.read_xml_value.specs.declared.Context.{Context}
+use Rattle.schema.specs.declared.Context.{Context}
 use Rattle.xcal.specs.ValueNodes.{periodSlots, periodInside, recurSlots, recurInside, readWordOf}
 
 abbrev pub typedAt : Context → ℕ → ℕ → Nodes → Verdict

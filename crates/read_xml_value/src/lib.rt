@@ -11,13 +11,6 @@ pub use types::element_type;
 pub use types::type_of_nodes;
 pub use value::value_verdict;
 
-// Where a value stands: its component, property and type, by their numbers.
-pub struct Context {
-    pub component: usize,
-    pub property: usize,
-    pub value_type: usize,
-}
-
 // The type that an element's name names, by its number; or a name that names none.
 pub enum Named {
     Type(usize),

@@ -1,5 +1,4 @@
 // An element of a property's value. See crate xcal, specs/ValueNodes.antt.
-use crate::Context;
 use crate::Named;
 use crate::leaves::leaf;
 use crate::leaves::leaf_value;
@@ -9,6 +8,7 @@ use crate::types::element_type;
 use read_xml_nodes::Element;
 use read_xml_nodes::Judged;
 use refusals::VALUE;
+use schema::Context;
 use schema::has_words;
 use schema::permits_type;
 use schema::property;

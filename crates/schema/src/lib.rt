@@ -36,6 +36,13 @@ pub use words::parameter_has_words;
 pub use words::read_word_of;
 pub use words::read_word_of_parameter;
 
+// Where a value stands: its component, property and type, by their numbers.
+pub struct Context {
+    pub component: usize,
+    pub property: usize,
+    pub value_type: usize,
+}
+
 // A word of a closed set, at this place in it; or none.
 pub enum WordRead {
     At(usize),

@@ -66,7 +66,7 @@ module _ {k mode : ℕ} {s : List ℕ} {from : ℕ} {d : List ℕ} {o : ℕ} {e 
     unfolding innerOf
     leading-over q = stopped _ true (r .next) (omega (arith, f .onward)) (by-kind f End q) refl (λ x. own-close (componentName k) _) (λ x. walk-closed (m .walking) (r .next) (f .onward) (f .ready) (by-kind f End q))
 
-    pub leading-property : {g : List ℕ} {p′ : ℕ} → r .kind ≡ Property → Put e g p p′ (partsXml k mode (take (r .end) s) at (r .name) (r .value)) → Leading k mode s from d o g p′ (r .next)
+    pub leading-property : {g : List ℕ} {p′ : ℕ} → r .kind ≡ Property → Put e g p p′ (partsXml k mode (take (r .end) s) (r .line)) → Leading k mode s from d o g p′ (r .next)
     unfolding innerOf
     leading-property q b = record { walking = own-at-property (m .walking) f q b; components = ap (λ (es : List Entry). innerOf es 0) (sym (by-kind f Property q .first)) ∙ m .components }
 

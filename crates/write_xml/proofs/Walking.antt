@@ -119,7 +119,7 @@ module _ {k mode : ℕ} {s : List ℕ} {from : ℕ} {d : List ℕ} {o : ℕ} {e 
     pub own-over : r .kind ≡ End → Put d e o p (ownXml (componentName k) (entriesAt mode s from))
     own-over q = walk-stop m _ (by-kind f End q) (own-close (componentName k) _)
 
-    pub own-at-property : {g : List ℕ} {p′ : ℕ} → r .kind ≡ Property → Put e g p p′ (partsXml k mode (take (r .end) s) at (r .name) (r .value)) → Walking (own k) mode s from d o g p′ (r .next)
+    pub own-at-property : {g : List ℕ} {p′ : ℕ} → r .kind ≡ Property → Put e g p p′ (partsXml k mode (take (r .end) s) (r .line)) → Walking (own k) mode s from d o g p′ (r .next)
     own-at-property {g} {p′} q b =
         let i = by-kind f Property q in
         walk-put m (r .next) (propertyXml (propertyOf (componentName k) (i .line))) (f .onward) (f .ready) (ap (ownXml (componentName k)) (i .first) ∙ own-property (componentName k) _ (i .line))
@@ -148,21 +148,21 @@ module _ {mode : ℕ} {s : List ℕ} {from : ℕ} {d : List ℕ} {o : ℕ} {e : 
     inner-over q = record { put = walk-stop m _ (bound-kind f End q) (inner-close _); passed = walk-closed m (r .next) (f .onward) (f .ready) (bound-kind f End q) }
 
     -- a component whose parts were put
-    module _ {w : Walked} {g h i : List ℕ} (q : r .kind ≡ Begin) (u : PropertiesPut e g p (headXml (upper (rest mode (take (r .end) s) (r .value))) (w .bare) (entriesAt mode s (r .next))) mode s (r .next) w) where
-      component : {b p′ n : ℕ} → Put g h (w .to) b (innerXml (entriesAt mode s (r .next))) → Put h i b p′ (tailXml (upper (rest mode (take (r .end) s) (r .value))) (w .bare)) →
+    module _ {w : Walked} {g h i : List ℕ} (q : r .kind ≡ Begin) (u : PropertiesPut e g p (headXml (upper (rest mode (take (r .end) s) (r .line .value))) (w .bare) (entriesAt mode s (r .next))) mode s (r .next) w) where
+      component : {b p′ n : ℕ} → Put g h (w .to) b (innerXml (entriesAt mode s (r .next))) → Put h i b p′ (tailXml (upper (rest mode (take (r .end) s) (r .line .value))) (w .bare)) →
           Passed mode s (r .next) n → Walking inner mode s from d o i p′ n
       component {n = n} v t z =
           let j = bound-kind f Begin q in
           walk-put m n _ (omega (arith, f .onward, z .onward)) (z .ready) (ap innerXml j ∙ component-parts _ _ ∙ rw (z .rest, u .ahead .empty)) (behind-passed at _ j z) (u .put ▷ v ▷ t)
 
       pub inner-at-component : {p′ : ℕ} {b : Reached} → ComponentsPut g h (w .to) mode s (w .inner) b →
-          Put h i (b .to) p′ (tailXml (upper (rest mode (take (r .end) s) (r .value))) (w .bare)) → Walking inner mode s from d o i p′ (b .next)
+          Put h i (b .to) p′ (tailXml (upper (rest mode (take (r .end) s) (r .line .value))) (w .bare)) → Walking inner mode s from d o i p′ (b .next)
       inner-at-component {b = b} v t =
           component (subst (λ (c : Components). Put g h (w .to) (b .to) (componentsXml c)) (u .ahead .components) (v .put)) t (record { onward = omega (arith, u .ahead .onward, v .passed .onward); ready = v .passed .ready; rest = v .passed .rest ∙ u .ahead .rest })
 
     pub inner-at-bare : {w : Walked} {g i : List ℕ} {p′ : ℕ} → r .kind ≡ Begin →
-        PropertiesPut e g p (headXml (upper (rest mode (take (r .end) s) (r .value))) (w .bare) (entriesAt mode s (r .next))) mode s (r .next) w → w .bare ≡ true →
-        Put g i (w .to) p′ (tailXml (upper (rest mode (take (r .end) s) (r .value))) (w .bare)) → Walking inner mode s from d o i p′ (w .next)
+        PropertiesPut e g p (headXml (upper (rest mode (take (r .end) s) (r .line .value))) (w .bare) (entriesAt mode s (r .next))) mode s (r .next) w → w .bare ≡ true →
+        Put g i (w .to) p′ (tailXml (upper (rest mode (take (r .end) s) (r .line .value))) (w .bare)) → Walking inner mode s from d o i p′ (w .next)
     inner-at-bare q u h t =
         component q u (rw (inner-empty _ (sym (u .ahead .empty) ∙ h)) (put-none _ _ (t .sized))) t (u .ahead .passed h)
 

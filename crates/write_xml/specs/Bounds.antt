@@ -42,4 +42,4 @@ pub record BoundAt (mode : ℕ) (s : List ℕ) (at : ℕ) (r : Found) : Type 0 w
   pub onward : at < r .next
   pub ready : Ready mode s (r .next)
   pub ends : r .end ≤ length s
-  pub found : BoundBy (r .kind) mode s at (r .value) (r .end) (r .next)
+  pub found : BoundBy (r .kind) mode s at (r .line .value) (r .end) (r .next)

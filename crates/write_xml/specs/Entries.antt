@@ -16,6 +16,7 @@ use Rattle.read_text_line.specs.ContentLine.{ContentLine, contentLine}
 use Rattle.read_text_line.specs.Line.{LineAt}
 use Rattle.read_text_line.specs.LineEnd.{linesAt}
 use Rattle.read_text_line.specs.Ready.{Ready}
+use Rattle.read_text_line.specs.declared.LineCursors.{LineCursors}
 use Rattle.read_text_line.specs.declared.LineRead.the-variants.{Line as LineThere}
 use Rattle.text.specs.Tree.{Entry, begin, end, property, nothing, entryOf}
 use Rattle.write_xml.specs.declared.entry.Found.{Found}
@@ -34,20 +35,20 @@ abbrev pub First : ℕ → List ℕ → ℕ → Entry → ℕ → Type 0
 First mode s at x next = entriesAt mode s at ≡ x ∷ entriesAt mode s next
 
 -- a property, the line that it is, and where its parts stand
-pub record PropertyAt (mode : ℕ) (s : List ℕ) (at n v e next : ℕ) : Type 0 where
+pub record PropertyAt (mode : ℕ) (s : List ℕ) (at : ℕ) (l : LineCursors) (e next : ℕ) : Type 0 where
   pub line : ContentLine
   pub is : contentLine (rest mode (take e s) at) ≡ some line
-  pub parts : LineAt mode (take e s) at (LineThere n v)
+  pub parts : LineAt mode (take e s) at (LineThere l)
   pub first : First mode s at (property line) next
 
-abbrev pub FoundBy : Kind → ℕ → List ℕ → ℕ → ℕ → ℕ → ℕ → ℕ → Type 0
-FoundBy Begin mode s at n v e next = First mode s at (begin (upper (rest mode (take e s) v))) next
-FoundBy End mode s at n v e next = First mode s at end next
-FoundBy Property mode s at n v e next = PropertyAt mode s at n v e next
-FoundBy Nothing mode s at n v e next = First mode s at nothing next
+abbrev pub FoundBy : Kind → ℕ → List ℕ → ℕ → LineCursors → ℕ → ℕ → Type 0
+FoundBy Begin mode s at l e next = First mode s at (begin (upper (rest mode (take e s) (l .value)))) next
+FoundBy End mode s at l e next = First mode s at end next
+FoundBy Property mode s at l e next = PropertyAt mode s at l e next
+FoundBy Nothing mode s at l e next = First mode s at nothing next
 
 pub record FoundAt (mode : ℕ) (s : List ℕ) (at : ℕ) (r : Found) : Type 0 where
   pub onward : at < r .next
   pub ready : Ready mode s (r .next)
   pub ends : r .end ≤ length s
-  pub found : FoundBy (r .kind) mode s at (r .name) (r .value) (r .end) (r .next)
+  pub found : FoundBy (r .kind) mode s at (r .line) (r .end) (r .next)

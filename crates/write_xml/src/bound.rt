@@ -7,6 +7,7 @@ use octets::unit::LOWER_E;
 use octets::unit::UPPER_B;
 use octets::unit::UPPER_E;
 use read_text_line::Ending;
+use read_text_line::LineCursors;
 use read_text_line::line_end;
 use source::unit;
 ghost use mathlib.Core.Path.{_≡_};
@@ -39,20 +40,32 @@ fn line_aside(mode: usize, s: &[u8], at: usize) -> Found
     ensures { λ r. ⌜ BoundAt mode (now (s .entry)) at r ⌝ }
 {
     match line_end(mode, s, at) {
-        Ending::Loose => Found {
-            kind: Kind::Nothing,
-            name: at,
-            value: at,
-            end: at,
-            next: s.len(),
-        },
-        Ending::Whole(e, next) => Found {
-            kind: Kind::Nothing,
-            name: e,
-            value: e,
-            end: e,
-            next,
-        },
+        Ending::Loose => {
+            let l = LineCursors {
+                name: at,
+                parameters: at,
+                value: at,
+            };
+            Found {
+                kind: Kind::Nothing,
+                line: l,
+                end: at,
+                next: s.len(),
+            }
+        }
+        Ending::Whole(e, next) => {
+            let l = LineCursors {
+                name: at,
+                parameters: e,
+                value: e,
+            };
+            Found {
+                kind: Kind::Nothing,
+                line: l,
+                end: e,
+                next,
+            }
+        }
     }
 }
 

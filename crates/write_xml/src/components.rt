@@ -24,13 +24,14 @@ pub fn put_components(out: &mut [u8], o: usize, mode: usize, s: &[u8], from: usi
         let kind = f.kind;
         match kind {
             Kind::Begin => {
-                let h = put_head(out, p, mode, s, f.value, f.end, f.next);
+                let l = f.line;
+                let h = put_head(out, p, mode, s, l.value, f.end, f.next);
                 if h.bare {
-                    p = put_tail(out, h.to, mode, &s[..f.end], f.value, h.bare);
+                    p = put_tail(out, h.to, mode, &s[..f.end], l.value, h.bare);
                     at = h.next;
                 } else {
                     let b = put_components(out, h.to, mode, s, h.inner);
-                    p = put_tail(out, b.to, mode, &s[..f.end], f.value, h.bare);
+                    p = put_tail(out, b.to, mode, &s[..f.end], l.value, h.bare);
                     at = b.next;
                 }
             }

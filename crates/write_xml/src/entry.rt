@@ -1,6 +1,7 @@
 // What a line of a text is. See specs/Entries.antt.
 use names::is_word_any_case;
 use read_text_line::Ending;
+use read_text_line::LineCursors;
 use read_text_line::LineRead;
 use read_text_line::line_at;
 use read_text_line::line_end;
@@ -20,11 +21,10 @@ pub enum Kind {
     Nothing,
 }
 
-// A line: what it is, the cursors of its name's end, of its value and of its end, and that of the next line.
+// A line: what it is, its cursors, that of its end, and that of the next line.
 pub struct Found {
     pub kind: Kind,
-    pub name: usize,
-    pub value: usize,
+    pub line: LineCursors,
     pub end: usize,
     pub next: usize,
 }
@@ -50,28 +50,42 @@ pub fn entry_at(mode: usize, s: &[u8], at: usize) -> Found
     ensures { λ r. ⌜ FoundAt mode (now (s .entry)) at r ⌝ }
 {
     match line_end(mode, s, at) {
-        Ending::Loose => Found {
-            kind: Kind::Nothing,
-            name: at,
-            value: at,
-            end: at,
-            next: s.len(),
-        },
-        Ending::Whole(e, next) => match line_at(mode, &s[..e], at) {
-            LineRead::Bad => Found {
+        Ending::Loose => {
+            let l = LineCursors {
+                name: at,
+                parameters: at,
+                value: at,
+            };
+            Found {
                 kind: Kind::Nothing,
-                name: e,
-                value: e,
-                end: e,
-                next,
-            },
-            LineRead::Line(n, v) => Found {
-                kind: kind_of(mode, &s[..n], at),
-                name: n,
-                value: v,
-                end: e,
-                next,
-            },
+                line: l,
+                end: at,
+                next: s.len(),
+            }
+        }
+        Ending::Whole(e, next) => match line_at(mode, &s[..e], at) {
+            LineRead::Bad => {
+                let l = LineCursors {
+                    name: at,
+                    parameters: e,
+                    value: e,
+                };
+                Found {
+                    kind: Kind::Nothing,
+                    line: l,
+                    end: e,
+                    next,
+                }
+            }
+            LineRead::Line(l) => {
+                let n = l.parameters;
+                Found {
+                    kind: kind_of(mode, &s[..n], l.name),
+                    line: l,
+                    end: e,
+                    next,
+                }
+            }
         },
     }
 }

@@ -52,7 +52,8 @@ fn put_leading(out: &mut [u8], o: usize, k: usize, mode: usize, s: &[u8], from: 
                 };
             }
             Kind::Property => {
-                p = put_property(out, p, k, mode, &s[..f.end], at, f.name, f.value);
+                let l = f.line;
+                p = put_property(out, p, k, mode, &s[..f.end], l);
                 at = f.next;
             }
             Kind::Nothing => {
@@ -88,7 +89,8 @@ fn put_following(out: &mut [u8], o: usize, k: usize, mode: usize, s: &[u8], from
                 return p;
             }
             Kind::Property => {
-                p = put_property(out, p, k, mode, &s[..f.end], at, f.name, f.value);
+                let l = f.line;
+                p = put_property(out, p, k, mode, &s[..f.end], l);
                 at = f.next;
             }
             Kind::Nothing => {

@@ -1,4 +1,4 @@
--- The element of the property that a content line states: its name ends at the cursor e, and its value stands from the cursor v on.
+-- The element of the property that a content line states, by its cursors.
 --     nameIn         the name
 --     statedXml      the elements of its values, of the type that it states
 --     contentXml     those of its parameters and its values
@@ -14,19 +14,20 @@ use Rattle.source.specs.Source.{rest}
 use Rattle.schema.specs.Numbers.{componentName}
 use Rattle.xml.specs.Escape.{elementOf}
 use Rattle.read_text_line.specs.Cursor.{paramsAt}
+use Rattle.read_text_line.specs.declared.LineCursors.{LineCursors}
 use Rattle.text.specs.Parameters.{statedType, readParameters}
 use Rattle.text.specs.Values.{readValues}
 use Rattle.xcal.specs.WriteXml.{valuesXml, parametersElement}
 
-abbrev pub nameIn : ℕ → List ℕ → ℕ → ℕ → List ℕ
-nameIn m s c e = rest m (take e s) c
+abbrev pub nameIn : ℕ → List ℕ → LineCursors → List ℕ
+nameIn m s l = rest m (take (l .parameters) s) (l .name)
 
-abbrev pub statedXml : ℕ → ℕ → List ℕ → ℕ → ℕ → ℕ → List ℕ
-statedXml k m s c e v =
-    valuesXml (readOr [] (readValues (componentName k) (upper (nameIn m s c e)) (readOr TEXT (statedType (upper (nameIn m s c e)) (paramsAt m s e))) (rest m s v)))
+abbrev pub statedXml : ℕ → ℕ → List ℕ → LineCursors → List ℕ
+statedXml k m s l =
+    valuesXml (readOr [] (readValues (componentName k) (upper (nameIn m s l)) (readOr TEXT (statedType (upper (nameIn m s l)) (paramsAt m s (l .parameters)))) (rest m s (l .value))))
 
-abbrev pub contentXml : ℕ → ℕ → List ℕ → ℕ → ℕ → ℕ → List ℕ
-contentXml k m s c e v = parametersElement (readOr [] (readParameters (paramsAt m s e))) ⊕ statedXml k m s c e v
+abbrev pub contentXml : ℕ → ℕ → List ℕ → LineCursors → List ℕ
+contentXml k m s l = parametersElement (readOr [] (readParameters (paramsAt m s (l .parameters)))) ⊕ statedXml k m s l
 
-abbrev pub partsXml : ℕ → ℕ → List ℕ → ℕ → ℕ → ℕ → List ℕ
-partsXml k m s c e v = elementOf (lower (nameIn m s c e)) (contentXml k m s c e v)
+abbrev pub partsXml : ℕ → ℕ → List ℕ → LineCursors → List ℕ
+partsXml k m s l = elementOf (lower (nameIn m s l)) (contentXml k m s l)

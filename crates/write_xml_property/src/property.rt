@@ -1,7 +1,9 @@
 // A content line written as the element of its property. See specs/Property.antt.
 use crate::shown::put_values;
+use read_text_line::LineCursors;
 use read_text_parameters::TypeRead;
 use read_text_parameters::stated_type;
+use schema::Context;
 use schema::property_number;
 use schema::value_type;
 use tags::put_small_end;
@@ -15,61 +17,53 @@ ghost use Rattle.sink.specs.Sink.{Put};
 ghost use Rattle.source.specs.Source.{cuts};
 ghost use Rattle.write_xml_property.specs.Property.{statedXml, contentXml, partsXml};
 
-// The values from the cursor `v` on, of the type that the line states: its name ends at the cursor `e`.
-fn put_stated(
-    out: &mut [u8],
-    o: usize,
-    k: usize,
-    mode: usize,
-    s: &[u8],
-    at: usize,
-    e: usize,
-    v: usize,
-) -> usize
-    requires { ⌜ (cuts mode ≡ true) × (e ≤ length (now s)) ⌝ }
-    ensures { λ r. ⌜ Put (now (out .entry)) (now (out .exit)) o r (statedXml k mode (now (s .entry)) at e v) ⌝ }
+// The values of a line, of the type that it states.
+fn put_stated(out: &mut [u8], o: usize, k: usize, mode: usize, s: &[u8], l: LineCursors) -> usize
+    requires { ⌜ (cuts mode ≡ true) × (l .parameters ≤ length (now s)) ⌝ }
+    ensures { λ r. ⌜ Put (now (out .entry)) (now (out .exit)) o r (statedXml k mode (now (s .entry)) l) ⌝ }
 {
-    let p = property_number(mode, &s[..e], at);
+    let e = l.parameters;
+    let p = property_number(mode, &s[..e], l.name);
     let TypeRead::Type(t) = stated_type(p, mode, s, e) else {
-        return put_values(out, o, k, p, value_type::TEXT, mode, s, v);
+        let untyped = Context {
+            component: k,
+            property: p,
+            value_type: value_type::TEXT,
+        };
+        return put_values(out, o, untyped, mode, s, l.value);
     };
-    put_values(out, o, k, p, t, mode, s, v)
+    let c = Context {
+        component: k,
+        property: p,
+        value_type: t,
+    };
+    put_values(out, o, c, mode, s, l.value)
 }
 
 // The parameters and the values.
-fn put_content(
-    out: &mut [u8],
-    o: usize,
-    k: usize,
-    mode: usize,
-    s: &[u8],
-    at: usize,
-    e: usize,
-    v: usize,
-) -> usize
-    requires { ⌜ (cuts mode ≡ true) × (e ≤ length (now s)) ⌝ }
-    ensures { λ r. ⌜ Put (now (out .entry)) (now (out .exit)) o r (contentXml k mode (now (s .entry)) at e v) ⌝ }
+fn put_content(out: &mut [u8], o: usize, k: usize, mode: usize, s: &[u8], l: LineCursors) -> usize
+    requires { ⌜ (cuts mode ≡ true) × (l .parameters ≤ length (now s)) ⌝ }
+    ensures { λ r. ⌜ Put (now (out .entry)) (now (out .exit)) o r (contentXml k mode (now (s .entry)) l) ⌝ }
 {
-    let a = put_parameters(out, o, mode, s, e);
-    put_stated(out, a, k, mode, s, at, e, v)
+    let a = put_parameters(out, o, mode, s, l.parameters);
+    put_stated(out, a, k, mode, s, l)
 }
 
-// The property of the component `k` that the content line from the cursor `at` on states: its name ends at the cursor `e`, and its value stands from the
-// cursor `v` on.
+// The property of the component `k` that a content line states.
 pub fn put_property(
     out: &mut [u8],
     o: usize,
     k: usize,
     mode: usize,
     s: &[u8],
-    at: usize,
-    e: usize,
-    v: usize,
+    l: LineCursors,
 ) -> usize
-    requires { ⌜ (cuts mode ≡ true) × (e ≤ length (now s)) ⌝ }
-    ensures { λ r. ⌜ Put (now (out .entry)) (now (out .exit)) o r (partsXml k mode (now (s .entry)) at e v) ⌝ }
+    requires { ⌜ (cuts mode ≡ true) × (l .parameters ≤ length (now s)) ⌝ }
+    ensures { λ r. ⌜ Put (now (out .entry)) (now (out .exit)) o r (partsXml k mode (now (s .entry)) l) ⌝ }
 {
+    let at = l.name;
+    let e = l.parameters;
     let a = put_small_start(out, o, mode, &s[..e], at);
-    let b = put_content(out, a, k, mode, s, at, e, v);
+    let b = put_content(out, a, k, mode, s, l);
     put_small_end(out, b, mode, &s[..e], at)
 }

@@ -3,6 +3,7 @@ use crate::geo::put_geo;
 use crate::list::put_list;
 use read_text_property::ValuesRead;
 use read_text_property::read_values;
+use schema::Context;
 use schema::component;
 use schema::has_words;
 use schema::is_listed;
@@ -26,41 +27,28 @@ ghost use Rattle.text.specs.Values.{readValues};
 ghost use Rattle.xcal.specs.WriteXml.{valuesXml};
 ghost use Rattle.write_xml_property.specs.Shown.{singleXml, shownXml};
 
-// One value: a word of a closed set in capitals, or a value of the type `t`.
-fn put_single(
-    out: &mut [u8],
-    o: usize,
-    k: usize,
-    p: usize,
-    t: usize,
-    mode: usize,
-    s: &[u8],
-    at: usize,
-) -> usize
+// One value: a word of a closed set in capitals, or a value of the type.
+fn put_single(out: &mut [u8], o: usize, c: Context, mode: usize, s: &[u8], at: usize) -> usize
     requires { ⌜ cuts mode ≡ true ⌝ }
-    ensures { λ r. ⌜ Put (now (out .entry)) (now (out .exit)) o r (singleXml k p t (rest mode (now (s .entry)) at)) ⌝ }
+    ensures { λ r. ⌜
+        Put (now (out .entry)) (now (out .exit)) o r
+        (singleXml (c .component) (c .property) (c .«value_type») (rest mode (now (s .entry)) at)) ⌝ }
 {
-    let chosen = has_words(k, p);
+    let chosen = has_words(c.component, c.property);
     if chosen {
         return put_word_element(out, o, mode, s, at);
     }
-    put_value_element(out, o, t, mode, s, at)
+    put_value_element(out, o, c.value_type, mode, s, at)
 }
 
-// The values of the property `p` in the component `k`, where they can be read.
-fn put_shown(
-    out: &mut [u8],
-    o: usize,
-    k: usize,
-    p: usize,
-    t: usize,
-    mode: usize,
-    s: &[u8],
-    at: usize,
-) -> usize
+// The values, where they can be read.
+fn put_shown(out: &mut [u8], o: usize, c: Context, mode: usize, s: &[u8], at: usize) -> usize
     requires { ⌜ cuts mode ≡ true ⌝ }
-    ensures { λ r. ⌜ Put (now (out .entry)) (now (out .exit)) o r (shownXml k p t (rest mode (now (s .entry)) at)) ⌝ }
+    ensures { λ r. ⌜
+        Put (now (out .entry)) (now (out .exit)) o r
+        (shownXml (c .component) (c .property) (c .«value_type») (rest mode (now (s .entry)) at)) ⌝ }
 {
+    let p = c.property;
     if p == property::GEO {
         return put_geo(out, o, mode, s, at);
     }
@@ -69,9 +57,9 @@ fn put_shown(
     }
     let listed = is_listed(p);
     if listed {
-        return put_list(out, o, t, mode, s, at);
+        return put_list(out, o, c.value_type, mode, s, at);
     }
-    put_single(out, o, k, p, t, mode, s, at)
+    put_single(out, o, c, mode, s, at)
 }
 
 // A component's number, KNOWN for all that are not recognised.
@@ -105,26 +93,23 @@ fn type_place(t: usize) -> usize
 }
 
 // The values that stand from the cursor on; nothing where they are none of the property.
-pub fn put_values(
-    out: &mut [u8],
-    o: usize,
-    k: usize,
-    p: usize,
-    t: usize,
-    mode: usize,
-    s: &[u8],
-    at: usize,
-) -> usize
+pub fn put_values(out: &mut [u8], o: usize, c: Context, mode: usize, s: &[u8], at: usize) -> usize
     requires { ⌜ cuts mode ≡ true ⌝ }
     ensures { λ r. ⌜
         Put (now (out .entry)) (now (out .exit)) o r (valuesXml
-        (readOr [] (readValues (componentName k) (propertyName p) (typeAt t) (rest mode (now (s .entry)) at)))) ⌝ }
+        (readOr [] (readValues (componentName (c .component)) (propertyName (c .property)) (typeAt (c .«value_type»))
+        (rest mode (now (s .entry)) at)))) ⌝ }
 {
-    let a = component_place(k);
-    let b = property_place(p);
-    let u = type_place(t);
-    let ValuesRead::Good(n) = read_values(a, b, u, mode, s, at) else {
+    let a = component_place(c.component);
+    let b = property_place(c.property);
+    let u = type_place(c.value_type);
+    let d = Context {
+        component: a,
+        property: b,
+        value_type: u,
+    };
+    let ValuesRead::Good(n) = read_values(d, mode, s, at) else {
         return o;
     };
-    put_shown(out, o, a, b, u, mode, s, at)
+    put_shown(out, o, d, mode, s, at)
 }

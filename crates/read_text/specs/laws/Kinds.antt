@@ -31,14 +31,15 @@ use Rattle.read_text_line.specs.Names.{isCarriedName}
 use Rattle.read_text_line.specs.Cursor.{paramsAt}
 use Rattle.read_text_line.specs.Params.{ParamOf}
 use Rattle.read_text_line.specs.laws.Params.{name-chars, param-more, param-over, param-fault}
-use Rattle.read_text_line.specs.Line.{Parts, LineAt}
+use Rattle.read_text_line.specs.Line.{named, Parts, LineAt}
 use Rattle.read_text_line.specs.Carried.{carriesName}
 use Rattle.read_text_line.specs.declared.ParamRead.{ParamRead}
+use Rattle.read_text_line.specs.declared.LineCursors.{LineCursors}
 use Rattle.read_text_line.specs.declared.LineRead.the-variants.{Line, Bad}
 use Rattle.text.specs.Nesting.{namesCarried}
 use Rattle.text.specs.LineKind.{LineKind, starts, beginKind, endKind, propertyKind, kindBy, kindOf, lineKind}
 use Rattle.read_text.specs.laws.Components.{named-component, same-component, begins-at}
-use Rattle.read_text.specs.Kinds.{named, KindIs}
+use Rattle.read_text.specs.Kinds.{KindIs}
 use Rattle.read_text.specs.declared.Kind.{Kind}
 use Rattle.read_text.specs.declared.Kind.the-variants.{Starts, Stops, Faulty}
 
@@ -109,46 +110,50 @@ module _ (l : ContentLine) {k n : ℕ} (h : k < 9) (e : n ≡ placeOf (upper (l 
 
 -- ---- a line
 
-module _ {m : ℕ} {s : List ℕ} {at e v : ℕ} (y : cuts m ≡ true) (p : Parts m s at e v) where
+module _ {m : ℕ} {s : List ℕ} {l : LineCursors} (y : cuts m ≡ true) (p : Parts m s l) where
   -- its name, cut out
-  pub name-cut : rest m (take e s) at ≡ runOf isNameChar (rest m s at)
+  pub name-cut : rest m (take (l .parameters) s) (l .name) ≡ runOf isNameChar (rest m s (l .name))
   name-cut = name-chars y (p .name)
 
-  pub name-count : at ≤ length s → e ≡ length (take e s)
-  name-count h = sym (length-take-le e s (p .name .plain y h))
+  pub name-count : l .name ≤ length s → l .parameters ≡ length (take (l .parameters) s)
+  name-count h = sym (length-take-le (l .parameters) s (p .name .plain y h))
 
   -- its name compared
-  pub name-is : (w : List ℕ) {t : Bool} → t ≡ same (upper (rest m (take e s) at)) w → t ≡ same (upper (runOf isNameChar (rest m s at))) w
+  pub name-is : (w : List ℕ) {t : Bool} → t ≡ same (upper (rest m (take (l .parameters) s) (l .name))) w → t ≡ same (upper (runOf isNameChar (rest m s (l .name)))) w
   name-is w q = q ∙ ap (λ (n : List ℕ). same (upper n) w) name-cut
 
   -- and looked up
-  pub name-number : {n : ℕ} → n ≡ placeOf (upper (rest m (take e s) at)) propertyNames → n ≡ placeOf (upper (runOf isNameChar (rest m s at))) propertyNames
+  pub name-number : {n : ℕ} → n ≡ placeOf (upper (rest m (take (l .parameters) s) (l .name))) propertyNames → n ≡ placeOf (upper (runOf isNameChar (rest m s (l .name)))) propertyNames
   name-number q = q ∙ ap (λ (n : List ℕ). placeOf (upper n) propertyNames) name-cut
 
-  module _ (k : ℕ) (inner : Bool) {c : Bool} (q : c ≡ (isCarriedName (runOf isNameChar (rest m s at)) and every carriesName (paramsAt m s e))) where
-    pub kind-uncarried : c ≡ false → KindIs (kindBy (componentName k) inner (named m s at e v)) (Faulty 5)
+  module _ (k : ℕ) (inner : Bool) {c : Bool} (q : c ≡ (isCarriedName (runOf isNameChar (rest m s (l .name))) and every carriesName (paramsAt m s (l .parameters)))) where
+    pub kind-uncarried : c ≡ false → KindIs (kindBy (componentName k) inner (named m s l)) (Faulty 5)
     unfolding kindBy namesCarried refusalAt
     kind-uncarried f = pick-no _ _ _ (sym q ∙ f)
 
-    module _ (r : Kind) {b : Bool} (f : c ≡ true) (i : b ≡ same (upper (rest m (take e s) at)) (ascii "BEGIN")) where
-      pub kind-begin : b ≡ true → KindIs (beginKind (componentName k) (named m s at e v)) r → KindIs (kindBy (componentName k) inner (named m s at e v)) r
+    module _ (r : Kind) {b : Bool} (f : c ≡ true) (i : b ≡ same (upper (rest m (take (l .parameters) s) (l .name))) (ascii "BEGIN")) where
+      pub kind-begin : b ≡ true → KindIs (beginKind (componentName k) (named m s l)) r → KindIs (kindBy (componentName k) inner (named m s l)) r
       unfolding kindBy namesCarried
       kind-begin g x = kind-yes r _ _ _ (sym q ∙ f) (kind-yes r _ _ _ (sym (name-is (ascii "BEGIN") i) ∙ g) x)
 
-      module _ {d : Bool} (g : b ≡ false) (j : d ≡ same (upper (rest m (take e s) at)) (ascii "END")) where
-        pub kind-end : d ≡ true → KindIs (endKind (componentName k) (named m s at e v)) r → KindIs (kindBy (componentName k) inner (named m s at e v)) r
+      module _ {d : Bool} (g : b ≡ false) (j : d ≡ same (upper (rest m (take (l .parameters) s) (l .name))) (ascii "END")) where
+        pub kind-end : d ≡ true → KindIs (endKind (componentName k) (named m s l)) r → KindIs (kindBy (componentName k) inner (named m s l)) r
         unfolding kindBy namesCarried
         kind-end z x = kind-yes r _ _ _ (sym q ∙ f) (kind-no r _ _ _ (sym (name-is (ascii "BEGIN") i) ∙ g) (kind-yes r _ _ _ (sym (name-is (ascii "END") j) ∙ z) x))
 
-        pub kind-property : d ≡ false → KindIs (propertyKind (componentName k) inner (named m s at e v)) r → KindIs (kindBy (componentName k) inner (named m s at e v)) r
+        pub kind-property : d ≡ false → KindIs (propertyKind (componentName k) inner (named m s l)) r → KindIs (kindBy (componentName k) inner (named m s l)) r
         unfolding kindBy namesCarried
         kind-property z x = kind-yes r _ _ _ (sym q ∙ f) (kind-no r _ _ _ (sym (name-is (ascii "BEGIN") i) ∙ g) (kind-no r _ _ _ (sym (name-is (ascii "END") j) ∙ z) x))
+
+-- where its name stands
+pub name-within : {m : ℕ} {s : List ℕ} {at : ℕ} {l : LineCursors} → LineAt m s at (Line l) → at ≤ length s → l .name ≤ length s
+name-within {s = s} a h = subst (λ (n : ℕ). n ≤ length s) (sym (a .parts .0)) h
 
 module _ (k : ℕ) (inner : Bool) (m : ℕ) (s : List ℕ) (at : ℕ) where
   pub kind-bad : LineAt m s at Bad → KindIs (lineKind (componentName k) inner (rest m s at)) (Faulty 4)
   unfolding kindOf refusalAt
   kind-bad a = rw (a .is)
 
-  pub kind-line : (e v : ℕ) (r : Kind) → LineAt m s at (Line e v) → KindIs (kindBy (componentName k) inner (named m s at e v)) r → KindIs (lineKind (componentName k) inner (rest m s at)) r
+  pub kind-line : (l : LineCursors) (r : Kind) → LineAt m s at (Line l) → KindIs (kindBy (componentName k) inner (named m s l)) r → KindIs (lineKind (componentName k) inner (rest m s at)) r
   unfolding kindOf
-  kind-line e v r a x = subst (λ (o : Option ContentLine). KindIs (kindOf (componentName k) inner o) r) (sym (a .is)) x
+  kind-line l r a x = subst (λ (o : Option ContentLine). KindIs (kindOf (componentName k) inner o) r) (sym (a .is)) x

@@ -25,12 +25,12 @@ use Rattle.read_text_line.specs.laws.Ready.{line-low}
 use Rattle.read_text_line.specs.ContentLine.{RawParameter}
 use Rattle.read_text_line.specs.Names.{isCarriedName}
 use Rattle.read_text_line.specs.Cursor.{paramsAt}
-use Rattle.read_text_line.specs.Line.{Parts, LineAt}
+use Rattle.read_text_line.specs.Line.{named, Parts, LineAt}
 use Rattle.read_text_line.specs.Carried.{carriesName}
+use Rattle.read_text_line.specs.declared.LineCursors.{LineCursors}
 use Rattle.read_text_line.specs.declared.LineRead.the-variants.{Line, Bad}
 use Rattle.text.specs.Nesting.{Move, on, opened, begins, ends, states, namesCarried, moveBy, moveOf, move, onward}
 use Rattle.read_text.specs.laws.Components.{same-component, named-component}
-use Rattle.read_text.specs.Kinds.{named}
 use Rattle.read_text.specs.laws.Kinds.{name-is}
 use Rattle.read_text.specs.Turns.{Ends, Body}
 use Rattle.read_text.specs.laws.Turns.{line-moves, loose-stops}
@@ -56,25 +56,25 @@ module _ (w : List ℕ) (ps : List RawParameter) {n : ℕ} (e : n ≡ placeOf w 
 
 -- ---- a line
 
-module _ {m : ℕ} {s : List ℕ} {at e v : ℕ} (y : cuts m ≡ true) (p : Parts m s at e v) {c : Bool} (q : c ≡ (isCarriedName (runOf isNameChar (rest m s at)) and every carriesName (paramsAt m s e))) where
-  pub outer-uncarried : c ≡ false → moveBy (named m s at e v) [] ≡ outward 5
+module _ {m : ℕ} {s : List ℕ} {l : LineCursors} (y : cuts m ≡ true) (p : Parts m s l) {c : Bool} (q : c ≡ (isCarriedName (runOf isNameChar (rest m s (l .name))) and every carriesName (paramsAt m s (l .parameters)))) where
+  pub outer-uncarried : c ≡ false → moveBy (named m s l) [] ≡ outward 5
   unfolding moveBy namesCarried pick refusalAt
   outer-uncarried f = rw (sym q ∙ f)
 
-  module _ {b : Bool} (f : c ≡ true) (i : b ≡ same (upper (rest m (take e s) at)) (ascii "BEGIN")) where
-    pub outer-begin : (r : ℕ) → b ≡ true → beginsOuter m s e v ≡ outward r → moveBy (named m s at e v) [] ≡ outward r
+  module _ {b : Bool} (f : c ≡ true) (i : b ≡ same (upper (rest m (take (l .parameters) s) (l .name))) (ascii "BEGIN")) where
+    pub outer-begin : (r : ℕ) → b ≡ true → beginsOuter m s l ≡ outward r → moveBy (named m s l) [] ≡ outward r
     unfolding moveBy namesCarried
     outer-begin r g x = pick-yes _ _ _ (sym q ∙ f) ∙ pick-yes _ _ _ (sym (name-is y p (ascii "BEGIN") i) ∙ g) ∙ x
 
-    pub outer-stray : b ≡ false → moveBy (named m s at e v) [] ≡ outward 6
+    pub outer-stray : b ≡ false → moveBy (named m s l) [] ≡ outward 6
     unfolding moveBy namesCarried
     outer-stray g = pick-yes _ _ _ (sym q ∙ f) ∙ pick-no _ _ _ (sym (name-is y p (ascii "BEGIN") i) ∙ g)
         ∙ pick-either (λ (x : Move). x ≡ outward 6) _ _ _ stray-end stray-property
       where
-        stray-end : ends (upper (rest m s v)) (paramsAt m s e) [] ≡ outward 6
+        stray-end : ends (upper (rest m s (l .value))) (paramsAt m s (l .parameters)) [] ≡ outward 6
         stray-end = unfold ends pick refusalAt in refl
 
-        stray-property : states (named m s at e v) [] ≡ outward 6
+        stray-property : states (named m s l) [] ≡ outward 6
         stray-property = unfold states pick refusalAt in refl
 
 module _ (m : ℕ) (s : List ℕ) (at : ℕ) where
@@ -82,9 +82,9 @@ module _ (m : ℕ) (s : List ℕ) (at : ℕ) where
   unfolding moveOf pick refusalAt
   outer-bad a = rw (a .is)
 
-  pub outer-line : (e v r : ℕ) → LineAt m s at (Line e v) → moveBy (named m s at e v) [] ≡ outward r → move (rest m s at) [] ≡ outward r
+  pub outer-line : (l : LineCursors) (r : ℕ) → LineAt m s at (Line l) → moveBy (named m s l) [] ≡ outward r → move (rest m s at) [] ≡ outward r
   unfolding moveOf
-  outer-line e v r a x = rw (a .is) x
+  outer-line l r a x = rw (a .is) x
 
 -- ---- a calendar
 

@@ -74,9 +74,9 @@ module _ {m : ℕ} {s : List ℕ} {c : ℕ} {t : Bool} (k : t ≡ isEmpty (runOf
     line-faulty f = record { is = named-line ∙ rw f; parts = tt }
 
     module _ {v : AllRead} (f : p .ok ≡ true) (w : TailAt m s (p .next) v) where
-      pub line-there : v .ok ≡ true → LineAt m s c (Line e (v .next))
+      pub line-there : v .ok ≡ true → LineAt m s c (Line (record { name = c; parameters = e; value = v .next }))
       unfolding pick
-      line-there g = record { is = named-line ∙ rw (f, w .is (runOf isNameChar (rest m s c)) (paramsAt m s e), g); parts = record { name = n; value = onward-both (a .to) (w .to) } }
+      line-there g = record { is = named-line ∙ rw (f, w .is (runOf isNameChar (rest m s c)) (paramsAt m s e), g); parts = (refl, record { name = n; value = onward-both (a .to) (w .to) }) }
 
       pub line-valueless : v .ok ≡ false → LineAt m s c Bad
       unfolding pick

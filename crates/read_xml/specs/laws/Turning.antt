@@ -41,7 +41,7 @@ use Rattle.read_xml_nodes.specs.declared.Node.{Node}
 use Rattle.read_xml_nodes.specs.declared.NodeKind.the-variants.{None, Element, Literal, Referred}
 use Rattle.read_xml_nodes.specs.declared.Judged.{Judged}
 use Rattle.read_xml_nodes.specs.declared.Judged.the-variants.{Fine, Refused}
-use Rattle.read_xml_value.specs.declared.Context.{Context}
+use Rattle.schema.specs.declared.Context.{Context}
 use Rattle.read_xml.specs.Children.{geoWords, statusWords, otherWords, childWords, slotsAt, slotAt, afterAt, hasTwo, flagsOf, flagsAt}
 use Rattle.read_xml.specs.laws.Children.{slots-place, after-at, flags-start, flags-more, parameters-at}
 use Rattle.read_xml.specs.Turning.{Holder, afterOf, childOf, ChildAt, Onward, Turns}

@@ -34,7 +34,7 @@ use Rattle.read_xml_nodes.specs.Judging.{judgedAs}
 use Rattle.read_xml_nodes.specs.laws.Judging.{is-value}
 use Rattle.read_xml_value.specs.ElementTypes.{TypeNamed}
 use Rattle.read_xml_value.specs.Values.{typedAt}
-use Rattle.read_xml_value.specs.declared.Context.{Context}
+use Rattle.schema.specs.declared.Context.{Context}
 use Rattle.read_xml_value.specs.declared.Named.{Named}
 use Rattle.read_xml_value.specs.declared.Named.the-variants.{«Type» as Typed, Bad}
 use Rattle.read_xml_nodes.specs.declared.Judged.the-variants.{Refused}

@@ -26,6 +26,7 @@ use Rattle.read_text_line.specs.LineEnd.{LineEnds, EndsLine}
 use Rattle.read_text_line.specs.laws.LineEnd.{line-first}
 use Rattle.read_text_line.specs.Ready.{Ready}
 use Rattle.read_text_line.specs.laws.Ready.{line-next, line-low, line-end-inside}
+use Rattle.read_text_line.specs.declared.LineCursors.{LineCursors}
 use Rattle.read_text_line.specs.declared.Ending.the-variants.{Loose}
 use Rattle.read_text_line.specs.ContentLine.{ContentLine, RawParameter, withValue, contentLine}
 use Rattle.text.specs.Tree.{property, nothing, entryBy, entryOf}
@@ -38,19 +39,19 @@ use Rattle.write_xml.specs.Walks.{isAside}
 use Rattle.write_xml.specs.Bounds.{opensBound, opens, BoundBy, BoundAt}
 
 -- what was found, of the kind that it has
-pub bound-kind : {mode : ℕ} {s : List ℕ} {at : ℕ} {r : Found} → BoundAt mode s at r → (k : Kind) → r .kind ≡ k → BoundBy k mode s at (r .value) (r .end) (r .next)
-bound-kind {mode} {s} {at} {r} f k q = subst (λ (x : Kind). BoundBy x mode s at (r .value) (r .end) (r .next)) q (f .found)
+pub bound-kind : {mode : ℕ} {s : List ℕ} {at : ℕ} {r : Found} → BoundAt mode s at r → (k : Kind) → r .kind ≡ k → BoundBy k mode s at (r .line .value) (r .end) (r .next)
+bound-kind {mode} {s} {at} {r} f k q = subst (λ (x : Kind). BoundBy x mode s at (r .line .value) (r .end) (r .next)) q (f .found)
 
 -- ---- a line that is read whole
 
-found-by : (k : Kind) (mode : ℕ) (s : List ℕ) (at n v e next : ℕ) → FoundBy k mode s at n v e next → BoundBy k mode s at v e next
-found-by Begin mode s at n v e next h = h
-found-by End mode s at n v e next h = h
-found-by Property mode s at n v e next h = record { entry = property (h .line); aside = refl; first = h .first }
-found-by Nothing mode s at n v e next h = record { entry = nothing; aside = refl; first = h }
+found-by : (k : Kind) (mode : ℕ) (s : List ℕ) (at : ℕ) (l : LineCursors) (e next : ℕ) → FoundBy k mode s at l e next → BoundBy k mode s at (l .value) e next
+found-by Begin mode s at l e next h = h
+found-by End mode s at l e next h = h
+found-by Property mode s at l e next h = record { entry = property (h .line); aside = refl; first = h .first }
+found-by Nothing mode s at l e next h = record { entry = nothing; aside = refl; first = h }
 
 pub found-bound : {mode : ℕ} {s : List ℕ} {at : ℕ} {r : Found} → FoundAt mode s at r → BoundAt mode s at r
-found-bound {mode} {s} {at} {r} f = record { onward = f .onward; ready = f .ready; ends = f .ends; found = found-by (r .kind) mode s at (r .name) (r .value) (r .end) (r .next) (f .found) }
+found-bound {mode} {s} {at} {r} f = record { onward = f .onward; ready = f .ready; ends = f .ends; found = found-by (r .kind) mode s at (r .line) (r .end) (r .next) (f .found) }
 
 -- ---- a line by its first byte
 
@@ -110,10 +111,10 @@ opens-not {mode} {s} {at} {n} p q h = rw (p .is) (go (eqb (n .u) 256))
     go false = unfold pick in sym q ∙ h
 
 module _ {mode : ℕ} {s : List ℕ} {at : ℕ} (r : Ready mode s at) where
-  pub loose-aside : at < length s → EndsLine mode s at Loose → BoundAt mode s at (record { kind = Nothing; name = at; value = at; end = at; next = length s })
-  loose-aside h f = found-bound (found-loose r at at h f)
+  pub loose-aside : at < length s → EndsLine mode s at Loose → BoundAt mode s at (record { kind = Nothing; line = record { name = at; parameters = at; value = at }; end = at; next = length s })
+  loose-aside h f = found-bound (found-loose r _ h f)
 
-  pub whole-aside : {e next : ℕ} → LineEnds mode s at e next → opens (rest mode s at) ≡ false → BoundAt mode s at (record { kind = Nothing; name = e; value = e; end = e; next = next })
+  pub whole-aside : {e next : ℕ} → LineEnds mode s at e next → opens (rest mode s at) ≡ false → BoundAt mode s at (record { kind = Nothing; line = record { name = at; parameters = e; value = e }; end = e; next = next })
   unfolding entriesAt entryOf
   whole-aside {e} {next} f q = record {
     onward = line-low r f;

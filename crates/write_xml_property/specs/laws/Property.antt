@@ -1,6 +1,6 @@
 -- Laws of what specs/Property.antt defines.
 --     property-xml    what is written of the line;   name-inside: where its name ends
-use mathlib.Core.Path.{_≡_, refl, sym, ap, _∙_}
+use mathlib.Core.Path.{_≡_, refl, sym, ap, subst, _∙_}
 use mathlib.Core.Bool.{true}
 use mathlib.Core.List.{List, []}
 use mathlib.Core.Option.{none}
@@ -25,6 +25,7 @@ use Rattle.schema.specs.Numbers.{typeAt, componentName, propertyName}
 use Rattle.read_text_line.specs.ContentLine.{contentLine}
 use Rattle.read_text_line.specs.laws.Params.{name-chars}
 use Rattle.read_text_line.specs.Line.{LineAt}
+use Rattle.read_text_line.specs.declared.LineCursors.{LineCursors}
 use Rattle.read_text_line.specs.declared.LineRead.the-variants.{Line}
 use Rattle.text.specs.Values.{readValues}
 use Rattle.text.specs.Statement.{propertyOf}
@@ -40,37 +41,41 @@ no-line : contentLine [] ≡ none
 unfolding contentLine runOf spanLen pick
 no-line = refl
 
-module _ {m : ℕ} {s : List ℕ} {c e v : ℕ} (y : cuts m ≡ true) (a : LineAt m s c (Line e v)) where
-  pub name-inside : e ≤ length s
+module _ {m : ℕ} {s : List ℕ} {c : ℕ} {l : LineCursors} (y : cuts m ≡ true) (a : LineAt m s c (Line l)) where
+  pub name-inside : l .parameters ≤ length s
   name-inside = go (decLe c (length s))
     where
-      go : Dec (c ≤ length s) → e ≤ length s
-      go (yes h) = a .parts .name .plain y h
+      go : Dec (c ≤ length s) → l .parameters ≤ length s
+      go (yes h) = a .parts .1 .name .plain y (subst (λ (n : ℕ). n ≤ length s) (sym (a .parts .0)) h)
       go (no h) =
-          let l : length s ≤ c = omega arith in
-          let z : rest m s c ≡ [] = rest-past m s c y l in
+          let k : length s ≤ c = omega arith in
+          let z : rest m s c ≡ [] = rest-past m s c y k in
           none-some (sym (ap contentLine z ∙ no-line) ∙ a .is)
 
-  pub property-xml : (k : ℕ) → orNothing (λ l. propertyXml (propertyOf (componentName k) l)) (contentLine (rest m s c)) ≡ partsXml k m s c e v
+  pub property-xml : (k : ℕ) → orNothing (λ x. propertyXml (propertyOf (componentName k) x)) (contentLine (rest m s c)) ≡ partsXml k m s l
   unfolding propertyXml propertyOf
   property-xml k =
-      ap (orNothing (λ l. propertyXml (propertyOf (componentName k) l))) (a .is)
-      ∙ rw (name-chars y (a .parts .name), lower-any-case (runOf isNameChar (rest m s c)))
+      ap (orNothing (λ x. propertyXml (propertyOf (componentName k) x))) (a .is)
+      ∙ rw (name-chars y (a .parts .1 .name), lower-any-case (runOf isNameChar (rest m s (l .name))))
 
 -- ---- for the code
 
+-- a line by the cursors of its name, its parameters and its value
+abbrev cursors : ℕ → ℕ → ℕ → LineCursors
+cursors c e v = record { name = c; parameters = e; value = v }
+
 -- the values, by the number of the line's name and by the type that was found
-module _ {d f : List ℕ} {at o : ℕ} (k : ℕ) {p m : ℕ} {s : List ℕ} (c : ℕ) {e : ℕ} (v : ℕ) {r : TypeRead} (h : p ≡ placeOf (upper (nameIn m s c e)) propertyNames) (a : StatedAt p m s e r) where
+module _ {d f : List ℕ} {at o : ℕ} (k : ℕ) {p m : ℕ} {s : List ℕ} (c : ℕ) {e : ℕ} (v : ℕ) {r : TypeRead} (h : p ≡ placeOf (upper (nameIn m s (cursors c e v))) propertyNames) (a : StatedAt p m s e r) where
   pub put-typed : (t : ℕ) → r ≡ Typed t → Put d f at o (valuesXml (readOr [] (readValues (componentName k) (propertyName p) (typeAt t) (rest m s v)))) →
-      Put d f at o (statedXml k m s c e v)
+      Put d f at o (statedXml k m s (cursors c e v))
   unfolding readOr
   put-typed t z w =
       let b : StatedAt p m s e (Typed t) = rw z at a in
-      rw (stated-names b (upper (nameIn m s c e)) h, ← (values-named (componentName k) (upper (nameIn m s c e)) p (typeAt t) (rest m s v) h)) w
+      rw (stated-names b (upper (nameIn m s (cursors c e v))) h, ← (values-named (componentName k) (upper (nameIn m s (cursors c e v))) p (typeAt t) (rest m s v) h)) w
 
   pub put-untyped : r ≡ NoType → Put d f at o (valuesXml (readOr [] (readValues (componentName k) (propertyName p) (typeAt 10) (rest m s v)))) →
-      Put d f at o (statedXml k m s c e v)
+      Put d f at o (statedXml k m s (cursors c e v))
   unfolding readOr
   put-untyped z w =
       let b : StatedAt p m s e NoType = rw z at a in
-      rw (stated-names b (upper (nameIn m s c e)) h, ← (values-named (componentName k) (upper (nameIn m s c e)) p TEXT (rest m s v) h)) w
+      rw (stated-names b (upper (nameIn m s (cursors c e v))) h, ← (values-named (componentName k) (upper (nameIn m s (cursors c e v))) p TEXT (rest m s v) h)) w

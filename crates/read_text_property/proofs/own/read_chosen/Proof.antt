@@ -15,11 +15,11 @@ read-chosen-spec = tie.close (tie.spec
     (λ c κs. search needs)  -- read-word-of-requires
     (λ c. search needs)  -- enum-known-i
     (λ c. search needs)  -- enum-told
-    (λ c. values-no (c .before .before .before .before .before .before .args .t) (chosen-word _ _ _ (c .before .before .before .before .has-words .ensures) (c .before .before .before .if1 .taken) (word-no (wordsAt (c .before .before .before .before .before .before .args .k) (c .before .before .before .before .before .before .args .p)) (upper (rest (c .before .before .before .before .before .before .args .mode) (c .before .before .before .before .before .before .args .s .now) (c .before .before .before .before .before .before .args .at))) (c .before .before .read-word-of .ensures) (c .enum-told .given .1))))  -- returns
-    (λ c. values-yes (c .before .before .before .before .before .before .before .args .t) (chosen-word _ _ _ (c .before .before .before .before .before .has-words .ensures) (c .before .before .before .before .if1 .taken) (word-yes (wordsAt (c .before .before .before .before .before .before .before .args .k) (c .before .before .before .before .before .before .before .args .p)) (upper (rest (c .before .before .before .before .before .before .before .args .mode) (c .before .before .before .before .before .before .before .args .s .now) (c .before .before .before .before .before .before .before .args .at))) (c .before .before .before .read-word-of .ensures) (c .before .i .given .1))))  -- returns-2
+    (λ c. values-no (c .before .before .before .before .before .before .args .c .«value_type») (chosen-word _ _ _ (c .before .before .before .before .has-words .ensures) (c .before .before .before .if1 .taken) (word-no (wordsAt (c .before .before .before .before .before .before .args .c .component) (c .before .before .before .before .before .before .args .c .property)) (upper (rest (c .before .before .before .before .before .before .args .mode) (c .before .before .before .before .before .before .args .s .now) (c .before .before .before .before .before .before .args .at))) (c .before .before .read-word-of .ensures) (c .enum-told .given .1))))  -- returns
+    (λ c. values-yes (c .before .before .before .before .before .before .before .args .c .«value_type») (chosen-word _ _ _ (c .before .before .before .before .before .has-words .ensures) (c .before .before .before .before .if1 .taken) (word-yes (wordsAt (c .before .before .before .before .before .before .before .args .c .component) (c .before .before .before .before .before .before .before .args .c .property)) (upper (rest (c .before .before .before .before .before .before .before .args .mode) (c .before .before .before .before .before .before .before .args .s .now) (c .before .before .before .before .before .before .before .args .at))) (c .before .before .before .read-word-of .ensures) (c .before .i .given .1))))  -- returns-2
     (λ c κs. search needs)  -- read-value-requires
     (λ c. search needs)  -- enum-known-v
     (λ c. search needs)  -- enum-told-2
-    (λ c. values-no (c .before .before .before .before .before .before .args .t) (chosen-value _ _ _ (c .before .before .before .before .has-words .ensures) (c .before .before .before .if1 .left) (good-no (c .before .before .before .before .before .before .args .t) (value-there _ _ _ _ _ (c .before .before .read-value .ensures) (λ h. c .before .before .before .before .before .before .pre)) (c .enum-told2 .given .1))))  -- returns-3
-    (λ c. values-yes (c .before .before .before .before .before .before .before .args .t) (chosen-value _ _ _ (c .before .before .before .before .before .has-words .ensures) (c .before .before .before .before .if1 .left) (good-yes (c .before .before .before .before .before .before .before .args .t) (value-there _ _ _ _ _ (c .before .before .before .read-value .ensures) (λ h. c .before .before .before .before .before .before .before .pre)) (c .before .v .given .1))))  -- returns-4
+    (λ c. values-no (c .before .before .before .before .before .before .args .c .«value_type») (chosen-value _ _ _ (c .before .before .before .before .has-words .ensures) (c .before .before .before .if1 .left) (good-no (c .before .before .before .before .before .before .args .c .«value_type») (value-there _ _ _ _ _ (c .before .before .read-value .ensures) (λ h. c .before .before .before .before .before .before .pre)) (c .enum-told2 .given .1))))  -- returns-3
+    (λ c. values-yes (c .before .before .before .before .before .before .before .args .c .«value_type») (chosen-value _ _ _ (c .before .before .before .before .before .has-words .ensures) (c .before .before .before .before .if1 .left) (good-yes (c .before .before .before .before .before .before .before .args .c .«value_type») (value-there _ _ _ _ _ (c .before .before .before .read-value .ensures) (λ h. c .before .before .before .before .before .before .before .pre)) (c .before .v .given .1))))  -- returns-4
     )

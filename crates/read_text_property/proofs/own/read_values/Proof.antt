@@ -11,5 +11,5 @@ read-values-spec = tie.close (tie.spec
     (λ c κs. search needs)  -- permits-type-requires
     (λ c κs. search needs)  -- read-own-requires
     (λ c. own-take _ _ _ (flag-yes _ _ (c .before .before .permits-type .ensures) (c .before .if1 .taken)) (c .read-own .ensures))  -- returns
-    (λ c. own-skip (c .before .before .before .args .t) _ _ (flag-no _ _ (c .before .permits-type .ensures) (c .if1 .left)) refl)  -- returns-2
+    (λ c. own-skip (c .before .before .before .args .c .«value_type») _ _ (flag-no _ _ (c .before .permits-type .ensures) (c .if1 .left)) refl)  -- returns-2
     )

@@ -13,8 +13,8 @@ put-values-spec = tie.close (tie.spec
     (λ c κs. search writing)  -- read-values-requires
     (λ c. search writing)  -- enum-known-n
     (λ c. search writing)  -- enum-told
-    (λ c. let a = c .before .before .before .before .before .before .before .before .args in put-no-values (a .k) (a .p) (a .t) _ _ _ (c .before .before .before .before .before .component-place .ensures) (c .before .before .before .before .property-place .ensures) (c .before .before .before .type-place .ensures) (c .before .before .read-values .ensures) (c .enum-told .given .1) (search needs))  -- returns
+    (λ c. let a = c .before .before .before .before .before .before .before .before .args in put-no-values (a .c .component) (a .c .property) (a .c .«value_type») _ _ _ (c .before .before .before .before .before .component-place .ensures) (c .before .before .before .before .property-place .ensures) (c .before .before .before .type-place .ensures) (c .before .before .read-values .ensures) (c .enum-told .given .1) (search needs))  -- returns
     (λ c κs. search writing)  -- put-shown-requires
     (λ c. search writing)  -- same-length
-    (λ c. let a = c .before .before .before .before .before .before .before .before .before .before .before .before .before .args in put-shown (a .k) (a .p) (a .t) _ _ _ (c .before .before .before .before .before .before .before .before .before .before .component-place .ensures) (c .before .before .before .before .before .before .before .before .before .property-place .ensures) (c .before .before .before .before .before .before .before .before .type-place .ensures) (c .before .before .before .before .before .before .before .read-values .ensures) _ (c .before .before .before .before .before .n .given .1) (c .before .before .put-shown .ensures))  -- returns-2
+    (λ c. let a = c .before .before .before .before .before .before .before .before .before .before .before .before .before .args in put-shown (a .c .component) (a .c .property) (a .c .«value_type») _ _ _ (c .before .before .before .before .before .before .before .before .before .before .component-place .ensures) (c .before .before .before .before .before .before .before .before .before .property-place .ensures) (c .before .before .before .before .before .before .before .before .type-place .ensures) (c .before .before .before .before .before .before .before .read-values .ensures) _ (c .before .before .before .before .before .n .given .1) (c .before .before .put-shown .ensures))  -- returns-2
     )
