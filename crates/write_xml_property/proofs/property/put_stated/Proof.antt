@@ -15,8 +15,8 @@ put-stated-spec = tie.close (tie.spec
     (λ c. search writing)  -- enum-told
     (λ c κs. search writing)  -- put-values-requires
     (λ c. search writing)  -- same-length
-    (λ c. search (put-untyped, writing))  -- returns
+    (λ c. put-untyped (c .before .before .before .before .before .before .before .before .before .before .before .args .k) _ (c .before .before .before .before .before .before .before .before .before .before .before .args .l .value) (c .before .before .before .before .before .before .before .property-number .ensures) (c .before .before .before .before .before .before .stated-type .ensures) (c .before .before .before .before .enum-told .given .1) (c .before .before .put-values .ensures))  -- returns
     (λ c κs. search writing)  -- put-values-requires-2
     (λ c. search writing)  -- same-length-2
-    (λ c. search (put-typed, writing))  -- returns-2
+    (λ c. put-typed (c .before .before .before .before .before .before .before .before .before .before .before .before .args .k) _ (c .before .before .before .before .before .before .before .before .before .before .before .before .args .l .value) (c .before .before .before .before .before .before .before .before .property-number .ensures) (c .before .before .before .before .before .before .before .stated-type .ensures) _ (c .before .before .before .before .before .t .given .1) (c .before .before .put-values2 .ensures))  -- returns-2
     )
