@@ -3,7 +3,8 @@
 
     tools/check-schema.py [SCHEMA]      SCHEMA: the schema's text, each line with its number in front or without; tools/schema/xcal.rnc if none is given
 
-Says what differs, or `ok`. Known differences (the rules): PARTSTAT has the seven words everywhere.
+Says what differs, or `ok`. Known differences: PARTSTAT has the seven words everywhere (the rules); DTSTART of a VEVENT may be missing, and a VTODO
+has DUE and no DTEND (RFC 5545, 3.6.1 and 3.6.2). The pairs of both are in Counts.antt, and not compared.
 """
 import re
 import sys
@@ -170,11 +171,21 @@ def occurrences(t):
     return got
 
 
+# where RFC 5545 decides: what the schema's list has, and what stands in its place
+BY_RFC_5545 = {"eventprop": (("DTSTART", "once"), ("DTSTART", "optional")), "todoprop": (("DTEND", "optional"), ("DUE", "optional"))}
+
+
+def mended(name, listed):
+    """A list of the schema as RFC 6321 has it, or as our copy of it has it."""
+    was, now = BY_RFC_5545.get(name, (None, None))
+    return [now if o == was else o for o in listed]
+
+
 for d, ours_name in (("type-calprops", "calprops"), ("type-eventprop", "eventprop"), ("type-todoprop", "todoprop"), ("type-jourprop", "jourprop"), ("type-fbprop", "fbprop"),
                      ("component-vtimezone", "timezoneprop"), ("type-tzprop", "tzprop"), ("type-audioprop", "audioprop"), ("type-emailprop", "emailprop"), ("type-dispprop", "dispprop")):
     text = body(comps, ours_name)
     mine = [(n, k) for k, n in re.findall(r'(once|optional|anyTimes|some⁺) \(ascii "([\w-]+)"\)', strip(text))]
-    compare(ours_name, mine, occurrences(defs[d][1]))
+    compare(ours_name, mine, mended(ours_name, occurrences(defs[d][1])))
     lists[d] = ours_name
 
 table = re.findall(r'name = ascii "(\w+)"; subcomponents = ((?:ascii "\w+" ∷ )*\[\]); occurrences = (\w+|\[\])', body(comps, "componentTable"))

@@ -3,8 +3,8 @@
 
     tools/pack-cases.py FILE.. > crates/cases/stdin
 
-A FILE has a case a line, or is a JSON list of cases: {"way": "to-xml" or "to-text", "in": INPUT, "answer": ["ok", RESULT] or ["refused", N, P]},
-INPUT and RESULT in base64. Added are, both ways, an empty input and inputs as long as the limit and one byte longer; and to text, documents
+A FILE has a case a line, or is a JSON list of cases: {"call": "to_xml" or "to_text", "in": [INPUT], "answer": ["ok", {"b64": RESULT}] or ["refused", N, P]},
+INPUT and RESULT in base64; or, as for the base, {"way": "to-xml" or "to-text", "in": INPUT, "answer": ["ok", RESULT] or ["refused", N, P]}. Added are, both ways, an empty input and inputs as long as the limit and one byte longer; and to text, documents
 with 16 and with 17 open elements. The form of what is written stands in the program's main.rt.
 """
 import base64
@@ -12,7 +12,7 @@ import json
 import sys
 
 LIMIT = 65535
-WAYS = {"to-xml": 1, "to-text": 2}
+CALLS = {"to_xml": 1, "to_text": 2}
 ROOT = b'<icalendar xmlns="urn:ietf:params:xml:ns:icalendar-2.0">'
 TEXT = (b"BEGIN:VCALENDAR\r\nPRODID:%s\r\nVERSION:2.0\r\n", b"END:VCALENDAR\r\n")
 XML = (
@@ -30,28 +30,29 @@ def parts(front, middle=b"", times=0, back=b""):
     return b"".join(map(number, lengths)) + front + middle + back
 
 
-def record(way, n, value, given, result=parts(b"")):
-    return bytes([WAYS[way]]) + number(n) + number(value) + given + result
+def record(call, n, value, given, result=parts(b"")):
+    return bytes([CALLS[call]]) + number(n) + number(value) + given + result
 
 
 def packed(case):
-    given = parts(base64.b64decode(case["in"]))
-    answer = case["answer"]
+    text, answer = case["in"], case["answer"]
+    call = case.get("call") or case["way"].replace("-", "_")
+    given = parts(base64.b64decode(text[0] if isinstance(text, list) else text))
     if answer[0] == "ok":
-        result = base64.b64decode(answer[1])
-        return record(case["way"], 0, len(result), given, parts(result))
-    return record(case["way"], answer[1], answer[2], given)
+        result = base64.b64decode(answer[1]["b64"] if isinstance(answer[1], dict) else answer[1])
+        return record(call, 0, len(result), given, parts(result))
+    return record(call, answer[1], answer[2], given)
 
 
-def long(way, form, unit, result_form, result_unit, length):
+def long(call, form, unit, result_form, result_unit, length):
     """A calendar of `length` bytes: a property many times, and a PRODID that takes what is left."""
     bare = len(form[0] % b"") + len(form[1])
     times, left = divmod(length - bare, len(unit))
     given = parts(form[0] % (b"p" * left), unit, times, form[1])
     if length > LIMIT:
-        return record(way, 1, 0, given)
+        return record(call, 1, 0, given)
     front, back = result_form[0] % (b"p" * left), result_form[1]
-    return record(way, 0, len(front) + len(result_unit) * times + len(back), given, parts(front, result_unit, times, back))
+    return record(call, 0, len(front) + len(result_unit) * times + len(back), given, parts(front, result_unit, times, back))
 
 
 def long_line(length):
@@ -62,12 +63,12 @@ def long_line(length):
     times, left = divmod(length - bare - 34, 37)
     front, back = TEXT[0].split(b"%s")
     front, middle, back = front + b"\\;" * 34, b"\r\n " + b"\\;" * 37, b"\r\n " + b"\\;" * left + back + TEXT[1]
-    return record("to-text", 0, len(front) + len(middle) * times + len(back), given, parts(front, middle, times, back))
+    return record("to_text", 0, len(front) + len(middle) * times + len(back), given, parts(front, middle, times, back))
 
 
 def nested(depth, last, end, n, place):
     """A document with `depth` open elements, the last of them given."""
-    return record("to-text", n, place, parts(ROOT + b"<a>" * (depth - 2) + last + end + b"</a>" * (depth - 2) + b"</icalendar>"))
+    return record("to_text", n, place, parts(ROOT + b"<a>" * (depth - 2) + last + end + b"</a>" * (depth - 2) + b"</icalendar>"))
 
 
 def cases(name):
@@ -76,13 +77,13 @@ def cases(name):
 
 
 def added():
-    yield record("to-xml", 6, 0, parts(b""))
-    yield record("to-text", 11, 0, parts(b""))
+    yield record("to_xml", 6, 0, parts(b""))
+    yield record("to_text", 11, 0, parts(b""))
     for length in (LIMIT, LIMIT + 1):
-        yield long("to-xml", TEXT, b"X-A:b\r\n", XML, b"<x-a><unknown>b</unknown></x-a>", length)
-        yield long("to-xml", TEXT, b"X-A;C=d:b\r\n e&\r\n", XML, b"<x-a><parameters><c><unknown>d</unknown></c></parameters><unknown>be&amp;</unknown></x-a>", length)
-        yield long("to-text", XML, b"<x-a><unknown>b</unknown></x-a>", TEXT, b"X-A:b\r\n", length)
-        yield long("to-text", XML, b"<x-a>\n<date>2024-02-29</date>\r</x-a >", TEXT, b"X-A;VALUE=DATE:20240229\r\n", length)
+        yield long("to_xml", TEXT, b"X-A:b\r\n", XML, b"<x-a><unknown>b</unknown></x-a>", length)
+        yield long("to_xml", TEXT, b"X-A;C=d:b\r\n e&\r\n", XML, b"<x-a><parameters><c><unknown>d</unknown></c></parameters><unknown>be&amp;</unknown></x-a>", length)
+        yield long("to_text", XML, b"<x-a><unknown>b</unknown></x-a>", TEXT, b"X-A:b\r\n", length)
+        yield long("to_text", XML, b"<x-a>\n<date>2024-02-29</date>\r</x-a >", TEXT, b"X-A;VALUE=DATE:20240229\r\n", length)
     yield long_line(LIMIT)
     # what stands at the first <a> is 6, unless the document is no XML of the profile
     yield nested(16, b"<a>", b"</a>", 6, len(ROOT))

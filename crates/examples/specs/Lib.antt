@@ -6,6 +6,7 @@
 --     Appendix       both examples of RFC 6321, appendix B
 --     Worked         lines, elements and whole texts, both ways
 --     Refusals       each refusal, with its place
+--     Todos          to-dos that are due, and events without DTSTART
 --     Buffers        whole calls, with the lent buffers afterwards
 pub mod Notation
 pub mod Readings
@@ -14,4 +15,5 @@ pub mod MeetingsPage
 pub mod Appendix
 pub mod Worked
 pub mod Refusals
+pub mod Todos
 pub mod Buffers

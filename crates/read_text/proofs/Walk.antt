@@ -12,10 +12,10 @@ use Rattle.octets.specs.Pick.{pick}
 use Rattle.calendar.specs.Calendar.{Property}
 use Rattle.calendar.specs.Refusal.{COUNT, refusalAt}
 use Rattle.schema.specs.Numbers.{componentName}
-use Rattle.schema.specs.Counts.{actionOf, complete}
+use Rattle.schema.specs.Counts.{actionOf, Around, methodFor, complete}
 use Rattle.schema.specs.Arrays.{bumped, tallies}
-use Rattle.schema.specs.Completing.{actionNumber, completeAt}
-use Rattle.schema.specs.laws.Completing.{complete-tallies}
+use Rattle.schema.specs.Completing.{actionNumber, completeAt, methodAt}
+use Rattle.schema.specs.laws.Completing.{complete-tallies, method-tallies}
 use Rattle.schema.specs.laws.Places.{component-at}
 use Rattle.folding.specs.Lines.{Line, lines, linesAfter}
 use Rattle.folding.specs.laws.Lines.{lines-some}
@@ -24,7 +24,7 @@ use Rattle.read_text_line.specs.LineEnd.{index, linesAt}
 use Rattle.source.specs.laws.Facts.{rest-past}
 use Rattle.read_text_line.specs.Ready.{Ready}
 use Rattle.read_text_line.specs.laws.Ready.{ready-start, lines-start, lines-past, index-end}
-use Rattle.text.specs.Nesting.{Open, on, stop, opened, onward, ended, nesting}
+use Rattle.text.specs.Nesting.{Open, on, stop, opened, methodIn, onward, ended, nesting}
 use Rattle.text.specs.LineKind.{LineKind, step}
 use Rattle.text.specs.ReadText.{linesVerdict}
 use Rattle.read_text.specs.Answers.{Checks}
@@ -40,39 +40,40 @@ use Rattle.read_text.specs.declared.Checked.the-variants.{Fine, Refused}
 
 -- ---- in a component
 
--- from the line behind the BEGIN of the component k to a place, with these tallies, the number of ACTION's word, and whether a subcomponent has come
-pub record Reached (k m : ℕ) (s : List ℕ) (from at : ℕ) (counts : List ℕ) (action : ℕ) (inner : Bool) : Type 0 where
+-- from the line behind the BEGIN of the component k to a place, with these tallies, the number of ACTION's word, and whether a subcomponent has come;
+-- method says whether the calendar round the component has METHOD
+pub record Reached (k : ℕ) (method : Bool) (m : ℕ) (s : List ℕ) (from at : ℕ) (counts : List ℕ) (action : ℕ) (inner : Bool) : Type 0 where
   pub low : from ≤ at
   pub high : Ready m s at
   pub seen : List Property
   pub tallied : counts ≡ tallies seen
   pub acted : action ≡ actionNumber (actionOf seen)
-  pub agrees : (st : List Open) → onFrom m s from (opened (componentName k) ∷ st) ≡ onFrom m s at (openIn k seen inner ∷ st)
+  pub agrees : (st : List Open) → methodIn st ≡ method → onFrom m s from (opened (componentName k) ∷ st) ≡ onFrom m s at (openIn k seen inner ∷ st)
 
-pub reached-none : (k m : ℕ) (s : List ℕ) (from : ℕ) → Ready m s from → Reached k m s from from (replicate 46 0) 3 false
+pub reached-none : (k : ℕ) (method : Bool) (m : ℕ) (s : List ℕ) (from : ℕ) → Ready m s from → Reached k method m s from from (replicate 46 0) 3 false
 unfolding tallies actionOf
-reached-none k m s from h = record { low = omega arith; high = h; seen = []; tallied = refl; acted = refl; agrees = λ st. refl }
+reached-none k method m s from h = record { low = omega arith; high = h; seen = []; tallied = refl; acted = refl; agrees = λ st i. refl }
 
-module _ {k m : ℕ} {s : List ℕ} {from at : ℕ} {counts : List ℕ} {action : ℕ} {inner : Bool} (r : Reached k m s from at counts action inner) where
-  pub body-open : length s ≤ at → Body k m s from (Failed 6 (length s))
+module _ {k : ℕ} {method : Bool} {m : ℕ} {s : List ℕ} {from at : ℕ} {counts : List ℕ} {action : ℕ} {inner : Bool} (r : Reached k method m s from at counts action inner) where
+  pub body-open : length s ≤ at → Body k method m s from (Failed 6 (length s))
   unfolding nesting ended refusalAt
-  body-open h = record { ends = omega arith; agrees = λ st. r .agrees st ∙ rw (lines-past m s at (r .high .cut) h, index-end m s (length s) (r .high .cut) (omega arith)) }
+  body-open h = record { ends = omega arith; agrees = λ st i. r .agrees st i ∙ rw (lines-past m s at (r .high .cut) h, index-end m s (length s) (r .high .cut) (omega arith)) }
 
   module _ {t : Turn} (d : Turned k inner m s at t) where
     -- the check up to a line, and what that line does
-    moves : (st : List Open) → onFrom m s from (opened (componentName k) ∷ st) ≡ onward (step (d .line) (openIn k (r .seen) inner) st) (index m s at) (onFrom m s (t .next))
-    moves st = r .agrees st ∙ d .does (r .seen) st
+    moves : (st : List Open) → methodIn st ≡ method → onFrom m s from (opened (componentName k) ∷ st) ≡ onward (step (d .line) (openIn k (r .seen) inner) st) (index m s at) (onFrom m s (t .next))
+    moves st i = r .agrees st i ∙ d .does (r .seen) st
 
     said-as : (x : Kind) → t .kind ≡ x → KindIs (d .line) x
     said-as x e = subst (KindIs (d .line)) e (d .said)
 
-    pub body-faulty : {n : ℕ} → t .kind ≡ Faulty n → Body k m s from (Failed n at)
+    pub body-faulty : {n : ℕ} → t .kind ≡ Faulty n → Body k method m s from (Failed n at)
     unfolding step onward
-    body-faulty {n} e = record { ends = r .high .most; agrees = λ st. moves st ∙ rw (said-as (Faulty n) e) }
+    body-faulty {n} e = record { ends = r .high .most; agrees = λ st i. moves st i ∙ rw (said-as (Faulty n) e) }
 
     -- a property
     pub reached-held : {p a action' : ℕ} {counts' : List ℕ} → t .kind ≡ Holds p a → counts' ≡ bumped p counts → action' ≡ pick (eqb p 38) a action →
-        Reached k m s from (t .next) counts' action' inner
+        Reached k method m s from (t .next) counts' action' inner
     unfolding step onward tallies
     reached-held {p} {a} e f g = let h : Held (d .line) p a = said-as (Holds p a) e in record {
       low = omega (arith, r .low, d .low);
@@ -80,7 +81,7 @@ module _ {k m : ℕ} {s : List ℕ} {from at : ℕ} {counts : List ℕ} {action 
       seen = h .property ∷ r .seen;
       tallied = f ∙ ap (bumped p) (r .tallied) ∙ ap (λ (n : ℕ). bumped n (tallies (r .seen))) (h .number);
       acted = g ∙ action-seen (h .property) (r .seen) (h .number) (h .action) (r .acted);
-      agrees = λ st. moves st ∙ ap (λ (x : LineKind). onward (step x (openIn k (r .seen) inner) st) (index m s at) (onFrom m s (t .next))) (h .is);
+      agrees = λ st i. moves st i ∙ ap (λ (x : LineKind). onward (step x (openIn k (r .seen) inner) st) (index m s at) (onFrom m s (t .next))) (h .is);
     }
 
     -- a subcomponent
@@ -88,39 +89,44 @@ module _ {k m : ℕ} {s : List ℕ} {from at : ℕ} {counts : List ℕ} {action 
       pub starts-known : n < 9
       starts-known = said-as (Starts n) e .1
 
-      begins-inner : (st : List Open) → onFrom m s from (opened (componentName k) ∷ st) ≡ onFrom m s (t .next) (opened (componentName n) ∷ openIn k (r .seen) true ∷ st)
+      begins-inner : (st : List Open) → methodIn st ≡ method → onFrom m s from (opened (componentName k) ∷ st) ≡ onFrom m s (t .next) (opened (componentName n) ∷ openIn k (r .seen) true ∷ st)
       unfolding step onward
-      begins-inner st = moves st ∙ rw (said-as (Starts n) e .0)
+      begins-inner st i = moves st i ∙ rw (said-as (Starts n) e .0)
 
-      pub reached-inner : {next : ℕ} → Body n m s (t .next) (Closed next) → Reached k m s from next counts action true
-      reached-inner b = record {
-        low = omega (arith, r .low, d .low, b .ends .0);
-        high = b .ends .1;
-        seen = r .seen;
-        tallied = r .tallied;
-        acted = r .acted;
-        agrees = λ st. begins-inner st ∙ b .agrees (openIn k (r .seen) true ∷ st);
-      }
+      module _ {inside : Bool} (l : k < 9) (q : inside ≡ methodAt k counts method) where
+        method-inside : (st : List Open) → methodIn st ≡ method → methodFor (componentName k) (r .seen) (methodIn st) ≡ inside
+        method-inside st i =
+            ap (λ (b : Bool). methodFor (componentName k) (r .seen) b) i ∙ sym (method-tallies (componentName k) (r .seen) method) ∙ rw (component-at k l, ← (r .tallied)) (sym q)
 
-      pub body-inner : {i p : ℕ} → Body n m s (t .next) (Failed i p) → Body k m s from (Failed i p)
-      body-inner b = record { ends = b .ends; agrees = λ st. begins-inner st ∙ b .agrees (openIn k (r .seen) true ∷ st) }
+        pub reached-inner : {next : ℕ} → Body n inside m s (t .next) (Closed next) → Reached k method m s from next counts action true
+        reached-inner b = record {
+          low = omega (arith, r .low, d .low, b .ends .0);
+          high = b .ends .1;
+          seen = r .seen;
+          tallied = r .tallied;
+          acted = r .acted;
+          agrees = λ st i. begins-inner st i ∙ b .agrees (openIn k (r .seen) true ∷ st) (method-inside st i);
+        }
+
+        pub body-inner : {i p : ℕ} → Body n inside m s (t .next) (Failed i p) → Body k method m s from (Failed i p)
+        body-inner b = record { ends = b .ends; agrees = λ st i. begins-inner st i ∙ b .agrees (openIn k (r .seen) true ∷ st) (method-inside st i) }
 
     -- the end
-    module _ {b : Bool} (e : t .kind ≡ Stops) (l : k < 9) (q : b ≡ completeAt k counts action inner) where
-      counted : complete (componentName k) (r .seen) inner ≡ b
-      counted = sym (complete-tallies (componentName k) (r .seen) inner) ∙ rw (component-at k l, ← (r .tallied), ← (r .acted)) (sym q)
+    module _ {b : Bool} (e : t .kind ≡ Stops) (l : k < 9) (q : b ≡ completeAt k counts action (record { inner = inner; method = method })) where
+      counted : complete (componentName k) (r .seen) (record { inner = inner; method = method }) ≡ b
+      counted = sym (complete-tallies (componentName k) (r .seen) (record { inner = inner; method = method })) ∙ rw (component-at k l, ← (r .tallied), ← (r .acted)) (sym q)
 
-      stopped : (st : List Open) → onFrom m s from (opened (componentName k) ∷ st) ≡ onward (pick b (on st) (stop COUNT)) (index m s at) (onFrom m s (t .next))
+      stopped : (st : List Open) → methodIn st ≡ method → onFrom m s from (opened (componentName k) ∷ st) ≡ onward (pick b (on st) (stop COUNT)) (index m s at) (onFrom m s (t .next))
       unfolding step
-      stopped st = moves st ∙ rw (said-as Stops e, counted)
+      stopped st i = moves st i ∙ rw (said-as Stops e, i, counted)
 
-      pub body-closed : b ≡ true → Body k m s from (Closed (t .next))
+      pub body-closed : b ≡ true → Body k method m s from (Closed (t .next))
       unfolding onward pick
-      body-closed f = record { ends = (omega (arith, r .low, d .low), d .high); agrees = λ st. stopped st ∙ rw f }
+      body-closed f = record { ends = (omega (arith, r .low, d .low), d .high); agrees = λ st i. stopped st i ∙ rw f }
 
-      pub body-short : b ≡ false → Body k m s from (Failed 9 at)
+      pub body-short : b ≡ false → Body k method m s from (Failed 9 at)
       unfolding onward pick refusalAt
-      body-short f = record { ends = r .high .most; agrees = λ st. stopped st ∙ rw f }
+      body-short f = record { ends = r .high .most; agrees = λ st i. stopped st i ∙ rw f }
 
 -- ---- between calendars
 

@@ -1,7 +1,7 @@
 -- A line in its text, and a component from the line behind its BEGIN to its END: contracts.
 --     onFrom      the verdict from a place on, with components open
 --     Turned      a line's kind, what it does to the open components, and the place behind it
---     Body        a component: whatever is open around it, the text goes on behind it, or is refused
+--     Body        a component: whatever is open around it, in a calendar with METHOD or without, the text goes on behind it, or is refused
 use mathlib.Core.Path.{_≡_}
 use mathlib.Core.Bool.{Bool}
 use mathlib.Core.List.{List, _∷_}
@@ -13,7 +13,7 @@ use Rattle.calendar.specs.Refusal.{Verdict, refuse, refusalAt}
 use Rattle.schema.specs.Numbers.{componentName}
 use Rattle.read_text_line.specs.LineEnd.{index, linesAt}
 use Rattle.read_text_line.specs.Ready.{Ready}
-use Rattle.text.specs.Nesting.{Open, opened, onward, nesting}
+use Rattle.text.specs.Nesting.{Open, opened, methodIn, onward, nesting}
 use Rattle.text.specs.LineKind.{LineKind, step}
 use Rattle.read_text.specs.Kinds.{KindIs}
 use Rattle.read_text.specs.declared.Turn.{Turn}
@@ -46,6 +46,6 @@ abbrev pub Ends : ℕ → List ℕ → ℕ → Step → Type 0
 Ends m s from (Closed next) = (from < next) × Ready m s next
 Ends m s from (Failed n p) = p ≤ length s
 
-pub record Body (k m : ℕ) (s : List ℕ) (from : ℕ) (r : Step) : Type 0 where
+pub record Body (k : ℕ) (method : Bool) (m : ℕ) (s : List ℕ) (from : ℕ) (r : Step) : Type 0 where
   pub ends : Ends m s from r
-  pub agrees : (st : List Open) → onFrom m s from (opened (componentName k) ∷ st) ≡ resumed m s r st
+  pub agrees : (st : List Open) → methodIn st ≡ method → onFrom m s from (opened (componentName k) ∷ st) ≡ resumed m s r st

@@ -84,7 +84,7 @@ fn calendar(mode: usize, s: &[u8], at: usize) -> Step
     };
     let fault = outer_fault(mode, &s[..e], at);
     if fault == NO_FAULT {
-        return body(mode, s, next, component::VCALENDAR);
+        return body(mode, s, next, component::VCALENDAR, false);
     }
     Step::Failed(fault, at)
 }

@@ -11,6 +11,7 @@ use refusals::LINE;
 use schema::action;
 use schema::bump;
 use schema::complete_counts;
+use schema::method_for;
 use schema::property;
 ghost use mathlib.Core.Path.{_≡_};
 ghost use Prim.Native.Nat.{_<_};
@@ -45,10 +46,10 @@ fn action_after(p: usize, a: usize, last: usize) -> usize
     last
 }
 
-// The component of the number `k`, from the line behind its BEGIN on.
-pub fn body(mode: usize, s: &[u8], from: usize, k: usize) -> Step
+// The component of the number `k`, from the line behind its BEGIN on; `method`, whether the calendar round it has METHOD.
+pub fn body(mode: usize, s: &[u8], from: usize, k: usize, method: bool) -> Step
     requires { ⌜ Ready mode (now s) from × (k < 9) ⌝ }
-    ensures { λ r. ⌜ Body k mode (now (s .entry)) from r ⌝ }
+    ensures { λ r. ⌜ Body k method mode (now (s .entry)) from r ⌝ }
 {
     let mut at = from;
     // One for each known property.
@@ -59,15 +60,18 @@ pub fn body(mode: usize, s: &[u8], from: usize, k: usize) -> Step
         let l = next_line(k, inner, mode, s, at);
         let kind = l.kind;
         match kind {
-            Kind::Starts(n) => match body(mode, s, l.next, n) {
-                Step::Closed(next) => {
-                    inner = true;
-                    at = next;
+            Kind::Starts(n) => {
+                let inside = method_for(k, counts, method);
+                match body(mode, s, l.next, n, inside) {
+                    Step::Closed(next) => {
+                        inner = true;
+                        at = next;
+                    }
+                    Step::Failed(r, p) => return Step::Failed(r, p),
                 }
-                Step::Failed(r, p) => return Step::Failed(r, p),
-            },
+            }
             Kind::Stops => {
-                let complete = complete_counts(k, counts, action, inner);
+                let complete = complete_counts(k, counts, action, inner, method);
                 if complete {
                     return Step::Closed(l.next);
                 }

@@ -12,13 +12,14 @@ use Prim.Native.Nat.{ℕ, _-_, _<_}
 use lib.Dec.{eqb}
 use lib.ListN.{length}
 use Rattle.octets.specs.Ascii.{ascii}
-use Rattle.octets.specs.Pick.{_and_, _or_}
+use Rattle.octets.specs.Pick.{pick, _and_, _or_}
 use Rattle.octets.specs.Words.{same}
 use Rattle.names.specs.Table.{placeOf}
 use Rattle.calendar.specs.Refusal.{Verdict, _otherwise_}
 use Rattle.schema.specs.Components.{componentNames}
+use Rattle.schema.specs.Counts.{Around, methodFor}
 use Rattle.schema.specs.Completing.{completeAt}
-use Rattle.xml.specs.Nodes.{noNodes}
+use Rattle.xml.specs.Nodes.{Nodes, noNodes}
 use Rattle.xcal.specs.PropertyNodes.{propertiesVerdict, readProperties}
 use Rattle.xcal.specs.ComponentNodes.{insideOf, isComplete, Come, endOfComponent, endOfComponents, componentVerdict, componentsVerdict}
 use Rattle.xml.specs.NodesAt.{nodesAt}
@@ -40,18 +41,22 @@ abbrev pub partName : Bool → List ℕ
 partName true = ascii "properties"
 partName false = ascii "components"
 
--- what has come of them
-abbrev pub come : Bool → Bool → Come
-come p c = record { properties = p; components = c }
+-- what has come of them, and METHOD of the calendar that the subcomponents stand in
+abbrev pub come : Bool → Bool → Bool → Come
+come p c m = record { properties = p; components = c; method = m }
+
+-- that METHOD, where m is that of the calendar round the component: whether `properties` has come, and the component's children
+abbrev pub methodInside : List ℕ → Bool → Bool → Nodes → Bool
+methodInside c m had kids = pick had (methodFor c (readProperties (insideOf (ascii "properties") kids)) m) m
 
 -- ---- end tags
 
--- what is kept is complete; inner says whether the component holds another
-abbrev pub completeBy : ℕ → Kept → Bool → Bool
-completeBy k t inner = completeAt k (t .counts) (t .action) inner
+-- what is kept is complete; inner says whether the component holds another, method whether the calendar round it has METHOD
+abbrev pub completeBy : ℕ → Kept → Bool → Bool → Bool
+completeBy k t inner method = completeAt k (t .counts) (t .action) (record { inner = inner; method = method })
 
-pub record EndAt (k : ℕ) (t : Kept) (had came inner : Bool) (e : ℕ) (r : Judged) : Type 0 where
-  pub is : (c : List ℕ) → k ≡ placeOf c componentNames → (counts : Bool) → (had ≡ true → counts ≡ completeBy k t inner) → endOfComponent c counts (come had came) e ≡ judgedAs r
+pub record EndAt (k : ℕ) (t : Kept) (had came inner method : Bool) (e : ℕ) (r : Judged) : Type 0 where
+  pub is : (c : List ℕ) → k ≡ placeOf c componentNames → (counts : Bool) → (had ≡ true → counts ≡ completeBy k t inner method) → (m : Bool) → endOfComponent c counts (come had came m) e ≡ judgedAs r
 
 pub record EndsAt (k : ℕ) (any : Bool) (e : ℕ) (r : Judged) : Type 0 where
   pub is : (c : List ℕ) → k ≡ placeOf c componentNames → endOfComponents c any e ≡ judgedAs r
@@ -74,12 +79,12 @@ pub record WhichAt (k : ℕ) (had : Bool) (m : List ℕ) (r : Which) : Type 0 wh
 -- ---- what stands next before `components`
 
 -- the verdict on what stands from there on
-abbrev pub metOf : List ℕ → Bool → Bool → List ℕ → ℕ → Met → Verdict
-metOf c counts had s e End = endOfComponent c counts (come had false) e
-metOf c counts had s e (Past d) = componentVerdict (nodesAt s d) c counts (come had false) e
-metOf c counts had s e (HasProperties q d) = propertiesVerdict c (nodesAt s q) otherwise componentVerdict (nodesAt s d) c counts (come true false) e
-metOf c counts had s e (HasComponents q x d) = componentsVerdict (nodesAt s q) c false x otherwise componentVerdict (nodesAt s d) c counts (come had true) e
-metOf c counts had s e (Stops j) = judgedAs j
+abbrev pub metOf : List ℕ → Bool → Bool → Bool → List ℕ → ℕ → Met → Verdict
+metOf c counts had m s e End = endOfComponent c counts (come had false m) e
+metOf c counts had m s e (Past d) = componentVerdict (nodesAt s d) c counts (come had false m) e
+metOf c counts had m s e (HasProperties q d) = propertiesVerdict c (nodesAt s q) otherwise componentVerdict (nodesAt s d) c counts (come true false (methodFor c (readProperties (nodesAt s q)) m)) e
+metOf c counts had m s e (HasComponents q x d) = componentsVerdict (nodesAt s q) c m false x otherwise componentVerdict (nodesAt s d) c counts (come had true m) e
+metOf c counts had m s e (Stops j) = judgedAs j
 
 -- what is left is shorter; and the first child of a name, where it is known or left
 abbrev pub MetFits : Bool → List ℕ → ℕ → Met → Type 0
@@ -91,14 +96,15 @@ MetFits had s at (HasComponents q x d) = (length s - q < length s - at) × (insi
 MetFits had s at (Stops j) = Unit {0}
 
 pub record MetAt (k : ℕ) (had : Bool) (s : List ℕ) (at : ℕ) (r : Met) : Type 0 where
-  pub is : (c : List ℕ) → k ≡ placeOf c componentNames → (counts : Bool) (e : ℕ) → componentVerdict (nodesAt s at) c counts (come had false) e ≡ metOf c counts had s e r
+  pub is : (c : List ℕ) → k ≡ placeOf c componentNames → (counts m : Bool) (e : ℕ) → componentVerdict (nodesAt s at) c counts (come had false m) e ≡ metOf c counts had m s e r
   pub fits : MetFits had s at r
 
 -- ---- up to `components`
 
-abbrev pub partOf : List ℕ → Bool → List ℕ → ℕ → Part → Verdict
-partOf c counts s e (Ends j) = judgedAs j
-partOf c counts s e (Opens q x next had) = componentsVerdict (nodesAt s q) c false x otherwise componentVerdict (nodesAt s next) c counts (come had true) e
+abbrev pub partOf : List ℕ → Bool → Bool → List ℕ → ℕ → ℕ → Part → Verdict
+partOf c counts m s from e (Ends j) = judgedAs j
+partOf c counts m s from e (Opens q x next had) =
+    componentsVerdict (nodesAt s q) c (methodInside c m had (nodesAt s from)) false x otherwise componentVerdict (nodesAt s next) c counts (come had true (methodInside c m had (nodesAt s from))) e
 
 -- `components` stands deeper, and is the first; the properties are those of the first `properties`
 abbrev pub PartFits : List ℕ → ℕ → Kept → Part → Type 0
@@ -108,12 +114,13 @@ PartFits s from t (Opens q x next had) =
     × (insideOf (ascii "components") (nodesAt s from) ≡ nodesAt s q)
     × (had ≡ true → Counted (readProperties (insideOf (ascii "properties") (nodesAt s from))) t)
 
-pub record HeadAt (k : ℕ) (s : List ℕ) (from e : ℕ) (r : Begun) : Type 0 where
+pub record HeadAt (k : ℕ) (method : Bool) (s : List ℕ) (from e : ℕ) (r : Begun) : Type 0 where
   pub is : (c : List ℕ) → k ≡ placeOf c componentNames →
-      componentVerdict (nodesAt s from) c (isComplete c (nodesAt s from)) (come false false) e ≡ partOf c (isComplete c (nodesAt s from)) s e (r .part)
+      componentVerdict (nodesAt s from) c (isComplete c method (nodesAt s from)) (come false false method) e ≡ partOf c (isComplete c method (nodesAt s from)) method s from e (r .part)
   pub fits : PartFits s from (r .kept) (r .part)
 
 -- ---- behind `components`
 
-pub record BehindAt (k : ℕ) (t : Kept) (had inner : Bool) (s : List ℕ) (from e : ℕ) (r : Judged) : Type 0 where
-  pub is : (c : List ℕ) → k ≡ placeOf c componentNames → (counts : Bool) → (had ≡ true → counts ≡ completeBy k t inner) → componentVerdict (nodesAt s from) c counts (come had true) e ≡ judgedAs r
+pub record BehindAt (k : ℕ) (t : Kept) (had inner method : Bool) (s : List ℕ) (from e : ℕ) (r : Judged) : Type 0 where
+  pub is : (c : List ℕ) → k ≡ placeOf c componentNames → (counts : Bool) → (had ≡ true → counts ≡ completeBy k t inner method) → (m : Bool) →
+      componentVerdict (nodesAt s from) c counts (come had true m) e ≡ judgedAs r

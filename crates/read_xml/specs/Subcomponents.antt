@@ -1,6 +1,7 @@
 -- A whole component, and the children of `components`, of which each is a component that may have `components` itself.
 --     NumberedAt    the contract of `sub_number`: the number of a component that may stand there
 --     ComponentAt   the contract of `component_verdict`
+--     methodKept    the METHOD that it hands down
 --     SubAt         the contract of `sub_at`: the verdict, or where the children of `components` go on, or a component that begins there
 --     CompsAt       the contract of `components_verdict`: the verdict, and whether a component stands there
 use Prim.{Unit}
@@ -9,12 +10,13 @@ use mathlib.Core.Bool.{Bool, true, false, not}
 use mathlib.Core.List.{List}
 use Prim.Native.Nat.{ℕ, _-_, _<_}
 use lib.ListN.{length}
-use Rattle.octets.specs.Pick.{_and_}
+use Rattle.octets.specs.Pick.{pick, _and_}
 use Rattle.octets.specs.Class.{upper}
 use Rattle.octets.specs.Words.{isOneOf}
 use Rattle.names.specs.Table.{placeOf}
 use Rattle.calendar.specs.Refusal.{Verdict, fine, refuse, refusalAt, _otherwise_}
 use Rattle.schema.specs.Components.{componentNames, subcomponentsOf}
+use Rattle.schema.specs.Completing.{methodAt}
 use Rattle.xml.specs.Nodes.{hasElement}
 use Rattle.xcal.specs.Layout.{hasCapital}
 use Rattle.xcal.specs.ComponentNodes.{isComplete, componentVerdict, componentsVerdict}
@@ -23,6 +25,7 @@ use Rattle.read_xml_nodes.specs.Judging.{judgedAs}
 use Rattle.read_xml_nodes.specs.declared.Judged.{Judged}
 use Rattle.read_xml_nodes.specs.declared.Judged.the-variants.{Fine}
 use Rattle.read_xml.specs.Components.{come}
+use Rattle.read_xml.specs.declared.Kept.{Kept}
 use Rattle.read_xml.specs.declared.Numbered.{Numbered}
 use Rattle.read_xml.specs.declared.Numbered.the-variants.{Number, Other}
 use Rattle.read_xml.specs.declared.Sub.{Sub}
@@ -46,16 +49,22 @@ pub record NumberedAt (k : ℕ) (m : List ℕ) (r : Numbered) : Type 0 where
 
 -- ---- a component
 
-pub record ComponentAt (k : ℕ) (s : List ℕ) (from e : ℕ) (r : Judged) : Type 0 where
-  pub is : (c : List ℕ) → k ≡ placeOf c componentNames → componentVerdict (nodesAt s from) c (isComplete c (nodesAt s from)) (come false false) e ≡ judgedAs r
+-- method says whether the calendar round it has METHOD
+pub record ComponentAt (k : ℕ) (method : Bool) (s : List ℕ) (from e : ℕ) (r : Judged) : Type 0 where
+  pub is : (c : List ℕ) → k ≡ placeOf c componentNames → componentVerdict (nodesAt s from) c (isComplete c method (nodesAt s from)) (come false false method) e ≡ judgedAs r
+
+-- METHOD of the calendar that its subcomponents stand in, by what is kept
+abbrev pub methodKept : ℕ → Kept → Bool → Bool → Bool
+methodKept k t had method = pick had (methodAt k (t .counts) method) method
 
 -- ---- a node of `components`
 
 -- the verdict on the children of `components` in a component c, where this node is what is found; i is the name of the component that begins there
-abbrev pub subOf : List ℕ → List ℕ → List ℕ → ℕ → Bool → Sub → Verdict
-subOf i c s e any (Done j) = judgedAs j
-subOf i c s e any (Past d) = componentsVerdict (nodesAt s d) c any e
-subOf i c s e any (Begins n q z d) = componentVerdict (nodesAt s q) i (isComplete i (nodesAt s q)) (come false false) z otherwise componentsVerdict (nodesAt s d) c true e
+abbrev pub subOf : List ℕ → List ℕ → Bool → List ℕ → ℕ → Bool → Sub → Verdict
+subOf i c method s e any (Done j) = judgedAs j
+subOf i c method s e any (Past d) = componentsVerdict (nodesAt s d) c method any e
+subOf i c method s e any (Begins n q z d) =
+    componentVerdict (nodesAt s q) i (isComplete i method (nodesAt s q)) (come false false method) z otherwise componentsVerdict (nodesAt s d) c method true e
 
 -- what is left is shorter; and whether a component is left
 abbrev pub SubFits : List ℕ → List ℕ → ℕ → Sub → Type 0
@@ -65,7 +74,7 @@ SubFits i s at (Begins n q z d) = (n ≡ placeOf i componentNames) × (length s 
 
 pub record SubAt (k : ℕ) (s : List ℕ) (e at : ℕ) (any : Bool) (r : Sub) : Type 0 where
   pub inner : List ℕ
-  pub is : (c : List ℕ) → k ≡ placeOf c componentNames → componentsVerdict (nodesAt s at) c any e ≡ subOf inner c s e any r
+  pub is : (c : List ℕ) → k ≡ placeOf c componentNames → (method : Bool) → componentsVerdict (nodesAt s at) c method any e ≡ subOf inner c method s e any r
   pub fits : SubFits inner s at r
 
 -- ---- the walk
@@ -78,6 +87,6 @@ abbrev pub HeldIs : Bool → Held → Type 0
 HeldIs b (Holds a) = a ≡ b
 HeldIs b (Fails n p) = Unit {0}
 
-pub record CompsAt (k : ℕ) (s : List ℕ) (from e : ℕ) (r : Held) : Type 0 where
-  pub is : (c : List ℕ) → k ≡ placeOf c componentNames → componentsVerdict (nodesAt s from) c false e ≡ heldAs r
+pub record CompsAt (k : ℕ) (method : Bool) (s : List ℕ) (from e : ℕ) (r : Held) : Type 0 where
+  pub is : (c : List ℕ) → k ≡ placeOf c componentNames → componentsVerdict (nodesAt s from) c method false e ≡ heldAs r
   pub held : HeldIs (hasElement (nodesAt s from)) r

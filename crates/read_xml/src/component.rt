@@ -25,17 +25,17 @@ ghost use Rattle.octets.specs.Pick.{pick};
 ghost use Rattle.octets.specs.Words.{same};
 ghost use Rattle.source.specs.Source.{rest};
 ghost use Rattle.calendar.specs.Refusal.{COUNT, fine, refuse};
-ghost use Rattle.schema.specs.Completing.{completeAt};
 ghost use Rattle.read_xml_nodes.specs.Judging.{judgedAs};
 ghost use Rattle.read_xml.specs.Children.{nameOf};
-ghost use Rattle.read_xml.specs.Components.{partName, EndAt, EndsAt, hasSubs, WhichAt, MetAt, HeadAt, BehindAt};
+ghost use Rattle.read_xml.specs.Components.{partName, completeBy, EndAt, EndsAt, hasSubs, WhichAt, MetAt, HeadAt, BehindAt};
 
 // At the end tag of the component of the number `k`, whose children are all there: its tallies are compared, and it holds a component or not.
-fn end_counts(k: usize, kept: Kept, inner: bool, e: usize) -> Judged
-    ensures { λ r. ⌜ pick (completeAt k (kept .counts) (kept .action) inner) fine (refuse COUNT e) ≡ judgedAs r ⌝ }
+// `method`, here and below: whether the calendar round the component has METHOD.
+fn end_counts(k: usize, kept: Kept, inner: bool, method: bool, e: usize) -> Judged
+    ensures { λ r. ⌜ pick (completeBy k kept inner method) fine (refuse COUNT e) ≡ judgedAs r ⌝ }
 {
     let counts = kept.counts;
-    let complete = complete_counts(k, counts, kept.action, inner);
+    let complete = complete_counts(k, counts, kept.action, inner, method);
     if complete {
         return Judged::Fine;
     }
@@ -43,17 +43,25 @@ fn end_counts(k: usize, kept: Kept, inner: bool, e: usize) -> Judged
 }
 
 // At the end tag of the component of the number `k`: whether `properties` and `components` have come, and `components` holds a component.
-fn end_of(k: usize, kept: Kept, had: bool, came: bool, inner: bool, e: usize) -> Judged
-    ensures { λ r. ⌜ EndAt k kept had came inner e r ⌝ }
+fn end_of(
+    k: usize,
+    kept: Kept,
+    had: bool,
+    came: bool,
+    inner: bool,
+    method: bool,
+    e: usize,
+) -> Judged
+    ensures { λ r. ⌜ EndAt k kept had came inner method e r ⌝ }
 {
     if had {
         if k == component::VCALENDAR {
             if came {
-                return end_counts(k, kept, inner, e);
+                return end_counts(k, kept, inner, method, e);
             }
             return Judged::Refused(FRAME, e);
         }
-        return end_counts(k, kept, inner, e);
+        return end_counts(k, kept, inner, method, e);
     }
     Judged::Refused(FRAME, e)
 }
@@ -159,9 +167,9 @@ fn child_at(k: usize, had: bool, s: &[u8], at: usize) -> Met
 }
 
 // The component of the number `k`, up to its `components`, or to its end tag at `e`.
-pub fn head(k: usize, s: &[u8], inside: usize, e: usize) -> Begun
+pub fn head(k: usize, method: bool, s: &[u8], inside: usize, e: usize) -> Begun
     requires { ⌜ length (now s) ≤ 65535 ⌝ }
-    ensures { λ r. ⌜ HeadAt k (now (s .entry)) inside e r ⌝ }
+    ensures { λ r. ⌜ HeadAt k method (now (s .entry)) inside e r ⌝ }
 {
     let mut at = inside;
     let mut had = false;
@@ -170,7 +178,7 @@ pub fn head(k: usize, s: &[u8], inside: usize, e: usize) -> Begun
         let m = child_at(k, had, s, at);
         match m {
             Met::End => {
-                let j = end_of(k, kept, had, false, false, e);
+                let j = end_of(k, kept, had, false, false, method, e);
                 let part = Part::Ends(j);
                 return Begun { part, kept };
             }
@@ -212,11 +220,12 @@ pub fn behind(
     kept: Kept,
     had: bool,
     inner: bool,
+    method: bool,
     s: &[u8],
     from: usize,
     e: usize,
 ) -> Judged
-    ensures { λ r. ⌜ BehindAt k kept had inner (now (s .entry)) from e r ⌝ }
+    ensures { λ r. ⌜ BehindAt k kept had inner method (now (s .entry)) from e r ⌝ }
 {
     let mut at = from;
     loop {
@@ -224,7 +233,7 @@ pub fn behind(
         let kind = n.kind;
         match kind {
             NodeKind::None => {
-                return end_of(k, kept, had, true, inner, e);
+                return end_of(k, kept, had, true, inner, method, e);
             }
             NodeKind::Element => {
                 return unexpected(s, at, n.name, n.name_end);

@@ -46,7 +46,7 @@ fn stream_verdict(s: &[u8], inside: usize, e: usize) -> Judged
             NodeKind::Element => {
                 let calendar = is_calendar(s, n.name, n.name_end);
                 if calendar {
-                    let j = component_verdict(s, n.inside, component::VCALENDAR, n.end);
+                    let j = component_verdict(s, n.inside, component::VCALENDAR, false, n.end);
                     match j {
                         Judged::Fine => {
                             any = true;

@@ -1,5 +1,6 @@
 // A whole component, and the children of `components`. See specs/Subcomponents.antt.
 use crate::Held;
+use crate::Kept;
 use crate::Numbered;
 use crate::Part;
 use crate::Sub;
@@ -15,10 +16,12 @@ use read_xml_nodes::unexpected;
 use refusals::FRAME;
 use schema::component_number;
 use schema::may_begin;
+use schema::method_for;
+ghost use mathlib.Core.Path.{_≡_};
 ghost use Prim.Native.Nat.{_≤_};
 ghost use lib.ListN.{length, take};
 ghost use Rattle.source.specs.Source.{rest};
-ghost use Rattle.read_xml.specs.Subcomponents.{NumberedAt, SubAt, ComponentAt, CompsAt};
+ghost use Rattle.read_xml.specs.Subcomponents.{NumberedAt, SubAt, ComponentAt, methodKept, CompsAt};
 
 // The number of the component of a name, where it may stand in the component of the number `k`.
 fn sub_number(k: usize, s: &[u8], name: usize, name_end: usize) -> Numbered
@@ -73,32 +76,42 @@ fn sub_at(k: usize, s: &[u8], at: usize, any: bool, e: usize) -> Sub
     }
 }
 
-// The component of the number `k` whose content begins at `inside`, and whose end tag is at `e`.
-pub fn component_verdict(s: &[u8], inside: usize, k: usize, e: usize) -> Judged
-    requires { ⌜ length (now s) ≤ 65535 ⌝ }
-    ensures { λ r. ⌜ ComponentAt k (now (s .entry)) inside e r ⌝ }
+// Whether METHOD has come of the calendar that the subcomponents of the component of the number `k` stand in; `properties` has come or not.
+fn method_inside(k: usize, kept: Kept, had: bool, method: bool) -> bool
+    ensures { λ r. ⌜ r ≡ methodKept k kept had method ⌝ }
 {
-    let h = head(k, s, inside, e);
+    if had {
+        let counts = kept.counts;
+        return method_for(k, counts, method);
+    }
+    method
+}
+
+// The component of the number `k` whose content begins at `inside`, and whose end tag is at `e`; `method`, whether the calendar round it has METHOD.
+pub fn component_verdict(s: &[u8], inside: usize, k: usize, method: bool, e: usize) -> Judged
+    requires { ⌜ length (now s) ≤ 65535 ⌝ }
+    ensures { λ r. ⌜ ComponentAt k method (now (s .entry)) inside e r ⌝ }
+{
+    let h = head(k, method, s, inside, e);
     let part = h.part;
     match part {
         Part::Ends(j) => j,
         Part::Opens(q, x, after, had) => {
-            let r = components_verdict(s, q, k, x);
+            let kept = h.kept;
+            let m = method_inside(k, kept, had, method);
+            let r = components_verdict(s, q, k, m, x);
             match r {
-                Held::Holds(inner) => {
-                    let kept = h.kept;
-                    behind(k, kept, had, inner, s, after, e)
-                }
+                Held::Holds(inner) => behind(k, kept, had, inner, method, s, after, e),
                 Held::Fails(f, y) => Judged::Refused(f, y),
             }
         }
     }
 }
 
-// The children of the `components` of a component of the number `k`, whose content begins at `inside`, and whose end tag is at `e`.
-fn components_verdict(s: &[u8], inside: usize, k: usize, e: usize) -> Held
+// The children of the `components` of a component of the number `k`, whose content begins at `inside`, and whose end tag is at `e`; `method`, whether their calendar has METHOD.
+fn components_verdict(s: &[u8], inside: usize, k: usize, method: bool, e: usize) -> Held
     requires { ⌜ length (now s) ≤ 65535 ⌝ }
-    ensures { λ r. ⌜ CompsAt k (now (s .entry)) inside e r ⌝ }
+    ensures { λ r. ⌜ CompsAt k method (now (s .entry)) inside e r ⌝ }
 {
     let mut at = inside;
     let mut any = false;
@@ -112,7 +125,7 @@ fn components_verdict(s: &[u8], inside: usize, k: usize, e: usize) -> Held
             Sub::Past(d) => {
                 at = d;
             }
-            Sub::Begins(n, q, z, d) => match component_verdict(s, q, n, z) {
+            Sub::Begins(n, q, z, d) => match component_verdict(s, q, n, method, z) {
                 Judged::Fine => {
                     any = true;
                     at = d;

@@ -6,7 +6,7 @@
 --     occurrencesOf     the list of a component; for a VALARM there are three, by the word of its ACTION: alarmTable
 --     mayStand          whether a known property may stand in a component; in a VALARM, one that any of the three lists has
 -- The pairs and choices inside the lists (lines 447, 492, 614, 627, 637) are judged in Counts; here each of their properties is one that may be missing.
--- DUE (line 868) stands in no list.
+-- In two points RFC 5545 decides and not the schema: DTSTART of a VEVENT may be missing (3.6.1), and a VTODO has DUE (line 868) and no DTEND (3.6.2).
 use mathlib.Core.Bool.{Bool}
 use mathlib.Core.List.{List, [], _∷_, map}
 use mathlib.Core.Option.{Option, none, some}
@@ -51,7 +51,7 @@ calprops =
 abbrev pub eventprop : List Occurrence
 eventprop =
     once (ascii "DTSTAMP") ∷
-    once (ascii "DTSTART") ∷
+    optional (ascii "DTSTART") ∷  -- RFC 5545, 3.6.1: may be missing where the calendar has METHOD; schema: property-dtstart
     once (ascii "UID") ∷
     optional (ascii "CLASS") ∷  -- line 430
     optional (ascii "CREATED") ∷
@@ -104,7 +104,7 @@ todoprop =
     optional (ascii "URL") ∷
     optional (ascii "RRULE") ∷  -- line 490
     optional (ascii "DTSTART") ∷  -- line 492: ((property-dtstart?, property-dtend?) | (property-dtstart, property-duration)?)
-    optional (ascii "DTEND") ∷
+    optional (ascii "DUE") ∷  -- RFC 5545, 3.6.2: due / duration; schema: property-dtend
     optional (ascii "DURATION") ∷
     anyTimes (ascii "ATTACH") ∷  -- line 497
     anyTimes (ascii "ATTENDEE") ∷

@@ -1,7 +1,9 @@
--- How often the properties of a component stand: the rules, refusal 9 (COUNT); schema 3.6, lines 392 to 638.
+-- How often the properties of a component stand: the rules, refusal 9 (COUNT); schema 3.6, lines 392 to 638; RFC 5545, 3.6.1 and 3.6.2.
 --     tally       how often a property stands in a component
 --     actionOf    the word of a component's first ACTION
---     complete    whether the tallies of a component are the schema's: its name, its properties, whether it has a subcomponent
+--     Around      what stands around a component's properties: a subcomponent, and METHOD in the calendar that it stands in
+--     methodFor   whether METHOD stands in the calendar of what is inside a component: its own if it is a VCALENDAR, else the calendar round it
+--     complete    whether the tallies of a component are as they must be: its name, its properties, what stands around them
 -- The tally of every known property is compared with the component's list; one that is not in the list may not stand. Unrecognised properties count for nothing.
 -- Pairs are judged by tallies, so that their order is free.
 use mathlib.Core.Bool.{Bool, true, false}
@@ -45,24 +47,37 @@ eachOften (w ∷ ws) os ps = isOften (occurrenceIn os w) (tally w ps) and eachOf
 
 -- ---- pairs
 
--- VEVENT, line 447: (property-dtend | property-duration)?
-abbrev pub eventPair : List Property → Bool
-eventPair ps = eqb (tally (ascii "DTEND") ps) 0 or eqb (tally (ascii "DURATION") ps) 0
+-- what stands around the properties of a component: `inner`, it has a subcomponent; `method`, the calendar round it has METHOD
+pub record Around : Type 0 where
+  pub inner : Bool
+  pub method : Bool
 
--- VTODO, line 492: ((property-dtstart?, property-dtend?) | (property-dtstart, property-duration)?)
+abbrev pub hasMethod : List Property → Bool
+hasMethod ps = leb 1 (tally (ascii "METHOD") ps)
+
+-- for what is inside a component c with the properties ps, where m says whether the calendar round c has METHOD
+unfoldable pub methodFor : List ℕ → List Property → Bool → Bool
+methodFor c ps m = pick (same c (ascii "VCALENDAR")) (hasMethod ps) m
+
+-- VEVENT, line 447: (property-dtend | property-duration)?. RFC 5545, 3.6.1: DTSTART is missing only where the calendar has METHOD
+abbrev pub eventPair : List Property → Bool → Bool
+eventPair ps method =
+    (method or eqb (tally (ascii "DTSTART") ps) 1) and (eqb (tally (ascii "DTEND") ps) 0 or eqb (tally (ascii "DURATION") ps) 0)
+
+-- VTODO. RFC 5545, 3.6.2: DUE or DURATION, not both, and DURATION only with DTSTART
 abbrev pub todoPair : List Property → Bool
-todoPair ps = eqb (tally (ascii "DURATION") ps) 0 or (eqb (tally (ascii "DTSTART") ps) 1 and eqb (tally (ascii "DTEND") ps) 0)
+todoPair ps = eqb (tally (ascii "DURATION") ps) 0 or (eqb (tally (ascii "DTSTART") ps) 1 and eqb (tally (ascii "DUE") ps) 0)
 
 -- VALARM, lines 614, 627, 637: (property-duration, property-repeat)?
 abbrev pub alarmPair : List Property → Bool
 alarmPair ps = eqb (tally (ascii "DURATION") ps) (tally (ascii "REPEAT") ps)
 
 -- the pairs of a component; for a VTIMEZONE, line 577, its subcomponents: (component-standard | component-daylight) & ..
-abbrev pub pairsOf : List ℕ → List Property → Bool → Bool
-pairsOf c ps sub =
-    pick (same c (ascii "VEVENT")) (eventPair ps)
+abbrev pub pairsOf : List ℕ → List Property → Around → Bool
+pairsOf c ps around =
+    pick (same c (ascii "VEVENT")) (eventPair ps (around .method))
     (pick (same c (ascii "VTODO")) (todoPair ps)
-    (pick (same c (ascii "VTIMEZONE")) sub
+    (pick (same c (ascii "VTIMEZONE")) (around .inner)
     (pick (isAlarm c) (alarmPair ps)
     true)))
 
@@ -84,5 +99,5 @@ abbrev pub oftenFor : Option (List Occurrence) → List Property → Bool
 oftenFor none ps = false
 oftenFor (some os) ps = eachOften propertyNames os ps
 
-unfoldable pub complete : List ℕ → List Property → Bool → Bool
-complete c ps sub = oftenFor (listFor c ps) ps and pairsOf c ps sub
+unfoldable pub complete : List ℕ → List Property → Around → Bool
+complete c ps around = oftenFor (listFor c ps) ps and pairsOf c ps around

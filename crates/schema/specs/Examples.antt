@@ -15,7 +15,7 @@ use Rattle.schema.specs.Types.{typeName, valueTypes, typeNamed}
 use Rattle.schema.specs.Parameters.{parameterNames, parameterType, isListedParameter, isQuotedParameter, parameterWords}
 use Rattle.schema.specs.Components.{alarmTable, componentNames, subcomponentsOf, standingIn, mayStand}
 use Rattle.schema.specs.Properties.{propertyTable, propertyNames, isKnownProperty, defaultType, permittedTypes, isListedProperty, permitsParameter, propertyWords}
-use Rattle.schema.specs.Counts.{complete}
+use Rattle.schema.specs.Counts.{Around, methodFor, complete}
 use Rattle.names.specs.Table.{placeOf}
 use Rattle.schema.specs.Completing.{signAt}
 use Rattle.schema.specs.Computing.{schema-compute}
@@ -52,12 +52,12 @@ alarm-actions : propertyWords (ascii "VALARM") (ascii "ACTION") ≡ some (map (�
 unfolding schema-compute
 alarm-actions = refl
 
--- every property of a list is a row; every row but DUE stands in a list
+-- every property of a list is a row, and every row stands in a list
 lists-known : failing isKnownProperty (joined (map standingIn componentNames)) ≡ []
 unfolding schema-compute passing failing
 lists-known = refl
 
-rows-stand : failing (λ p. isOneOf p (joined (map standingIn componentNames))) propertyNames ≡ ascii "DUE" ∷ []
+rows-stand : failing (λ p. isOneOf p (joined (map standingIn componentNames))) propertyNames ≡ []
 unfolding schema-compute passing failing
 rows-stand = refl
 
@@ -144,9 +144,14 @@ in-valarm : passing (λ p. mayStand (ascii "VALARM") p) propertyNames ≡
 unfolding schema-compute passing
 in-valarm = refl
 
-due-nowhere : passing (λ c. mayStand c (ascii "DUE")) componentNames ≡ []
+-- a VTODO is due and does not end
+due-stands : passing (λ c. mayStand c (ascii "DUE")) componentNames ≡ ascii "VTODO" ∷ []
 unfolding schema-compute passing
-due-nowhere = refl
+due-stands = refl
+
+end-stands : passing (λ c. mayStand c (ascii "DTEND")) componentNames ≡ ascii "VEVENT" ∷ ascii "VFREEBUSY" ∷ []
+unfolding schema-compute passing
+end-stands = refl
 
 -- ---- how often
 
@@ -161,18 +166,22 @@ acting : List ℕ → List (List ℕ) → List Property
 unfolding schema-compute
 acting a ws = record { name = ascii "ACTION"; parameters = []; values = text a ∷ [] } ∷ named ws
 
+-- no subcomponent, and no METHOD in the calendar
+bare : Around
+bare = record { inner = false; method = false }
+
 -- none, what is needed, an unrecognised one besides, METHOD twice
-calendars : map (λ ws. complete (ascii "VCALENDAR") (named ws) false)
+calendars : map (λ ws. complete (ascii "VCALENDAR") (named ws) bare)
     ([] ∷
     (ascii "VERSION" ∷ ascii "PRODID" ∷ []) ∷
     (ascii "X-A" ∷ ascii "VERSION" ∷ ascii "X-A" ∷ ascii "PRODID" ∷ []) ∷
     (ascii "METHOD" ∷ ascii "VERSION" ∷ ascii "PRODID" ∷ ascii "METHOD" ∷ []) ∷ []) ≡
     false ∷ true ∷ true ∷ false ∷ []
-unfolding schema-compute named
+unfolding schema-compute named bare
 calendars = refl
 
 -- VEVENT: DTEND, DURATION, both, twice one; two COMMENTs; two SUMMARYs; no UID
-events : map (λ ws. complete (ascii "VEVENT") (named (ascii "DTSTAMP" ∷ ascii "DTSTART" ∷ ws)) false)
+events : map (λ ws. complete (ascii "VEVENT") (named (ascii "DTSTAMP" ∷ ascii "DTSTART" ∷ ws)) bare)
     ((ascii "UID" ∷ ascii "DTEND" ∷ []) ∷
     (ascii "DURATION" ∷ ascii "UID" ∷ []) ∷
     (ascii "DURATION" ∷ ascii "UID" ∷ ascii "DTEND" ∷ []) ∷
@@ -181,48 +190,65 @@ events : map (λ ws. complete (ascii "VEVENT") (named (ascii "DTSTAMP" ∷ ascii
     (ascii "UID" ∷ ascii "SUMMARY" ∷ ascii "SUMMARY" ∷ []) ∷
     (ascii "SUMMARY" ∷ []) ∷ []) ≡
     true ∷ true ∷ false ∷ false ∷ true ∷ false ∷ false ∷ []
-unfolding schema-compute named
+unfolding schema-compute named bare
 events = refl
 
--- VTODO: neither, either or both of DTSTART and DTEND; DURATION only with DTSTART and without DTEND, in any order
-todos : map (λ ws. complete (ascii "VTODO") (named (ascii "DTSTAMP" ∷ ascii "UID" ∷ ws)) false)
-    ([] ∷ (ascii "DTSTART" ∷ []) ∷ (ascii "DTEND" ∷ []) ∷ (ascii "DTEND" ∷ ascii "DTSTART" ∷ []) ∷
-    (ascii "DURATION" ∷ ascii "DTSTART" ∷ []) ∷
-    (ascii "DURATION" ∷ []) ∷ (ascii "DURATION" ∷ ascii "DTSTART" ∷ ascii "DTEND" ∷ []) ∷ (ascii "DTSTART" ∷ ascii "DURATION" ∷ ascii "DURATION" ∷ []) ∷
-    (ascii "DURATION" ∷ ascii "DTEND" ∷ []) ∷ []) ≡
-    true ∷ true ∷ true ∷ true ∷ true ∷ false ∷ false ∷ false ∷ false ∷ []
+-- a VEVENT without DTSTART, with one, with two, where the calendar has no METHOD and where it has one
+starts : map (λ m. map (λ ws. complete (ascii "VEVENT") (named (ascii "DTSTAMP" ∷ ascii "UID" ∷ ws)) (record { inner = false; method = m }))
+    ([] ∷ (ascii "DTSTART" ∷ []) ∷ (ascii "DTSTART" ∷ ascii "DTSTART" ∷ []) ∷ [])) (false ∷ true ∷ []) ≡
+    (false ∷ true ∷ false ∷ []) ∷ (true ∷ true ∷ false ∷ []) ∷ []
 unfolding schema-compute named
+starts = refl
+
+-- METHOD counts for what is inside a calendar; of another component the calendar round it decides
+methods : map (λ m. map (λ c. methodFor c (named (ascii "METHOD" ∷ [])) m) (ascii "VCALENDAR" ∷ ascii "VEVENT" ∷ [])) (false ∷ true ∷ []) ≡
+    (true ∷ false ∷ []) ∷ (true ∷ true ∷ []) ∷ []
+unfolding schema-compute named
+methods = refl
+
+other-calendars : methodFor (ascii "VCALENDAR") (named (ascii "PRODID" ∷ [])) true ≡ false
+unfolding schema-compute named
+other-calendars = refl
+
+-- VTODO: neither, either or both of DTSTART and DUE; DURATION only with DTSTART and without DUE, in any order; DUE twice; DTEND
+todos : map (λ ws. complete (ascii "VTODO") (named (ascii "DTSTAMP" ∷ ascii "UID" ∷ ws)) bare)
+    ([] ∷ (ascii "DTSTART" ∷ []) ∷ (ascii "DUE" ∷ []) ∷ (ascii "DUE" ∷ ascii "DTSTART" ∷ []) ∷
+    (ascii "DURATION" ∷ ascii "DTSTART" ∷ []) ∷
+    (ascii "DURATION" ∷ []) ∷ (ascii "DURATION" ∷ ascii "DTSTART" ∷ ascii "DUE" ∷ []) ∷ (ascii "DTSTART" ∷ ascii "DURATION" ∷ ascii "DURATION" ∷ []) ∷
+    (ascii "DURATION" ∷ ascii "DUE" ∷ []) ∷ (ascii "DUE" ∷ ascii "DUE" ∷ []) ∷ (ascii "DTEND" ∷ []) ∷ []) ≡
+    true ∷ true ∷ true ∷ true ∷ true ∷ false ∷ false ∷ false ∷ false ∷ false ∷ false ∷ []
+unfolding schema-compute named bare
 todos = refl
 
 -- VJOURNAL: one DESCRIPTION, not two;  VFREEBUSY: DTEND and DURATION together
-journals : map (λ ws. complete (ascii "VJOURNAL") (named (ascii "DTSTAMP" ∷ ascii "UID" ∷ ws)) false)
+journals : map (λ ws. complete (ascii "VJOURNAL") (named (ascii "DTSTAMP" ∷ ascii "UID" ∷ ws)) bare)
     ((ascii "DESCRIPTION" ∷ []) ∷ (ascii "DESCRIPTION" ∷ ascii "DESCRIPTION" ∷ []) ∷ []) ≡ true ∷ false ∷ []
-unfolding schema-compute named
+unfolding schema-compute named bare
 journals = refl
 
-freebusys : complete (ascii "VFREEBUSY") (named (ascii "DTSTAMP" ∷ ascii "UID" ∷ ascii "DTEND" ∷ ascii "DURATION" ∷ [])) false ≡ true
-unfolding schema-compute named
+freebusys : complete (ascii "VFREEBUSY") (named (ascii "DTSTAMP" ∷ ascii "UID" ∷ ascii "DTEND" ∷ ascii "DURATION" ∷ [])) bare ≡ true
+unfolding schema-compute named bare
 freebusys = refl
 
 -- VTIMEZONE without and with a subcomponent
-timezones : map (complete (ascii "VTIMEZONE") (named (ascii "TZID" ∷ ascii "TZURL" ∷ []))) (false ∷ true ∷ []) ≡ false ∷ true ∷ []
+timezones : map (λ b. complete (ascii "VTIMEZONE") (named (ascii "TZID" ∷ ascii "TZURL" ∷ [])) (record { inner = b; method = false })) (false ∷ true ∷ []) ≡ false ∷ true ∷ []
 unfolding schema-compute named
 timezones = refl
 
 -- VALARM: AUDIO; with DURATION alone, with REPEAT too; with a DESCRIPTION, which is outside its list; DISPLAY wants it; EMAIL wants ATTENDEE; another word
 alarms :
-    complete (ascii "VALARM") (acting (ascii "AUDIO") (ascii "TRIGGER" ∷ [])) false ∷
-    complete (ascii "VALARM") (acting (ascii "AUDIO") (ascii "TRIGGER" ∷ ascii "DURATION" ∷ [])) false ∷
-    complete (ascii "VALARM") (acting (ascii "AUDIO") (ascii "REPEAT" ∷ ascii "TRIGGER" ∷ ascii "DURATION" ∷ [])) false ∷
-    complete (ascii "VALARM") (acting (ascii "AUDIO") (ascii "TRIGGER" ∷ ascii "DESCRIPTION" ∷ [])) false ∷
-    complete (ascii "VALARM") (acting (ascii "DISPLAY") (ascii "TRIGGER" ∷ ascii "DESCRIPTION" ∷ [])) false ∷
-    complete (ascii "VALARM") (acting (ascii "EMAIL") (ascii "TRIGGER" ∷ ascii "DESCRIPTION" ∷ ascii "SUMMARY" ∷ [])) false ∷
-    complete (ascii "VALARM") (acting (ascii "EMAIL") (ascii "ATTENDEE" ∷ ascii "TRIGGER" ∷ ascii "DESCRIPTION" ∷ ascii "SUMMARY" ∷ ascii "ATTENDEE" ∷ [])) false ∷
-    complete (ascii "VALARM") (acting (ascii "PROCEDURE") (ascii "TRIGGER" ∷ [])) false ∷
-    complete (ascii "VALARM") (named (ascii "TRIGGER" ∷ [])) false ∷
-    complete (ascii "VALARM") (acting (ascii "AUDIO") (ascii "TRIGGER" ∷ ascii "ACTION" ∷ [])) false ∷ [] ≡
+    complete (ascii "VALARM") (acting (ascii "AUDIO") (ascii "TRIGGER" ∷ [])) bare ∷
+    complete (ascii "VALARM") (acting (ascii "AUDIO") (ascii "TRIGGER" ∷ ascii "DURATION" ∷ [])) bare ∷
+    complete (ascii "VALARM") (acting (ascii "AUDIO") (ascii "REPEAT" ∷ ascii "TRIGGER" ∷ ascii "DURATION" ∷ [])) bare ∷
+    complete (ascii "VALARM") (acting (ascii "AUDIO") (ascii "TRIGGER" ∷ ascii "DESCRIPTION" ∷ [])) bare ∷
+    complete (ascii "VALARM") (acting (ascii "DISPLAY") (ascii "TRIGGER" ∷ ascii "DESCRIPTION" ∷ [])) bare ∷
+    complete (ascii "VALARM") (acting (ascii "EMAIL") (ascii "TRIGGER" ∷ ascii "DESCRIPTION" ∷ ascii "SUMMARY" ∷ [])) bare ∷
+    complete (ascii "VALARM") (acting (ascii "EMAIL") (ascii "ATTENDEE" ∷ ascii "TRIGGER" ∷ ascii "DESCRIPTION" ∷ ascii "SUMMARY" ∷ ascii "ATTENDEE" ∷ [])) bare ∷
+    complete (ascii "VALARM") (acting (ascii "PROCEDURE") (ascii "TRIGGER" ∷ [])) bare ∷
+    complete (ascii "VALARM") (named (ascii "TRIGGER" ∷ [])) bare ∷
+    complete (ascii "VALARM") (acting (ascii "AUDIO") (ascii "TRIGGER" ∷ ascii "ACTION" ∷ [])) bare ∷ [] ≡
     true ∷ false ∷ true ∷ false ∷ true ∷ false ∷ true ∷ false ∷ false ∷ false ∷ []
-unfolding schema-compute named acting
+unfolding schema-compute named acting bare
 alarms = refl
 
 -- ---- by numbers

@@ -8,7 +8,7 @@ ghost use lib.Dec.{eqb};
 ghost use lib.ListN.{getD};
 ghost use Rattle.octets.specs.Pick.{_and_, _or_};
 ghost use Rattle.schema.specs.Arrays.{bumped};
-ghost use Rattle.schema.specs.Completing.{signAt, isSigned, allOften, oftenAt, pairsAt, completeAt};
+ghost use Rattle.schema.specs.Completing.{signAt, isSigned, allOften, oftenAt, pairsAt, completeAt, methodAt};
 
 // One more of the property `p`; of an unrecognised one, nothing.
 pub fn bump(t: [u8; 46], p: usize) -> [u8; 46]
@@ -26,12 +26,12 @@ pub fn bump(t: [u8; 46], p: usize) -> [u8; 46]
     u
 }
 
-// A line for each component, and at the end three for VALARM, by its ACTION: AUDIO, DISPLAY, EMAIL. A column for each property, with the schema's sign of how often it stands:
+// A line for each component, and at the end three for VALARM, by its ACTION: AUDIO, DISPLAY, EMAIL. A column for each property, with a sign of how often it stands, as in the schema:
 // 1 once, ? at most once, * any number of times, + at least once, a point where it may not stand.
 const SIGNS: [u8; 552] = *b"\
     ??11..........................................\
-    ....**?*???.?*??.?.1?.?.....**??*?1**?...?1??*\
-    ....**?*?????*????.??.......**??*?1**?...?1??*\
+    ....**?*???.?*??.?.??.?.....**??*?1**?...?1??*\
+    ....**?*?????*???.???.......**??*?1**?...?1??*\
     ....**?*?.....??...?........**??*?1**?...?1??*\
     .......*.........?.??*......*??..?1.......1..*\
     .......................1...?...............?..\
@@ -105,25 +105,39 @@ fn often_at(k: usize, t: [u8; 46], action: usize) -> bool
     all_often(12, t)
 }
 
-// VEVENT: not both DTEND and DURATION.
-fn event_pair(t: [u8; 46]) -> bool
-    ensures { λ r. ⌜ r ≡ (eqb (getD t 17 0) 0 or eqb (getD t 20 0) 0) ⌝ }
+// VEVENT: DTSTART, unless the calendar has METHOD.
+fn event_start(t: [u8; 46], method: bool) -> bool
+    ensures { λ r. ⌜ r ≡ (method or eqb (getD t 19 0) 1) ⌝ }
 {
-    if t[property::DTEND] == 0 {
+    if method {
         return true;
     }
-    t[property::DURATION] == 0
+    t[property::DTSTART] == 1
 }
 
-// VTODO: DURATION only with DTSTART and without DTEND.
+// VEVENT: the same, and not both DTEND and DURATION.
+fn event_pair(t: [u8; 46], method: bool) -> bool
+    ensures { λ r. ⌜ r ≡ ((method or eqb (getD t 19 0) 1) and (eqb (getD t 17 0) 0 or eqb (getD t 20 0) 0)) ⌝ }
+{
+    let started = event_start(t, method);
+    if started {
+        if t[property::DTEND] == 0 {
+            return true;
+        }
+        return t[property::DURATION] == 0;
+    }
+    false
+}
+
+// VTODO: DURATION only with DTSTART and without DUE.
 fn todo_pair(t: [u8; 46]) -> bool
-    ensures { λ r. ⌜ r ≡ (eqb (getD t 20 0) 0 or (eqb (getD t 19 0) 1 and eqb (getD t 17 0) 0)) ⌝ }
+    ensures { λ r. ⌜ r ≡ (eqb (getD t 20 0) 0 or (eqb (getD t 19 0) 1 and eqb (getD t 18 0) 0)) ⌝ }
 {
     if t[property::DURATION] == 0 {
         return true;
     }
     if t[property::DTSTART] == 1 {
-        return t[property::DTEND] == 0;
+        return t[property::DUE] == 0;
     }
     false
 }
@@ -136,11 +150,11 @@ fn alarm_pair(t: [u8; 46]) -> bool
 }
 
 // The pairs of a component; of a VTIMEZONE, that it has a subcomponent.
-fn pairs_at(k: usize, t: [u8; 46], inner: bool) -> bool
-    ensures { λ r. ⌜ r ≡ pairsAt k t inner ⌝ }
+fn pairs_at(k: usize, t: [u8; 46], inner: bool, method: bool) -> bool
+    ensures { λ r. ⌜ r ≡ pairsAt k t (record { inner = inner; method = method }) ⌝ }
 {
     if k == component::VEVENT {
-        return event_pair(t);
+        return event_pair(t, method);
     }
     if k == component::VTODO {
         return todo_pair(t);
@@ -154,14 +168,24 @@ fn pairs_at(k: usize, t: [u8; 46], inner: bool) -> bool
     true
 }
 
-// Whether the tallies of the component `k` are the schema's: `action` is the number of its ACTION's word among AUDIO, DISPLAY, EMAIL,
-// NONE where it is none of them; `inner`, whether it has a subcomponent.
-pub fn complete_counts(k: usize, t: [u8; 46], action: usize, inner: bool) -> bool
-    ensures { λ r. ⌜ r ≡ completeAt k t action inner ⌝ }
+// Whether the tallies of the component `k` are as they must be: `action` is the number of its ACTION's word among AUDIO, DISPLAY, EMAIL,
+// NONE where it is none of them; `inner`, whether it has a subcomponent; `method`, whether the calendar round it has METHOD.
+pub fn complete_counts(k: usize, t: [u8; 46], action: usize, inner: bool, method: bool) -> bool
+    ensures { λ r. ⌜ r ≡ completeAt k t action (record { inner = inner; method = method }) ⌝ }
 {
     let often = often_at(k, t, action);
     if often {
-        return pairs_at(k, t, inner);
+        return pairs_at(k, t, inner, method);
     }
     false
+}
+
+// Whether METHOD stands in the calendar of what is inside the component `k` with these tallies; `method`, whether it stands in the calendar round it.
+pub fn method_for(k: usize, t: [u8; 46], method: bool) -> bool
+    ensures { λ r. ⌜ r ≡ methodAt k t method ⌝ }
+{
+    if k == component::VCALENDAR {
+        return 1 <= t[property::METHOD];
+    }
+    method
 }

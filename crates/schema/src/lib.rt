@@ -25,6 +25,7 @@ pub use columns::permits_parameter;
 pub use columns::permits_type;
 pub use counts::bump;
 pub use counts::complete_counts;
+pub use counts::method_for;
 pub use numbers::component_number;
 pub use numbers::parameter_number;
 pub use numbers::property_number;

@@ -14,10 +14,10 @@ use Rattle.octets.specs.Words.{same, isOneOf, isEmpty}
 use Rattle.calendar.specs.Calendar.{Property}
 use Rattle.calendar.specs.Refusal.{Refusal, LINE, NAME, FRAME, PARAMETER, COUNT}
 use Rattle.schema.specs.Components.{subcomponentsOf}
-use Rattle.schema.specs.Counts.{complete}
+use Rattle.schema.specs.Counts.{Around, complete}
 use Rattle.read_text_line.specs.ContentLine.{ContentLine, contentLine}
 use Rattle.text.specs.Statement.{propertyFault, propertyOf}
-use Rattle.text.specs.Nesting.{Open, Move, on, stop, opened, mayHold, namesCarried}
+use Rattle.text.specs.Nesting.{Open, Move, on, stop, opened, methodIn, mayHold, namesCarried}
 
 pub data LineKind : Type 0 where
   starts : List ℕ → LineKind
@@ -64,6 +64,6 @@ lineKind k inner s = kindOf k inner (contentLine s)
 
 unfoldable pub step : LineKind → Open → List Open → Move
 step (starts n) f st = on (opened n ∷ record { name = f .name; seen = f .seen; inner = true } ∷ st)
-step stops f st = pick (complete (f .name) (f .seen) (f .inner)) (on st) (stop COUNT)
+step stops f st = pick (complete (f .name) (f .seen) (record { inner = f .inner; method = methodIn st })) (on st) (stop COUNT)
 step (holds p) f st = on (record { name = f .name; seen = p ∷ f .seen; inner = f .inner } ∷ st)
 step (faulty r) f st = stop r

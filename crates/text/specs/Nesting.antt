@@ -1,5 +1,6 @@
 -- Which lines are refused, and with what: one pass over the lines with the components that are open (refusals 4 to 9 of a text).
 -- In a line each test is made in the order of the refusals' numbers, so that the lowest number stands.
+--     methodIn   whether the calendar that is open has METHOD
 --     move       what one line does to the open components, or its refusal
 --     nesting    the verdict on the lines that are left, with these components open
 use mathlib.Core.Bool.{Bool, true, false, not}
@@ -15,7 +16,7 @@ use Rattle.calendar.specs.Calendar.{Property}
 use Rattle.calendar.specs.Refusal.{Refusal, LINE, NAME, FRAME, PARAMETER, COUNT, Verdict, fine, refuse}
 use Rattle.schema.specs.Components.{subcomponentsOf, mayStand}
 use Rattle.schema.specs.Properties.{isKnownProperty}
-use Rattle.schema.specs.Counts.{complete}
+use Rattle.schema.specs.Counts.{Around, methodFor, complete}
 use Rattle.folding.specs.Lines.{Line, whole, loose}
 use Rattle.read_text_line.specs.ContentLine.{RawParameter, ContentLine, contentLine}
 use Rattle.read_text_line.specs.Names.{isCarriedName}
@@ -51,11 +52,16 @@ begins k ps st = pick (mayBegin k st) (pick (isEmpty ps) (on (beginIn k st)) (st
 
 -- ---- END
 
+-- up to here; none may follow a subcomponent
+abbrev pub methodIn : List Open → Bool
+methodIn [] = false
+methodIn (f ∷ st) = methodFor (f .name) (f .seen) (methodIn st)
+
 unfoldable pub ends : List ℕ → List RawParameter → List Open → Move
 ends k ps [] = stop FRAME
 ends k ps (f ∷ st) =
     pick (same k (f .name))
-    (pick (isEmpty ps) (pick (complete (f .name) (f .seen) (f .inner)) (on st) (stop COUNT)) (stop PARAMETER))
+    (pick (isEmpty ps) (pick (complete (f .name) (f .seen) (record { inner = f .inner; method = methodIn st })) (on st) (stop COUNT)) (stop PARAMETER))
     (stop FRAME)
 
 -- ---- a property

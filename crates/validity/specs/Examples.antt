@@ -1,6 +1,7 @@
 -- Calendars that are valid, and ones that are not.
 --     rota          a calendar with an event: each way in which values are spelled
 --     variants      small changes to an event, and whether the calendar is still valid
+--     invited       an event without DTSTART, in a calendar without METHOD and in one with it
 use mathlib.Core.Path.{_≡_, refl}
 use mathlib.Core.Bool.{true, false}
 use mathlib.Core.List.{List, [], _∷_, map}
@@ -69,3 +70,18 @@ variants =
 variants-valid : map (λ p. isValid (calendar (p ∷ []))) variants ≡ (true ∷ false ∷ false ∷ false ∷ false ∷ false ∷ false ∷ false ∷ false ∷ false ∷ false ∷ [])
 unfolding validity-compute
 variants-valid = refl
+
+-- two calendars, the second with an event that has no DTSTART; of METHOD only its own counts
+abbrev invited : List Property → List Property → Components
+invited ps qs =
+    component (ascii "VCALENDAR") (prop (ascii "PRODID") (text (ascii "p") ∷ []) ∷ prop (ascii "VERSION") (text (ascii "2.0") ∷ []) ∷ ps) noMore
+    (component (ascii "VCALENDAR") (prop (ascii "PRODID") (text (ascii "p") ∷ []) ∷ prop (ascii "VERSION") (text (ascii "2.0") ∷ []) ∷ qs)
+    (component (ascii "VEVENT") (prop (ascii "DTSTAMP") (dateTime (ascii "20240504T080000Z") ∷ []) ∷ prop (ascii "UID") (text (ascii "u") ∷ []) ∷ []) noMore noMore)
+    noMore)
+
+abbrev request : List Property
+request = prop (ascii "METHOD") (text (ascii "REQUEST") ∷ []) ∷ []
+
+invited-valid : isValid (invited [] []) ∷ isValid (invited request []) ∷ isValid (invited [] request) ∷ [] ≡ false ∷ false ∷ true ∷ []
+unfolding validity-compute
+invited-valid = refl

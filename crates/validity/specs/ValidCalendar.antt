@@ -3,7 +3,7 @@
 --     isKeptName             a name of a property or parameter
 --     isValidParameter p     a parameter
 --     isValidProperty k p    a property in a component k
---     areValid ks c          components with names among ks
+--     areValid ks m c        components with names among ks, in a calendar with METHOD or, where m is false, without
 --     isValid c              VCALENDAR components, at least one
 use mathlib.Core.Bool.{Bool, true, false, not}
 use mathlib.Core.List.{List, [], _∷_}
@@ -17,7 +17,7 @@ use Rattle.calendar.specs.Calendar.{Value, Parameter, Property, Components, noM
 use Rattle.utf8.specs.Utf8.{wellFormed}
 use Rattle.schema.specs.Properties.{isKnownProperty}
 use Rattle.schema.specs.Components.{subcomponentsOf, mayStand}
-use Rattle.schema.specs.Counts.{complete}
+use Rattle.schema.specs.Counts.{Around, methodFor, complete}
 use Rattle.values.specs.Valid.{isParameter, isProperty}
 use Rattle.values.specs.Characters.{freeIn, isValueText, isParameterText}
 use Rattle.read_text_line.specs.ContentLine.{isName}
@@ -63,18 +63,18 @@ abbrev pub hasComponents : Components → Bool
 hasComponents noMore = false
 hasComponents (component k ps inner next) = true
 
--- each with such properties, as often as they must stand, and with such subcomponents
-unfoldable pub areValid : List (List ℕ) → Components → Bool
-areValid ks noMore = true
-areValid ks (component k ps inner next) =
+-- each with such properties, as often as they must stand, and with such subcomponents; m says whether the calendar round them has METHOD
+unfoldable pub areValid : List (List ℕ) → Bool → Components → Bool
+areValid ks m noMore = true
+areValid ks m (component k ps inner next) =
     isOneOf k ks
     and every (isValidProperty k) ps
-    and complete k ps (hasComponents inner)
-    and areValid (subcomponentsOf k) inner
-    and areValid ks next
+    and complete k ps (record { inner = hasComponents inner; method = m })
+    and areValid (subcomponentsOf k) (methodFor k ps m) inner
+    and areValid ks m next
 
 abbrev pub atTop : List (List ℕ)
 atTop = ascii "VCALENDAR" ∷ []
 
 unfoldable pub isValid : Components → Bool
-isValid c = hasComponents c and areValid atTop c
+isValid c = hasComponents c and areValid atTop false c

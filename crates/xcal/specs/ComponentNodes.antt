@@ -12,7 +12,7 @@ use Rattle.octets.specs.Words.{same, isOneOf, isEmpty}
 use Rattle.calendar.specs.Calendar.{Components, noMore, component}
 use Rattle.calendar.specs.Refusal.{FRAME, COUNT, Verdict, fine, refuse, _otherwise_}
 use Rattle.schema.specs.Components.{subcomponentsOf}
-use Rattle.schema.specs.Counts.{complete}
+use Rattle.schema.specs.Counts.{Around, methodFor, complete}
 use Rattle.xml.specs.Nodes.{Nodes, noNodes, element, literal, referred, hasElement}
 use Rattle.xcal.specs.Layout.{hasCapital, unexpected}
 use Rattle.xcal.specs.PropertyNodes.{propertiesVerdict, readProperties}
@@ -24,14 +24,19 @@ insideOf n (literal p b more) = insideOf n more
 insideOf n (referred p bs more) = insideOf n more
 insideOf n (element p m x kids more) = pick (same m n) kids (insideOf n more)
 
--- the counts of a component with these children are as the schema has them
-abbrev pub isComplete : List ℕ → Nodes → Bool
-isComplete k kids = complete k (readProperties (insideOf (ascii "properties") kids)) (hasElement (insideOf (ascii "components") kids))
+-- the counts of a component with these children are as they must be; m says whether the calendar round it has METHOD
+abbrev pub isComplete : List ℕ → Bool → Nodes → Bool
+isComplete k m kids =
+    complete k (readProperties (insideOf (ascii "properties") kids)) (record { inner = hasElement (insideOf (ascii "components") kids); method = m })
 
--- what has come of a component's two children
+-- what has come of a component's two children, and whether METHOD has come of the calendar that its subcomponents stand in
 pub record Come : Type 0 where
   pub properties : Bool
   pub components : Bool
+  pub method : Bool
+
+abbrev pub nothingCome : Bool → Come
+nothingCome m = record { properties = false; components = false; method = m }
 
 -- at a component's end tag: `properties` must have come, and in VCALENDAR `components`; then the counts
 unfoldable pub endOfComponent : List ℕ → Bool → Come → ℕ → Verdict
@@ -51,19 +56,19 @@ unfoldable mutual
   componentVerdict (referred p bs more) k counts c e = refuse FRAME p
   componentVerdict (element p m x kids more) k counts c e =
       pick (same m (ascii "properties") and not (c .properties) and not (c .components))
-      (propertiesVerdict k kids otherwise componentVerdict more k counts (record { properties = true; components = false }) e)
+      (propertiesVerdict k kids otherwise componentVerdict more k counts (record { properties = true; components = false; method = methodFor k (readProperties kids) (c .method) }) e)
       (pick (same m (ascii "components") and not (c .components) and not (isEmpty (subcomponentsOf k)))
-      (componentsVerdict kids k false x otherwise componentVerdict more k counts (record { properties = c .properties; components = true }) e)
+      (componentsVerdict kids k (c .method) false x otherwise componentVerdict more k counts (record { properties = c .properties; components = true; method = c .method }) e)
       (unexpected p m))
 
-  -- the children of `components` in a component k; any says whether one has come; e is the end tag of `components`
-  pub componentsVerdict : Nodes → List ℕ → Bool → ℕ → Verdict
-  componentsVerdict noNodes k any e = endOfComponents k any e
-  componentsVerdict (literal p b more) k any e = pick (isSpace b) (componentsVerdict more k any e) (refuse FRAME p)
-  componentsVerdict (referred p bs more) k any e = refuse FRAME p
-  componentsVerdict (element p m x kids more) k any e =
+  -- the children of `components` in a component k; method says whether the calendar has METHOD; any, whether one has come; e is the end tag of `components`
+  pub componentsVerdict : Nodes → List ℕ → Bool → Bool → ℕ → Verdict
+  componentsVerdict noNodes k method any e = endOfComponents k any e
+  componentsVerdict (literal p b more) k method any e = pick (isSpace b) (componentsVerdict more k method any e) (refuse FRAME p)
+  componentsVerdict (referred p bs more) k method any e = refuse FRAME p
+  componentsVerdict (element p m x kids more) k method any e =
       pick (not (hasCapital m) and isOneOf (upper m) (subcomponentsOf k))
-      (componentVerdict kids (upper m) (isComplete (upper m) kids) (record { properties = false; components = false }) x otherwise componentsVerdict more k true e)
+      (componentVerdict kids (upper m) (isComplete (upper m) method kids) (nothingCome method) x otherwise componentsVerdict more k method true e)
       (unexpected p m)
 
 -- ---- the root
@@ -75,7 +80,7 @@ streamVerdict (literal p b more) any e = pick (isSpace b) (streamVerdict more an
 streamVerdict (referred p bs more) any e = refuse FRAME p
 streamVerdict (element p m x kids more) any e =
     pick (same m (ascii "vcalendar"))
-    (componentVerdict kids (ascii "VCALENDAR") (isComplete (ascii "VCALENDAR") kids) (record { properties = false; components = false }) x otherwise streamVerdict more true e)
+    (componentVerdict kids (ascii "VCALENDAR") (isComplete (ascii "VCALENDAR") false kids) (nothingCome false) x otherwise streamVerdict more true e)
     (unexpected p m)
 
 unfoldable pub rootVerdict : Nodes → Verdict

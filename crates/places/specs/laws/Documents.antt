@@ -18,7 +18,7 @@ use Rattle.utf8.specs.laws.Utf8.{bad-inside}
 use Rattle.xml.specs.Nodes.{Nodes, noNodes, element, literal, referred, documentNodes}
 use Rattle.xcal.specs.ValueNodes.{typeOfNodes}
 use Rattle.xcal.specs.PropertyNodes.{propertySlots, childVerdict, propertyVerdict, propertiesVerdict}
-use Rattle.xcal.specs.ComponentNodes.{Come, isComplete, endOfComponent, endOfComponents, componentVerdict, componentsVerdict, streamVerdict, rootVerdict}
+use Rattle.xcal.specs.ComponentNodes.{Come, isComplete, nothingCome, endOfComponent, endOfComponents, componentVerdict, componentsVerdict, streamVerdict, rootVerdict}
 use Rattle.xcal.specs.ReadDocument.{documentVerdict}
 use Rattle.places.specs.laws.Bounds.{Within, within-fine, within-refuse, bounding, Inside}
 use Rattle.places.specs.laws.Marks.{document-inside, xml-within}
@@ -54,17 +54,17 @@ module _ (n : ℕ) where
     component-within (literal p b more) k counts c e i h = let ih = component-within more k counts c e (i .1) h in search bounding
     component-within (referred p bs more) k counts c e i h = search bounding
     component-within (element p m x kids more) k counts c e i h =
-        let inner = components-within kids k false x (i .2) (i .1) in
+        let inner = components-within kids k (c .method) false x (i .2) (i .1) in
         let ih : (d : Come) → Within n (componentVerdict more k counts d e) = λ d. component-within more k counts d e (i .3) h in
         search (bounding, properties-within)
 
-    pub components-within : (ns : Nodes) (k : List ℕ) (any : Bool) (e : ℕ) → Inside n ns → e ≤ n → Within n (componentsVerdict ns k any e)
-    components-within noNodes k any e i h = search bounding
-    components-within (literal p b more) k any e i h = let ih = components-within more k any e (i .1) h in search bounding
-    components-within (referred p bs more) k any e i h = search bounding
-    components-within (element p m x kids more) k any e i h =
-        let inner = component-within kids (upper m) (isComplete (upper m) kids) (record { properties = false; components = false }) x (i .2) (i .1) in
-        let ih = components-within more k true e (i .3) h in
+    pub components-within : (ns : Nodes) (k : List ℕ) (method any : Bool) (e : ℕ) → Inside n ns → e ≤ n → Within n (componentsVerdict ns k method any e)
+    components-within noNodes k method any e i h = search bounding
+    components-within (literal p b more) k method any e i h = let ih = components-within more k method any e (i .1) h in search bounding
+    components-within (referred p bs more) k method any e i h = search bounding
+    components-within (element p m x kids more) k method any e i h =
+        let inner = component-within kids (upper m) (isComplete (upper m) method kids) (nothingCome method) x (i .2) (i .1) in
+        let ih = components-within more k method true e (i .3) h in
         search bounding
 
   -- ---- the root

@@ -101,6 +101,6 @@ module _ {m : ℕ} {s : List ℕ} {at e n : ℕ} (r : ℕ) (q : Ready m s at) (f
   later (Closed next) z = let l = line-low q f in (omega (arith, l, z .0), z .1)
   later (Failed i p) z = z
 
-  pub outer-body : (t : Step) → r ≡ 0 → Body 0 m s n t → Outer m s at t
+  pub outer-body : (t : Step) → r ≡ 0 → Body 0 false m s n t → Outer m s at t
   unfolding onward pick
-  outer-body t h b = record { ends = later t (b .ends); agrees = line-moves q f [] ∙ rw (x, eq-eqb r 0 h) (b .agrees []) }
+  outer-body t h b = record { ends = later t (b .ends); agrees = line-moves q f [] ∙ rw (x, eq-eqb r 0 h) (b .agrees [] refl) }

@@ -23,12 +23,12 @@ use Rattle.octets.specs.Words.{same, isEmpty}
 use Rattle.octets.specs.laws.Words.{same-true}
 use Rattle.octets.specs.Computing.{octets-compute}
 use Rattle.names.specs.Table.{placeOf}
-use Rattle.names.specs.laws.Places.{same-place}
 use Rattle.calendar.specs.Refusal.{FRAME, COUNT, Verdict, fine, refuse, _otherwise_}
 use Rattle.schema.specs.Components.{ComponentRow, componentNames, subcomponentsOf}
+use Rattle.schema.specs.Counts.{Around, methodFor}
 use Rattle.schema.specs.Numbers.{componentAt}
 use Rattle.schema.specs.laws.Numbers.{component-place}
-use Rattle.schema.specs.laws.Sets.{timezone-place}
+use Rattle.schema.specs.laws.Sets.{calendar-place, timezone-place}
 use Rattle.schema.specs.laws.Completing.{complete-tallies}
 use Rattle.xml.specs.Nodes.{Nodes, hasElement}
 use Rattle.xcal.specs.Layout.{unexpected}
@@ -47,7 +47,7 @@ use Rattle.read_xml.specs.Children.{nameOf}
 use Rattle.read_xml.specs.laws.Turning.{name-inside}
 use Rattle.read_xml.specs.Counting.{Counted}
 use Rattle.read_xml.specs.Properties.{ListedAt}
-use Rattle.read_xml.specs.Components.{partName, come, completeBy, EndAt, EndsAt, hasSubs, WhichIs, WhichAt, metOf, MetAt, HeadAt, BehindAt}
+use Rattle.read_xml.specs.Components.{partName, come, methodInside, completeBy, EndAt, EndsAt, hasSubs, WhichIs, WhichAt, metOf, MetAt, HeadAt, BehindAt}
 use Rattle.read_xml.specs.declared.Kept.{Kept}
 use Rattle.read_xml.specs.declared.Listed.{Listed}
 use Rattle.read_xml.specs.declared.Which.{Which}
@@ -58,47 +58,43 @@ use Rattle.read_xml.specs.declared.Part.the-variants.{Ends, Opens}
 
 -- ---- end tags
 
-calendar-place : (c : List ℕ) → same c (ascii "VCALENDAR") ≡ eqb (placeOf c componentNames) 0
-unfolding octets-compute placeOf
-calendar-place c = same-place c (ascii "VCALENDAR") componentNames refl
-
 -- the tallies that are kept are those of the component
-pub complete-is : (c : List ℕ) {k : ℕ} → k ≡ placeOf c componentNames → (kids : Nodes) {t : Kept} {inner : Bool} →
-    Counted (readProperties (insideOf (ascii "properties") kids)) t → inner ≡ hasElement (insideOf (ascii "components") kids) → isComplete c kids ≡ completeBy k t inner
-complete-is c o kids i h =
-    sym (rw (i .tallied, i .acting, h, o) (complete-tallies c (readProperties (insideOf (ascii "properties") kids)) (hasElement (insideOf (ascii "components") kids))))
+pub complete-is : (c : List ℕ) {k : ℕ} → k ≡ placeOf c componentNames → (method : Bool) (kids : Nodes) {t : Kept} {inner : Bool} →
+    Counted (readProperties (insideOf (ascii "properties") kids)) t → inner ≡ hasElement (insideOf (ascii "components") kids) → isComplete c method kids ≡ completeBy k t inner method
+complete-is c o method kids i h =
+    sym (rw (i .tallied, i .acting, h, o) (complete-tallies c (readProperties (insideOf (ascii "properties") kids)) (record { inner = hasElement (insideOf (ascii "components") kids); method = method })))
 
-pub counts-good : (k : ℕ) (t : Kept) (inner : Bool) (e : ℕ) {b : Bool} → b ≡ completeBy k t inner → b ≡ true → pick (completeBy k t inner) fine (refuse COUNT e) ≡ judgedAs Fine
+pub counts-good : (k : ℕ) (t : Kept) (inner method : Bool) (e : ℕ) {b : Bool} → b ≡ completeBy k t inner method → b ≡ true → pick (completeBy k t inner method) fine (refuse COUNT e) ≡ judgedAs Fine
 unfolding pick
-counts-good k t inner e f h = rw (← f, h)
+counts-good k t inner method e f h = rw (← f, h)
 
-pub counts-bad : (k : ℕ) (t : Kept) (inner : Bool) (e : ℕ) {b : Bool} → b ≡ completeBy k t inner → b ≡ false → pick (completeBy k t inner) fine (refuse COUNT e) ≡ judgedAs (Refused 9 e)
+pub counts-bad : (k : ℕ) (t : Kept) (inner method : Bool) (e : ℕ) {b : Bool} → b ≡ completeBy k t inner method → b ≡ false → pick (completeBy k t inner method) fine (refuse COUNT e) ≡ judgedAs (Refused 9 e)
 unfolding pick
-counts-bad k t inner e f h = rw (← f, h) (sym (is-count e))
+counts-bad k t inner method e f h = rw (← f, h) (sym (is-count e))
 
-module _ (k : ℕ) (t : Kept) (inner : Bool) (e : ℕ) (had came : Bool) where
-  end-at : (c : List ℕ) → k ≡ placeOf c componentNames → (counts : Bool) →
-      endOfComponent c counts (come had came) e ≡ pick (not had or (eqb k 0 and not came)) (refuse FRAME e) (pick counts fine (refuse COUNT e))
+module _ (k : ℕ) (t : Kept) (inner method : Bool) (e : ℕ) (had came : Bool) where
+  end-at : (c : List ℕ) → k ≡ placeOf c componentNames → (counts m : Bool) →
+      endOfComponent c counts (come had came m) e ≡ pick (not had or (eqb k 0 and not came)) (refuse FRAME e) (pick counts fine (refuse COUNT e))
   unfolding endOfComponent
-  end-at c o counts = rw (calendar-place c, ← o)
+  end-at c o counts m = rw (calendar-place c, ← o)
 
-  pub end-bare : had ≡ false → EndAt k t had came inner e (Refused 6 e)
+  pub end-bare : had ≡ false → EndAt k t had came inner method e (Refused 6 e)
   unfolding pick _or_
-  end-bare h = record { is = λ c o counts g. end-at c o counts ∙ rw h (sym (is-frame e)) }
+  end-bare h = record { is = λ c o counts g m. end-at c o counts m ∙ rw h (sym (is-frame e)) }
 
   module _ (h : had ≡ true) where
-    pub end-lacking : k ≡ 0 → came ≡ false → EndAt k t had came inner e (Refused 6 e)
+    pub end-lacking : k ≡ 0 → came ≡ false → EndAt k t had came inner method e (Refused 6 e)
     unfolding pick _or_ _and_
-    end-lacking z g = record { is = λ c o counts f. end-at c o counts ∙ rw (h, eq-eqb k 0 z, g) (sym (is-frame e)) }
+    end-lacking z g = record { is = λ c o counts f m. end-at c o counts m ∙ rw (h, eq-eqb k 0 z, g) (sym (is-frame e)) }
 
-    module _ {j : Judged} (d : pick (completeBy k t inner) fine (refuse COUNT e) ≡ judgedAs j) where
-      pub end-calendar : k ≡ 0 → came ≡ true → EndAt k t had came inner e j
+    module _ {j : Judged} (d : pick (completeBy k t inner method) fine (refuse COUNT e) ≡ judgedAs j) where
+      pub end-calendar : k ≡ 0 → came ≡ true → EndAt k t had came inner method e j
       unfolding pick _or_ _and_
-      end-calendar z g = record { is = λ c o counts f. end-at c o counts ∙ rw (f h, h, eq-eqb k 0 z, g) d }
+      end-calendar z g = record { is = λ c o counts f m. end-at c o counts m ∙ rw (f h, h, eq-eqb k 0 z, g) d }
 
-      pub end-other : (k ≡ 0 → ⊥) → EndAt k t had came inner e j
+      pub end-other : (k ≡ 0 → ⊥) → EndAt k t had came inner method e j
       unfolding pick _or_ _and_
-      end-other z = record { is = λ c o counts f. end-at c o counts ∙ rw (f h, h, ne-eqb k 0 z) d }
+      end-other z = record { is = λ c o counts f m. end-at c o counts m ∙ rw (f h, h, ne-eqb k 0 z) d }
 
 module _ (k e : ℕ) (any : Bool) where
   ends-at : (c : List ℕ) → k ≡ placeOf c componentNames → endOfComponents c any e ≡ pick (any or eqb k 0 or eqb k 5) fine (refuse FRAME e)
@@ -208,8 +204,8 @@ second-not true true h = absurd (false≢true h)
 second-not false had h = absurd (false≢true h)
 
 module _ (k : ℕ) (had : Bool) {s : List ℕ} {at : ℕ} {r : Node} (n : NodeAt s at r) where
-  as-nodes : {x : Nodes} → nodesAt s at ≡ x → (c : List ℕ) (b : Bool) (e : ℕ) → componentVerdict (nodesAt s at) c b (come had false) e ≡ componentVerdict x c b (come had false) e
-  as-nodes h c b e = ap (λ (y : Nodes). componentVerdict y c b (come had false) e) h
+  as-nodes : {x : Nodes} → nodesAt s at ≡ x → (c : List ℕ) (b m : Bool) (e : ℕ) → componentVerdict (nodesAt s at) c b (come had false m) e ≡ componentVerdict x c b (come had false m) e
+  as-nodes h c b m e = ap (λ (y : Nodes). componentVerdict y c b (come had false m) e) h
 
   pub met-end : r .kind ≡ None → MetAt k had s at End
   unfolding componentVerdict insideOf
@@ -217,27 +213,27 @@ module _ (k : ℕ) (had : Bool) {s : List ℕ} {at : ℕ} {r : Node} (n : NodeAt
 
   pub met-referred : r .kind ≡ Referred → MetAt k had s at (Stops (Refused 6 at))
   unfolding componentVerdict
-  met-referred q = record { is = λ c o b e. as-nodes (node-referred n q) c b e ∙ sym (is-frame at); fits = tt }
+  met-referred q = record { is = λ c o b m e. as-nodes (node-referred n q) c b m e ∙ sym (is-frame at); fits = tt }
 
   module _ (q : r .kind ≡ Literal) {b : Bool} (f : b ≡ isSpace (r .unit)) where
     pub met-space : b ≡ true → MetAt k had s at (Past (r .next))
     unfolding componentVerdict insideOf pick
-    met-space h = record { is = λ c o b e. as-nodes (node-literal n q) c b e ∙ rw (← f, h); fits = (literal-less n q, λ m. ap (insideOf m) (node-literal n q)) }
+    met-space h = record { is = λ c o b m e. as-nodes (node-literal n q) c b m e ∙ rw (← f, h); fits = (literal-less n q, λ m. ap (insideOf m) (node-literal n q)) }
 
     pub met-text : b ≡ false → MetAt k had s at (Stops (Refused 6 at))
     unfolding componentVerdict pick
-    met-text h = record { is = λ c o b e. as-nodes (node-literal n q) c b e ∙ rw (← f, h) (sym (is-frame at)); fits = tt }
+    met-text h = record { is = λ c o b m e. as-nodes (node-literal n q) c b m e ∙ rw (← f, h) (sym (is-frame at)); fits = tt }
 
   module _ (q : r .kind ≡ Element) {x : Which} (y : WhichAt k had (nameOf s r) x) where
-    at-child : (c : List ℕ) → k ≡ placeOf c componentNames → (b : Bool) (e : ℕ) → componentVerdict (nodesAt s at) c b (come had false) e ≡
+    at-child : (c : List ℕ) → k ≡ placeOf c componentNames → (b m : Bool) (e : ℕ) → componentVerdict (nodesAt s at) c b (come had false m) e ≡
         pick (same (nameOf s r) (ascii "properties") and not had)
-        (propertiesVerdict c (nodesAt s (r .inside)) otherwise componentVerdict (nodesAt s (r .next)) c b (come true false) e)
+        (propertiesVerdict c (nodesAt s (r .inside)) otherwise componentVerdict (nodesAt s (r .next)) c b (come true false (methodFor c (readProperties (nodesAt s (r .inside))) m)) e)
         (pick (same (nameOf s r) (ascii "components") and hasSubs k)
-        (componentsVerdict (nodesAt s (r .inside)) c false (r .end) otherwise componentVerdict (nodesAt s (r .next)) c b (come had true) e)
+        (componentsVerdict (nodesAt s (r .inside)) c m false (r .end) otherwise componentVerdict (nodesAt s (r .next)) c b (come had true m) e)
         (unexpected at (nameOf s r)))
     unfolding componentVerdict
-    at-child c o b e =
-        as-nodes (node-element n q) c b e
+    at-child c o b m e =
+        as-nodes (node-element n q) c b m e
         ∙ not-yet (same (nameOf s r) (ascii "properties")) (not had) (same (nameOf s r) (ascii "components")) (not (isEmpty (subcomponentsOf c))) _ _ _
         ∙ rw (subs-place c o)
 
@@ -246,12 +242,12 @@ module _ (k : ℕ) (had : Bool) {s : List ℕ} {at : ℕ} {r : Node} (n : NodeAt
 
     pub met-other : {j : Judged} → x ≡ Other → unexpected at (nameOf s r) ≡ judgedAs j → MetAt k had s at (Stops j)
     unfolding pick
-    met-other z u = record { is = λ c o b e. at-child c o b e ∙ rw (which-is z .0, which-is z .1) u; fits = tt }
+    met-other z u = record { is = λ c o b m e. at-child c o b m e ∙ rw (which-is z .0, which-is z .1) u; fits = tt }
 
     pub met-components : x ≡ Components → MetAt k had s at (HasComponents (r .inside) (r .end) (r .next))
     unfolding pick insideOf
     met-components z = record {
-      is = λ c o b e. at-child c o b e ∙ rw (which-is z .0, which-is z .1);
+      is = λ c o b m e. at-child c o b m e ∙ rw (which-is z .0, which-is z .1);
       fits = (inside-less n q, ap (insideOf (ascii "components")) (node-element n q) ∙ rw (first-of (same (nameOf s r) (ascii "components")) (hasSubs k) (which-is z .1)));
     }
 
@@ -259,7 +255,7 @@ module _ (k : ℕ) (had : Bool) {s : List ℕ} {at : ℕ} {r : Node} (n : NodeAt
     unfolding pick insideOf
     met-properties z =
         let first : same (nameOf s r) (ascii "properties") ≡ true = first-of (same (nameOf s r) (ascii "properties")) (not had) (which-is z) in record {
-          is = λ c o b e. at-child c o b e ∙ rw (which-is z);
+          is = λ c o b m e. at-child c o b m e ∙ rw (which-is z);
           fits = (
             element-less n q,
             second-not (same (nameOf s r) (ascii "properties")) had (which-is z),
@@ -272,37 +268,41 @@ pub ruleset meeting = (met-end, met-referred, met-space, met-text, met-other, me
 
 -- ---- up to `components`
 
-pub record Heading (k : ℕ) (s : List ℕ) (from e at : ℕ) (had : Bool) (t : Kept) : Type 0 where
-  pub is : (c : List ℕ) → k ≡ placeOf c componentNames → (b : Bool) → componentVerdict (nodesAt s from) c b (come false false) e ≡ componentVerdict (nodesAt s at) c b (come had false) e
+pub record Heading (k : ℕ) (method : Bool) (s : List ℕ) (from e at : ℕ) (had : Bool) (t : Kept) : Type 0 where
+  pub is : (c : List ℕ) → k ≡ placeOf c componentNames → (b : Bool) →
+      componentVerdict (nodesAt s from) c b (come false false method) e ≡ componentVerdict (nodesAt s at) c b (come had false (methodInside c method had (nodesAt s from))) e
   pub low : length s - at ≤ length s - from
   pub inner : insideOf (ascii "components") (nodesAt s from) ≡ insideOf (ascii "components") (nodesAt s at)
   pub unread : had ≡ false → insideOf (ascii "properties") (nodesAt s from) ≡ insideOf (ascii "properties") (nodesAt s at)
   pub counted : had ≡ true → Counted (readProperties (insideOf (ascii "properties") (nodesAt s from))) t
 
-pub head-start : (k : ℕ) (s : List ℕ) (from e : ℕ) (t : Kept) → Heading k s from e from false t
-head-start k s from e t = record { is = λ c o b. refl; low = omega arith; inner = refl; unread = λ h. refl; counted = λ h. absurd (false≢true h) }
+pub head-start : (k : ℕ) (method : Bool) (s : List ℕ) (from e : ℕ) (t : Kept) → Heading k method s from e from false t
+unfolding pick
+head-start k method s from e t = record { is = λ c o b. refl; low = omega arith; inner = refl; unread = λ h. refl; counted = λ h. absurd (false≢true h) }
 
-module _ {k : ℕ} {s : List ℕ} {from e at : ℕ} {had : Bool} {t : Kept} (i : Heading k s from e at had t) {x : Met} (y : MetAt k had s at x) where
+module _ {k : ℕ} {method : Bool} {s : List ℕ} {from e at : ℕ} {had : Bool} {t : Kept} (i : Heading k method s from e at had t) {x : Met} (y : MetAt k had s at x) where
   met-is : {v : Met} → x ≡ v → MetAt k had s at v
   met-is z = subst (MetAt k had s at) z y
 
-  as-met : {v : Met} → x ≡ v → (c : List ℕ) → k ≡ placeOf c componentNames → (b : Bool) → componentVerdict (nodesAt s from) c b (come false false) e ≡ metOf c b had s e v
-  as-met z c o b = i .is c o b ∙ met-is z .is c o b e
+  as-met : {v : Met} → x ≡ v → (c : List ℕ) → k ≡ placeOf c componentNames → (b : Bool) →
+      componentVerdict (nodesAt s from) c b (come false false method) e ≡ metOf c b had (methodInside c method had (nodesAt s from)) s e v
+  as-met z c o b = i .is c o b ∙ met-is z .is c o b (methodInside c method had (nodesAt s from)) e
 
-  pub head-end : {j : Judged} → x ≡ End → EndAt k t had false false e j → HeadAt k s from e (record { part = Ends j; kept = t })
+  pub head-end : {j : Judged} → x ≡ End → EndAt k t had false false method e j → HeadAt k method s from e (record { part = Ends j; kept = t })
   unfolding hasElement
   head-end z d = record {
-    is = λ c o. as-met z c o (isComplete c (nodesAt s from))
-        ∙ d .is c o (isComplete c (nodesAt s from)) (λ h. complete-is c o (nodesAt s from) (i .counted h) (sym (ap hasElement (i .inner ∙ met-is z .fits))));
+    is = λ c o. as-met z c o (isComplete c method (nodesAt s from))
+        ∙ d .is c o (isComplete c method (nodesAt s from)) (λ h. complete-is c o method (nodesAt s from) (i .counted h) (sym (ap hasElement (i .inner ∙ met-is z .fits))))
+        (methodInside c method had (nodesAt s from));
     fits = tt;
   }
 
-  pub head-stops : {j : Judged} → x ≡ Stops j → HeadAt k s from e (record { part = Ends j; kept = t })
-  head-stops z = record { is = λ c o. as-met z c o (isComplete c (nodesAt s from)); fits = tt }
+  pub head-stops : {j : Judged} → x ≡ Stops j → HeadAt k method s from e (record { part = Ends j; kept = t })
+  head-stops z = record { is = λ c o. as-met z c o (isComplete c method (nodesAt s from)); fits = tt }
 
-  pub head-opens : {q z d : ℕ} → x ≡ HasComponents q z d → HeadAt k s from e (record { part = Opens q z d had; kept = t })
+  pub head-opens : {q z d : ℕ} → x ≡ HasComponents q z d → HeadAt k method s from e (record { part = Opens q z d had; kept = t })
   head-opens z = record {
-    is = λ c o. as-met z c o (isComplete c (nodesAt s from));
+    is = λ c o. as-met z c o (isComplete c method (nodesAt s from));
     fits = (omega (arith, i .low, met-is z .fits .0), i .inner ∙ met-is z .fits .1, i .counted);
   }
 
@@ -310,7 +310,7 @@ module _ {k : ℕ} {s : List ℕ} {from e at : ℕ} {had : Bool} {t : Kept} (i :
     pub head-less : length s - d < length s - at
     head-less = met-is z .fits .0
 
-    pub head-past : Heading k s from e d had t
+    pub head-past : Heading k method s from e d had t
     head-past = record {
       is = as-met z;
       low = omega (arith, i .low, head-less);
@@ -324,29 +324,33 @@ module _ {k : ℕ} {s : List ℕ} {from e at : ℕ} {had : Bool} {t : Kept} (i :
     listed-less = met-is z .fits .0
 
     module _ {l : Listed} (g : ListedAt k s q l) where
-      pub head-good : l .judged ≡ Fine → Heading k s from e d true (l .kept)
-      unfolding _otherwise_
+      -- the first `properties`
+      first : insideOf (ascii "properties") (nodesAt s from) ≡ nodesAt s q
+      first = i .unread (met-is z .fits .1) ∙ met-is z .fits .2
+
+      pub head-good : l .judged ≡ Fine → Heading k method s from e d true (l .kept)
+      unfolding _otherwise_ pick
       head-good h = record {
-        is = λ c o b. as-met z c o b ∙ rw (g .is c o, h);
+        is = λ c o b. as-met z c o b ∙ rw (g .is c o, h, met-is z .fits .1, first);
         low = omega (arith, i .low, listed-less);
         inner = i .inner ∙ met-is z .fits .3;
         unread = λ u. absurd (false≢true (sym u));
-        counted = λ u. rw (i .unread (met-is z .fits .1), met-is z .fits .2) (g .counted h);
+        counted = λ u. rw first (g .counted h);
       }
 
-      pub head-bad : {a b : ℕ} → l .judged ≡ Refused a b → HeadAt k s from e (record { part = Ends (Refused a b); kept = t })
+      pub head-bad : {a b : ℕ} → l .judged ≡ Refused a b → HeadAt k method s from e (record { part = Ends (Refused a b); kept = t })
       unfolding _otherwise_
-      head-bad h = record { is = λ c o. as-met z c o (isComplete c (nodesAt s from)) ∙ rw (g .is c o, h); fits = tt }
+      head-bad h = record { is = λ c o. as-met z c o (isComplete c method (nodesAt s from)) ∙ rw (g .is c o, h); fits = tt }
 
 pub ruleset heading = (head-start, head-end, head-stops, head-opens, head-less, head-past, listed-less, head-good, head-bad, needs)
 
 -- ---- behind `components`
 
 pub record Following (s : List ℕ) (from e at : ℕ) (had : Bool) : Type 0 where
-  pub is : (c : List ℕ) (b : Bool) → componentVerdict (nodesAt s from) c b (come had true) e ≡ componentVerdict (nodesAt s at) c b (come had true) e
+  pub is : (c : List ℕ) (b m : Bool) → componentVerdict (nodesAt s from) c b (come had true m) e ≡ componentVerdict (nodesAt s at) c b (come had true m) e
 
 pub follow-start : (s : List ℕ) (from e : ℕ) (had : Bool) → Following s from e from had
-follow-start s from e had = record { is = λ c b. refl }
+follow-start s from e had = record { is = λ c b m. refl }
 
 -- neither child may come behind `components`
 none-behind : (a b d g : Bool) (v w z : Verdict) → pick (a and (d and false)) v (pick (b and (false and g)) w z) ≡ z
@@ -358,31 +362,31 @@ none-behind true false false g v w z = refl
 none-behind false true d g v w z = refl
 none-behind false false d g v w z = refl
 
-module _ (k : ℕ) (t : Kept) (inner : Bool) {s : List ℕ} {from e at : ℕ} {had : Bool} {r : Node} (i : Following s from e at had) (n : NodeAt s at r) where
-  on-nodes : {x : Nodes} → nodesAt s at ≡ x → (c : List ℕ) (b : Bool) → componentVerdict (nodesAt s from) c b (come had true) e ≡ componentVerdict x c b (come had true) e
-  on-nodes h c b = i .is c b ∙ ap (λ (y : Nodes). componentVerdict y c b (come had true) e) h
+module _ (k : ℕ) (t : Kept) (inner method : Bool) {s : List ℕ} {from e at : ℕ} {had : Bool} {r : Node} (i : Following s from e at had) (n : NodeAt s at r) where
+  on-nodes : {x : Nodes} → nodesAt s at ≡ x → (c : List ℕ) (b m : Bool) → componentVerdict (nodesAt s from) c b (come had true m) e ≡ componentVerdict x c b (come had true m) e
+  on-nodes h c b m = i .is c b m ∙ ap (λ (y : Nodes). componentVerdict y c b (come had true m) e) h
 
-  pub follow-none : {j : Judged} → r .kind ≡ None → EndAt k t had true inner e j → BehindAt k t had inner s from e j
+  pub follow-none : {j : Judged} → r .kind ≡ None → EndAt k t had true inner method e j → BehindAt k t had inner method s from e j
   unfolding componentVerdict
-  follow-none q d = record { is = λ c o b g. on-nodes (node-none n q) c b ∙ d .is c o b g }
+  follow-none q d = record { is = λ c o b g m. on-nodes (node-none n q) c b m ∙ d .is c o b g m }
 
-  pub follow-referred : r .kind ≡ Referred → BehindAt k t had inner s from e (Refused 6 at)
+  pub follow-referred : r .kind ≡ Referred → BehindAt k t had inner method s from e (Refused 6 at)
   unfolding componentVerdict
-  follow-referred q = record { is = λ c o b g. on-nodes (node-referred n q) c b ∙ sym (is-frame at) }
+  follow-referred q = record { is = λ c o b g m. on-nodes (node-referred n q) c b m ∙ sym (is-frame at) }
 
   module _ (q : r .kind ≡ Literal) {b : Bool} (f : b ≡ isSpace (r .unit)) where
-    pub follow-text : b ≡ false → BehindAt k t had inner s from e (Refused 6 at)
+    pub follow-text : b ≡ false → BehindAt k t had inner method s from e (Refused 6 at)
     unfolding componentVerdict pick
-    follow-text h = record { is = λ c o b g. on-nodes (node-literal n q) c b ∙ rw (← f, h) (sym (is-frame at)) }
+    follow-text h = record { is = λ c o b g m. on-nodes (node-literal n q) c b m ∙ rw (← f, h) (sym (is-frame at)) }
 
-  pub follow-element : {j : Judged} → r .kind ≡ Element → unexpected at (nameOf s r) ≡ judgedAs j → BehindAt k t had inner s from e j
+  pub follow-element : {j : Judged} → r .kind ≡ Element → unexpected at (nameOf s r) ≡ judgedAs j → BehindAt k t had inner method s from e j
   unfolding componentVerdict
   follow-element q u = record {
-    is = λ c o b g. on-nodes (node-element n q) c b ∙ none-behind (same (nameOf s r) (ascii "properties")) (same (nameOf s r) (ascii "components")) (not had) (not (isEmpty (subcomponentsOf c))) _ _ _ ∙ u;
+    is = λ c o b g m. on-nodes (node-element n q) c b m ∙ none-behind (same (nameOf s r) (ascii "properties")) (same (nameOf s r) (ascii "components")) (not had) (not (isEmpty (subcomponentsOf c))) _ _ _ ∙ u;
   }
 
 pub follow-space : {s : List ℕ} {from e at : ℕ} {had : Bool} {r : Node} → Following s from e at had → NodeAt s at r → r .kind ≡ Literal → {b : Bool} → b ≡ isSpace (r .unit) → b ≡ true → Following s from e (r .next) had
 unfolding componentVerdict pick
-follow-space {s} {from} {e} {at} {had} i n q f h = record { is = λ c b. i .is c b ∙ ap (λ (y : Nodes). componentVerdict y c b (come had true) e) (node-literal n q) ∙ rw (← f, h) }
+follow-space {s} {from} {e} {at} {had} i n q f h = record { is = λ c b m. i .is c b m ∙ ap (λ (y : Nodes). componentVerdict y c b (come had true m) e) (node-literal n q) ∙ rw (← f, h) }
 
 pub ruleset following = (follow-start, follow-none, follow-referred, follow-space, follow-text, follow-element, literal-less, needs)

@@ -77,7 +77,7 @@ module _ {s : List ℕ} {from e at : ℕ} {any : Bool} {r : Node} (i : Streaming
     unfolding streamVerdict pick
     stream-other h u = record { is = in-nodes (node-element n q) ∙ rw (← f, h) u }
 
-    module _ (h : b ≡ true) {j : Judged} (d : ComponentAt 0 s (r .inside) (r .end) j) where
+    module _ (h : b ≡ true) {j : Judged} (d : ComponentAt 0 false s (r .inside) (r .end) j) where
       pub stream-good : j ≡ Fine → Streaming s from e (r .next) true
       unfolding streamVerdict pick _otherwise_
       stream-good g = record { is = in-nodes (node-element n q) ∙ rw (← f, h, d .is (ascii "VCALENDAR") calendar-zero, g) }

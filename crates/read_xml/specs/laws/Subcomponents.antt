@@ -11,16 +11,21 @@ use native.Mathlib.Omega.{arith}
 use lib.ListN.{length}
 use lib.Seq.{length-take-le}
 use borrow.Author.Needs.{needs}
+use Rattle.octets.specs.Ascii.{ascii}
 use Rattle.octets.specs.Pick.{pick, _and_, _or_}
 use Rattle.octets.specs.Class.{upper, isSpace}
 use Rattle.names.specs.Table.{placeOf}
 use Rattle.calendar.specs.Refusal.{NAME, FRAME, fine, refuse, _otherwise_}
 use Rattle.schema.specs.Components.{componentNames}
+use Rattle.schema.specs.Counts.{methodFor}
+use Rattle.schema.specs.Completing.{methodAt}
+use Rattle.schema.specs.laws.Completing.{method-tallies}
 use Rattle.schema.specs.Columns.{mayBegin}
 use Rattle.schema.specs.laws.Columns.{begin-place}
 use Rattle.xml.specs.Nodes.{Nodes, hasElement}
 use Rattle.xcal.specs.Layout.{hasCapital, unexpected}
-use Rattle.xcal.specs.ComponentNodes.{isComplete, componentsVerdict}
+use Rattle.xcal.specs.PropertyNodes.{readProperties}
+use Rattle.xcal.specs.ComponentNodes.{insideOf, isComplete, componentsVerdict}
 use Rattle.xml.specs.NodesAt.{nodesAt}
 use Rattle.read_xml_nodes.specs.NodeFound.{NodeAt}
 use Rattle.read_xml_nodes.specs.laws.NodeFound.{node-none, node-element, node-literal, node-referred, element-less, inside-less, literal-less}
@@ -33,9 +38,11 @@ use Rattle.read_xml_nodes.specs.declared.Judged.the-variants.{Fine, Refused}
 use Rattle.read_xml.specs.laws.Turning.{name-inside}
 use Rattle.read_xml.specs.Children.{nameOf}
 use Rattle.read_xml.specs.laws.Properties.{not-fine}
-use Rattle.read_xml.specs.Components.{EndsAt, PartFits, HeadAt, BehindAt}
+use Rattle.read_xml.specs.Counting.{Counted}
+use Rattle.read_xml.specs.Components.{methodInside, EndsAt, PartFits, HeadAt, BehindAt}
 use Rattle.read_xml.specs.laws.Components.{complete-is}
-use Rattle.read_xml.specs.Subcomponents.{NumberedAt, ComponentAt, SubAt, HeldIs, CompsAt}
+use Rattle.read_xml.specs.Subcomponents.{NumberedAt, ComponentAt, methodKept, SubAt, HeldIs, CompsAt}
+use Rattle.read_xml.specs.declared.Kept.{Kept}
 use Rattle.read_xml.specs.declared.Begun.{Begun}
 use Rattle.read_xml.specs.declared.Part.the-variants.{Ends, Opens}
 use Rattle.read_xml.specs.declared.Numbered.{Numbered}
@@ -65,8 +72,25 @@ pub ruleset numbering = (number-capital, number-may, number-not, length-take-le,
 
 -- ---- a component
 
-module _ {k : ℕ} {s : List ℕ} {from e : ℕ} {b : Begun} (h : HeadAt k s from e b) where
-  pub whole-ends : {j : Judged} → b .part ≡ Ends j → ComponentAt k s from e j
+-- the METHOD that is handed down is that of the calendar
+handed : (c : List ℕ) {k : ℕ} → k ≡ placeOf c componentNames → (method had : Bool) (kids : Nodes) (t : Kept) → (had ≡ true → Counted (readProperties (insideOf (ascii "properties") kids)) t) →
+    methodInside c method had kids ≡ methodKept k t had method
+unfolding pick
+handed c o method true kids t i = sym (rw (i refl .tallied, o) (method-tallies c (readProperties (insideOf (ascii "properties") kids)) method))
+handed c o method false kids t i = refl
+
+pub method-had : (k : ℕ) (t : Kept) (method : Bool) {had r : Bool} → had ≡ true → r ≡ methodAt k (t .counts) method → r ≡ methodKept k t had method
+unfolding pick
+method-had k t method h e = rw h e
+
+pub method-bare : (k : ℕ) (t : Kept) {had method : Bool} → had ≡ false → method ≡ methodKept k t had method
+unfolding pick
+method-bare k t h = rw h
+
+pub ruleset handing = (method-had, method-bare, needs)
+
+module _ {k : ℕ} {method : Bool} {s : List ℕ} {from e : ℕ} {b : Begun} (h : HeadAt k method s from e b) where
+  pub whole-ends : {j : Judged} → b .part ≡ Ends j → ComponentAt k method s from e j
   whole-ends z = record { is = λ c o. h .is c o ∙ rw z }
 
   module _ {q x after : ℕ} {had : Bool} (z : b .part ≡ Opens q x after had) where
@@ -76,16 +100,20 @@ module _ {k : ℕ} {s : List ℕ} {from e : ℕ} {b : Begun} (h : HeadAt k s fro
     pub whole-falls : length s - q < length s - from
     whole-falls = opened .0
 
-    module _ {r : Held} (d : CompsAt k s q x r) where
-      pub whole-fails : {f y : ℕ} → r ≡ Fails f y → ComponentAt k s from e (Refused f y)
-      unfolding _otherwise_
-      whole-fails g = record { is = λ c o. h .is c o ∙ rw (z, d .is c o, g) }
+    module _ {m : Bool} (u : m ≡ methodKept k (b .kept) had method) {r : Held} (d : CompsAt k m s q x r) where
+      given : (c : List ℕ) → k ≡ placeOf c componentNames → methodInside c method had (nodesAt s from) ≡ m
+      given c o = handed c o method had (nodesAt s from) (b .kept) (opened .2) ∙ sym u
 
-      pub whole-behind : {inner : Bool} {v : Judged} → r ≡ Holds inner → BehindAt k (b .kept) had inner s after e v → ComponentAt k s from e v
+      pub whole-fails : {f y : ℕ} → r ≡ Fails f y → ComponentAt k method s from e (Refused f y)
+      unfolding _otherwise_
+      whole-fails g = record { is = λ c o. h .is c o ∙ rw (z, given c o, d .is c o, g) }
+
+      pub whole-behind : {inner : Bool} {v : Judged} → r ≡ Holds inner → BehindAt k (b .kept) had inner method s after e v → ComponentAt k method s from e v
       unfolding _otherwise_
       whole-behind g w = record {
-        is = λ c o. h .is c o ∙ rw (z, d .is c o, g)
-            (w .is c o (isComplete c (nodesAt s from)) (λ l. complete-is c o (nodesAt s from) (opened .2 l) (subst (HeldIs (hasElement (nodesAt s q))) g (d .held) ∙ sym (ap hasElement (opened .1)))));
+        is = λ c o. h .is c o ∙ rw (z, given c o, d .is c o, g)
+            (w .is c o (isComplete c method (nodesAt s from))
+            (λ l. complete-is c o method (nodesAt s from) (opened .2 l) (subst (HeldIs (hasElement (nodesAt s q))) g (d .held) ∙ sym (ap hasElement (opened .1)))) m);
       }
 
 pub ruleset wholes = (whole-ends, whole-fails, whole-behind, needs)
@@ -102,36 +130,36 @@ not-unexpected p m {j} u h = go (hasCapital m) (rw h at u)
     go false v = let z : _≡_ {A = Bool} false true = cc in absurd (false≢true z)
 
 module _ (k : ℕ) {s : List ℕ} (e : ℕ) {at : ℕ} (any : Bool) {r : Node} (n : NodeAt s at r) where
-  with-nodes : (c : List ℕ) {x : Nodes} → nodesAt s at ≡ x → componentsVerdict (nodesAt s at) c any e ≡ componentsVerdict x c any e
-  with-nodes c h = ap (λ (y : Nodes). componentsVerdict y c any e) h
+  with-nodes : (c : List ℕ) (m : Bool) {x : Nodes} → nodesAt s at ≡ x → componentsVerdict (nodesAt s at) c m any e ≡ componentsVerdict x c m any e
+  with-nodes c m h = ap (λ (y : Nodes). componentsVerdict y c m any e) h
 
   pub sub-none : {j : Judged} → r .kind ≡ None → EndsAt k any e j → SubAt k s e at any (Done j)
   unfolding componentsVerdict hasElement
-  sub-none q d = record { inner = []; is = λ c o. with-nodes c (node-none n q) ∙ d .is c o; fits = λ h. ap hasElement (node-none n q) }
+  sub-none q d = record { inner = []; is = λ c o m. with-nodes c m (node-none n q) ∙ d .is c o; fits = λ h. ap hasElement (node-none n q) }
 
   pub sub-referred : r .kind ≡ Referred → SubAt k s e at any (Done (Refused 6 at))
   unfolding componentsVerdict
-  sub-referred q = record { inner = []; is = λ c o. with-nodes c (node-referred n q) ∙ sym (is-frame at); fits = λ h. absurd (not-fine h) }
+  sub-referred q = record { inner = []; is = λ c o m. with-nodes c m (node-referred n q) ∙ sym (is-frame at); fits = λ h. absurd (not-fine h) }
 
   module _ (q : r .kind ≡ Literal) {b : Bool} (f : b ≡ isSpace (r .unit)) where
     pub sub-space : b ≡ true → SubAt k s e at any (Past (r .next))
     unfolding componentsVerdict hasElement pick
-    sub-space h = record { inner = []; is = λ c o. with-nodes c (node-literal n q) ∙ rw (← f, h); fits = (literal-less n q, ap hasElement (node-literal n q)) }
+    sub-space h = record { inner = []; is = λ c o m. with-nodes c m (node-literal n q) ∙ rw (← f, h); fits = (literal-less n q, ap hasElement (node-literal n q)) }
 
     pub sub-text : b ≡ false → SubAt k s e at any (Done (Refused 6 at))
     unfolding componentsVerdict pick
-    sub-text h = record { inner = []; is = λ c o. with-nodes c (node-literal n q) ∙ rw (← f, h) (sym (is-frame at)); fits = λ h. absurd (not-fine h) }
+    sub-text h = record { inner = []; is = λ c o m. with-nodes c m (node-literal n q) ∙ rw (← f, h) (sym (is-frame at)); fits = λ h. absurd (not-fine h) }
 
   module _ (q : r .kind ≡ Element) {t : Numbered} (d : NumberedAt k (nameOf s r) t) where
     pub sub-other : {j : Judged} → t ≡ Other → unexpected at (nameOf s r) ≡ judgedAs j → SubAt k s e at any (Done j)
     unfolding componentsVerdict pick
-    sub-other z u = record { inner = []; is = λ c o. with-nodes c (node-element n q) ∙ rw (d .is c o, z) u; fits = λ h. absurd (not-unexpected at (nameOf s r) u h) }
+    sub-other z u = record { inner = []; is = λ c o m. with-nodes c m (node-element n q) ∙ rw (d .is c o, z) u; fits = λ h. absurd (not-unexpected at (nameOf s r) u h) }
 
-    pub sub-begins : {m : ℕ} → t ≡ Number m → SubAt k s e at any (Begins m (r .inside) (r .end) (r .next))
+    pub sub-begins : {i : ℕ} → t ≡ Number i → SubAt k s e at any (Begins i (r .inside) (r .end) (r .next))
     unfolding componentsVerdict hasElement pick
-    sub-begins {m} z = record {
+    sub-begins z = record {
       inner = upper (nameOf s r);
-      is = λ c o. with-nodes c (node-element n q) ∙ rw (d .is c o, z);
+      is = λ c o m. with-nodes c m (node-element n q) ∙ rw (d .is c o, z);
       fits = (subst (NumberedAt k (nameOf s r)) z d .number, inside-less n q, element-less n q, ap hasElement (node-element n q));
     }
 
@@ -139,14 +167,14 @@ pub ruleset subs = (sub-none, sub-referred, sub-space, sub-text, sub-other, sub-
 
 -- ---- the walk
 
-pub record Among (k : ℕ) (s : List ℕ) (from e at : ℕ) (any : Bool) : Type 0 where
-  pub is : (c : List ℕ) → k ≡ placeOf c componentNames → componentsVerdict (nodesAt s from) c false e ≡ componentsVerdict (nodesAt s at) c any e
+pub record Among (k : ℕ) (method : Bool) (s : List ℕ) (from e at : ℕ) (any : Bool) : Type 0 where
+  pub is : (c : List ℕ) → k ≡ placeOf c componentNames → componentsVerdict (nodesAt s from) c method false e ≡ componentsVerdict (nodesAt s at) c method any e
   pub low : length s - at ≤ length s - from
   pub held : hasElement (nodesAt s from) ≡ (any or hasElement (nodesAt s at))
 
-pub among-start : (k : ℕ) (s : List ℕ) (from e : ℕ) → Among k s from e from false
+pub among-start : (k : ℕ) (method : Bool) (s : List ℕ) (from e : ℕ) → Among k method s from e from false
 unfolding _or_
-among-start k s from e = record { is = λ c o. refl; low = omega arith; held = refl }
+among-start k method s from e = record { is = λ c o. refl; low = omega arith; held = refl }
 
 or-false : (a : Bool) → (a or false) ≡ a
 unfolding _or_
@@ -158,23 +186,23 @@ unfolding _or_
 or-true true b = refl
 or-true false b = refl
 
-module _ {k : ℕ} {s : List ℕ} {from e at : ℕ} {any : Bool} (m : Among k s from e at any) {t : Sub} (u : SubAt k s e at any t) where
+module _ {k : ℕ} {method : Bool} {s : List ℕ} {from e at : ℕ} {any : Bool} (m : Among k method s from e at any) {t : Sub} (u : SubAt k s e at any t) where
   module _ {j : Judged} (y : t ≡ Done j) where
     done : SubAt k s e at any (Done j)
     done = subst (SubAt k s e at any) y u
 
-    pub among-fine : j ≡ Fine → CompsAt k s from e (Holds any)
-    among-fine h = record { is = λ c o. m .is c o ∙ done .is c o ∙ rw h; held = sym (m .held ∙ ap (λ (b : Bool). any or b) (done .fits h) ∙ or-false any) }
+    pub among-fine : j ≡ Fine → CompsAt k method s from e (Holds any)
+    among-fine h = record { is = λ c o. m .is c o ∙ done .is c o method ∙ rw h; held = sym (m .held ∙ ap (λ (b : Bool). any or b) (done .fits h) ∙ or-false any) }
 
-    pub among-refused : {f p : ℕ} → j ≡ Refused f p → CompsAt k s from e (Fails f p)
-    among-refused h = record { is = λ c o. m .is c o ∙ done .is c o ∙ rw h; held = tt }
+    pub among-refused : {f p : ℕ} → j ≡ Refused f p → CompsAt k method s from e (Fails f p)
+    among-refused h = record { is = λ c o. m .is c o ∙ done .is c o method ∙ rw h; held = tt }
 
   module _ {d : ℕ} (y : t ≡ Past d) where
     past : SubAt k s e at any (Past d)
     past = subst (SubAt k s e at any) y u
 
-    pub among-past : Among k s from e d any
-    among-past = record { is = λ c o. m .is c o ∙ past .is c o; low = omega (arith, m .low, past .fits .0); held = m .held ∙ ap (λ (b : Bool). any or b) (past .fits .1) }
+    pub among-past : Among k method s from e d any
+    among-past = record { is = λ c o. m .is c o ∙ past .is c o method; low = omega (arith, m .low, past .fits .0); held = m .held ∙ ap (λ (b : Bool). any or b) (past .fits .1) }
 
     pub past-less : length s - d < length s - at
     past-less = past .fits .0
@@ -189,15 +217,15 @@ module _ {k : ℕ} {s : List ℕ} {from e at : ℕ} {any : Bool} (m : Among k s 
     pub begun-less : length s - d < length s - at
     begun-less = begun .fits .2
 
-    module _ {v : Judged} (w : ComponentAt n s q z v) where
-      pub among-bad : {f p : ℕ} → v ≡ Refused f p → CompsAt k s from e (Fails f p)
+    module _ {v : Judged} (w : ComponentAt n method s q z v) where
+      pub among-bad : {f p : ℕ} → v ≡ Refused f p → CompsAt k method s from e (Fails f p)
       unfolding _otherwise_
-      among-bad l = record { is = λ c o. m .is c o ∙ begun .is c o ∙ rw (w .is (begun .inner) (begun .fits .0), l); held = tt }
+      among-bad l = record { is = λ c o. m .is c o ∙ begun .is c o method ∙ rw (w .is (begun .inner) (begun .fits .0), l); held = tt }
 
-      pub among-good : v ≡ Fine → Among k s from e d true
+      pub among-good : v ≡ Fine → Among k method s from e d true
       unfolding _otherwise_
       among-good l = record {
-        is = λ c o. m .is c o ∙ begun .is c o ∙ rw (w .is (begun .inner) (begun .fits .0), l);
+        is = λ c o. m .is c o ∙ begun .is c o method ∙ rw (w .is (begun .inner) (begun .fits .0), l);
         low = omega (arith, m .low, begun .fits .2);
         held = m .held ∙ ap (λ (b : Bool). any or b) (begun .fits .3) ∙ or-true any (hasElement (nodesAt s d));
       }

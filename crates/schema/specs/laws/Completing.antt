@@ -1,6 +1,6 @@
 -- Laws of what specs/Completing.antt defines.
 --     actions-are    the table of these words in the code
---     complete-tallies  they are what Counts says of the properties
+--     complete-tallies, method-tallies  they are what Counts says of the properties
 --     sign-at, sign-past, Testing     for code: the table of signs, and the loop
 use mathlib.Core.Path.{_≡_, refl, sym, ap, _∙_}
 use mathlib.Core.Bool.{Bool, true, false, false≢true}
@@ -27,16 +27,16 @@ use Rattle.names.specs.laws.Table.{row-then}
 use Rattle.calendar.specs.Calendar.{Property}
 use Rattle.schema.specs.Components.{Occurrence, ComponentRow, componentTable, componentNames, unknownComponent, alarmTable, occurrencesOf, alarmOccurrences, isAlarm}
 use Rattle.schema.specs.Properties.{propertyNames}
-use Rattle.schema.specs.Counts.{tally, absent, occurrenceIn, isAtMost, isOften, eachOften, pairsOf, actionOf, listFor, oftenFor, complete}
+use Rattle.schema.specs.Counts.{tally, absent, occurrenceIn, isAtMost, isOften, eachOften, Around, methodFor, pairsOf, actionOf, listFor, oftenFor, complete}
 use Rattle.schema.specs.laws.Tallies.{often-at}
 use Rattle.schema.specs.Numbers.{componentAt, propertyName}
 use Rattle.schema.specs.laws.Numbers.{component-place}
 use Rattle.schema.specs.laws.Cells.{grid, cell-at, at-passes, row-at-passes, column-past}
 use Rattle.schema.specs.laws.Columns.{alarm-place}
-use Rattle.schema.specs.laws.Sets.{event-place, todo-place, timezone-place}
+use Rattle.schema.specs.laws.Sets.{calendar-place, event-place, todo-place, timezone-place}
 use Rattle.schema.specs.Arrays.{tallies, eachFrom}
 use Rattle.schema.specs.laws.Arrays.{tally-count, from-list, from-more, from-stop, from-end}
-use Rattle.schema.specs.Completing.{occurrenceLists, listAt, signBy, isSigned, signAt, allOften, oftenAt, pairsAt, completeAt, actionNames, actionNumber}
+use Rattle.schema.specs.Completing.{occurrenceLists, listAt, signBy, isSigned, signAt, allOften, oftenAt, pairsAt, completeAt, methodAt, actionNames, actionNumber}
 
 pub actions-are : namesIn (ascii "AUDIO\nDISPLAY\nEMAIL\n") ≡ actionNames
 unfolding namesIn pick
@@ -198,23 +198,42 @@ often-number c ps = rw (← (alarm-place c)) (go (isAlarm c))
 sat : (n k : ℕ) → k < 255 → eqb (min 255 n) k ≡ eqb n k
 sat n k h = eqb-agree (min 255 n) k n k (λ e. omega arith) (λ e. omega arith)
 
-pairs-saturated : (e t z a : Bool) (end start lasting repeat : ℕ) (sub : Bool) → (a ≡ true → lasting ≤ 1) →
-    pick e (eqb (min 255 end) 0 or eqb (min 255 lasting) 0)
-    (pick t (eqb (min 255 lasting) 0 or (eqb (min 255 start) 1 and eqb (min 255 end) 0)) (pick z sub (pick a (eqb (min 255 lasting) (min 255 repeat)) true)))
-    ≡ pick e (eqb end 0 or eqb lasting 0) (pick t (eqb lasting 0 or (eqb start 1 and eqb end 0)) (pick z sub (pick a (eqb lasting repeat) true)))
+pairs-saturated : (e t z a : Bool) (end due start lasting repeat : ℕ) (sub method : Bool) → (a ≡ true → lasting ≤ 1) →
+    pick e ((method or eqb (min 255 start) 1) and (eqb (min 255 end) 0 or eqb (min 255 lasting) 0))
+    (pick t (eqb (min 255 lasting) 0 or (eqb (min 255 start) 1 and eqb (min 255 due) 0)) (pick z sub (pick a (eqb (min 255 lasting) (min 255 repeat)) true)))
+    ≡ pick e ((method or eqb start 1) and (eqb end 0 or eqb lasting 0)) (pick t (eqb lasting 0 or (eqb start 1 and eqb due 0)) (pick z sub (pick a (eqb lasting repeat) true)))
 unfolding pick
-pairs-saturated true t z a end start lasting repeat sub h = rw (sat end 0 (omega arith), sat lasting 0 (omega arith))
-pairs-saturated false true z a end start lasting repeat sub h = rw (sat lasting 0 (omega arith), sat start 1 (omega arith), sat end 0 (omega arith))
-pairs-saturated false false true a end start lasting repeat sub h = refl
-pairs-saturated false false false true end start lasting repeat sub h =
+pairs-saturated true t z a end due start lasting repeat sub method h = rw (sat start 1 (omega arith), sat end 0 (omega arith), sat lasting 0 (omega arith))
+pairs-saturated false true z a end due start lasting repeat sub method h = rw (sat lasting 0 (omega arith), sat start 1 (omega arith), sat due 0 (omega arith))
+pairs-saturated false false true a end due start lasting repeat sub method h = refl
+pairs-saturated false false false true end due start lasting repeat sub method h =
     let l : lasting ≤ 1 = h refl in eqb-agree (min 255 lasting) (min 255 repeat) lasting repeat (λ q. omega arith) (λ q. omega arith)
-pairs-saturated false false false false end start lasting repeat sub h = refl
+pairs-saturated false false false false end due start lasting repeat sub method h = refl
 
-pairs-number : (c : List ℕ) (ps : List Property) (sub : Bool) → (isAlarm c ≡ true → tally (ascii "DURATION") ps ≤ 1) → pairsAt (placeOf c componentNames) (tallies ps) sub ≡ pairsOf c ps sub
-pairs-number c ps sub h =
-    rw (event-place c, todo-place c, timezone-place c, alarm-place c, tally-count 17 ps (omega arith), tally-count 20 ps (omega arith), tally-count 19 ps (omega arith), tally-count 39 ps (omega arith))
+pairs-number : (c : List ℕ) (ps : List Property) (around : Around) → (isAlarm c ≡ true → tally (ascii "DURATION") ps ≤ 1) →
+    pairsAt (placeOf c componentNames) (tallies ps) around ≡ pairsOf c ps around
+pairs-number c ps around h =
+    rw (
+      event-place c,
+      todo-place c,
+      timezone-place c,
+      alarm-place c,
+      tally-count 17 ps (omega arith),
+      tally-count 18 ps (omega arith),
+      tally-count 20 ps (omega arith),
+      tally-count 19 ps (omega arith),
+      tally-count 39 ps (omega arith),
+    )
     (pairs-saturated (eqb (placeOf c componentNames) 1) (eqb (placeOf c componentNames) 2) (eqb (placeOf c componentNames) 5) (eqb (placeOf c componentNames) 8)
-    (tally (ascii "DTEND") ps) (tally (ascii "DTSTART") ps) (tally (ascii "DURATION") ps) (tally (ascii "REPEAT") ps) sub (λ e. h (alarm-place c ∙ e)))
+    (tally (ascii "DTEND") ps) (tally (ascii "DUE") ps) (tally (ascii "DTSTART") ps) (tally (ascii "DURATION") ps) (tally (ascii "REPEAT") ps)
+    (around .inner) (around .method) (λ e. h (alarm-place c ∙ e)))
+
+-- ---- METHOD
+
+pub method-tallies : (c : List ℕ) (ps : List Property) (m : Bool) → methodAt (placeOf c componentNames) (tallies ps) m ≡ methodFor c ps m
+unfolding methodFor
+method-tallies c ps m =
+    rw (calendar-place c, tally-count 1 ps (omega arith), leb-agree 1 (min 255 (tally (ascii "METHOD") ps)) 1 (tally (ascii "METHOD") ps) (λ k. omega arith) (λ k. omega arith))
 
 -- in a VALARM that is as often as its list says DURATION stands at most once
 abbrev pub isOnce : Option ℕ → Bool
@@ -244,7 +263,7 @@ short c ps x a = go (pick-first _ _ (sym (of-alarm (actionOf ps) ps) ∙ rw a at
         (row-at-passes (λ os. isOnce (occurrenceIn os (ascii "DURATION") .most)) [] (map (λ r. r .occurrences) alarmTable) (actionNumber (actionOf ps)) alarm-once (ltb-true _ 3 (q .0))))
         (and-both _ _ (often-at propertyNames (listAt (actionNumber (actionOf ps) + 9)) ps (ascii "DURATION") (sym (all-often (actionNumber (actionOf ps) + 9) ps) ∙ q .1) duration-known) .1)
 
-pub complete-tallies : (c : List ℕ) (ps : List Property) (sub : Bool) →
+pub complete-tallies : (c : List ℕ) (ps : List Property) (sub : Around) →
     completeAt (placeOf c componentNames) (tallies ps) (actionNumber (actionOf ps)) sub ≡ complete c ps sub
 unfolding complete _and_
 complete-tallies c ps sub = rw (← (often-number c ps)) (go (oftenFor (listFor c ps) ps) refl)

@@ -33,6 +33,10 @@ use Rattle.schema.specs.declared.WordRead.the-variants.{At, NoWord}
 -- ---- names by their numbers
 
 module _ (c : List ℕ) where
+  pub calendar-place : same c (ascii "VCALENDAR") ≡ eqb (placeOf c componentNames) 0
+  unfolding octets-compute placeOf
+  calendar-place = same-place c (ascii "VCALENDAR") componentNames refl
+
   pub event-place : same c (ascii "VEVENT") ≡ eqb (placeOf c componentNames) 1
   unfolding octets-compute placeOf
   event-place = same-place c (ascii "VEVENT") componentNames refl

@@ -24,7 +24,7 @@ use Rattle.octets.specs.Computing.{octets-compute}
 use Rattle.calendar.specs.Calendar.{Property}
 use Rattle.schema.specs.Components.{Occurrence, AlarmRow, alarmTable, audioprop, dispprop, emailprop, mayStand, isAlarm, alarmOccurrences, occurrencesOf}
 use Rattle.schema.specs.Properties.{propertyNames, isKnownProperty}
-use Rattle.schema.specs.Counts.{tally, absent, eachOften, occurrenceIn, isOften, pairsOf, actionOf, listFor, oftenFor, complete}
+use Rattle.schema.specs.Counts.{tally, absent, eachOften, occurrenceIn, isOften, Around, pairsOf, actionOf, listFor, oftenFor, complete}
 
 -- ---- the tallies decide
 
@@ -45,18 +45,18 @@ unfolding isKnownProperty
 often-same none ps qs h = refl
 often-same (some os) ps qs h = each-often-same propertyNames os ps qs h
 
-pairs-same : (c : List ℕ) (sub : Bool) (ps qs : List Property) → ((w : List ℕ) → isKnownProperty w ≡ true → tally w ps ≡ tally w qs) → pairsOf c ps sub ≡ pairsOf c qs sub
+pairs-same : (c : List ℕ) (sub : Around) (ps qs : List Property) → ((w : List ℕ) → isKnownProperty w ≡ true → tally w ps ≡ tally w qs) → pairsOf c ps sub ≡ pairsOf c qs sub
 unfolding octets-compute isKnownProperty
-pairs-same c sub ps qs h = rw (h (ascii "DTSTART") refl, h (ascii "DTEND") refl, h (ascii "DURATION") refl, h (ascii "REPEAT") refl)
+pairs-same c sub ps qs h = rw (h (ascii "DTSTART") refl, h (ascii "DTEND") refl, h (ascii "DUE") refl, h (ascii "DURATION") refl, h (ascii "REPEAT") refl)
 
-pub complete-same : (c : List ℕ) (sub : Bool) (ps qs : List Property) →
+pub complete-same : (c : List ℕ) (sub : Around) (ps qs : List Property) →
     ((w : List ℕ) → isKnownProperty w ≡ true → tally w ps ≡ tally w qs) → actionOf ps ≡ actionOf qs → complete c ps sub ≡ complete c qs sub
 unfolding complete
 complete-same c sub ps qs h a = rw (a, often-same (listFor c qs) ps qs h, pairs-same c sub ps qs h)
 
 -- ---- unrecognised properties
 
-pub complete-unrecognised : (c : List ℕ) (sub : Bool) (p : Property) (ps : List Property) → isKnownProperty (p .name) ≡ false → complete c (p ∷ ps) sub ≡ complete c ps sub
+pub complete-unrecognised : (c : List ℕ) (sub : Around) (p : Property) (ps : List Property) → isKnownProperty (p .name) ≡ false → complete c (p ∷ ps) sub ≡ complete c ps sub
 unfolding octets-compute isKnownProperty tally actionOf
 complete-unrecognised c sub p ps u = complete-same c sub (p ∷ ps) ps
     (λ w k. rw (same-apart isKnownProperty w (p .name) k u))
@@ -115,7 +115,7 @@ listed-stands c ps os w e h = go (isAlarm c) e
     go true k = word-passes isAlarmName (namesIn os) w (alarm-names (actionOf ps) os k) h
     go false k = let q : occurrencesOf c ≡ os = cc in rw q h
 
-pub complete-stands : (c : List ℕ) (sub : Bool) (ps : List Property) (w : List ℕ) → complete c ps sub ≡ true → isKnownProperty w ≡ true → mayStand c w ≡ false → tally w ps ≡ 0
+pub complete-stands : (c : List ℕ) (sub : Around) (ps : List Property) (w : List ℕ) → complete c ps sub ≡ true → isKnownProperty w ≡ true → mayStand c w ≡ false → tally w ps ≡ 0
 unfolding complete isKnownProperty
 complete-stands c sub ps w h k n = go (listFor c ps) refl (and-both _ _ h .0)
   where

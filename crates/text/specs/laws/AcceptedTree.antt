@@ -2,7 +2,7 @@
 --     Frames st es d    what the entries that are left make of the open components st is valid, where the first of these is d further out
 --     tree-accepted     what accepted lines state is valid;   tree-some: and not nothing
 use mathlib.Core.Path.{_≡_, refl, _∙_}
-use mathlib.Core.Bool.{Bool, true, false, not}
+use mathlib.Core.Bool.{Bool, true, false, not, false≢true}
 use mathlib.Core.List.{List, [], _∷_, map}
 use mathlib.Core.Option.{Option, none, some}
 use Prim.Native.Nat.{ℕ, suc}
@@ -12,14 +12,16 @@ use Rattle.octets.specs.Pick.{pick, _and_, _or_}
 use Rattle.octets.specs.laws.Pick.{and-yes, and-both, or-left, or-right, or-false}
 use Rattle.octets.specs.Class.{upper}
 use Rattle.octets.specs.Words.{same, isOneOf, isEmpty}
+use Rattle.octets.specs.laws.Words.{same-true}
 use Rattle.octets.specs.Lists.{every}
 use Rattle.octets.specs.laws.Lists.{every-both, every-weaker, every-and}
-use Rattle.calendar.specs.Calendar.{Parameter, Property, Components}
+use Rattle.octets.specs.Computing.{octets-compute}
+use Rattle.calendar.specs.Calendar.{Parameter, Property, Components, component}
 use Rattle.calendar.specs.Refusal.{Refusal, Verdict, fine}
 use Rattle.calendar.specs.laws.Refusal.{refused-not}
 use Rattle.schema.specs.Components.{subcomponentsOf, mayStand}
 use Rattle.schema.specs.Properties.{isKnownProperty}
-use Rattle.schema.specs.Counts.{complete}
+use Rattle.schema.specs.Counts.{Around, methodFor, complete}
 use Rattle.utf8.specs.Utf8.{firstBad, wellFormed}
 use Rattle.utf8.specs.laws.Utf8.{well-formed-good}
 use Rattle.folding.specs.Lines.{Line, whole, loose}
@@ -32,11 +34,11 @@ use Rattle.read_text_line.specs.laws.Accepted.{content-line-accepted, content-l
 use Rattle.validity.specs.ValidCalendar.{isValidParameter, isValidProperty, hasComponents, areValid, atTop}
 use Rattle.validity.specs.laws.ValidCalendar.{component-valid}
 use Rattle.text.specs.Statement.{propertyOf, propertyFault}
-use Rattle.text.specs.Nesting.{Open, Move, on, stop, opened, mayBegin, beginIn, begins, ends, mayHold, told, states, namesCarried, moveBy, moveOf, move, onward, ended, nesting}
+use Rattle.text.specs.Nesting.{Open, Move, on, stop, opened, mayBegin, beginIn, begins, methodIn, ends, mayHold, told, states, namesCarried, moveBy, moveOf, move, onward, ended, nesting}
 use Rattle.text.specs.Tree.{Entry, begin, end, property, entryBy, entryOf, ownOf, innerOf, calendarOf}
 use Rattle.text.specs.laws.AcceptedLine.{isLineParameter, line-accepted, line-property}
 use Rattle.text.specs.laws.AcceptedCharacters.{isGoodParameter, property-good}
-use Rattle.text.specs.laws.Turned.{turned, complete-turned-back}
+use Rattle.text.specs.laws.Turned.{turned, complete-turned-back, method-turned}
 
 -- ---- a property
 
@@ -72,15 +74,17 @@ property-valid k l q g c b e m h =
 
 -- ---- open components
 
--- a component that is open, with the properties and subcomponents that are still to come
-record Body (f : Open) (ps : List Property) (c : Components) : Type 0 where
+-- a component that is open, with the properties and subcomponents that are still to come, in a calendar with METHOD or without.
+-- Once a subcomponent has come, whether METHOD stands is settled
+record Body (f : Open) (m : Bool) (ps : List Property) (c : Components) : Type 0 where
   own : every (isValidProperty (f .name)) ps ≡ true
-  inside : areValid (subcomponentsOf (f .name)) c ≡ true
-  counts : complete (f .name) (turned ps (f .seen)) (f .inner or hasComponents c) ≡ true
+  inside : areValid (subcomponentsOf (f .name)) (methodFor (f .name) (turned ps (f .seen)) m) c ≡ true
+  counts : complete (f .name) (turned ps (f .seen)) (record { inner = f .inner or hasComponents c; method = m }) ≡ true
+  settled : f .inner ≡ true → methodFor (f .name) (turned ps (f .seen)) m ≡ methodFor (f .name) (f .seen) m
 
 abbrev Frames : List Open → List Entry → ℕ → Type 0
-Frames [] es d = areValid atTop (innerOf es d) ≡ true
-Frames (f ∷ st) es d = Body f (ownOf (f .name) es d) (innerOf es d) × Frames st es (suc d)
+Frames [] es d = areValid atTop false (innerOf es d) ≡ true
+Frames (f ∷ st) es d = Body f (methodIn st) (ownOf (f .name) es d) (innerOf es d) × Frames st es (suc d)
 
 frames-begin : (st : List Open) (k : List ℕ) (es : List Entry) (d : ℕ) → Frames st es (suc (suc d)) → Frames st (begin k ∷ es) (suc d)
 unfolding ownOf innerOf
@@ -109,23 +113,38 @@ begun true false r q v u h = stop-on h
 begun false b r q v u h = stop-on h
 
 -- the component that begins
-inner-valid : (k : List ℕ) (ps : List Property) (c : Components) → Body (opened k) ps c → complete k ps (hasComponents c) ≡ true
+inner-valid : (k : List ℕ) (m : Bool) (ps : List Property) (c : Components) → Body (opened k) m ps c → complete k ps (record { inner = hasComponents c; method = m }) ≡ true
 unfolding _or_
-inner-valid k ps c b = complete-turned-back k ps (hasComponents c) (b .counts)
+inner-valid k m ps c b = complete-turned-back k ps (record { inner = hasComponents c; method = m }) (b .counts)
+
+inside-valid : (k : List ℕ) (m : Bool) (ps : List Property) (c : Components) → Body (opened k) m ps c → areValid (subcomponentsOf k) (methodFor k ps m) c ≡ true
+inside-valid k m ps c b = rw (method-turned k ps m) at (b .inside)
+
+method-same : (ks : List (List ℕ)) (c : Components) (m n : Bool) → m ≡ n → areValid ks n c ≡ true → areValid ks m c ≡ true
+method-same ks c m n e h = rw e h
+
+begun-valid : (ks : List (List ℕ)) (m : Bool) (k : List ℕ) (ps : List Property) (c next : Components) → isOneOf k ks ≡ true → Body (opened k) m ps c → areValid ks m next ≡ true →
+    areValid ks m (component k ps c next) ≡ true
+begun-valid ks m k ps c next o b h =
+    component-valid ks m k ps c next (record { named = o; properties = b .own; counts = inner-valid k m ps c b; inside = inside-valid k m ps c b; after = h })
 
 begin-in : (k : List ℕ) (st : List Open) (es : List Entry) → mayBegin k st ≡ true → Frames (beginIn k st) es 0 → Frames st (begin k ∷ es) 0
 unfolding ownOf innerOf
-begin-in k [] es m h = component-valid atTop k _ _ _ (record { named = unfold isOneOf in or-left _ _ m; properties = h .0 .own; counts = inner-valid k _ _ (h .0); inside = h .0 .inside; after = h .1 })
-begin-in k (f ∷ st) es m h = (
-  record {
-    own = h .1 .0 .own;
-    inside = component-valid (subcomponentsOf (f .name)) k _ _ _ (record { named = m; properties = h .0 .own; counts = inner-valid k _ _ (h .0); inside = h .0 .inside; after = h .1 .0 .inside });
-    counts = rw (or-right (f .inner) true refl) (later (h .1 .0));
-  },
-  frames-begin st k es 0 (h .1 .1),
-)
+begin-in k [] es m h = begun-valid atTop false k _ _ _ (unfold isOneOf in or-left _ _ m) (h .0) (h .1)
+begin-in k (f ∷ st) es m h =
+    let b = h .1 .0 in
+    let s = b .settled refl in (
+      record {
+        own = b .own;
+        inside = method-same _ _ _ _ s (begun-valid (subcomponentsOf (f .name)) (methodIn (f ∷ st)) k _ _ _ m (h .0) (rw s at (b .inside)));
+        counts = rw (or-right (f .inner) true refl) (later b);
+        settled = λ e. s;
+      },
+      frames-begin st k es 0 (h .1 .1),
+    )
   where
-    later : Body (record { name = f .name; seen = f .seen; inner = true }) (ownOf (f .name) es 1) (innerOf es 1) → complete (f .name) (turned (ownOf (f .name) es 1) (f .seen)) true ≡ true
+    later : Body (record { name = f .name; seen = f .seen; inner = true }) (methodIn st) (ownOf (f .name) es 1) (innerOf es 1) →
+        complete (f .name) (turned (ownOf (f .name) es 1) (f .seen)) (record { inner = true; method = methodIn st }) ≡ true
     later b = unfold _or_ in b .counts
 
 begin-step : (k : List ℕ) (ps : List RawParameter) (st u : List Open) (es : List Entry) → begins k ps st ≡ on u → Frames u es 0 → Frames st (begin k ∷ es) 0
@@ -143,14 +162,24 @@ end-step : (k : List ℕ) (ps : List RawParameter) (st u : List Open) (es : List
 unfolding ends ownOf innerOf areValid turned every
 end-step k ps [] u es m h = stop-on m
 end-step k ps (f ∷ st) u es m h =
-    let e = closed (same k (f .name)) (isEmpty ps) (complete (f .name) (f .seen) (f .inner)) _ _ _ st u m in
-    (record { own = refl; inside = refl; counts = rw (or-false (f .inner)) (e .0) }, frames-end st es 0 (rw (← (e .1)) at h))
+    let e = closed (same k (f .name)) (isEmpty ps) (complete (f .name) (f .seen) (record { inner = f .inner; method = methodIn st })) _ _ _ st u m in
+    (record { own = refl; inside = refl; counts = rw (or-false (f .inner)) (e .0); settled = λ i. refl }, frames-end st es 0 (rw (← (e .1)) at h))
 
 held : (a : Bool) (o : Option Refusal) (q : Refusal) (v u : List Open) → pick a (told o (on v)) (stop q) ≡ on u → (a ≡ true) × (o ≡ none) × (v ≡ u)
 unfolding pick
 held true none q v u h = (refl, refl, cc)
 held true (some r) q v u h = stop-on h
 held false o q v u h = stop-on h
+
+-- a property behind a subcomponent stands in a VTIMEZONE
+late : (b t : Bool) → (not b or t) ≡ true → b ≡ true → t ≡ true
+unfolding _or_
+late true t h e = h
+late false t h e = absurd (false≢true e)
+
+timezone-method : (k : List ℕ) (ps qs : List Property) (m : Bool) → same k (ascii "VTIMEZONE") ≡ true → methodFor k ps m ≡ methodFor k qs m
+unfolding methodFor octets-compute
+timezone-method k ps qs m e = rw (same-true k (ascii "VTIMEZONE") e)
 
 property-step : (l : ContentLine) (st u : List Open) (es : List Entry) → isContentLine l ≡ true → firstBad (writeContentLine l) ≡ none → namesCarried l ≡ true →
     same (upper (l .name)) (ascii "BEGIN") ≡ false → same (upper (l .name)) (ascii "END") ≡ false → states l st ≡ on u → Frames u es 0 → Frames st (property l ∷ es) 0
@@ -163,6 +192,7 @@ property-step l (f ∷ st) u es q g c b e m h =
         own = and-yes _ _ (property-valid (f .name) l q g c b e (and-both _ _ (a .0) .0) (a .1)) (d .0 .own);
         inside = d .0 .inside;
         counts = d .0 .counts;
+        settled = λ i. timezone-method (f .name) _ _ _ (late (f .inner) _ (and-both _ _ (a .0) .1) i);
       },
       frames-property st l es 0 (d .1),
     )
@@ -207,7 +237,7 @@ all-frames (whole p s ∷ ls) e st g h =
     let m = moved-on (move s st) p (nesting e ls) h in
     line-step s st (m .0) (map entryOf ls) (well-formed-good s (a .0)) (m .1) (all-frames ls e (m .0) (a .1) (m .2))
 
-pub tree-accepted : (ls : List Line) (e : ℕ) → every isGoodOne ls ≡ true → nesting e ls [] ≡ fine → areValid atTop (calendarOf ls) ≡ true
+pub tree-accepted : (ls : List Line) (e : ℕ) → every isGoodOne ls ≡ true → nesting e ls [] ≡ fine → areValid atTop false (calendarOf ls) ≡ true
 unfolding calendarOf
 tree-accepted ls e g h = all-frames ls e [] g h
 

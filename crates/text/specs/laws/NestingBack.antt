@@ -19,17 +19,17 @@ use Rattle.calendar.specs.Refusal.{fine}
 use Rattle.schema.specs.Types.{sameType}
 use Rattle.schema.specs.Components.{subcomponentsOf}
 use Rattle.schema.specs.Properties.{defaultType}
-use Rattle.schema.specs.Counts.{complete}
+use Rattle.schema.specs.Counts.{Around, methodFor, complete}
 use Rattle.values.specs.WriteValue.{typeOfAll}
 use Rattle.folding.specs.Text.{wholeLines}
 use Rattle.read_text_line.specs.Names.{startsOffName, isCarriedName}
 use Rattle.read_text_line.specs.Carried.{carriesName}
 use Rattle.validity.specs.ValidCalendar.{isValidParameter, isValidProperty, hasComponents, areValid, atTop}
 use Rattle.validity.specs.laws.ValidCalendar.{kept-parts, inside-kept, top-kept, top-name, valid-parameter, ValidProperty, valid-property, valid-component}
-use Rattle.text.specs.Nesting.{Open, on, opened, mayBegin, beginIn, begins, ends, states, namesCarried, moveBy, moveOf, move, onward, ended, nesting}
+use Rattle.text.specs.Nesting.{Open, on, opened, mayBegin, beginIn, begins, methodIn, ends, states, namesCarried, moveBy, moveOf, move, onward, ended, nesting}
 use Rattle.text.specs.WriteText.{rawOf, valueParameter, withValue, contentLineOf}
 use Rattle.text.specs.laws.PropertyLaws.{property-read-back, property-no-fault}
-use Rattle.text.specs.laws.Turned.{turned, complete-turned}
+use Rattle.text.specs.laws.Turned.{turned, complete-turned, method-turned}
 use Rattle.text.specs.laws.TreeBack.{beginOf, endOf, lineOf, propertiesBefore, linesBefore, linesOf, framing, begin-line, end-line, property-line, component-name}
 
 -- ---- an open component
@@ -59,7 +59,8 @@ begin-move : (k : List ℕ) (st : List Open) → upper k ≡ k → allOf isVisib
 unfolding moveOf begins pick
 begin-move k st u h m = rw (begin-line k h) (begin-by k st ∙ rw (u, m))
 
-end-move : (k : List ℕ) (seen : List Property) (inner : Bool) (st : List Open) → upper k ≡ k → allOf isVisible k ≡ true → complete k seen inner ≡ true → move (endOf k) (frame k seen inner ∷ st) ≡ on st
+end-move : (k : List ℕ) (seen : List Property) (inner : Bool) (st : List Open) → upper k ≡ k → allOf isVisible k ≡ true → complete k seen (record { inner = inner; method = methodIn st }) ≡ true →
+    move (endOf k) (frame k seen inner ∷ st) ≡ on st
 unfolding moveOf ends pick
 end-move k seen inner st u h m = rw (end-line k h) (end-by k (frame k seen inner ∷ st) ∙ rw (u, same-self k, m))
 
@@ -116,6 +117,15 @@ unfolding flagAfter
 flag-has noMore = refl
 flag-has (component k ps inner next) = flag-true next
 
+-- a component whose properties are seen, the last first
+ok-counts : (k : List ℕ) (ps : List Property) (inner : Components) (m : Bool) → complete k ps (record { inner = hasComponents inner; method = m }) ≡ true →
+    complete k (turned ps []) (record { inner = flagAfter inner false; method = m }) ≡ true
+ok-counts k ps inner m h = rw (flag-has inner) (complete-turned k ps (record { inner = hasComponents inner; method = m }) h)
+
+ok-inside : (k : List ℕ) (ps : List Property) (inner : Components) (m : Bool) → areValid (subcomponentsOf k) (methodFor k ps m) inner ≡ true →
+    areValid (subcomponentsOf k) (methodFor k (turned ps []) m) inner ≡ true
+ok-inside k ps inner m h = rw (method-turned k ps m) h
+
 module _ (e : ℕ) where
   -- the check of lines from any place on, with these components open, ends well
   abbrev Ok : List (List ℕ) → List Open → Type 0
@@ -133,37 +143,38 @@ module _ (e : ℕ) where
       let a = every-both (isValidProperty k) p ps h in
       ok-line (lineOf p) (propertiesBefore ps r) (frame k seen false ∷ st) (frame k (p ∷ seen) false ∷ st) (property-move k p (a .0) seen st) (ok-properties k ps (a .1) (p ∷ seen) st r o)
 
-  ok-components : (c : Components) (j : List ℕ) → areValid (subcomponentsOf j) c ≡ true → (seen : List Property) (b : Bool) (st : List Open) (r : List (List ℕ)) →
+  ok-components : (c : Components) (j : List ℕ) (seen : List Property) (b : Bool) (st : List Open) (r : List (List ℕ)) → areValid (subcomponentsOf j) (methodFor j seen (methodIn st)) c ≡ true →
       Ok r (frame j seen (flagAfter c b) ∷ st) → Ok (linesBefore c r) (frame j seen b ∷ st)
   unfolding flagAfter linesBefore
-  ok-components noMore j v seen b st r o = o
-  ok-components (component k ps inner next) j h seen b st r o =
-      let v = valid-component (subcomponentsOf j) k ps inner next h in
+  ok-components noMore j seen b st r v o = o
+  ok-components (component k ps inner next) j seen b st r h o =
+      let m : Bool = methodFor j seen (methodIn st) in
+      let v = valid-component (subcomponentsOf j) m k ps inner next h in
       let n = component-name (subcomponentsOf j) k (inside-kept j) (v .named) in
       let st₁ : List Open = frame j seen true ∷ st in
       let x : List (List ℕ) = endOf k ∷ linesBefore next r in
-      let done : complete k (turned ps []) (flagAfter inner false) ≡ true = rw (flag-has inner) (complete-turned k ps (hasComponents inner) (v .counts)) in
+      let done = ok-counts k ps inner m (v .counts) in
       let z : Ok x (frame k (turned ps []) (flagAfter inner false) ∷ st₁) =
-      ok-line (endOf k) (linesBefore next r) (frame k (turned ps []) (flagAfter inner false) ∷ st₁) st₁ (end-move k (turned ps []) (flagAfter inner false) st₁ (n .0) (n .1) done) (ok-components next j (v .after) seen true st r o) in
+      ok-line (endOf k) (linesBefore next r) (frame k (turned ps []) (flagAfter inner false) ∷ st₁) st₁ (end-move k (turned ps []) (flagAfter inner false) st₁ (n .0) (n .1) done) (ok-components next j seen true st r (v .after) o) in
       ok-line (beginOf k) (propertiesBefore ps (linesBefore inner x)) (frame j seen b ∷ st) (opened k ∷ st₁) (begin-move k (frame j seen b ∷ st) (n .0) (n .1) (v .named))
-      (ok-properties k ps (v .properties) [] st₁ (linesBefore inner x) (ok-components inner k (v .inside) (turned ps []) false st₁ x z))
+      (ok-properties k ps (v .properties) [] st₁ (linesBefore inner x) (ok-components inner k (turned ps []) false st₁ x (ok-inside k ps inner m (v .inside)) z))
 
-  ok-tops : (c : Components) → areValid atTop c ≡ true → (r : List (List ℕ)) → Ok r [] → Ok (linesBefore c r) []
+  ok-tops : (c : Components) → areValid atTop false c ≡ true → (r : List (List ℕ)) → Ok r [] → Ok (linesBefore c r) []
   unfolding linesBefore
   ok-tops noMore v r o = o
   ok-tops (component k ps inner next) h r o =
-      let v = valid-component atTop k ps inner next h in
+      let v = valid-component atTop false k ps inner next h in
       let n = component-name atTop k top-kept (v .named) in
       let x : List (List ℕ) = endOf k ∷ linesBefore next r in
-      let done : complete k (turned ps []) (flagAfter inner false) ≡ true = rw (flag-has inner) (complete-turned k ps (hasComponents inner) (v .counts)) in
+      let done = ok-counts k ps inner false (v .counts) in
       let z : Ok x (frame k (turned ps []) (flagAfter inner false) ∷ []) =
       ok-line (endOf k) (linesBefore next r) (frame k (turned ps []) (flagAfter inner false) ∷ []) [] (end-move k (turned ps []) (flagAfter inner false) [] (n .0) (n .1) done) (ok-tops next (v .after) r o) in
       ok-line (beginOf k) (propertiesBefore ps (linesBefore inner x)) [] (opened k ∷ []) (begin-move k [] (n .0) (n .1) (top-name k (v .named)))
-      (ok-properties k ps (v .properties) [] [] (linesBefore inner x) (ok-components inner k (v .inside) (turned ps []) false [] x z))
+      (ok-properties k ps (v .properties) [] [] (linesBefore inner x) (ok-components inner k (turned ps []) false [] x (ok-inside k ps inner false (v .inside)) z))
 
   ok-end : Ok [] []
   unfolding wholeLines nesting ended
   ok-end p = refl
 
-  pub nesting-back : (c : Components) (p : ℕ) → areValid atTop c ≡ true → nesting e (wholeLines p (linesOf c)) [] ≡ fine
+  pub nesting-back : (c : Components) (p : ℕ) → areValid atTop false c ≡ true → nesting e (wholeLines p (linesOf c)) [] ≡ fine
   nesting-back c p v = ok-tops c v [] ok-end p

@@ -2,7 +2,7 @@
 --     text-written    the canonical text is the lines of the calendar, each folded
 --     text-back       it is accepted, and states the calendar, where it is not over the limit and the work room is long enough
 use mathlib.Core.Path.{_≡_, refl, sym, ap, _∙_}
-use mathlib.Core.Bool.{true, false, not, false≢true}
+use mathlib.Core.Bool.{Bool, true, false, not, false≢true}
 use mathlib.Core.List.{List, [], _∷_}
 use mathlib.Core.Option.{none}
 use Prim.Native.Nat.{ℕ, _≤_}
@@ -18,6 +18,7 @@ use Rattle.octets.specs.laws.Lists.{every-both}
 use Rattle.calendar.specs.Calendar.{Property, Components, noMore, component}
 use Rattle.calendar.specs.Refusal.{fine, _otherwise_, accepted, limit}
 use Rattle.schema.specs.Components.{subcomponentsOf}
+use Rattle.schema.specs.Counts.{methodFor}
 use Rattle.utf8.specs.Utf8.{badFrom, firstBad}
 use Rattle.utf8.specs.laws.Utf8.{well-formed-good, good-append, ascii-first}
 use Rattle.folding.specs.Unfold.{crlf, blankAt, unfolded}
@@ -64,14 +65,14 @@ unfolding propertiesBefore every
 good-properties k [] r h g = g
 good-properties k (p ∷ ps) r h g = let a = every-both (isValidProperty k) p ps h in and-yes _ _ (property-good k p (a .0)) (good-properties k ps r (a .1) g)
 
-good-components : (c : Components) (ks : List (List ℕ)) → every isKeptName ks ≡ true → areValid ks c ≡ true → (r : List (List ℕ)) → every isGoodLine r ≡ true → every isGoodLine (linesBefore c r) ≡ true
+good-components : (c : Components) (ks : List (List ℕ)) (m : Bool) → every isKeptName ks ≡ true → areValid ks m c ≡ true → (r : List (List ℕ)) → every isGoodLine r ≡ true → every isGoodLine (linesBefore c r) ≡ true
 unfolding linesBefore every
-good-components noMore ks a v r g = g
-good-components (component k ps inner next) ks a h r g =
-    let v = valid-component ks k ps inner next h in
+good-components noMore ks m a v r g = g
+good-components (component k ps inner next) ks m a h r g =
+    let v = valid-component ks m k ps inner next h in
     let n = component-name ks k a (v .named) in
     and-yes _ _ (begin-good k (n .1))
-    (good-properties k ps _ (v .properties) (good-components inner (subcomponentsOf k) (inside-kept k) (v .inside) _ (and-yes _ _ (end-good k (n .1)) (good-components next ks a (v .after) r g))))
+    (good-properties k ps _ (v .properties) (good-components inner (subcomponentsOf k) (methodFor k ps m) (inside-kept k) (v .inside) _ (and-yes _ _ (end-good k (n .1)) (good-components next ks m a (v .after) r g))))
 
 -- what good lines are
 record Good (s : List ℕ) : Type 0 where
@@ -128,7 +129,7 @@ unfolding readCalendar every
 text-back c room h l r =
     let n = valid-parts c h in
     let v = n .1 in
-    let g : every isGoodLine (linesOf c) ≡ true = good-components c atTop top-kept v [] refl in
+    let g : every isGoodLine (linesOf c) ≡ true = good-components c atTop false top-kept v [] refl in
     let nr = lines-no-return (linesOf c) g in
     let u : unfolded (writeCalendar c) ≡ plainText (linesOf c) = ap unfolded (text-written c) ∙ text-unfolded (linesOf c) nr (lines-no-blank (linesOf c) g) in
     let w : lines (plainText (linesOf c)) ≡ wholeLines 0 (linesOf c) = text-lines (linesOf c) 0 nr in

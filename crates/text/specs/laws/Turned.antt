@@ -1,6 +1,7 @@
 -- The properties of a component with the last first, as an open component keeps them: the schema's counts do not mind the order, for ACTION stands at most once.
 --     turned ps seen     the properties ps, the last first, in front of those seen before
 --     complete-turned, complete-turned-back    what is complete in one order is complete in the other
+--     method-turned      and METHOD stands in both or in none
 use mathlib.Core.Path.{_≡_, refl, sym, _∙_}
 use mathlib.Core.Bool.{Bool, true, false, false≢true}
 use mathlib.Core.List.{List, [], _∷_}
@@ -19,7 +20,7 @@ use Rattle.octets.specs.Computing.{octets-compute}
 use Rattle.calendar.specs.Calendar.{Property}
 use Rattle.schema.specs.Components.{Occurrence, alarmTable, componentTable, componentRow, unknownComponent, occurrencesOf, alarmOccurrences, isAlarm}
 use Rattle.schema.specs.Properties.{propertyNames}
-use Rattle.schema.specs.Counts.{tally, occurrenceIn, firstText, actionOf, listFor, oftenFor, complete}
+use Rattle.schema.specs.Counts.{tally, occurrenceIn, Around, methodFor, firstText, actionOf, listFor, oftenFor, complete}
 use Rattle.schema.specs.laws.Tallies.{complete-same, often-at}
 use Rattle.schema.specs.laws.Completing.{isOnce, once-short}
 
@@ -74,7 +75,7 @@ action-known : isOneOf action propertyNames ≡ true
 unfolding octets-compute
 action-known = refl
 
-action-once : (c : List ℕ) (ps : List Property) (sub : Bool) → complete c ps sub ≡ true → tally action ps ≤ 1
+action-once : (c : List ℕ) (ps : List Property) (sub : Around) → complete c ps sub ≡ true → tally action ps ≤ 1
 unfolding complete
 action-once c ps sub h = go (listFor c ps) refl (and-both _ _ h .0)
   where
@@ -114,16 +115,22 @@ action-turned (p ∷ ps) seen h n = go (same action (p .name)) refl h (action-tu
     go true e k ih = action-seen ps (p ∷ seen) (omega arith) ∙ rw e
     go false e k ih = ih k (rw e n)
 
-same-turned : (c : List ℕ) (ps : List Property) (sub : Bool) → tally action ps ≤ 1 → complete c (turned ps []) sub ≡ complete c ps sub
+same-turned : (c : List ℕ) (ps : List Property) (sub : Around) → tally action ps ≤ 1 → complete c (turned ps []) sub ≡ complete c ps sub
 unfolding tally
 same-turned c ps sub n = complete-same c sub (turned ps []) ps (λ w k. tally-turned w ps [] ∙ omega arith) (action-turned ps [] n refl)
 
-pub complete-turned : (c : List ℕ) (ps : List Property) (sub : Bool) → complete c ps sub ≡ true → complete c (turned ps []) sub ≡ true
+pub complete-turned : (c : List ℕ) (ps : List Property) (sub : Around) → complete c ps sub ≡ true → complete c (turned ps []) sub ≡ true
 complete-turned c ps sub h = same-turned c ps sub (action-once c ps sub h) ∙ h
 
-pub complete-turned-back : (c : List ℕ) (ps : List Property) (sub : Bool) → complete c (turned ps []) sub ≡ true → complete c ps sub ≡ true
+pub complete-turned-back : (c : List ℕ) (ps : List Property) (sub : Around) → complete c (turned ps []) sub ≡ true → complete c ps sub ≡ true
 unfolding tally
 complete-turned-back c ps sub h =
     let e = tally-turned action ps [] in
     let n = action-once c (turned ps []) sub h in
     sym (same-turned c ps sub (omega arith)) ∙ h
+
+pub method-turned : (c : List ℕ) (ps : List Property) (m : Bool) → methodFor c (turned ps []) m ≡ methodFor c ps m
+unfolding methodFor tally
+method-turned c ps m =
+    let e : tally (ascii "METHOD") (turned ps []) ≡ tally (ascii "METHOD") ps = tally-turned (ascii "METHOD") ps [] ∙ omega arith in
+    rw e

@@ -3,7 +3,7 @@
 --     document-unique     of two documents in front of anything, the calendars and what follows are the same
 --     documents-unique    of documents one after another, the calendars are the same
 use mathlib.Core.Path.{_≡_, refl, sym, ap, _∙_}
-use mathlib.Core.Bool.{true}
+use mathlib.Core.Bool.{true, false}
 use mathlib.Core.List.{List, [], _∷_, map}
 use Prim.Native.Nat.{ℕ}
 use native.Mathlib.Omega.{arith}
@@ -53,7 +53,7 @@ document-front c x h =
     ∙ ap readBytes (regrouped declaration rootStart (written (calendarContent c)) (endTag (ascii "icalendar")) (ascii "\n") x)
     ∙ marks-root 39 (ascii "icalendar") (written (calendarContent c) ⊕ (endTag (ascii "icalendar") ⊕ (ascii "\n" ⊕ x))) _ (root-front _)
     ∙ ap readComponents (content-nodes (calendarContent c) 15 (ascii "icalendar") (ascii "\n" ⊕ x) 95 (sound-writable (calendarContent c) 15 (calendar-sound c v)) (unfold xml-compute in refl))
-    ∙ components-back c atTop top-kept v 95
+    ∙ components-back c atTop false top-kept v 95
 
 -- ---- one document
 

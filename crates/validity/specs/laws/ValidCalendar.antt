@@ -25,7 +25,7 @@ use Rattle.schema.specs.laws.Types.{same-type-true}
 use Rattle.schema.specs.Parameters.{parameterType, isListedParameter, parameterWords}
 use Rattle.schema.specs.Properties.{isKnownProperty}
 use Rattle.schema.specs.Components.{componentTable, unknownComponent, subcomponentsOf, mayStand}
-use Rattle.schema.specs.Counts.{complete}
+use Rattle.schema.specs.Counts.{Around, methodFor, complete}
 use Rattle.schema.specs.Computing.{schema-compute}
 use Rattle.schema.specs.laws.Rows.{parameterTypes, parameter-type}
 use Rattle.texts.specs.Uri.{isUri}
@@ -163,26 +163,28 @@ valid-property k p h =
 
 -- ---- components
 
-pub record ValidComponent (ks : List (List ℕ)) (k : List ℕ) (ps : List Property) (inner next : Components) : Type 0 where
+pub record ValidComponent (ks : List (List ℕ)) (m : Bool) (k : List ℕ) (ps : List Property) (inner next : Components) : Type 0 where
   pub named : isOneOf k ks ≡ true
   pub properties : every (isValidProperty k) ps ≡ true
-  pub counts : complete k ps (hasComponents inner) ≡ true
-  pub inside : areValid (subcomponentsOf k) inner ≡ true
-  pub after : areValid ks next ≡ true
+  pub counts : complete k ps (record { inner = hasComponents inner; method = m }) ≡ true
+  pub inside : areValid (subcomponentsOf k) (methodFor k ps m) inner ≡ true
+  pub after : areValid ks m next ≡ true
 
-pub valid-component : (ks : List (List ℕ)) (k : List ℕ) (ps : List Property) (inner next : Components) → areValid ks (component k ps inner next) ≡ true → ValidComponent ks k ps inner next
+pub valid-component : (ks : List (List ℕ)) (m : Bool) (k : List ℕ) (ps : List Property) (inner next : Components) → areValid ks m (component k ps inner next) ≡ true →
+    ValidComponent ks m k ps inner next
 unfolding areValid
-valid-component ks k ps inner next h =
+valid-component ks m k ps inner next h =
     let a = and-both (isOneOf k ks) _ h in
     let b = and-both (every (isValidProperty k) ps) _ (a .1) in
-    let c = and-both (complete k ps (hasComponents inner)) _ (b .1) in
-    let d = and-both (areValid (subcomponentsOf k) inner) _ (c .1) in
+    let c = and-both (complete k ps (record { inner = hasComponents inner; method = m })) _ (b .1) in
+    let d = and-both (areValid (subcomponentsOf k) (methodFor k ps m) inner) _ (c .1) in
     record { named = a .0; properties = b .0; counts = c .0; inside = d .0; after = d .1 }
 
-pub component-valid : (ks : List (List ℕ)) (k : List ℕ) (ps : List Property) (inner next : Components) → ValidComponent ks k ps inner next → areValid ks (component k ps inner next) ≡ true
+pub component-valid : (ks : List (List ℕ)) (m : Bool) (k : List ℕ) (ps : List Property) (inner next : Components) → ValidComponent ks m k ps inner next →
+    areValid ks m (component k ps inner next) ≡ true
 unfolding areValid
-component-valid ks k ps inner next v = and-yes _ _ (v .named) (and-yes _ _ (v .properties) (and-yes _ _ (v .counts) (and-yes _ _ (v .inside) (v .after))))
+component-valid ks m k ps inner next v = and-yes _ _ (v .named) (and-yes _ _ (v .properties) (and-yes _ _ (v .counts) (and-yes _ _ (v .inside) (v .after))))
 
-pub valid-parts : (c : Components) → isValid c ≡ true → (hasComponents c ≡ true) × (areValid atTop c ≡ true)
+pub valid-parts : (c : Components) → isValid c ≡ true → (hasComponents c ≡ true) × (areValid atTop false c ≡ true)
 unfolding isValid
-valid-parts c h = and-both (hasComponents c) (areValid atTop c) h
+valid-parts c h = and-both (hasComponents c) (areValid atTop false c) h

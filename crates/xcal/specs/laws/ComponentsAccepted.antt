@@ -1,9 +1,10 @@
 -- Components read from elements that are not refused are valid (RFC 6321, sections 3.2 and 3.3).
 --     stream-accepted        the calendars that the children of the root state are valid
-use mathlib.Core.Path.{_≡_, refl, ap, _∙_}
-use mathlib.Core.Bool.{Bool, true, false, not}
+use mathlib.Core.Path.{_≡_, refl, sym, ap, _∙_}
+use mathlib.Core.Bool.{Bool, true, false, not, false≢true}
 use mathlib.Core.List.{List}
 use Prim.Native.Nat.{ℕ}
+use borrow.Author.Tests.{not-true}
 use Rattle.octets.specs.Ascii.{ascii}
 use Rattle.octets.specs.Pick.{pick, _and_, _or_}
 use Rattle.octets.specs.laws.Pick.{and-both, or-left, or-right}
@@ -16,13 +17,14 @@ use Rattle.calendar.specs.Calendar.{Components, component}
 use Rattle.calendar.specs.Refusal.{FRAME, COUNT, Verdict, fine}
 use Rattle.calendar.specs.laws.Refusal.{refused-not}
 use Rattle.schema.specs.Components.{subcomponentsOf}
+use Rattle.schema.specs.Counts.{methodFor}
 use Rattle.validity.specs.ValidCalendar.{isValidProperty, hasComponents, areValid, atTop}
 use Rattle.validity.specs.laws.ValidCalendar.{component-valid}
 use Rattle.xml.specs.Reads.{isName}
 use Rattle.xml.specs.Nodes.{Nodes, noNodes, element, literal, referred, hasElement}
 use Rattle.xcal.specs.Layout.{hasCapital, unexpected}
 use Rattle.xcal.specs.PropertyNodes.{propertiesVerdict, readProperties}
-use Rattle.xcal.specs.ComponentNodes.{insideOf, isComplete, Come, endOfComponent, componentVerdict, componentsVerdict, streamVerdict, readComponents, readInner}
+use Rattle.xcal.specs.ComponentNodes.{insideOf, isComplete, Come, nothingCome, endOfComponent, componentVerdict, componentsVerdict, streamVerdict, readComponents, readInner}
 use Rattle.xcal.specs.laws.Accepted.{unexpected-not, both-fine, test-fine, past-fine}
 use Rattle.xcal.specs.laws.ValuesAccepted.{isCleanContent}
 use Rattle.xcal.specs.laws.GoodNodes.{isGood}
@@ -60,17 +62,23 @@ inner-components (element p m x kids more) = go (same m (ascii "components")) (i
     go true ih = refl
     go false ih = ih
 
+-- METHOD of the calendar that the subcomponents of a component n stand in
+abbrev methodBy : List ℕ → Come → Nodes → Bool
+methodBy n c kids = pick (c .properties) (c .method) (methodFor n (readProperties (insideOf (ascii "properties") kids)) (c .method))
+
 -- what is known of the children of a component n
-record Holds (n : List ℕ) (counts : Bool) (kids : Nodes) : Type 0 where
-  inner : areValid (subcomponentsOf n) (readInner kids) ≡ true
+record Holds (n : List ℕ) (counts : Bool) (c : Come) (kids : Nodes) : Type 0 where
+  inner : areValid (subcomponentsOf n) (methodBy n c kids) (readInner kids) ≡ true
   properties : every (isValidProperty n) (readProperties (insideOf (ascii "properties") kids)) ≡ true
   counted : counts ≡ true
+  came : c .components ≡ true → c .properties ≡ true
 
 -- the component that an element states
-component-within : (ks : List (List ℕ)) (n : List ℕ) (kids more : Nodes) → isOneOf n ks ≡ true → Holds n (isComplete n kids) kids → areValid ks (readComponents more) ≡ true →
-    areValid ks (component n (readProperties (insideOf (ascii "properties") kids)) (readInner kids) (readComponents more)) ≡ true
-component-within ks n kids more o h r =
-    component-valid ks n _ _ _ (record {
+component-within : (ks : List (List ℕ)) (m : Bool) (n : List ℕ) (kids more : Nodes) → isOneOf n ks ≡ true → Holds n (isComplete n m kids) (nothingCome m) kids →
+    areValid ks m (readComponents more) ≡ true → areValid ks m (component n (readProperties (insideOf (ascii "properties") kids)) (readInner kids) (readComponents more)) ≡ true
+unfolding pick
+component-within ks m n kids more o h r =
+    component-valid ks m n _ _ _ (record {
       named = o;
       properties = h .properties;
       counts = rw (inner-components kids, ← (has-components (insideOf (ascii "components") kids))) (h .counted);
@@ -79,10 +87,10 @@ component-within ks n kids more o h r =
     })
 
 abbrev Components-fine : Nodes → Type 0
-Components-fine kids = (k : List ℕ) (any : Bool) (e : ℕ) → isGood kids ≡ true → componentsVerdict kids k any e ≡ fine → areValid (subcomponentsOf k) (readComponents kids) ≡ true
+Components-fine kids = (k : List ℕ) (method any : Bool) (e : ℕ) → isGood kids ≡ true → componentsVerdict kids k method any e ≡ fine → areValid (subcomponentsOf k) method (readComponents kids) ≡ true
 
 abbrev Component-fine : Nodes → Type 0
-Component-fine kids = (n : List ℕ) (counts : Bool) (c : Come) (e : ℕ) → isGood kids ≡ true → componentVerdict kids n counts c e ≡ fine → Holds n counts kids
+Component-fine kids = (n : List ℕ) (counts : Bool) (c : Come) (e : ℕ) → isGood kids ≡ true → componentVerdict kids n counts c e ≡ fine → Holds n counts c kids
 
 other-name : same (ascii "properties") (ascii "components") ≡ false
 unfolding octets-compute
@@ -92,6 +100,15 @@ end-counted : (n : List ℕ) (counts : Bool) (c : Come) (e : ℕ) → endOfCompo
 unfolding endOfComponent
 end-counted n counts c e h =
     test-fine counts fine COUNT e (past-fine (not (c .properties) or (same n (ascii "VCALENDAR") and not (c .components))) _ FRAME e h .1) .0
+
+came-by : (a b : Bool) → (not a or b) ≡ false → a ≡ true
+unfolding _or_
+came-by true b h = refl
+came-by false b h = absurd (false≢true (sym h))
+
+end-came : (n : List ℕ) (counts : Bool) (c : Come) (e : ℕ) → endOfComponent n counts c e ≡ fine → c .properties ≡ true
+unfolding endOfComponent
+end-came n counts c e h = came-by (c .properties) _ (past-fine (not (c .properties) or (same n (ascii "VCALENDAR") and not (c .components))) _ FRAME e h .0)
 
 module _ (p : ℕ) (m : List ℕ) (x : ℕ) (kids more : Nodes) (g : isGood (element p m x kids more) ≡ true) where
   parts : (isName m ≡ true) × (isGood kids ≡ true) × (isGood more ≡ true)
@@ -103,49 +120,61 @@ module _ (p : ℕ) (m : List ℕ) (x : ℕ) (kids more : Nodes) (g : isGood (ele
       (b .0, d .0, d .1)
 
   -- the element of a subcomponent
-  subcomponent : Component-fine kids → Components-fine more → (k : List ℕ) (any : Bool) (e : ℕ) → componentsVerdict (element p m x kids more) k any e ≡ fine →
-      areValid (subcomponentsOf k) (readComponents (element p m x kids more)) ≡ true
+  subcomponent : Component-fine kids → Components-fine more → (k : List ℕ) (method any : Bool) (e : ℕ) → componentsVerdict (element p m x kids more) k method any e ≡ fine →
+      areValid (subcomponentsOf k) method (readComponents (element p m x kids more)) ≡ true
   unfolding componentsVerdict readComponents
-  subcomponent f r k any e h =
+  subcomponent f r k method any e h =
       let a = one-fine (not (hasCapital m) and isOneOf (upper m) (subcomponentsOf k)) _ p m h in
-      let b = both-fine (componentVerdict kids (upper m) (isComplete (upper m) kids) (record { properties = false; components = false }) x) _ (a .1) in
-      component-within (subcomponentsOf k) (upper m) kids more (and-both (not (hasCapital m)) _ (a .0) .1) (f (upper m) (isComplete (upper m) kids) (record { properties = false; components = false }) x (parts .1) (b .0))
-      (r k true e (parts .2) (b .1))
+      let b = both-fine (componentVerdict kids (upper m) (isComplete (upper m) method kids) (nothingCome method) x) _ (a .1) in
+      component-within (subcomponentsOf k) method (upper m) kids more (and-both (not (hasCapital m)) _ (a .0) .1)
+      (f (upper m) (isComplete (upper m) method kids) (nothingCome method) x (parts .1) (b .0)) (r k method true e (parts .2) (b .1))
 
   -- a child of a component
-  child : Components-fine kids → Component-fine more → (n : List ℕ) (counts : Bool) (c : Come) (e : ℕ) → componentVerdict (element p m x kids more) n counts c e ≡ fine → Holds n counts (element p m x kids more)
+  child : Components-fine kids → Component-fine more → (n : List ℕ) (counts : Bool) (c : Come) (e : ℕ) → componentVerdict (element p m x kids more) n counts c e ≡ fine → Holds n counts c (element p m x kids more)
   unfolding componentVerdict readInner insideOf pick
   child f r n counts c e h =
       either-fine (same m (ascii "properties") and not (c .properties) and not (c .components)) (same m (ascii "components") and not (c .components) and not (isEmpty (subcomponentsOf n))) _ _ p m h
       (λ t v.
-      let z = and-both (same m (ascii "properties")) _ t .0 in
+      let y = and-both (same m (ascii "properties")) _ t in
+      let z = y .0 in
+      let u = and-both (not (c .properties)) (not (c .components)) (y .1) in
       let b = both-fine (propertiesVerdict n kids) _ v in
       let q = properties-accepted n kids (parts .1) (b .0) in
-      let i = r n counts (record { properties = true; components = false }) e (parts .2) (b .1) in
-      record { inner = rw (same-true m (ascii "properties") z, other-name) (i .inner); properties = rw z q; counted = i .counted })
+      let i = r n counts (record { properties = true; components = false; method = methodFor n (readProperties kids) (c .method) }) e (parts .2) (b .1) in
+      let w : same m (ascii "components") ≡ false = ap (λ (u : List ℕ). same u (ascii "components")) (same-true m (ascii "properties") z) ∙ other-name in
+      record { inner = rw (not-true (c .properties) (u .0), z, w) (i .inner); properties = rw z q; counted = i .counted; came = λ k. absurd (false≢true (sym (not-true (c .components) (u .1)) ∙ k)) })
       (λ t v.
-      let z = and-both (same m (ascii "components")) _ t .0 in
-      let b = both-fine (componentsVerdict kids n false x) _ v in
-      let i = r n counts (record { properties = c .properties; components = true }) e (parts .2) (b .1) in
+      let y = and-both (same m (ascii "components")) _ t in
+      let z = y .0 in
+      let u = and-both (not (c .components)) (not (isEmpty (subcomponentsOf n))) (y .1) in
+      let b = both-fine (componentsVerdict kids n (c .method) false x) _ v in
+      let i = r n counts (record { properties = c .properties; components = true; method = c .method }) e (parts .2) (b .1) in
       let w : same m (ascii "properties") ≡ false = ap (λ (u : List ℕ). same u (ascii "properties")) (same-true m (ascii "components") z) ∙ same-swap (ascii "properties") (ascii "components") other-name in
-      record { inner = rw z (f n false x (parts .1) (b .0)); properties = rw w (i .properties); counted = i .counted })
+      record {
+        inner = rw (i .came refl, z) (f n (c .method) false x (parts .1) (b .0));
+        properties = rw w (i .properties);
+        counted = i .counted;
+        came = λ k. absurd (false≢true (sym (not-true (c .components) (u .0)) ∙ k));
+      })
 
 both-accepted : (kids : Nodes) → Components-fine kids × Component-fine kids
 unfolding componentsVerdict componentVerdict readComponents readInner insideOf readProperties areValid every isGood
 both-accepted noNodes = (
-  λ k any e g h. refl,
-  λ n counts c e g h. record { inner = refl; properties = refl; counted = end-counted n counts c e h },
+  λ k method any e g h. refl,
+  λ n counts c e g h. record { inner = refl; properties = refl; counted = end-counted n counts c e h; came = λ k. end-came n counts c e h },
 )
 both-accepted (literal p b more) =
     let r = both-accepted more in (
-      λ k any e g h. r .0 k any e g (test-fine (isSpace b) _ FRAME p h .1),
-      λ n counts c e g h. let i = r .1 n counts c e g (test-fine (isSpace b) _ FRAME p h .1) in record { inner = i .inner; properties = i .properties; counted = i .counted },
+      λ k method any e g h. r .0 k method any e g (test-fine (isSpace b) _ FRAME p h .1),
+      λ n counts c e g h.
+          let i = r .1 n counts c e g (test-fine (isSpace b) _ FRAME p h .1) in
+          record { inner = i .inner; properties = i .properties; counted = i .counted; came = i .came },
     )
-both-accepted (referred p bs more) = (λ k any e g h. refused-not FRAME p h, λ n counts c e g h. refused-not FRAME p h)
+both-accepted (referred p bs more) = (λ k method any e g h. refused-not FRAME p h, λ n counts c e g h. refused-not FRAME p h)
 both-accepted (element p m x kids more) =
     let f = both-accepted kids in
     let r = both-accepted more in
-    (λ k any e g h. subcomponent p m x kids more g (f .1) (r .0) k any e h, λ n counts c e g h. child p m x kids more g (f .0) (r .1) n counts c e h)
+    (λ k method any e g h. subcomponent p m x kids more g (f .1) (r .0) k method any e h, λ n counts c e g h. child p m x kids more g (f .0) (r .1) n counts c e h)
 
 -- ---- the root
 
@@ -158,7 +187,7 @@ unfolding octets-compute
 top = refl
 
 pub record Calendars (any : Bool) (c : Components) : Type 0 where
-  pub valid : areValid atTop c ≡ true
+  pub valid : areValid atTop false c ≡ true
   pub there : (any or hasComponents c) ≡ true
 
 pub stream-accepted : (kids : Nodes) (any : Bool) (e : ℕ) → isGood kids ≡ true → streamVerdict kids any e ≡ fine → Calendars any (readComponents kids)
@@ -168,9 +197,9 @@ stream-accepted (literal p b more) any e g h = stream-accepted more any e g (tes
 stream-accepted (referred p bs more) any e g h = refused-not FRAME p h
 stream-accepted (element p m x kids more) any e g h =
     let a = one-fine (same m (ascii "vcalendar")) _ p m h in
-    let b = both-fine (componentVerdict kids (ascii "VCALENDAR") (isComplete (ascii "VCALENDAR") kids) (record { properties = false; components = false }) x) _ (a .1) in
+    let b = both-fine (componentVerdict kids (ascii "VCALENDAR") (isComplete (ascii "VCALENDAR") false kids) (nothingCome false) x) _ (a .1) in
     let q = parts p m x kids more g in
-    let i = both-accepted kids .1 (ascii "VCALENDAR") (isComplete (ascii "VCALENDAR") kids) (record { properties = false; components = false }) x (q .1) (b .0) in
+    let i = both-accepted kids .1 (ascii "VCALENDAR") (isComplete (ascii "VCALENDAR") false kids) (nothingCome false) x (q .1) (b .0) in
     let r = stream-accepted more true e (q .2) (b .1) in
     let z : upper m ≡ ascii "VCALENDAR" = ap upper (same-true m (ascii "vcalendar") (a .0)) ∙ vcalendar-name in
-    rw z (record { valid = component-within atTop (ascii "VCALENDAR") kids more top i (r .valid); there = or-right _ _ refl })
+    rw z (record { valid = component-within atTop false (ascii "VCALENDAR") kids more top i (r .valid); there = or-right _ _ refl })

@@ -13,6 +13,7 @@ use Rattle.octets.specs.laws.Lists.{word-passes}
 use Rattle.octets.specs.Computing.{octets-compute}
 use Rattle.calendar.specs.Calendar.{Property, Components, noMore, component}
 use Rattle.schema.specs.Components.{subcomponentsOf}
+use Rattle.schema.specs.Counts.{methodFor}
 use Rattle.validity.specs.ValidCalendar.{isKeptName, hasComponents, areValid}
 use Rattle.validity.specs.laws.ValidCalendar.{inside-kept, valid-component}
 use Rattle.xml.specs.Nodes.{noNodes, hasElement}
@@ -57,14 +58,14 @@ inner-back n ps inner ih q =
     by-part (λ d. (r : ℕ) → readInner (placed d r noNodes) ≡ inner) n (isNoMore inner) (calendarContent inner)
     (λ h r. ih _) (λ h e r. sym (no-more inner e)) _
 
-pub components-back : (c : Components) (ks : List (List ℕ)) → every isKeptName ks ≡ true → areValid ks c ≡ true → (q : ℕ) → readComponents (placed (calendarContent c) q noNodes) ≡ c
+pub components-back : (c : Components) (ks : List (List ℕ)) (m : Bool) → every isKeptName ks ≡ true → areValid ks m c ≡ true → (q : ℕ) → readComponents (placed (calendarContent c) q noNodes) ≡ c
 unfolding octets-compute calendarContent placed readComponents readInner insideOf
-components-back noMore ks a h q = refl
-components-back (component n ps inner next) ks a h q =
-    let v = valid-component ks n ps inner next h in
+components-back noMore ks m a h q = refl
+components-back (component n ps inner next) ks m a h q =
+    let v = valid-component ks m n ps inner next h in
     rw (
       kept-back n (word-passes isKeptName ks n a (v .named)),
       properties-back n ps (v .properties),
-      inner-back n ps inner (components-back inner (subcomponentsOf n) (inside-kept n) (v .inside)),
-      components-back next ks a (v .after),
+      inner-back n ps inner (components-back inner (subcomponentsOf n) (methodFor n ps m) (inside-kept n) (v .inside)),
+      components-back next ks m a (v .after),
     )

@@ -17,7 +17,7 @@ use Rattle.octets.specs.Computing.{octets-compute}
 use Rattle.calendar.specs.Calendar.{Property, Components, noMore, component}
 use Rattle.calendar.specs.Refusal.{FRAME, fine, refuse, _otherwise_}
 use Rattle.schema.specs.Components.{subcomponentsOf}
-use Rattle.schema.specs.Counts.{complete}
+use Rattle.schema.specs.Counts.{Around, methodFor, complete}
 use Rattle.schema.specs.Computing.{schema-compute}
 use Rattle.validity.specs.ValidCalendar.{isKeptName, isValidProperty, hasComponents, areValid, atTop}
 use Rattle.validity.specs.laws.ValidCalendar.{inside-kept, top-name, valid-component}
@@ -27,7 +27,7 @@ use Rattle.xcal.specs.WriteXml.{isNoMore}
 use Rattle.xcal.specs.laws.ElementNames.{no-capital, kept-back}
 use Rattle.xcal.specs.laws.Contents.{componentsPart, componentInside, calendarContent}
 use Rattle.xcal.specs.PropertyNodes.{readProperties}
-use Rattle.xcal.specs.ComponentNodes.{insideOf, isComplete, endOfComponent, endOfComponents, componentVerdict, componentsVerdict, streamVerdict}
+use Rattle.xcal.specs.ComponentNodes.{insideOf, isComplete, nothingCome, endOfComponent, endOfComponents, componentVerdict, componentsVerdict, streamVerdict}
 use Rattle.xcal.specs.laws.PropertiesBack.{properties-back, properties-fine}
 use Rattle.xcal.specs.laws.ComponentsBack.{isCalendar, by-part, no-more, has-components}
 
@@ -45,49 +45,49 @@ properties-first : (n : List ℕ) (ps : List Property) (empty : Bool) (c : Conte
 unfolding octets-compute placed insideOf
 properties-first n ps empty c h q = properties-back n ps h _
 
-complete-in : (n : List ℕ) (ps : List Property) (inner : Components) → every (isValidProperty n) ps ≡ true → complete n ps (hasComponents inner) ≡ true → (q : ℕ) →
-    isComplete n (placed (componentInside n ps (isNoMore inner) (calendarContent inner)) q noNodes) ≡ true
-complete-in n ps inner h c q = rw (has-sub n ps inner q, properties-first n ps (isNoMore inner) (calendarContent inner) h q) c
+complete-in : (n : List ℕ) (m : Bool) (ps : List Property) (inner : Components) → every (isValidProperty n) ps ≡ true → complete n ps (record { inner = hasComponents inner; method = m }) ≡ true → (q : ℕ) →
+    isComplete n m (placed (componentInside n ps (isNoMore inner) (calendarContent inner)) q noNodes) ≡ true
+complete-in n m ps inner h c q = rw (has-sub n ps inner q, properties-first n ps (isNoMore inner) (calendarContent inner) h q) c
 
 -- ---- the children of a component
 
 -- a component that has `components` may have some
-has-subcomponents : (n : List ℕ) (inner : Components) → (isCalendar n or not (isNoMore inner)) ≡ true → areValid (subcomponentsOf n) inner ≡ true → isEmpty (subcomponentsOf n) ≡ false
+has-subcomponents : (n : List ℕ) (m : Bool) (inner : Components) → (isCalendar n or not (isNoMore inner)) ≡ true → areValid (subcomponentsOf n) m inner ≡ true → isEmpty (subcomponentsOf n) ≡ false
 unfolding schema-compute
-has-subcomponents n inner h c = or-cases (isCalendar n) _ h (λ e. rw (same-true n (ascii "VCALENDAR") e)) (other inner c)
+has-subcomponents n m inner h c = or-cases (isCalendar n) _ h (λ e. rw (same-true n (ascii "VCALENDAR") e)) (other inner c)
   where
-    some-word : (m : List ℕ) (ws : List (List ℕ)) → isOneOf m ws ≡ true → isEmpty ws ≡ false
-    some-word m [] e = absurd (false≢true e)
-    some-word m (w ∷ ws) e = refl
+    some-word : (v : List ℕ) (ws : List (List ℕ)) → isOneOf v ws ≡ true → isEmpty ws ≡ false
+    some-word v [] e = absurd (false≢true e)
+    some-word v (w ∷ ws) e = refl
 
-    other : (i : Components) → areValid (subcomponentsOf n) i ≡ true → not (isNoMore i) ≡ true → isEmpty (subcomponentsOf n) ≡ false
+    other : (i : Components) → areValid (subcomponentsOf n) m i ≡ true → not (isNoMore i) ≡ true → isEmpty (subcomponentsOf n) ≡ false
     other noMore c e = absurd (false≢true e)
-    other (component m ps i next) c e = some-word m (subcomponentsOf n) (valid-component (subcomponentsOf n) m ps i next c .named)
+    other (component v ps i next) c e = some-word v (subcomponentsOf n) (valid-component (subcomponentsOf n) m v ps i next c .named)
 
-end-fine : (n : List ℕ) (e : ℕ) → endOfComponent n true (record { properties = true; components = true }) e ≡ fine
+end-fine : (n : List ℕ) (m : Bool) (e : ℕ) → endOfComponent n true (record { properties = true; components = true; method = m }) e ≡ fine
 unfolding endOfComponent pick _and_ _or_
-end-fine n e = go (isCalendar n)
+end-fine n m e = go (isCalendar n)
   where
     go : (t : Bool) → pick (t and false) (refuse FRAME e) fine ≡ fine
     go true = refl
     go false = refl
 
 -- after `properties`
-part-fine : (n : List ℕ) (inner : Components) → areValid (subcomponentsOf n) inner ≡ true →
-    ((x q : ℕ) → (isCalendar n or not (isNoMore inner)) ≡ true → componentsVerdict (placed (calendarContent inner) q noNodes) n false x ≡ fine) →
-    (e q : ℕ) → componentVerdict (placed (componentsPart n (isNoMore inner) (calendarContent inner)) q noNodes) n true (record { properties = true; components = false }) e ≡ fine
+part-fine : (n : List ℕ) (m : Bool) (inner : Components) → areValid (subcomponentsOf n) m inner ≡ true →
+    ((x q : ℕ) → (isCalendar n or not (isNoMore inner)) ≡ true → componentsVerdict (placed (calendarContent inner) q noNodes) n m false x ≡ fine) →
+    (e q : ℕ) → componentVerdict (placed (componentsPart n (isNoMore inner) (calendarContent inner)) q noNodes) n true (record { properties = true; components = false; method = m }) e ≡ fine
 unfolding octets-compute placed componentVerdict endOfComponent _otherwise_
-part-fine n inner c ih e q =
-    by-part (λ d. (r : ℕ) → componentVerdict (placed d r noNodes) n true (record { properties = true; components = false }) e ≡ fine) n (isNoMore inner) (calendarContent inner)
-    (λ h r. rw (has-subcomponents n inner h c, ih _ _ h) (end-fine n e))
+part-fine n m inner c ih e q =
+    by-part (λ d. (r : ℕ) → componentVerdict (placed d r noNodes) n true (record { properties = true; components = false; method = m }) e ≡ fine) n (isNoMore inner) (calendarContent inner)
+    (λ h r. rw (has-subcomponents n m inner h c, ih _ _ h) (end-fine n m e))
     (λ h k r. rw h)
     q
 
-inside-fine : (n : List ℕ) (ps : List Property) (inner : Components) → every (isValidProperty n) ps ≡ true → areValid (subcomponentsOf n) inner ≡ true →
-    ((x q : ℕ) → (isCalendar n or not (isNoMore inner)) ≡ true → componentsVerdict (placed (calendarContent inner) q noNodes) n false x ≡ fine) →
-    (e q : ℕ) → componentVerdict (placed (componentInside n ps (isNoMore inner) (calendarContent inner)) q noNodes) n true (record { properties = false; components = false }) e ≡ fine
+inside-fine : (n : List ℕ) (m : Bool) (ps : List Property) (inner : Components) → every (isValidProperty n) ps ≡ true → areValid (subcomponentsOf n) (methodFor n ps m) inner ≡ true →
+    ((x q : ℕ) → (isCalendar n or not (isNoMore inner)) ≡ true → componentsVerdict (placed (calendarContent inner) q noNodes) n (methodFor n ps m) false x ≡ fine) →
+    (e q : ℕ) → componentVerdict (placed (componentInside n ps (isNoMore inner) (calendarContent inner)) q noNodes) n true (nothingCome m) e ≡ fine
 unfolding octets-compute placed componentVerdict _otherwise_
-inside-fine n ps inner h c ih e q = rw (properties-fine n ps h) (part-fine n inner c ih e _)
+inside-fine n m ps inner h c ih e q = rw (properties-fine n ps h, properties-back n ps h) (part-fine n (methodFor n ps m) inner c ih e _)
 
 -- ---- components
 
@@ -107,20 +107,20 @@ unfolding _or_
 or-middle true b e = refl
 or-middle false b e = e
 
-pub components-fine : (c : Components) (k : List ℕ) (any : Bool) (x q : ℕ) → areValid (subcomponentsOf k) c ≡ true → (isCalendar k or any or not (isNoMore c)) ≡ true →
-    componentsVerdict (placed (calendarContent c) q noNodes) k any x ≡ fine
+pub components-fine : (c : Components) (k : List ℕ) (m any : Bool) (x q : ℕ) → areValid (subcomponentsOf k) m c ≡ true → (isCalendar k or any or not (isNoMore c)) ≡ true →
+    componentsVerdict (placed (calendarContent c) q noNodes) k m any x ≡ fine
 unfolding calendarContent placed componentsVerdict pick _and_ _otherwise_
-components-fine noMore k any x q h o = no-components k any x (or-last (isCalendar k) any o)
-components-fine (component n ps inner next) k any x q h o =
-    let v = valid-component (subcomponentsOf k) n ps inner next h in
+components-fine noMore k m any x q h o = no-components k any x (or-last (isCalendar k) any o)
+components-fine (component n ps inner next) k m any x q h o =
+    let v = valid-component (subcomponentsOf k) m n ps inner next h in
     rw (
       no-capital n,
       kept-back n (word-passes isKeptName (subcomponentsOf k) n (inside-kept k) (v .named)),
       v .named,
-      complete-in n ps inner (v .properties) (v .counts),
-      inside-fine n ps inner (v .properties) (v .inside) (λ y r z. components-fine inner n false y r (v .inside) (or-middle _ _ z)),
+      complete-in n m ps inner (v .properties) (v .counts),
+      inside-fine n m ps inner (v .properties) (v .inside) (λ y r z. components-fine inner n (methodFor n ps m) false y r (v .inside) (or-middle _ _ z)),
     )
-    (components-fine next k true x _ (v .after) (or-right _ _ (or-left _ _ refl)))
+    (components-fine next k m true x _ (v .after) (or-right _ _ (or-left _ _ refl)))
 
 -- ---- the root
 
@@ -128,17 +128,17 @@ calendar-element : (n : List ℕ) → isCalendar n ≡ true → same (lower n) (
 unfolding octets-compute
 calendar-element n h = rw (same-true n (ascii "VCALENDAR") h)
 
-pub stream-fine : (c : Components) (any : Bool) (x q : ℕ) → areValid atTop c ≡ true → (any or hasComponents c) ≡ true → streamVerdict (placed (calendarContent c) q noNodes) any x ≡ fine
+pub stream-fine : (c : Components) (any : Bool) (x q : ℕ) → areValid atTop false c ≡ true → (any or hasComponents c) ≡ true → streamVerdict (placed (calendarContent c) q noNodes) any x ≡ fine
 unfolding calendarContent placed streamVerdict pick _otherwise_
 stream-fine noMore any x q h o = or-cases any false o (λ e. rw e) (λ e. absurd (false≢true e))
 stream-fine (component n ps inner next) any x q h o =
-    let v = valid-component atTop n ps inner next h in
+    let v = valid-component atTop false n ps inner next h in
     let e = top-name n (v .named) in
     let z : ascii "VCALENDAR" ≡ n = sym (same-true n (ascii "VCALENDAR") e) in
     rw (
       calendar-element n e,
       z,
-      complete-in n ps inner (v .properties) (v .counts),
-      inside-fine n ps inner (v .properties) (v .inside) (λ y r w. components-fine inner n false y r (v .inside) (or-middle _ _ w)),
+      complete-in n false ps inner (v .properties) (v .counts),
+      inside-fine n false ps inner (v .properties) (v .inside) (λ y r w. components-fine inner n (methodFor n ps false) false y r (v .inside) (or-middle _ _ w)),
     )
     (stream-fine next true x _ (v .after) (or-left _ _ refl))

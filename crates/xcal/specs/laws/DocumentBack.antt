@@ -53,7 +53,7 @@ document-good s h =
 
 -- ---- the document
 
-module _ (c : Components) (there : hasComponents c ≡ true) (valid : areValid atTop c ≡ true) (sound : isSound (calendarContent c) 15 ≡ true) where
+module _ (c : Components) (there : hasComponents c ≡ true) (valid : areValid atTop false c ≡ true) (sound : isSound (calendarContent c) 15 ≡ true) where
   nodes-back : documentNodes (documentOf (written (calendarContent c)))
       ≡ element 39 (ascii "icalendar") (95 + length (written (calendarContent c))) (placed (calendarContent c) 95 noNodes) noNodes
   nodes-back = document-read-back (calendarContent c) 15 (sound-writable (calendarContent c) 15 sound)
@@ -64,7 +64,7 @@ module _ (c : Components) (there : hasComponents c ≡ true) (valid : areValid a
 
   root-back : readRoot (documentNodes (documentOf (written (calendarContent c)))) ≡ c
   unfolding readRoot
-  root-back = rw nodes-back (components-back c atTop top-kept valid 95)
+  root-back = rw nodes-back (components-back c atTop false top-kept valid 95)
 
   document-fine : length (documentOf (written (calendarContent c))) ≤ 65535 → documentVerdict (documentOf (written (calendarContent c))) ≡ fine
   unfolding documentVerdict pick _otherwise_

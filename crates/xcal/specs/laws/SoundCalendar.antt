@@ -1,7 +1,7 @@
 -- The content of a valid calendar is sound: its bytes are well formed and within the profile.
 --     calendar-sound       within 15 elements inside one another
 use mathlib.Core.Path.{_≡_, refl}
-use mathlib.Core.Bool.{Bool, true}
+use mathlib.Core.Bool.{Bool, true, false}
 use mathlib.Core.List.{List, [], _∷_}
 use Prim.Native.Nat.{ℕ, zero, suc, _+_, _*_, _≤_, _<_}
 use native.Mathlib.Omega.{arith}
@@ -18,6 +18,7 @@ use Rattle.octets.specs.laws.Tables.{row-any-passes}
 use Rattle.octets.specs.Computing.{octets-compute}
 use Rattle.calendar.specs.Calendar.{Value, Parameter, Property, Components, noMore, component}
 use Rattle.schema.specs.Components.{ComponentRow, componentTable, componentRow, unknownComponent, subcomponentsOf}
+use Rattle.schema.specs.Counts.{methodFor}
 use Rattle.schema.specs.Parameters.{parameterWords, parameterType}
 use Rattle.schema.specs.Computing.{schema-compute}
 use Rattle.values.specs.WriteValue.{typeOfAll}
@@ -109,19 +110,19 @@ inside-sound n ps empty c d h l s =
     written = child-sound (ascii "components") c nothing d components-name s refl
 
 -- components with names among ks, all of less depth than e
-components-sound : (c : Components) (ks : List (List ℕ)) (e d : ℕ) → every isKeptName ks ≡ true → every (λ n. ltb (depthOf n) e) ks ≡ true → areValid ks c ≡ true → 5 + 2 * e ≤ d →
+components-sound : (c : Components) (ks : List (List ℕ)) (m : Bool) (e d : ℕ) → every isKeptName ks ≡ true → every (λ n. ltb (depthOf n) e) ks ≡ true → areValid ks m c ≡ true → 5 + 2 * e ≤ d →
     isSound (calendarContent c) d ≡ true
 unfolding calendarContent isSound
-components-sound noMore ks e d a b h l = refl
-components-sound (component n ps inner next) ks e zero a b h l = absurd (omega arith)
-components-sound (component n ps inner next) ks e (suc zero) a b h l = absurd (omega arith)
-components-sound (component n ps inner next) ks e (suc (suc d)) a b h l =
-    let v = valid-component ks n ps inner next h in
+components-sound noMore ks m e d a b h l = refl
+components-sound (component n ps inner next) ks m e zero a b h l = absurd (omega arith)
+components-sound (component n ps inner next) ks m e (suc zero) a b h l = absurd (omega arith)
+components-sound (component n ps inner next) ks m e (suc (suc d)) a b h l =
+    let v = valid-component ks m n ps inner next h in
     let w : depthOf n < e = ltb-true _ _ (word-passes (λ n. ltb (depthOf n) e) ks n b (v .named)) in
     child-sound (lower n) (componentInside n ps (isNoMore inner) (calendarContent inner)) (calendarContent next) (suc d) (kept-element n (word-passes isKeptName ks n a (v .named)))
     (inside-sound n ps (isNoMore inner) (calendarContent inner) d (v .properties) (omega arith)
-    (components-sound inner (subcomponentsOf n) (depthOf n) d (inside-kept n) (all-shallower n) (v .inside) (omega arith)))
-    (components-sound next ks e (suc (suc d)) a b (v .after) l)
+    (components-sound inner (subcomponentsOf n) (methodFor n ps m) (depthOf n) d (inside-kept n) (all-shallower n) (v .inside) (omega arith)))
+    (components-sound next ks m e (suc (suc d)) a b (v .after) l)
 
-pub calendar-sound : (c : Components) → areValid atTop c ≡ true → isSound (calendarContent c) 15 ≡ true
-calendar-sound c h = components-sound c atTop 3 15 top-kept top-shallow h (omega arith)
+pub calendar-sound : (c : Components) → areValid atTop false c ≡ true → isSound (calendarContent c) 15 ≡ true
+calendar-sound c h = components-sound c atTop false 3 15 top-kept top-shallow h (omega arith)

@@ -15,6 +15,7 @@ use Rattle.read_text.proofs.component.action_after.Reads as action-afte
 use Rattle.read_text.proofs.component.next_line.Reads as next-line-reads
 use Rattle.schema.proofs.bump.Reads as bump-reads
 use Rattle.schema.proofs.complete_counts.Reads as complete-counts-reads
+use Rattle.schema.proofs.method_for.Reads as method-for-reads
 use Rattle.read_text.proofs.component.+body.{statement}
 use Rattle.read_text.proofs.component.+body.Tie.{close}
 
@@ -29,13 +30,13 @@ body-below t = and 1 body-kinds.ps (falls 1 body-kinds.ps _<_ μ-body t) body.Pr
 
 -- what the calls ask and give
 abbrev claims : ℕ → body-lts.Claims
-claims t = (next-line-reads.Asked, next-line-reads.Learnt, body-below t, body.Post, complete-counts-reads.Asked, complete-counts-reads.Learnt, bump-reads.Asked, bump-reads.Learnt, action-after-reads.Asked, action-after-reads.Learnt)
+claims t = (next-line-reads.Asked, next-line-reads.Learnt, method-for-reads.Asked, method-for-reads.Learnt, body-below t, body.Post, complete-counts-reads.Asked, complete-counts-reads.Learnt, bump-reads.Asked, bump-reads.Learnt, action-after-reads.Asked, action-after-reads.Learnt)
 
 abbrev body-Inv-loop : body-lts.InvT-loop
-body-Inv-loop mode s from k at₀ counts₀ action₀ inner₀ at counts action inner = Reached k mode s from at counts action inner
+body-Inv-loop mode s from k method at₀ counts₀ action₀ inner₀ at counts action inner = Reached k method mode s from at counts action inner
 
 abbrev body-μ-loop : body-lts.MeasureT-loop
-body-μ-loop mode s from k at₀ counts₀ action₀ inner₀ at counts action inner = length s - at
+body-μ-loop mode s from k method at₀ counts₀ action₀ inner₀ at counts action inner = length s - at
 
 pub +body-spec : {M : Type 1} → statement M
 +body-spec = close μ-body
@@ -45,15 +46,16 @@ pub +body-spec : {M : Type 1} → statement M
     body.Post
     body-Inv-loop
     body-μ-loop
-    (λ c. reached-none _ _ _ _ (c .before .pre .1 .0))  -- loop-holds
+    (λ c. reached-none _ _ _ _ _ (c .before .pre .1 .0))  -- loop-holds
     (λ c κs. (c .before .before .before .pre .1 .1, c .before .loop .inv .high, c .loop-test .taken))  -- next-line-requires
     (λ c. search needs)  -- enum-known-kind
-    (λ c κs. (omega (arith, c .before .before .before .before .before .before .before .pre, c .before .before .before .before .before .loop .inv .low, c .before .before .before .next-line .ensures .low), (c .before .before .before .next-line .ensures .high, starts-known (c .before .before .before .before .before .loop .inv) (c .before .before .before .next-line .ensures) (c .before .kind .given .1))))  -- body-requires
+    (λ c κs. search needs)  -- method-for-requires
+    (λ c κs. (omega (arith, c .before .before .before .before .before .before .before .before .pre, c .before .before .before .before .before .before .loop .inv .low, c .before .before .before .before .next-line .ensures .low), (c .before .before .before .before .next-line .ensures .high, starts-known (c .before .before .before .before .before .before .loop .inv) (c .before .before .before .before .next-line .ensures) (c .before .before .kind .given .1))))  -- body-requires
     (λ c. search needs)  -- enum-known-next
-    (λ c. let b = (subst (Body _ _ _ _) (c .before .next .given .1) (c .before .before .before .body .ensures)) in omega (arith, b .ends .0, b .ends .1 .most, c .before .before .before .before .before .before .before .next-line .ensures .low))  -- loop-less
-    (λ c. reached-inner (c .before .before .before .before .before .before .before .before .before .loop .inv) (c .before .before .before .before .before .before .before .next-line .ensures) (c .before .before .before .before .before .kind .given .1) (subst (Body _ _ _ _) (c .before .next .given .1) (c .before .before .before .body .ensures)))  -- loop-again
+    (λ c. let b = (subst (Body _ _ _ _ _) (c .before .next .given .1) (c .before .before .before .body .ensures)) in omega (arith, b .ends .0, b .ends .1 .most, c .before .before .before .before .before .before .before .before .next-line .ensures .low))  -- loop-less
+    (λ c. reached-inner (c .before .before .before .before .before .before .before .before .before .before .loop .inv) (c .before .before .before .before .before .before .before .before .next-line .ensures) (c .before .before .before .before .before .before .kind .given .1) (c .before .before .before .before .before .before .before .before .before .before .before .before .pre .1 .1) (c .before .before .before .before .method-for .ensures) (subst (Body _ _ _ _ _) (c .before .next .given .1) (c .before .before .before .body .ensures)))  -- loop-again
     (λ c. search needs)  -- enum-known-r
-    (λ c. body-inner (c .before .before .before .before .before .before .before .before .before .loop .inv) (c .before .before .before .before .before .before .before .next-line .ensures) (c .before .before .before .before .before .kind .given .1) (subst (Body _ _ _ _) (c .before .r .given .1) (c .before .before .before .body .ensures)))  -- returns
+    (λ c. body-inner (c .before .before .before .before .before .before .before .before .before .before .loop .inv) (c .before .before .before .before .before .before .before .before .next-line .ensures) (c .before .before .before .before .before .before .kind .given .1) (c .before .before .before .before .before .before .before .before .before .before .before .before .pre .1 .1) (c .before .before .before .before .method-for .ensures) (subst (Body _ _ _ _ _) (c .before .r .given .1) (c .before .before .before .body .ensures)))  -- returns
     (λ c. search needs)  -- enum-told
     (λ c κs. search needs)  -- complete-counts-requires
     (λ c. body-closed (c .before .before .before .before .before .before .loop .inv) (c .before .before .before .before .next-line .ensures) (c .before .before .enum-told .given .1) (c .before .before .before .before .before .before .before .before .pre .1 .1) (c .before .complete-counts .ensures) (c .if1 .taken))  -- returns-2

@@ -12,6 +12,7 @@ use Rattle.read_xml.proofs.subcomponents.components_verdict.Kinds as co
 use Rattle.read_xml.proofs.subcomponents.+component_verdict+components_verdict.Lts-components_verdict as components-verdict-lts
 use Rattle.read_xml.proofs.component.behind.Reads as behind-reads
 use Rattle.read_xml.proofs.component.head.Reads as head-reads
+use Rattle.read_xml.proofs.subcomponents.method_inside.Reads as method-inside-reads
 use Rattle.read_xml.proofs.subcomponents.sub_at.Reads as sub-at-reads
 use Rattle.read_xml.proofs.subcomponents.+component_verdict+components_verdict.{statement}
 use Rattle.read_xml.proofs.subcomponents.+component_verdict+components_verdict.Tie.{close}
@@ -36,16 +37,16 @@ components-verdict-below t = and 1 components-verdict-kinds.ps (falls 1 componen
 
 -- what the calls ask and give
 abbrev component-verdict-claims : ℕ → component-verdict-lts.Claims
-component-verdict-claims t = (head-reads.Asked, head-reads.Learnt, components-verdict-below t, components-verdict.Post, behind-reads.Asked, behind-reads.Learnt)
+component-verdict-claims t = (head-reads.Asked, head-reads.Learnt, method-inside-reads.Asked, method-inside-reads.Learnt, components-verdict-below t, components-verdict.Post, behind-reads.Asked, behind-reads.Learnt)
 
 abbrev components-verdict-claims : ℕ → components-verdict-lts.Claims
 components-verdict-claims t = (sub-at-reads.Asked, sub-at-reads.Learnt, component-verdict-below t, component-verdict.Post)
 
 abbrev components-verdict-Inv-loop : components-verdict-lts.InvT-loop
-components-verdict-Inv-loop s inside k e at₀ any₀ at any = Among k s inside e at any
+components-verdict-Inv-loop s inside k method e at₀ any₀ at any = Among k method s inside e at any
 
 abbrev components-verdict-μ-loop : components-verdict-lts.MeasureT-loop
-components-verdict-μ-loop s inside k e at₀ any₀ at any = length s - at
+components-verdict-μ-loop s inside k method e at₀ any₀ at any = length s - at
 
 pub +component-verdict+components-verdict-spec : {M : Type 1} → statement M
 +component-verdict+components-verdict-spec = close μ-component-verdict μ-components-verdict
@@ -56,6 +57,7 @@ pub +component-verdict+components-verdict-spec : {M : Type 1} → statement M
     (λ c κs. search wholes)  -- head-requires
     (λ c. search wholes)  -- enum-known-part
     (λ c. search wholes)  -- enum-known-part-2
+    (λ c κs. search wholes)  -- method-inside-requires
     (λ c κs. (search (falls-under, falls-below, whole-falls, wholes), search wholes))  -- components-verdict-requires
     (λ c. search wholes)  -- enum-known-r
     (λ c κs. search wholes)  -- behind-requires
