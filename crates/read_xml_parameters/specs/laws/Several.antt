@@ -25,11 +25,11 @@ use Rattle.xcal.specs.ParameterNodes.{readWordIn, asMany, valuesGood, areBase64
 use Rattle.xml.specs.NodesAt.{nodesAt}
 use Rattle.read_xml_nodes.specs.NodeFound.{NodeAt}
 use Rattle.read_xml_nodes.specs.laws.NodeFound.{node-none, node-literal, node-referred, element-less, literal-less}
-use Rattle.read_xml_nodes.specs.laws.Walks.{Passing, passing-start}
+use Rattle.read_xml_nodes.specs.laws.Walks.{Passing, passing-start, Skips}
 use Rattle.read_xml_nodes.specs.declared.Node.{Node}
 use Rattle.read_xml_nodes.specs.declared.NodeKind.the-variants.{None, Element, Literal, Referred}
 use Rattle.read_xml_parameters.specs.Children.{ChildAt, nameOf}
-use Rattle.read_xml_parameters.specs.laws.Children.{Skips, node-named, children-none, children-some}
+use Rattle.read_xml_parameters.specs.laws.Children.{node-named, children-none, children-some}
 use Rattle.read_xml_parameters.specs.Rows.{rowAt, readLeaf, readLeaves}
 use Rattle.read_xml_parameters.specs.laws.Rows.{literal-read, element-read}
 use Rattle.read_xml_parameters.specs.Leaves.{isValue}
@@ -119,7 +119,7 @@ good-is r kids = rw (← (all-read r kids)) (go (readLeaves r kids) refl)
 
 skips-single : Skips isSingle
 unfolding isSingle
-skips-single = record { literals = λ p b more. refl; references = λ p bs more. refl }
+skips-single = record { over-literal = λ p b more. refl; over-referred = λ p bs more. refl }
 
 module _ {s : List ℕ} {at : ℕ} {r : Child} (n : ChildAt s at r) where
   pub single-none : r .there ≡ false → true ≡ isSingle (nodesAt s at)
@@ -172,7 +172,7 @@ first-is r ws k (element p m x kids more) vs h = let a = element-read r vs p m x
 
 skips-first : (w : List ℕ) → Skips (firstIs w)
 unfolding firstIs
-skips-first w = record { literals = λ p b more. refl; references = λ p bs more. refl }
+skips-first w = record { over-literal = λ p b more. refl; over-referred = λ p bs more. refl }
 
 module _ (w : List ℕ) {s : List ℕ} {at : ℕ} {r : Child} (n : ChildAt s at r) where
   pub first-none : r .there ≡ false → true ≡ firstIs w (nodesAt s at)

@@ -19,6 +19,7 @@ use Rattle.octets.specs.Reading.{isRead, readOr}
 use Rattle.octets.specs.Computing.{octets-compute}
 use Rattle.calendar.specs.Calendar.{Value}
 use Rattle.source.specs.Source.{rest}
+use Rattle.source.specs.laws.Facts.{rest-plain}
 use Rattle.names.specs.Table.{placeOf}
 use Rattle.names.specs.laws.Places.{same-place}
 use Rattle.schema.specs.Types.{sameType}
@@ -32,7 +33,6 @@ use Rattle.read_text_line.specs.Names.{isCarriedName}
 use Rattle.xml.specs.Nodes.{Nodes}
 use Rattle.xcal.specs.Layout.{hasCapital}
 use Rattle.xcal.specs.ParameterNodes.{readParamNodes, valuesGood, encodes, areBase64, badName}
-use Rattle.read_xml_parameters.specs.laws.Children.{whole}
 use Rattle.read_xml_parameters.specs.Rows.{rowAt, readLeaves}
 use Rattle.read_xml_parameters.specs.laws.Rows.{row-named, leaves-are}
 use Rattle.read_xml_parameters.specs.Several.{goodBy, firstIs}
@@ -43,7 +43,7 @@ use Rattle.read_xml_parameters.specs.Sound.{encodedBy, soundBy}
 
 module _ (w : List ℕ) {a : Bool} (e : a ≡ hasCapital (rest 0 (take (length w) w) 0)) where
   capital : a ≡ hasCapital w
-  capital = e ∙ rw (take-length w, whole w)
+  capital = e ∙ rw (take-length w, rest-plain w)
 
   pub bad-capital : a ≡ true → true ≡ badName w
   unfolding _or_
@@ -51,7 +51,7 @@ module _ (w : List ℕ) {a : Bool} (e : a ≡ hasCapital (rest 0 (take (length w
 
   module _ {b : Bool} (h : a ≡ false) (f : b ≡ isCarriedName (rest 0 w 0)) where
     carried : b ≡ isCarriedName w
-    carried = f ∙ rw (whole w)
+    carried = f ∙ rw (rest-plain w)
 
     pub bad-start : b ≡ false → true ≡ badName w
     unfolding _or_
@@ -59,7 +59,7 @@ module _ (w : List ℕ) {a : Bool} (e : a ≡ hasCapital (rest 0 (take (length w
 
     pub bad-value : {c : Bool} → b ≡ true → c ≡ same (rest 0 w 0) (ascii "value") → c ≡ badName w
     unfolding _or_
-    bad-value k g = g ∙ rw (whole w, ← capital, h, ← carried, k)
+    bad-value k g = g ∙ rw (rest-plain w, ← capital, h, ← carried, k)
 
 -- ---- ENCODING, the parameter of the number 6, and BINARY, the type of the number 0
 
