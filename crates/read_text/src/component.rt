@@ -38,7 +38,7 @@ fn next_line(k: usize, inner: bool, mode: usize, s: &[u8], at: usize) -> Turn
 
 // The number of ACTION's word behind a property of the number `p`.
 fn action_after(p: usize, a: usize, last: usize) -> usize
-    ensures { λ r. ⌜ r ≡ pick (eqb p 38) a last ⌝ }
+    ensures { λ r. ⌜ r ≡ pick (eqb p ACTION) a last ⌝ }
 {
     if p == property::ACTION {
         return a;

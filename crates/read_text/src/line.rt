@@ -32,6 +32,7 @@ ghost use Rattle.octets.specs.Words.{isEmpty};
 ghost use Rattle.source.specs.Source.{rest, cuts};
 ghost use Rattle.names.specs.Table.{placeOf};
 ghost use Rattle.schema.specs.Numbers.{componentName};
+ghost use Rattle.schema.specs.Property.{ACTION};
 ghost use Rattle.schema.specs.Properties.{propertyNames};
 ghost use Rattle.schema.specs.Completing.{actionNames};
 ghost use Rattle.read_text_line.specs.Cursor.{paramsAt};
@@ -114,7 +115,7 @@ fn may_hold(k: usize, inner: bool, p: usize) -> bool
 
 // The number of the word of ACTION, NONE where the property is another.
 fn action_of(p: usize, mode: usize, s: &[u8], v: usize) -> usize
-    ensures { λ r. ⌜ r ≡ pick (eqb p 38) (placeOf (upper (rest mode (now (s .entry)) v)) actionNames) 3 ⌝ }
+    ensures { λ r. ⌜ r ≡ pick (eqb p ACTION) (placeOf (upper (rest mode (now (s .entry)) v)) actionNames) 3 ⌝ }
 {
     if p == property::ACTION {
         return action_number(false, mode, s, v);

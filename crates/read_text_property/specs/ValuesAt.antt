@@ -10,6 +10,7 @@ use Rattle.octets.specs.Reading.{isRead}
 use Rattle.schema.specs.Numbers.{typeAt, propertyAt}
 use Rattle.schema.specs.Columns.{permitsType}
 use Rattle.schema.specs.Sets.{wordsAt}
+use Rattle.schema.specs.Property as property
 use Rattle.numbers.specs.Geo.{readGeo}
 use Rattle.texts.specs.RequestStatus.{readRequestStatus}
 use Rattle.text.specs.Values.{readListed, readChosen}
@@ -20,11 +21,10 @@ abbrev pub valuesRead : ℕ → Bool → ValuesRead
 valuesRead t true = Good t
 valuesRead t false = Bad
 
--- 9 is GEO, 45 is REQUEST-STATUS
 abbrev pub ownAt : ℕ → ℕ → ℕ → List ℕ → Bool
 ownAt k p t l =
-    pick (eqb p 9) (isRead (readGeo l))
-    (pick (eqb p 45) (isRead (readRequestStatus l))
+    pick (eqb p property.GEO) (isRead (readGeo l))
+    (pick (eqb p property.REQUEST-STATUS) (isRead (readRequestStatus l))
     (pick (propertyAt p .listed) (isRead (readListed (typeAt t) l)) (isRead (readChosen (wordsAt k p) (typeAt t) l))))
 
 abbrev pub goodAt : ℕ → ℕ → ℕ → List ℕ → Bool

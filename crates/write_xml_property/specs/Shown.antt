@@ -9,6 +9,7 @@ use Rattle.octets.specs.Reading.{isRead, orNothing}
 use Rattle.calendar.specs.Calendar.{ical, text}
 use Rattle.schema.specs.Numbers.{typeAt, propertyAt}
 use Rattle.schema.specs.Sets.{wordsAt}
+use Rattle.schema.specs.Property as property
 use Rattle.numbers.specs.Geo.{readGeo}
 use Rattle.texts.specs.RequestStatus.{readRequestStatus}
 use Rattle.texts.specs.StatusXml.{statusXml}
@@ -20,9 +21,8 @@ use Rattle.write_xml_property.specs.Pieces.{listedXml}
 abbrev pub singleXml : ℕ → ℕ → ℕ → List ℕ → List ℕ
 singleXml k p t l = pick (isRead (wordsAt k p)) (valueXml (text (upper l))) (orNothing valueXml (readValue ical (typeAt t) l))
 
--- 9 is GEO, 45 is REQUEST-STATUS
 abbrev pub shownXml : ℕ → ℕ → ℕ → List ℕ → List ℕ
 shownXml k p t l =
-    pick (eqb p 9) (orNothing valueXml (readGeo l))
-    (pick (eqb p 45) (orNothing statusXml (readRequestStatus l))
+    pick (eqb p property.GEO) (orNothing valueXml (readGeo l))
+    (pick (eqb p property.REQUEST-STATUS) (orNothing statusXml (readRequestStatus l))
     (pick (propertyAt p .listed) (listedXml t l) (singleXml k p t l)))

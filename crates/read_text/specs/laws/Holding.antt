@@ -27,6 +27,7 @@ use Rattle.schema.specs.laws.Columns.{stand-place}
 use Rattle.schema.specs.laws.Sets.{timezone-place}
 use Rattle.schema.specs.Completing.{actionNames}
 use Rattle.schema.specs.laws.Places.{component-at}
+use Rattle.schema.specs.Property as property
 use Rattle.read_text_line.specs.ContentLine.{ContentLine}
 use Rattle.text.specs.Statement.{propertyFault, propertyOf}
 use Rattle.text.specs.Nesting.{mayHold}
@@ -50,21 +51,21 @@ module _ {k p : ℕ} (inner : Bool) (w : List ℕ) (h : k < 9) (e : p ≡ placeO
   follow-at : (not inner or same (componentName k) (ascii "VTIMEZONE")) ≡ (not inner or eqb k 5)
   follow-at = rw (timezone-place (componentName k), component-at k h)
 
-  hold-at : mayHold w (openAs (componentName k) inner) ≡ ((not (ltb p 46) or mayStand (componentName k) (propertyName p)) and (not inner or eqb k 5))
+  hold-at : mayHold w (openAs (componentName k) inner) ≡ ((not (ltb p property.KNOWN) or mayStand (componentName k) (propertyName p)) and (not inner or eqb k 5))
   unfolding isKnownProperty
   hold-at = rw (one-of-place w propertyNames, stand-place (componentName k) w, component-at k h, ← e, follow-at)
 
-  pub hold-known : {m r : Bool} → p < 46 → m ≡ mayStand (componentName k) (propertyName p) → m ≡ true → r ≡ (not inner or eqb k 5) → r ≡ mayHold w (openAs (componentName k) inner)
+  pub hold-known : {m r : Bool} → p < property.KNOWN → m ≡ mayStand (componentName k) (propertyName p) → m ≡ true → r ≡ (not inner or eqb k 5) → r ≡ mayHold w (openAs (componentName k) inner)
   unfolding _and_ _or_
-  hold-known f q g u = u ∙ sym (hold-at ∙ rw (lt-ltb p 46 f, ← q, g))
+  hold-known f q g u = u ∙ sym (hold-at ∙ rw (lt-ltb p property.KNOWN f, ← q, g))
 
-  pub hold-not : {m : Bool} → p < 46 → m ≡ mayStand (componentName k) (propertyName p) → m ≡ false → false ≡ mayHold w (openAs (componentName k) inner)
+  pub hold-not : {m : Bool} → p < property.KNOWN → m ≡ mayStand (componentName k) (propertyName p) → m ≡ false → false ≡ mayHold w (openAs (componentName k) inner)
   unfolding _and_ _or_
-  hold-not f q g = sym (hold-at ∙ rw (lt-ltb p 46 f, ← q, g))
+  hold-not f q g = sym (hold-at ∙ rw (lt-ltb p property.KNOWN f, ← q, g))
 
-  pub hold-other : {r : Bool} → 46 ≤ p → r ≡ (not inner or eqb k 5) → r ≡ mayHold w (openAs (componentName k) inner)
+  pub hold-other : {r : Bool} → property.KNOWN ≤ p → r ≡ (not inner or eqb k 5) → r ≡ mayHold w (openAs (componentName k) inner)
   unfolding _and_ _or_
-  hold-other f u = u ∙ sym (hold-at ∙ rw (le-ltb p 46 f))
+  hold-other f u = u ∙ sym (hold-at ∙ rw (le-ltb p property.KNOWN f))
 
 -- ---- its line
 
@@ -90,12 +91,12 @@ module _ (l : ContentLine) (k : ℕ) {p : ℕ} (inner : Bool) {m : Bool} (e : p 
     pub property-faulty : (f ≡ 0 → ⊥) → KindIs (propertyKind (componentName k) inner l) (Faulty f)
     property-faulty z = pick-yes _ _ _ (sym q ∙ g) ∙ fault-some (propertyFault (componentName k) l) (propertyOf (componentName k) l) f u z
 
-    pub property-held : {a : ℕ} → f ≡ 0 → a ≡ pick (eqb p 38) (placeOf (upper (l .value)) actionNames) 3 → KindIs (propertyKind (componentName k) inner l) (Holds p a)
+    pub property-held : {a : ℕ} → f ≡ 0 → a ≡ pick (eqb p property.ACTION) (placeOf (upper (l .value)) actionNames) 3 → KindIs (propertyKind (componentName k) inner l) (Holds p a)
     unfolding pick propertyOf
     property-held {a} z y =
         let none-here : propertyFault (componentName k) l ≡ none = fault-none (propertyFault (componentName k) l) (sym u ∙ z) in record {
           property = propertyOf (componentName k) l;
           is = pick-yes _ _ _ (sym q ∙ g) ∙ ap (λ (o : Option Refusal). heldBy o (propertyOf (componentName k) l)) none-here;
           number = e;
-          action = λ x. y ∙ rw (eq-eqb p 38 x) (sym (action-read (componentName k) l none-here (sym e ∙ x)));
+          action = λ x. y ∙ rw (eq-eqb p property.ACTION x) (sym (action-read (componentName k) l none-here (sym e ∙ x)));
         }

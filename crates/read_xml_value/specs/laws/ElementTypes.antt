@@ -31,6 +31,7 @@ use Rattle.schema.specs.Numbers.{typeAt, propertyAt, typeWords}
 use Rattle.schema.specs.laws.Numbers.{property-place}
 use Rattle.schema.specs.laws.Places.{word-known, type-known}
 use Rattle.schema.specs.laws.Sets.{geo-place, request-status-place}
+use Rattle.schema.specs.Property as property
 use Rattle.xml.specs.Nodes.{Nodes}
 use Rattle.xcal.specs.laws.ElementNames.{lower-upper, no-capital}
 use Rattle.xcal.specs.ValueNodes.{elementType, firstType, typeOfNodes}
@@ -149,21 +150,21 @@ module _ (p : ℕ) {t : ℕ} (kids : Nodes) (e : t ≡ typePlace (propertyAt p .
   default-known : t ≤ 14
   default-known = rw e (type-known (propertyAt p .default))
 
-  pub of-geo : p ≡ 9 → ((w : List ℕ) → p ≡ placeOf w propertyNames → typeAt t ≡ typeOfNodes w kids) × (t ≤ 14)
+  pub of-geo : p ≡ property.GEO → ((w : List ℕ) → p ≡ placeOf w propertyNames → typeAt t ≡ typeOfNodes w kids) × (t ≤ 14)
   unfolding typeOfNodes pick _or_
-  of-geo h = (λ w y. default-as w y ∙ rw (geo-place w, eq-eqb (placeOf w propertyNames) 9 (sym y ∙ h)), default-known)
+  of-geo h = (λ w y. default-as w y ∙ rw (geo-place w, eq-eqb (placeOf w propertyNames) property.GEO (sym y ∙ h)), default-known)
 
-  pub of-status : p ≡ 45 → ((w : List ℕ) → p ≡ placeOf w propertyNames → typeAt t ≡ typeOfNodes w kids) × (t ≤ 14)
+  pub of-status : p ≡ property.REQUEST-STATUS → ((w : List ℕ) → p ≡ placeOf w propertyNames → typeAt t ≡ typeOfNodes w kids) × (t ≤ 14)
   unfolding typeOfNodes pick _or_
-  of-status h = (λ w y. default-as w y ∙ rw (request-status-place w, eq-eqb (placeOf w propertyNames) 45 (sym y ∙ h)) (own (same w (ascii "GEO")) w), default-known)
+  of-status h = (λ w y. default-as w y ∙ rw (request-status-place w, eq-eqb (placeOf w propertyNames) property.REQUEST-STATUS (sym y ∙ h)) (own (same w (ascii "GEO")) w), default-known)
     where
       own : (b : Bool) (w : List ℕ) → defaultType w ≡ pick (b or true) (defaultType w) (firstType (defaultType w) kids)
       own true w = refl
       own false w = refl
 
-  pub of-first : {r : ℕ} → (p ≡ 9 → ⊥) → (p ≡ 45 → ⊥) → (typeAt r ≡ firstType (typeAt t) kids) × (r ≤ 14) → ((w : List ℕ) → p ≡ placeOf w propertyNames → typeAt r ≡ typeOfNodes w kids) × (r ≤ 14)
+  pub of-first : {r : ℕ} → (p ≡ property.GEO → ⊥) → (p ≡ property.REQUEST-STATUS → ⊥) → (typeAt r ≡ firstType (typeAt t) kids) × (r ≤ 14) → ((w : List ℕ) → p ≡ placeOf w propertyNames → typeAt r ≡ typeOfNodes w kids) × (r ≤ 14)
   unfolding typeOfNodes pick _or_
-  of-first g h q = (λ w y. q .0 ∙ rw (geo-place w, ne-eqb (placeOf w propertyNames) 9 (λ z. g (y ∙ z)), request-status-place w, ne-eqb (placeOf w propertyNames) 45 (λ z. h (y ∙ z)), default-as w y), q .1)
+  of-first g h q = (λ w y. q .0 ∙ rw (geo-place w, ne-eqb (placeOf w propertyNames) property.GEO (λ z. g (y ∙ z)), request-status-place w, ne-eqb (placeOf w propertyNames) property.REQUEST-STATUS (λ z. h (y ∙ z)), default-as w y), q .1)
 
 -- a type has a number up to 14
 pub type-small : {t : ℕ} (u : ValueType) → t ≡ typePlace u → t ≤ 14

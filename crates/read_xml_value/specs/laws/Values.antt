@@ -35,6 +35,7 @@ use Rattle.read_xml_nodes.specs.laws.Judging.{is-value}
 use Rattle.read_xml_value.specs.ElementTypes.{TypeNamed}
 use Rattle.read_xml_value.specs.Values.{typedAt}
 use Rattle.schema.specs.declared.Context.{Context}
+use Rattle.schema.specs.Property as property
 use Rattle.read_xml_value.specs.declared.Named.{Named}
 use Rattle.read_xml_value.specs.declared.Named.the-variants.{«Type» as Typed, Bad}
 use Rattle.read_xml_nodes.specs.declared.Judged.the-variants.{Refused}
@@ -50,18 +51,18 @@ unfolding typedVerdict sameType
 typed-place c w u place e kids h = rw (type-back u h, words-place c w)
 
 module _ (c w : List ℕ) (place : ℕ) (n : List ℕ) (e : ℕ) (kids : Nodes) where
-  geo-as : (t : ValueType) → placeOf w propertyNames ≡ 9 → valueVerdict c w t place n e kids ≡ leaf (λ l. isRead (readFloat l)) place kids
+  geo-as : (t : ValueType) → placeOf w propertyNames ≡ property.GEO → valueVerdict c w t place n e kids ≡ leaf (λ l. isRead (readFloat l)) place kids
   unfolding valueVerdict pick
-  geo-as t h = rw (geo-place w, eq-eqb (placeOf w propertyNames) 9 h)
+  geo-as t h = rw (geo-place w, eq-eqb (placeOf w propertyNames) property.GEO h)
 
-  module _ (g : placeOf w propertyNames ≡ 9 → ⊥) where
-    status-as : (t : ValueType) → placeOf w propertyNames ≡ 45 → valueVerdict c w t place n e kids ≡ leafBy fine kids
+  module _ (g : placeOf w propertyNames ≡ property.GEO → ⊥) where
+    status-as : (t : ValueType) → placeOf w propertyNames ≡ property.REQUEST-STATUS → valueVerdict c w t place n e kids ≡ leafBy fine kids
     unfolding valueVerdict pick
-    status-as t h = rw (geo-place w, ne-eqb (placeOf w propertyNames) 9 g, request-status-place w, eq-eqb (placeOf w propertyNames) 45 h)
+    status-as t h = rw (geo-place w, ne-eqb (placeOf w propertyNames) property.GEO g, request-status-place w, eq-eqb (placeOf w propertyNames) property.REQUEST-STATUS h)
 
-    other-as : (t : ValueType) → (placeOf w propertyNames ≡ 45 → ⊥) → valueVerdict c w t place n e kids ≡ asTyped (elementType n) c w t place e kids
+    other-as : (t : ValueType) → (placeOf w propertyNames ≡ property.REQUEST-STATUS → ⊥) → valueVerdict c w t place n e kids ≡ asTyped (elementType n) c w t place e kids
     unfolding valueVerdict pick
-    other-as t h = rw (geo-place w, ne-eqb (placeOf w propertyNames) 9 g, request-status-place w, ne-eqb (placeOf w propertyNames) 45 h)
+    other-as t h = rw (geo-place w, ne-eqb (placeOf w propertyNames) property.GEO g, request-status-place w, ne-eqb (placeOf w propertyNames) property.REQUEST-STATUS h)
 
 -- where two types are the same, either serves
 either-type : (a : Bool) (u t : ℕ) (f : ℕ → Verdict) (v : Verdict) → pick (a and eqb u t) (f u) v ≡ pick (a and eqb u t) (f t) v
@@ -100,17 +101,17 @@ module _ (o : Option (List (List ℕ))) (t : ValueType) (place : ℕ) (kids : No
       go (some ws) k = absurd (false≢true (sym k))
 
 module _ (x : Context) (place : ℕ) (n : List ℕ) (e : ℕ) (kids : Nodes) where
-  pub value-geo : {v : Verdict} → x .property ≡ 9 → v ≡ leaf (λ l. isRead (readValue xcal FLOAT l)) place kids →
+  pub value-geo : {v : Verdict} → x .property ≡ property.GEO → v ≡ leaf (λ l. isRead (readValue xcal FLOAT l)) place kids →
       (c w : List ℕ) → x .component ≡ placeOf c componentNames → x .property ≡ placeOf w propertyNames → x .«value_type» ≤ 14 → v ≡ valueVerdict c w (typeAt (x .«value_type»)) place n e kids
   unfolding readValue
   value-geo h q c w a y l = q ∙ rw (geo-as c w place n e kids (typeAt (x .«value_type»)) (sym y ∙ h), mapped float (readFloat (charactersOf kids)))
 
-  module _ (g : x .property ≡ 9 → ⊥) where
-    pub value-status : {v : Verdict} → x .property ≡ 45 → v ≡ leafBy fine kids →
+  module _ (g : x .property ≡ property.GEO → ⊥) where
+    pub value-status : {v : Verdict} → x .property ≡ property.REQUEST-STATUS → v ≡ leafBy fine kids →
         (c w : List ℕ) → x .component ≡ placeOf c componentNames → x .property ≡ placeOf w propertyNames → x .«value_type» ≤ 14 → v ≡ valueVerdict c w (typeAt (x .«value_type»)) place n e kids
     value-status h q c w a y l = q ∙ sym (status-as c w place n e kids (λ z. g (y ∙ z)) (typeAt (x .«value_type»)) (sym y ∙ h))
 
-    module _ (h : x .property ≡ 45 → ⊥) {m : Named} (d : TypeNamed n m) where
+    module _ (h : x .property ≡ property.REQUEST-STATUS → ⊥) {m : Named} (d : TypeNamed n m) where
       pub value-typed : {v : Verdict} {u : ℕ} → m ≡ Typed u → v ≡ pick (permitsType (x .property) u and eqb u (x .«value_type»)) (typedAt x place e kids) (refuse VALUE place) →
           (c w : List ℕ) → x .component ≡ placeOf c componentNames → x .property ≡ placeOf w propertyNames → x .«value_type» ≤ 14 → v ≡ valueVerdict c w (typeAt (x .«value_type»)) place n e kids
       value-typed {v} {u} z q c w a y l =

@@ -23,17 +23,17 @@ use Rattle.schema.specs.laws.Numbers.{property-place}
 use Rattle.schema.specs.Sets.{wordsAt}
 use Rattle.schema.specs.laws.Sets.{words-place, geo-place, request-status-place}
 use Rattle.schema.specs.laws.Places.{component-at, no-component, component-fixed, property-at, no-property, property-fixed, type-back}
+use Rattle.schema.specs.Property as property
 use Rattle.numbers.specs.Geo.{readGeo}
 use Rattle.texts.specs.RequestStatus.{readRequestStatus}
 use Rattle.read_text_line.specs.ContentLine.{ContentLine}
 use Rattle.text.specs.Values.{oneValue, readListed, readChosen, readOwn, readValues}
 use Rattle.text.specs.Statement.{propertyOf}
 
--- 9 is GEO, 45 is REQUEST-STATUS
 abbrev pub ownAt : ℕ → ℕ → ValueType → List ℕ → Option (List Value)
 ownAt k p t l =
-    pick (eqb p 9) (oneValue (readGeo l))
-    (pick (eqb p 45) (oneValue (readRequestStatus l))
+    pick (eqb p property.GEO) (oneValue (readGeo l))
+    (pick (eqb p property.REQUEST-STATUS) (oneValue (readRequestStatus l))
     (pick (propertyAt p .listed) (readListed t l) (oneValue (readChosen (wordsAt k p) t l))))
 
 abbrev pub valuesAt : ℕ → ℕ → ValueType → List ℕ → Option (List Value)
@@ -63,10 +63,10 @@ component-again k h = sym (component-at k h)
 pub component-other : (k : ℕ) → 9 ≤ k → 9 ≡ placeOf (componentName k) componentNames
 component-other k h = rw (List·getD-eq-default componentNames [] h) (sym no-component)
 
-pub property-again : (p : ℕ) → p < 46 → p ≡ placeOf (propertyName p) propertyNames
+pub property-again : (p : ℕ) → p < property.KNOWN → p ≡ placeOf (propertyName p) propertyNames
 property-again p h = sym (property-at p h)
 
-pub property-other : (p : ℕ) → 46 ≤ p → 46 ≡ placeOf (propertyName p) propertyNames
+pub property-other : (p : ℕ) → property.KNOWN ≤ p → property.KNOWN ≡ placeOf (propertyName p) propertyNames
 property-other p h = rw (List·getD-eq-default propertyNames [] h) (sym no-property)
 
 pub type-text : (t : ℕ) → sameType (typeAt t) TEXT ≡ eqb t 10

@@ -27,6 +27,7 @@ use Rattle.schema.specs.Components.{componentNames}
 use Rattle.schema.specs.Properties.{propertyNames}
 use Rattle.schema.specs.Numbers.{typeAt, propertyAt, componentName, propertyName}
 use Rattle.schema.specs.Sets.{wordsAt}
+use Rattle.schema.specs.Property as property
 use Rattle.numbers.specs.Geo.{readGeo}
 use Rattle.texts.specs.TextList.{readTexts}
 use Rattle.texts.specs.Elements.{textsXml}
@@ -121,7 +122,7 @@ single-shown (some ws) t l h = go (isOneOf (upper l) ws) h
 
 own-shown : (k p t : ℕ) (l : List ℕ) → isRead (ownAt k p (typeAt t) l) ≡ true → shownXml k p t l ≡ valuesXml (readOr [] (ownAt k p (typeAt t) l))
 unfolding pick
-own-shown k p t l = go (eqb p 9) (eqb p 45) (propertyAt p .listed)
+own-shown k p t l = go (eqb p property.GEO) (eqb p property.REQUEST-STATUS) (propertyAt p .listed)
   where
     go : (a b c : Bool) →
         isRead (pick a (oneValue (readGeo l)) (pick b (oneValue (readRequestStatus l)) (pick c (readListed (typeAt t) l) (oneValue (readChosen (wordsAt k p) (typeAt t) l))))) ≡ true →
