@@ -18,6 +18,7 @@ ghost use Prim.Native.Nat.{_<_};
 ghost use lib.Dec.{eqb};
 ghost use lib.ListN.{length};
 ghost use Rattle.octets.specs.Pick.{pick};
+ghost use Rattle.schema.specs.Property.{ACTION};
 ghost use Rattle.read_text_line.specs.Ready.{Ready};
 ghost use Rattle.read_text.specs.Turns.{Turned, Body};
 
