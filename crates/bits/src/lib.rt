@@ -1,7 +1,7 @@
 // Bits of a number, by shift and mask. A mask is a set of small numbers, one bit for each.
 ghost use mathlib.Core.Path.{_≡_};
 ghost use Prim.Native.Nat.{_<_};
-ghost use Rattle.bits.specs.Masks.{has, bitsAt};
+ghost use Rattle.bits.specs.Masks.{has, lowBits, highBits};
 
 // How many bits a mask has.
 pub const WIDTH: usize = 32;
@@ -16,18 +16,18 @@ pub fn holds(mask: u32, i: usize) -> bool
     false
 }
 
-// `count` bits of `x` from number `from` on.
-pub fn bits_at(x: usize, from: usize, count: usize) -> usize
-    requires { ⌜ (from < 64) × (count < 64) ⌝ }
-    ensures { λ r. ⌜ r ≡ bitsAt x from count ⌝ }
+// The lowest `count` bits of `x`.
+pub fn low_bits(x: usize, count: usize) -> usize
+    requires { ⌜ count < 64 ⌝ }
+    ensures { λ r. ⌜ r ≡ lowBits x count ⌝ }
 {
-    (x >> from) & ((1 << count) - 1)
+    x & ((1 << count) - 1)
 }
 
-// Six bits of `x` from number `from` on: a digit of base64, what a byte of UTF-8 after the first has.
-pub fn six_bits(x: usize, from: usize) -> usize
+// The bits of `x` from number `from` on.
+pub fn high_bits(x: usize, from: usize) -> usize
     requires { ⌜ from < 64 ⌝ }
-    ensures { λ r. ⌜ r ≡ bitsAt x from 6 ⌝ }
+    ensures { λ r. ⌜ r ≡ highBits x from ⌝ }
 {
-    (x >> from) & 63
+    x >> from
 }
