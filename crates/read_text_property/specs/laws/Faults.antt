@@ -8,9 +8,7 @@ use mathlib.Core.Option.{Option, none, some, Option·map}
 use Prim.Native.Nat.{ℕ}
 use Rattle.octets.specs.Pick.{pick}
 use Rattle.octets.specs.Class.{upper}
-use Rattle.octets.specs.Reading.{isRead}
 use Rattle.calendar.specs.Calendar.{ValueType}
-use Rattle.calendar.specs.Refusal.{Refusal}
 use Rattle.names.specs.Table.{placeOf}
 use Rattle.schema.specs.Types.{typePlace}
 use Rattle.schema.specs.laws.Types.{place-type}
@@ -23,7 +21,6 @@ use Rattle.schema.specs.laws.Places.{type-known}
 use Rattle.read_text_line.specs.ContentLine.{ContentLine, RawParameter}
 use Rattle.read_text_line.specs.Cursor.{paramsAt}
 use Rattle.text.specs.Parameters.{statedType, parametersGood}
-use Rattle.text.specs.Values.{readValues}
 use Rattle.text.specs.Statement.{faultAs, propertyFault}
 use Rattle.read_text_parameters.specs.Permitted as permitted
 use Rattle.read_text_parameters.specs.laws.Permitted.{good-place}
