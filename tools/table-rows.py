@@ -86,7 +86,7 @@ def code(rows):
     half = len(rows) // 2
     first, second = ("".join(map(entry, part)) for part in (rows[:half], rows[half:]))
     middle = f"// The key from which on a name is in the second half.\nconst MIDDLE: u64 = {hex(key(rows[half][0]))};\n"
-    return f"pub const FIRST: [Entry; {half}] = [\n{first}];\n\npub const SECOND: [Entry; {half}] = [\n{second}];\n\n{middle}"
+    return f"const FIRST: [Entry; {half}] = [\n{first}];\n\nconst SECOND: [Entry; {half}] = [\n{second}];\n\n{middle}"
 
 
 def numbers(rows):
@@ -99,7 +99,7 @@ def constants(rows):
 
 
 PARTS = [
-    ("src/table.rt", code, r"pub const FIRST: .*?^const MIDDLE: .*?\n"),
+    ("src/table.rt", code, r"const FIRST: .*?^const MIDDLE: .*?\n"),
     ("specs/Property.antt", numbers, r"abbrev pub .*"),
     ("src/property.rt", constants, r"pub const .*?(?=\n// How many)"),
 ]

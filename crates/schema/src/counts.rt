@@ -3,9 +3,9 @@ use crate::action;
 use crate::component;
 use crate::property;
 use crate::table::Entry;
-use crate::table::FIRST;
 use crate::table::HALF;
-use crate::table::SECOND;
+use crate::table::first_half;
+use crate::table::second_half;
 use bits::holds;
 ghost use mathlib.Core.Path.{_≡_};
 ghost use Prim.Native.Nat.{_≤_};
@@ -78,9 +78,11 @@ fn half_often(rows: [Entry; 23], from: usize, l: usize, t: [u8; 46]) -> bool
 fn all_often(l: usize, t: [u8; 46]) -> bool
     ensures { λ r. ⌜ r ≡ allOften l t ⌝ }
 {
-    let first = half_often(FIRST, 0, l, t);
+    let rows = first_half();
+    let first = half_often(rows, 0, l, t);
     if first {
-        return half_often(SECOND, HALF, l, t);
+        let others = second_half();
+        return half_often(others, HALF, l, t);
     }
     false
 }

@@ -10,7 +10,7 @@ ghost use Rattle.octets.specs.Class.{upper};
 ghost use Rattle.source.specs.Source.{rest};
 ghost use Rattle.names.specs.Table.{placeOf};
 ghost use Rattle.schema.specs.Properties.{propertyNames, unrecognisedProperty};
-ghost use Rattle.schema.specs.Coded.{coded, rowAt, placeBy};
+ghost use Rattle.schema.specs.Coded.{coded, rowAt, placeBy, firstHalf, secondHalf};
 ghost use Rattle.schema.specs.Halving.{shortKey, longKey, keyFor, rising, foundIn};
 
 // A property: the first bytes of its name, and its name (names::pack); the permitted parameters, types and components; the lists in which it stands at least once, at most once, any number of times;
@@ -54,7 +54,7 @@ const UNRECOGNISED: Row = Row {
 pub const HALF: usize = 23;
 
 // The table in two halves: a search copies what it indexes onto the stack, and so only one of them.
-pub const FIRST: [Entry; 23] = [
+const FIRST: [Entry; 23] = [
     // ACTION
     Entry {
         key: 0xc187524cf9c00000,
@@ -379,7 +379,7 @@ pub const FIRST: [Entry; 23] = [
     },
 ];
 
-pub const SECOND: [Entry; 23] = [
+const SECOND: [Entry; 23] = [
     // PERCENT-COMPLETE
     Entry {
         key: 0xd08b4a1c59d516c3,
@@ -707,6 +707,19 @@ pub const SECOND: [Entry; 23] = [
 // The key from which on a name is in the second half.
 const MIDDLE: u64 = 0xd08b4a1c59d516c3;
 
+// The halves. That the constants are the table is computed here, once.
+pub fn first_half() -> [Entry; 23]
+    ensures { λ r. ⌜ r ≡ firstHalf ⌝ }
+{
+    FIRST
+}
+
+pub fn second_half() -> [Entry; 23]
+    ensures { λ r. ⌜ r ≡ secondHalf ⌝ }
+{
+    SECOND
+}
+
 // Powers of the base of a name's number.
 const POWER_1: u64 = 0x80;
 
@@ -847,9 +860,11 @@ fn row_by(high: u64, low: u64) -> Row
 {
     let key = key_for(high, low);
     if key < MIDDLE {
-        return row_in(FIRST, 0, key, high, low);
+        let rows = first_half();
+        return row_in(rows, 0, key, high, low);
     }
-    row_in(SECOND, HALF, key, high, low)
+    let rows = second_half();
+    row_in(rows, HALF, key, high, low)
 }
 
 // The row of the property of a name; of an unrecognised one, what stands for it.

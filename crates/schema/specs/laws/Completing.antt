@@ -387,14 +387,14 @@ halves-often l t =
         oftenIn (coded (propertyAt (23 + n))) l (getD t (23 + n) 0) ≡ oftenIn (getD secondHalf (0 + n) (coded unrecognisedProperty)) l (getD t (23 + (0 + n)) 0)
     two n h = let z : 0 + n ≡ n = omega arith in rw (z, second-at n (coded unrecognisedProperty) h)
 
-module _ (l : ℕ) (t : List ℕ) {a : Bool} (e : a ≡ halfOften firstHalf 0 l t) where
+module _ (l : ℕ) (t : List ℕ) {a : Bool} {es : List Entry} (i : es ≡ firstHalf) (e : a ≡ halfOften es 0 l t) where
   pub halves-stop : a ≡ false → false ≡ allOften l t
   unfolding _and_
-  halves-stop h = sym (halves-often l t ∙ rw (← e, h))
+  halves-stop h = sym (halves-often l t ∙ rw (← i, ← e, h))
 
-  pub halves-go : {b : Bool} → a ≡ true → b ≡ halfOften secondHalf 23 l t → b ≡ allOften l t
+  pub halves-go : {b : Bool} {fs : List Entry} → a ≡ true → fs ≡ secondHalf → b ≡ halfOften fs 23 l t → b ≡ allOften l t
   unfolding _and_
-  halves-go h f = f ∙ sym (halves-often l t ∙ rw (← e, h))
+  halves-go h j f = f ∙ ap (λ (es : List Entry). halfOften es 23 l t) j ∙ sym (halves-often l t ∙ rw (← i, ← e, h))
 
 -- ---- the loop over the entries of a half: those from n on are left
 

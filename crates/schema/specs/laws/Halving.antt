@@ -253,9 +253,9 @@ found-second h l k =
     found-in h l 23 secondHalf second-sound second-rising (omega arith) (λ n i. second-at n none i)
     ∙ ap rowAt (sym (by-halves h l ∙ none-above h l _ 0 middle firstHalf first-sound first-under k))
 
-module _ (h l : ℕ) {k : ℕ} {r : Row} (e : k ≡ keyFor h l) where
-  pub by-first : k < middle → r ≡ foundIn firstHalf 0 k h l none → r ≡ rowAt (placeBy h l)
-  by-first i f = f ∙ ap (λ (k : ℕ). foundIn firstHalf 0 k h l none) e ∙ found-first h l (rw (← e) i)
+module _ (h l : ℕ) {k : ℕ} {es : List Entry} {r : Row} (e : k ≡ keyFor h l) where
+  pub by-first : k < middle → es ≡ firstHalf → r ≡ foundIn es 0 k h l none → r ≡ rowAt (placeBy h l)
+  by-first i g f = f ∙ ap (λ (es : List Entry). foundIn es 0 k h l none) g ∙ ap (λ (k : ℕ). foundIn firstHalf 0 k h l none) e ∙ found-first h l (rw (← e) i)
 
-  pub by-second : middle ≤ k → r ≡ foundIn secondHalf 23 k h l none → r ≡ rowAt (placeBy h l)
-  by-second i f = f ∙ ap (λ (k : ℕ). foundIn secondHalf 23 k h l none) e ∙ found-second h l (rw (← e) i)
+  pub by-second : middle ≤ k → es ≡ secondHalf → r ≡ foundIn es 23 k h l none → r ≡ rowAt (placeBy h l)
+  by-second i g f = f ∙ ap (λ (es : List Entry). foundIn es 23 k h l none) g ∙ ap (λ (k : ℕ). foundIn secondHalf 23 k h l none) e ∙ found-second h l (rw (← e) i)
