@@ -69,3 +69,24 @@ pub fn are_distinct(mode: usize, s: &[u8], from: &[u16], to: &[u16], n: usize) -
     }
     are_all_apart(mode, s, from, to, n)
 }
+
+// The number of the first word that comes again, `n` where none does: the shortest part from the first word on that is not distinct is found by halving.
+pub fn first_again(mode: usize, s: &[u8], from: &[u16], to: &[u16], n: usize) -> usize
+{
+    let none = are_distinct(mode, s, from, to, n);
+    if none {
+        return n;
+    }
+    let mut low = 0;
+    let mut high = n;
+    while low + 1 < high {
+        let middle = low + (high - low) / 2;
+        let apart = are_distinct(mode, s, from, to, middle);
+        if apart {
+            low = middle;
+        } else {
+            high = middle;
+        }
+    }
+    low
+}
