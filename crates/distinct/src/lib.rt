@@ -1,5 +1,6 @@
 // Words cut out of lent bytes, whether no two of them are the same: about n log n comparisons for n words.
 // The words are sorted by their numbers, which needs no proof: what the sort left is checked. See specs/.
+mod again;
 mod compare;
 mod cuts;
 mod heap;
@@ -7,6 +8,7 @@ mod numbers;
 mod order;
 mod pairs;
 
+pub use again::first_again;
 pub use cuts::keep;
 use heap::sort;
 use numbers::count_up;
@@ -68,25 +70,4 @@ pub fn are_distinct(mode: usize, s: &[u8], from: &[u16], to: &[u16], n: usize) -
         return by_order(mode, s, from, to, n, &mut order, &mut ranks);
     }
     are_all_apart(mode, s, from, to, n)
-}
-
-// The number of the first word that comes again, `n` where none does: the shortest part from the first word on that is not distinct is found by halving.
-pub fn first_again(mode: usize, s: &[u8], from: &[u16], to: &[u16], n: usize) -> usize
-{
-    let none = are_distinct(mode, s, from, to, n);
-    if none {
-        return n;
-    }
-    let mut low = 0;
-    let mut high = n;
-    while low + 1 < high {
-        let middle = low + (high - low) / 2;
-        let apart = are_distinct(mode, s, from, to, middle);
-        if apart {
-            low = middle;
-        } else {
-            high = middle;
-        }
-    }
-    low
 }

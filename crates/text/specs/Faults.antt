@@ -2,7 +2,8 @@
 -- parameter, or at the value where ENCODING is missing; 8 is at the value.
 --     Where, Fault       a place in a line;   a refusal at such a place
 --     offset s w         how many bytes of the line s stand before the place w
---     isFaulty           whether a parameter is faulty by itself, behind others
+--     fits               what a parameter must be, in a property with a value of a type
+--     isFaulty           whether a parameter is faulty, behind others
 --     firstFaulty        how many parameters stand before the leftmost faulty one
 --     parametersFault    the place of 7 in a line with these parameters, if it has that fault
 --     lineFault          the faults of a property's line: 7, then 8
@@ -72,26 +73,26 @@ isBinary (some t) = sameType t BINARY
 abbrev pub isEncoding : RawParameter → Bool
 isEncoding r = same (upper (r .name)) (ascii "ENCODING")
 
--- of VALUE: it names no type
-abbrev pub isNoType : RawParameter → Bool
-isNoType r = not (isRead (typeIn (r .values)))
-
--- of another, where the property n has a value of the type t: it is not readable; it is not permitted; BINARY has an ENCODING that is not BASE64.
+-- a parameter other than VALUE fits the property n with a value of the type t: it is permitted; it is readable; with BINARY, ENCODING is BASE64.
 -- Where the value has no type, nothing is judged by it: with DURATION every parameter may stand that may stand with some type
-abbrev pub isUnfit : List ℕ → Option ValueType → RawParameter → Bool
-isUnfit n t r =
-    not (isRead (readParameter r))
-    or not (permitsParameter n (readOr DURATION t) (upper (r .name)))
-    or (isBinary t and isEncoding r and not (isBase64 r))
+abbrev pub fits : List ℕ → Option ValueType → RawParameter → Bool
+fits n t r =
+    permitsParameter n (readOr DURATION t) (upper (r .name))
+    and isRead (readParameter r)
+    and (not (isBinary t and isEncoding r) or isBase64 r)
 
--- behind parameters of the names `before`: it comes again, or is faulty in itself
-unfoldable pub isFaulty : List ℕ → Option ValueType → List (List ℕ) → RawParameter → Bool
-isFaulty n t before r = isOneOf (upper (r .name)) before or pick (isValueParameter r) (isNoType r) (isUnfit n t r)
+-- VALUE names a type, another fits
+abbrev pub isSound : (RawParameter → Bool) → RawParameter → Bool
+isSound fit r = pick (isValueParameter r) (isRead (typeIn (r .values))) (fit r)
+
+-- behind parameters of the names `before`: it comes again, or is not sound
+unfoldable pub isFaulty : (RawParameter → Bool) → List (List ℕ) → RawParameter → Bool
+isFaulty fit before r = isOneOf (upper (r .name)) before or not (isSound fit r)
 
 -- from the left; `before` has the names of those that were looked at
-unfoldable pub firstFaulty : List ℕ → Option ValueType → List (List ℕ) → List RawParameter → Option ℕ
-firstFaulty n t before [] = none
-firstFaulty n t before (r ∷ rs) = pick (isFaulty n t before r) (some (length before)) (firstFaulty n t (upper (r .name) ∷ before) rs)
+unfoldable pub firstFaulty : (RawParameter → Bool) → List (List ℕ) → List RawParameter → Option ℕ
+firstFaulty fit before [] = none
+firstFaulty fit before (r ∷ rs) = pick (isFaulty fit before r) (some (length before)) (firstFaulty fit (upper (r .name) ∷ before) rs)
 
 -- BINARY without ENCODING
 abbrev pub lacksEncoding : Option ValueType → List RawParameter → Bool
@@ -103,7 +104,7 @@ placeOfFault none true = some valueStart
 placeOfFault none false = none
 
 unfoldable pub parametersFault : List ℕ → Option ValueType → List RawParameter → Option Where
-parametersFault n t rs = placeOfFault (firstFaulty n t [] rs) (lacksEncoding t rs)
+parametersFault n t rs = placeOfFault (firstFaulty (fits n t) [] rs) (lacksEncoding t rs)
 
 -- ---- the line of a property
 
