@@ -10,6 +10,9 @@
 --     Sets        closed sets, by numbers
 --     Arrays      the tallies of a component in an array
 --     Completing  counts over that array
+--     Property    the numbers of properties by name
+--     Halving     a name found by halving
+--     Table       the one table answers what the lists answer
 pub mod Types
 pub mod Rows
 pub mod Closed
@@ -21,3 +24,6 @@ pub mod Columns
 pub mod Sets
 pub mod Arrays
 pub mod Completing
+pub mod Property
+pub mod Halving
+pub mod Table

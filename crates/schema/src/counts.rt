@@ -2,13 +2,19 @@
 use crate::action;
 use crate::component;
 use crate::property;
+use crate::table::Entry;
+use crate::table::TABLE;
+use bits::holds;
 ghost use mathlib.Core.Path.{_≡_};
 ghost use Prim.Native.Nat.{_<_};
 ghost use lib.Dec.{eqb};
 ghost use lib.ListN.{getD};
 ghost use Rattle.octets.specs.Pick.{_and_, _or_};
 ghost use Rattle.schema.specs.Arrays.{bumped};
-ghost use Rattle.schema.specs.Completing.{signAt, isSigned, allOften, oftenAt, pairsAt, completeAt, methodAt};
+ghost use Rattle.schema.specs.Completing.{oftenIn, allOften, oftenAt, pairsAt, completeAt, methodAt};
+
+// How many lists there are: a component's by its number, and from VALARM's number on one for each ACTION.
+const LISTS: usize = 11;
 
 // One more of the property `p`; of an unrecognised one, nothing.
 pub fn bump(t: [u8; 46], p: usize) -> [u8; 46]
@@ -26,60 +32,33 @@ pub fn bump(t: [u8; 46], p: usize) -> [u8; 46]
     u
 }
 
-// A line for each component, and at the end three for VALARM, by its ACTION: AUDIO, DISPLAY, EMAIL. A column for each property, with a sign of how often it stands, as in the schema:
-// 1 once, ? at most once, * any number of times, + at least once, a point where it may not stand.
-const SIGNS: [u8; 552] = *b"\
-    ??11..........................................\
-    ....**?*???.?*??.?.??.?.....**??*?1**?...?1??*\
-    ....**?*?????*???.???.......**??*?1**?...?1??*\
-    ....**?*?.....??...?........**??*?1**?...?1??*\
-    .......*.........?.??*......*??..?1.......1..*\
-    .......................1...?...............?..\
-    .......*...........1....*11.........*?........\
-    .......*...........1....*11.........*?........\
-    ..............................................\
-    ....?...............?.................1?1.....\
-    ........1...........?.................1?1.....\
-    ....*...1......1....?.......+.........1?1.....";
-
-// How often the property `p` stands by the list `l`.
-fn sign_at(l: usize, p: usize) -> u8
-    requires { ⌜ p < 46 ⌝ }
-    ensures { λ r. ⌜ r ≡ signAt l p ⌝ }
+// A property stands `n` times, and by the list `l` it may.
+fn is_often(e: Entry, l: usize, n: u8) -> bool
+    ensures { λ r. ⌜ r ≡ oftenIn e l n ⌝ }
 {
-    if l < 12 {
-        return SIGNS[l * property::KNOWN + p];
+    if n == 0 {
+        let needed = holds(e.least as u32, l);
+        return !needed;
     }
-    b'.'
-}
-
-// A tally is as often as a sign says.
-fn is_signed(sign: u8, n: u8) -> bool
-    ensures { λ r. ⌜ r ≡ isSigned sign n ⌝ }
-{
-    if sign == b'1' {
-        return n == 1;
-    }
-    if sign == b'?' {
-        return n <= 1;
-    }
-    if sign == b'*' {
+    let many = holds(e.many as u32, l);
+    if many {
         return true;
     }
-    if sign == b'+' {
-        return 1 <= n;
+    let once = holds(e.once as u32, l);
+    if once {
+        return n == 1;
     }
-    n == 0
+    false
 }
 
 // Every property stands as often as the list `l` says.
 fn all_often(l: usize, t: [u8; 46]) -> bool
     ensures { λ r. ⌜ r ≡ allOften l t ⌝ }
 {
+    let table = TABLE;
     let mut n = 0;
     while n < property::KNOWN {
-        let sign = sign_at(l, n);
-        let ok = is_signed(sign, t[n]);
+        let ok = is_often(table[n], l, t[n]);
         if ok {
             n += 1;
         } else {
@@ -95,14 +74,14 @@ fn often_at(k: usize, t: [u8; 46], action: usize) -> bool
 {
     if k == component::VALARM {
         if action < action::NONE {
-            return all_often(action + component::KNOWN, t);
+            return all_often(action + component::VALARM, t);
         }
         return false;
     }
     if k < component::KNOWN {
         return all_often(k, t);
     }
-    all_often(12, t)
+    all_often(LISTS, t)
 }
 
 // VEVENT: DTSTART, unless the calendar has METHOD.

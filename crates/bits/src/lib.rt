@@ -1,0 +1,33 @@
+// Bits of a number, by shift and mask. A mask is a set of small numbers, one bit for each.
+ghost use mathlib.Core.Path.{_≡_};
+ghost use Prim.Native.Nat.{_<_};
+ghost use Rattle.bits.specs.Masks.{has, bitsAt};
+
+// How many bits a mask has.
+pub const WIDTH: usize = 32;
+
+// The number `i` is in the set `mask`.
+pub fn holds(mask: u32, i: usize) -> bool
+    ensures { λ r. ⌜ r ≡ has mask i ⌝ }
+{
+    if i < WIDTH {
+        return (mask >> i) & 1 == 1;
+    }
+    false
+}
+
+// `count` bits of `x` from number `from` on.
+pub fn bits_at(x: usize, from: usize, count: usize) -> usize
+    requires { ⌜ (from < 64) × (count < 64) ⌝ }
+    ensures { λ r. ⌜ r ≡ bitsAt x from count ⌝ }
+{
+    (x >> from) & ((1 << count) - 1)
+}
+
+// Six bits of `x` from number `from` on: a digit of base64, what a byte of UTF-8 after the first has.
+pub fn six_bits(x: usize, from: usize) -> usize
+    requires { ⌜ from < 64 ⌝ }
+    ensures { λ r. ⌜ r ≡ bitsAt x from 6 ⌝ }
+{
+    (x >> from) & 63
+}
