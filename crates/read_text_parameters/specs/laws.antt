@@ -6,7 +6,8 @@
 --     Readable    parameters that can be read, by their numbers
 --     Comparing   names compared
 --     Collecting  names collected by their cursors
---     Permitted   the rules of a property's parameters, by numbers
+--     Before      names that stand before others
+--     Walking     the walk over a line's parameters, by numbers
 pub mod Cutting
 pub mod Typing
 pub mod Stating
@@ -14,4 +15,5 @@ pub mod Steps
 pub mod Readable
 pub mod Comparing
 pub mod Collecting
-pub mod Permitted
+pub mod Before
+pub mod Walking

@@ -1,16 +1,13 @@
-// ENCODING=BASE64 among the parameters of a line.
+// BASE64 as the value of a parameter.
 use crate::cut::is_named;
 use crate::several::is_last;
-use read_text_line::next_param;
 use read_text_line::param_value;
 ghost use mathlib.Core.Path.{_≡_};
 ghost use mathlib.Core.Bool.{true};
 ghost use Rattle.octets.specs.Ascii.{ascii};
-ghost use Rattle.octets.specs.Lists.{anyOne};
 ghost use Rattle.source.specs.Source.{cuts};
-ghost use Rattle.read_text_line.specs.Cursor.{valuesAt, paramsAt};
-ghost use Rattle.text.specs.Parameters.{isWord, isBase64};
-ghost use Rattle.read_text_parameters.specs.Cutting.{paramCut};
+ghost use Rattle.read_text_line.specs.Cursor.{valuesAt};
+ghost use Rattle.text.specs.Parameters.{isWord};
 
 // The one value is BASE64.
 pub fn is_base64(mode: usize, s: &[u8], first: usize) -> bool

@@ -1,8 +1,8 @@
-// The parameters of a property's line: whether they are readable, permitted and none twice, and the type that VALUE names.
+// The parameters of a property's line: the type that they state, or the leftmost faulty one.
 // A line is cut at its end by the caller. Definitions are in crate text (specs/Parameters), laws in specs/laws/.
-mod again;
 mod base64;
 mod cut;
+mod once;
 mod read;
 mod several;
 mod stated;

@@ -6,25 +6,42 @@ use read_text_line::LineCursors;
 use read_text_parameters::ParametersRead;
 use read_text_parameters::read_parameters;
 use schema::Context;
+use schema::Row;
+ghost use mathlib.Core.Path.{_≡_};
+ghost use mathlib.Core.Bool.{true};
+ghost use Rattle.source.specs.Source.{rest, cuts};
+ghost use Rattle.read_text_line.specs.Cursor.{paramsAt};
+ghost use Rattle.read_text_property.specs.ValuesAt.{goodAt};
+ghost use Rattle.read_text_property.specs.Faults.{faultOf, valueFault, faultAt};
 
-// The lowest fault of a line of the property `p` in the component `k`.
-pub fn property_fault(k: usize, p: usize, mode: usize, s: &[u8], l: LineCursors) -> LineFault
+// The fault of the value from the cursor on, of the type `t`.
+fn value_fault(c: Context, mode: usize, s: &[u8], at: usize) -> LineFault
+    requires { ⌜ cuts mode ≡ true ⌝ }
+    ensures { λ r. ⌜
+        r ≡ valueFault (goodAt (c .component) (c .row) (c .«value_type») (rest mode (now (s .entry)) at)) ⌝ }
 {
-    match read_parameters(p, mode, s, l.parameters) {
-        ParametersRead::Good(t) => value_fault(k, p, t, mode, s, l.value),
-        ParametersRead::Faulty(i) => LineFault::Parameter(i),
-        ParametersRead::Unencoded => LineFault::Encoding,
-    }
-}
-
-fn value_fault(k: usize, p: usize, t: usize, mode: usize, s: &[u8], v: usize) -> LineFault {
-    let c = Context {
-        component: k,
-        property: p,
-        value_type: t,
-    };
-    let ValuesRead::Good(n) = read_values(c, mode, s, v) else {
+    let ValuesRead::Good(n) = read_values(c, mode, s, at) else {
         return LineFault::Value;
     };
     LineFault::None
+}
+
+// The lowest fault of a line of the property of the row in the component `k`.
+pub fn property_fault(k: usize, row: Row, mode: usize, s: &[u8], l: LineCursors) -> LineFault
+    requires { ⌜ cuts mode ≡ true ⌝ }
+    ensures { λ r. ⌜
+        faultOf r ≡ faultAt k row (paramsAt mode (now (s .entry)) (l .parameters)) (rest mode (now (s .entry)) (l .value)) ⌝ }
+{
+    match read_parameters(row, mode, s, l.parameters) {
+        ParametersRead::Good(t) => {
+            let c = Context {
+                component: k,
+                row,
+                value_type: t,
+            };
+            value_fault(c, mode, s, l.value)
+        }
+        ParametersRead::Faulty(i) => LineFault::Parameter(i),
+        ParametersRead::Unencoded => LineFault::Encoding,
+    }
 }

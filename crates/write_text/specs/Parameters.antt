@@ -10,17 +10,17 @@ use Rattle.octets.specs.Ascii.{ascii}
 use Rattle.octets.specs.Pick.{pick}
 use Rattle.names.specs.Table.{placeOf}
 use Rattle.schema.specs.Properties.{propertyNames}
+use Rattle.schema.specs.Property as property
 use Rattle.xcal.specs.ValueNodes.{typeElements}
 use Rattle.xcal.specs.PropertyNodes.{parametersIn}
 use Rattle.xml.specs.NodesAt.{nodesAt}
 
 -- ---- the children that are the value
 
--- 9 is GEO, 45 is REQUEST-STATUS
 abbrev pub valueNames : ℕ → List (List ℕ)
 valueNames p =
-    pick (eqb p 9) (ascii "latitude" ∷ ascii "longitude" ∷ [])
-    (pick (eqb p 45) (ascii "code" ∷ ascii "description" ∷ ascii "data" ∷ []) typeElements)
+    pick (eqb p property.GEO) (ascii "latitude" ∷ ascii "longitude" ∷ [])
+    (pick (eqb p property.REQUEST-STATUS) (ascii "code" ∷ ascii "description" ∷ ascii "data" ∷ []) typeElements)
 
 -- ---- `parameters`
 

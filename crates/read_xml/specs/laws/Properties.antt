@@ -30,6 +30,7 @@ use Rattle.schema.specs.Properties.{propertyNames, isKnownProperty}
 use Rattle.schema.specs.Numbers.{componentName, propertyName, propertyAt, typeAt}
 use Rattle.schema.specs.laws.Columns.{stand-place}
 use Rattle.schema.specs.laws.Places.{type-back}
+use Rattle.schema.specs.Property as property
 use Rattle.read_text_line.specs.Names.{isCarriedName}
 use Rattle.xml.specs.Nodes.{Nodes, noNodes}
 use Rattle.xcal.specs.Layout.{Slot, slotOf, sequence, hasCapital}
@@ -179,22 +180,22 @@ pub ruleset naming = (bad-capital, bad-carried, bad-begin, bad-end, length-take-
 
 module _ (k p : ℕ) where
   off-at : (c w : List ℕ) → k ≡ placeOf c componentNames → p ≡ placeOf w propertyNames →
-      (isKnownProperty w and not (mayStand c w)) ≡ (ltb p 46 and not (mayStand (componentName k) (propertyName p)))
+      (isKnownProperty w and not (mayStand c w)) ≡ (ltb p property.KNOWN and not (mayStand (componentName k) (propertyName p)))
   unfolding isKnownProperty
   off-at c w a o = rw (one-of-place w propertyNames, stand-place c w, ← a, ← o)
 
-  pub off-unknown : 46 ≤ p → OffAt k p false
+  pub off-unknown : property.KNOWN ≤ p → OffAt k p false
   unfolding _and_
-  off-unknown h = record { is = λ c w a o. sym (off-at c w a o ∙ rw (le-ltb p 46 h)) }
+  off-unknown h = record { is = λ c w a o. sym (off-at c w a o ∙ rw (le-ltb p property.KNOWN h)) }
 
-  module _ (h : p < 46) {b : Bool} (e : b ≡ mayStand (componentName k) (propertyName p)) where
+  module _ (h : p < property.KNOWN) {b : Bool} (e : b ≡ mayStand (componentName k) (propertyName p)) where
     pub off-may : b ≡ true → OffAt k p false
     unfolding _and_
-    off-may f = record { is = λ c w a o. sym (off-at c w a o ∙ rw (lt-ltb p 46 h, ← e, f)) }
+    off-may f = record { is = λ c w a o. sym (off-at c w a o ∙ rw (lt-ltb p property.KNOWN h, ← e, f)) }
 
     pub off-not : b ≡ false → OffAt k p true
     unfolding _and_
-    off-not f = record { is = λ c w a o. sym (off-at c w a o ∙ rw (lt-ltb p 46 h, ← e, f)) }
+    off-not f = record { is = λ c w a o. sym (off-at c w a o ∙ rw (lt-ltb p property.KNOWN h, ← e, f)) }
 
 pub ruleset standing = (off-unknown, off-may, off-not, needs)
 

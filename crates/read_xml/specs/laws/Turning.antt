@@ -42,6 +42,7 @@ use Rattle.read_xml_nodes.specs.declared.NodeKind.the-variants.{None, Element, 
 use Rattle.read_xml_nodes.specs.declared.Judged.{Judged}
 use Rattle.read_xml_nodes.specs.declared.Judged.the-variants.{Fine, Refused}
 use Rattle.schema.specs.declared.Context.{Context}
+use Rattle.schema.specs.Property as property
 use Rattle.read_xml.specs.Children.{geoWords, statusWords, otherWords, childWords, slotsAt, slotAt, afterAt, hasTwo, flagsOf, flagsAt}
 use Rattle.read_xml.specs.laws.Children.{slots-place, after-at, flags-start, flags-more, parameters-at}
 use Rattle.read_xml.specs.Turning.{Holder, afterOf, childOf, ChildAt, Onward, Turns}
@@ -67,17 +68,17 @@ unfolding namesIn pick
 other-are = refl
 
 module _ (n : List ℕ) {r : ℕ} (p : ℕ) where
-  pub word-geo : p ≡ 9 → r ≡ placeOf n (namesIn (ascii "parameters\nlatitude\nlongitude\n")) → r ≡ placeOf n (childWords p)
+  pub word-geo : p ≡ property.GEO → r ≡ placeOf n (namesIn (ascii "parameters\nlatitude\nlongitude\n")) → r ≡ placeOf n (childWords p)
   unfolding pick
-  word-geo h e = rw (eq-eqb p 9 h) (by-table n geo-are e)
+  word-geo h e = rw (eq-eqb p property.GEO h) (by-table n geo-are e)
 
-  pub word-status : (p ≡ 9 → ⊥) → p ≡ 45 → r ≡ placeOf n (namesIn (ascii "parameters\ncode\ndescription\ndata\n")) → r ≡ placeOf n (childWords p)
+  pub word-status : (p ≡ property.GEO → ⊥) → p ≡ property.REQUEST-STATUS → r ≡ placeOf n (namesIn (ascii "parameters\ncode\ndescription\ndata\n")) → r ≡ placeOf n (childWords p)
   unfolding pick
-  word-status g h e = rw (ne-eqb p 9 g, eq-eqb p 45 h) (by-table n status-are e)
+  word-status g h e = rw (ne-eqb p property.GEO g, eq-eqb p property.REQUEST-STATUS h) (by-table n status-are e)
 
-  pub word-other : (p ≡ 9 → ⊥) → (p ≡ 45 → ⊥) → r ≡ placeOf n (namesIn (ascii "parameters\nbinary\nboolean\ncal-address\ndate\ndate-time\nduration\nfloat\ninteger\nperiod\nrecur\ntext\ntime\nuri\nutc-offset\nunknown\n")) → r ≡ placeOf n (childWords p)
+  pub word-other : (p ≡ property.GEO → ⊥) → (p ≡ property.REQUEST-STATUS → ⊥) → r ≡ placeOf n (namesIn (ascii "parameters\nbinary\nboolean\ncal-address\ndate\ndate-time\nduration\nfloat\ninteger\nperiod\nrecur\ntext\ntime\nuri\nutc-offset\nunknown\n")) → r ≡ placeOf n (childWords p)
   unfolding pick
-  word-other g h e = rw (ne-eqb p 9 g, ne-eqb p 45 h) (by-table n other-are e)
+  word-other g h e = rw (ne-eqb p property.GEO g, ne-eqb p property.REQUEST-STATUS h) (by-table n other-are e)
 
 pub slot-numbered : (p : ℕ) (n : List ℕ) {r i : ℕ} → r ≡ slotAt p i → i ≡ placeOf n (childWords p) → r ≡ slotAt p (placeOf n (childWords p))
 slot-numbered p n e h = e ∙ ap (slotAt p) h

@@ -23,6 +23,7 @@ use Rattle.names.specs.laws.Places.{placed}
 use Rattle.schema.specs.Types.{typeName, sameType}
 use Rattle.schema.specs.Properties.{propertyNames, defaultType}
 use Rattle.schema.specs.Numbers.{typeAt, propertyName}
+use Rattle.schema.specs.Property as property
 use Rattle.values.specs.WriteValue.{writeValues, typeOfAll}
 use Rattle.read_text_line.specs.ContentLine.{RawParameter}
 use Rattle.read_text_line.specs.Write.{writeParamValue, writeParameter, writeContentLine}
@@ -52,7 +53,7 @@ no-name : (w : List ℕ) (kids : Nodes) → isOneOf w propertyNames ≡ false �
 unfolding readValueNodes octets-compute
 no-name w kids h =
     let l : length propertyNames ≤ placeOf w propertyNames = ltb-false (placeOf w propertyNames) (length propertyNames) (sym (one-of-place w propertyNames) ∙ h) in
-    rw (geo-at w refl, status-at w refl, ne-eqb (placeOf w propertyNames) 9 (λ q. omega (arith, l)), ne-eqb (placeOf w propertyNames) 45 (λ q. omega (arith, l)))
+    rw (geo-at w refl, status-at w refl, ne-eqb (placeOf w propertyNames) property.GEO (λ q. omega (arith, l)), ne-eqb (placeOf w propertyNames) property.REQUEST-STATUS (λ q. omega (arith, l)))
 
 values-named : (w : List ℕ) (kids : Nodes) {p : ℕ} → p ≡ placeOf w propertyNames → readValueNodes (propertyName p) kids ≡ readValueNodes w kids
 unfolding pick

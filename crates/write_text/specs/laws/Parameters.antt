@@ -19,6 +19,7 @@ use Rattle.names.specs.Table.{placeOf, namesIn}
 use Rattle.names.specs.laws.Table.{one-of-place}
 use Rattle.names.specs.laws.Places.{same-place}
 use Rattle.schema.specs.Properties.{propertyNames, isListedProperty}
+use Rattle.schema.specs.Property as property
 use Rattle.xcal.specs.Layout.{Slot, slotOf}
 use Rattle.xcal.specs.ValueNodes.{must, may, typeElements, valueSlots}
 use Rattle.xcal.specs.PropertyNodes.{stillBefore, parametersIn}
@@ -68,16 +69,16 @@ by-number false true w = refl
 by-number false false w = refl
 
 module _ (w : List ℕ) {p : ℕ} (e : p ≡ placeOf w propertyNames) where
-  pub geo-at : same w (ascii "GEO") ≡ eqb p 9
+  pub geo-at : same w (ascii "GEO") ≡ eqb p property.GEO
   unfolding octets-compute placeOf
-  geo-at = same-place w (ascii "GEO") propertyNames refl ∙ ap (λ (n : ℕ). eqb n 9) (sym e)
+  geo-at = same-place w (ascii "GEO") propertyNames refl ∙ ap (λ (n : ℕ). eqb n property.GEO) (sym e)
 
-  pub status-at : same w (ascii "REQUEST-STATUS") ≡ eqb p 45
+  pub status-at : same w (ascii "REQUEST-STATUS") ≡ eqb p property.REQUEST-STATUS
   unfolding octets-compute placeOf
-  status-at = same-place w (ascii "REQUEST-STATUS") propertyNames refl ∙ ap (λ (n : ℕ). eqb n 45) (sym e)
+  status-at = same-place w (ascii "REQUEST-STATUS") propertyNames refl ∙ ap (λ (n : ℕ). eqb n property.REQUEST-STATUS) (sym e)
 
   names-at : slotNames (valueSlots w) ≡ valueNames p
-  names-at = rw (geo-at, status-at) (by-number (eqb p 9) (eqb p 45) w)
+  names-at = rw (geo-at, status-at) (by-number (eqb p property.GEO) (eqb p property.REQUEST-STATUS) w)
 
   pub still-before : (m : List ℕ) → stillBefore (slotOf m (valueSlots w) 0) ≡ not (isOneOf m (valueNames p))
   still-before m = before-all m (valueSlots w) 0 ∙ ap (λ (l : List (List ℕ)). not (isOneOf m l)) names-at
@@ -140,15 +141,15 @@ found-by : (m : List ℕ) {i : ℕ} {l ns : List (List ℕ)} (k : ℕ) → l ≡
 found-by m k q z e = sym (one-of-place m _ ∙ rw (z, ← q, ← e))
 
 module _ {p i : ℕ} (m : List ℕ) where
-  pub geo-found : p ≡ 9 → i ≡ placeOf m (namesIn (ascii "latitude\nlongitude\n")) → ltb i 2 ≡ isOneOf m (valueNames p)
+  pub geo-found : p ≡ property.GEO → i ≡ placeOf m (namesIn (ascii "latitude\nlongitude\n")) → ltb i 2 ≡ isOneOf m (valueNames p)
   unfolding pick
   geo-found q e = rw q (found-by m 2 geo-names refl e)
 
-  pub status-found : (p ≡ 9 → ⊥) → p ≡ 45 → i ≡ placeOf m (namesIn (ascii "code\ndescription\ndata\n")) → ltb i 3 ≡ isOneOf m (valueNames p)
+  pub status-found : (p ≡ property.GEO → ⊥) → p ≡ property.REQUEST-STATUS → i ≡ placeOf m (namesIn (ascii "code\ndescription\ndata\n")) → ltb i 3 ≡ isOneOf m (valueNames p)
   unfolding pick
   status-found n q e = rw q (found-by m 3 status-names refl e)
 
-  pub type-found : (p ≡ 9 → ⊥) → (p ≡ 45 → ⊥) →
+  pub type-found : (p ≡ property.GEO → ⊥) → (p ≡ property.REQUEST-STATUS → ⊥) →
       i ≡ placeOf m (namesIn (ascii "unknown\nbinary\nboolean\ncal-address\ndate\ndate-time\nduration\nfloat\ninteger\nperiod\nrecur\ntext\ntime\nuri\nutc-offset\n")) → ltb i 15 ≡ isOneOf m (valueNames p)
   unfolding pick
-  type-found n o e = rw (ne-eqb p 9 n, ne-eqb p 45 o) (found-by m 15 type-names refl e)
+  type-found n o e = rw (ne-eqb p property.GEO n, ne-eqb p property.REQUEST-STATUS o) (found-by m 15 type-names refl e)

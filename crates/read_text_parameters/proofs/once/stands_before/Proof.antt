@@ -1,4 +1,4 @@
--- `read_text_parameters::once::is_again` meets its contract.
+-- `read_text_parameters::once::stands_before` meets its contract.
 use Rattle.read_text_parameters.specs.laws.Steps.{one-nil, one-go, one-halt}
 use Rattle.read_text_parameters.specs.Comparing.{namesOf}
 use Rattle.read_text_parameters.specs.Cutting.{nameCut}
@@ -12,8 +12,8 @@ use Prim.Native.Nat.{_*_, _-_}
 use mathlib.Core.List.{List}
 use mathlib.Core.Path.{_≡_, refl, sym, _∙_}
 use borrow.Author.Needs.{needs}
-use Rattle.read_text_parameters.proofs.once.is_again.Statement.{statement}
-use Rattle.read_text_parameters.proofs.once.is_again.Tie as tie
+use Rattle.read_text_parameters.proofs.once.stands_before.Statement.{statement}
+use Rattle.read_text_parameters.proofs.once.stands_before.Tie as tie
 
 abbrev Inv-loop : tie.InvT-loop
 Inv-loop mode s name end at c₀ c = isOneOf (nameCut mode s name end) (namesOf (paramsAt mode s at)) ≡ isOneOf (nameCut mode s name end) (namesOf (paramsAt mode s c))
@@ -21,8 +21,8 @@ Inv-loop mode s name end at c₀ c = isOneOf (nameCut mode s name end) (namesOf 
 abbrev μ-loop : tie.MeasureT-loop
 μ-loop mode s name end at c₀ c = 4 * length s - c
 
-pub is-again-spec : {M : Type 1} → statement M
-is-again-spec = tie.close (tie.spec
+pub stands-before-spec : {M : Type 1} → statement M
+stands-before-spec = tie.close (tie.spec
     Inv-loop
     μ-loop
     (λ c. refl)  -- loop-holds

@@ -1,10 +1,10 @@
--- `read_text_parameters::are_distinct_kept` meets its contract.
+-- `read_text_parameters::first_kept` meets its contract.
 use borrow.Author.Needs.{needs}
-use Rattle.read_text_parameters.proofs.once.are_distinct_kept.Statement.{statement}
-use Rattle.read_text_parameters.proofs.once.are_distinct_kept.Tie as tie
+use Rattle.read_text_parameters.proofs.once.first_kept.Statement.{statement}
+use Rattle.read_text_parameters.proofs.once.first_kept.Tie as tie
 
-pub are-distinct-kept-spec : {M : Type 1} → statement M
-are-distinct-kept-spec = tie.close (tie.spec
+pub first-kept-spec : {M : Type 1} → statement M
+first-kept-spec = tie.close (tie.spec
     (λ c κs. search needs)  -- collect-requires
     (λ c κs. search needs)  -- are-distinct-requires
     (λ c. search needs)  -- same-length
