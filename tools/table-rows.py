@@ -1,7 +1,7 @@
 #!/usr/bin/env python3
 """Prints what follows from the one table of properties, `propertyTable` of specs/Properties.antt, so that no number of it is typed by hand.
 
-    tools/table-rows.py code       the constant TABLE of src/table.rt
+    tools/table-rows.py code       the constants FIRST, SECOND and MIDDLE of src/table.rt
     tools/table-rows.py numbers    the numbers of specs/Property.antt
     tools/table-rows.py constants  the same for src/property.rt
     tools/table-rows.py check      says where one of them differs from the table, or that names do not rise; or `ok`
@@ -64,8 +64,8 @@ def packed(name):
 
 
 def key(name):
-    """the first nine bytes of a name, as digits of base 128: specs/Halving.antt"""
-    return sum(ord(c) << 7 * (8 - i) for i, c in enumerate(name[:9]))
+    """the first nine bytes of a name, as digits of base 128 behind a 1: specs/Halving.antt"""
+    return (1 << 63) + sum(ord(c) << 7 * (8 - i) for i, c in enumerate(name[:9]))
 
 
 def entry(row):
@@ -83,7 +83,10 @@ def entry(row):
 
 
 def code(rows):
-    return f"const TABLE: [Entry; {len(rows)}] = [\n" + "".join(map(entry, rows)) + "];\n"
+    half = len(rows) // 2
+    first, second = ("".join(map(entry, part)) for part in (rows[:half], rows[half:]))
+    middle = f"// The key from which on a name is in the second half.\nconst MIDDLE: u64 = {hex(key(rows[half][0]))};\n"
+    return f"pub const FIRST: [Entry; {half}] = [\n{first}];\n\npub const SECOND: [Entry; {half}] = [\n{second}];\n\n{middle}"
 
 
 def numbers(rows):
@@ -96,7 +99,7 @@ def constants(rows):
 
 
 PARTS = [
-    ("src/table.rt", code, r"const TABLE: \[Entry; \d+\] = \[\n.*?^\];\n"),
+    ("src/table.rt", code, r"pub const FIRST: .*?^const MIDDLE: .*?\n"),
     ("specs/Property.antt", numbers, r"abbrev pub .*"),
     ("src/property.rt", constants, r"pub const .*?(?=\n// How many)"),
 ]

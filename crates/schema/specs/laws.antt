@@ -12,7 +12,6 @@
 --     Completing  counts over that array
 --     Property    the numbers of properties by name
 --     Halving     a name found by halving
---     Table       the one table answers what the lists answer
 pub mod Types
 pub mod Rows
 pub mod Closed
@@ -23,7 +22,6 @@ pub mod Places
 pub mod Columns
 pub mod Sets
 pub mod Arrays
+pub mod Halving
 pub mod Completing
 pub mod Property
-pub mod Halving
-pub mod Table

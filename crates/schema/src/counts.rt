@@ -3,15 +3,18 @@ use crate::action;
 use crate::component;
 use crate::property;
 use crate::table::Entry;
-use crate::table::TABLE;
+use crate::table::FIRST;
+use crate::table::HALF;
+use crate::table::SECOND;
 use bits::holds;
 ghost use mathlib.Core.Path.{_≡_};
-ghost use Prim.Native.Nat.{_<_};
+ghost use Prim.Native.Nat.{_≤_};
 ghost use lib.Dec.{eqb};
 ghost use lib.ListN.{getD};
 ghost use Rattle.octets.specs.Pick.{_and_, _or_};
 ghost use Rattle.schema.specs.Arrays.{bumped};
-ghost use Rattle.schema.specs.Completing.{oftenIn, allOften, oftenAt, pairsAt, completeAt, methodAt};
+ghost use Rattle.schema.specs.Property as property;
+ghost use Rattle.schema.specs.Completing.{oftenIn, halfOften, allOften, oftenAt, pairsAt, completeAt, methodAt};
 
 // How many lists there are: a component's by its number, and from VALARM's number on one for each ACTION.
 const LISTS: usize = 11;
@@ -38,7 +41,10 @@ fn is_often(e: Entry, l: usize, n: u8) -> bool
 {
     if n == 0 {
         let needed = holds(e.least as u32, l);
-        return !needed;
+        if needed {
+            return false;
+        }
+        return true;
     }
     let many = holds(e.many as u32, l);
     if many {
@@ -51,14 +57,14 @@ fn is_often(e: Entry, l: usize, n: u8) -> bool
     false
 }
 
-// Every property stands as often as the list `l` says.
-fn all_often(l: usize, t: [u8; 46]) -> bool
-    ensures { λ r. ⌜ r ≡ allOften l t ⌝ }
+// Every property of a half of the table, whose first has the number `from`, stands as often as the list `l` says.
+fn half_often(rows: [Entry; 23], from: usize, l: usize, t: [u8; 46]) -> bool
+    requires { ⌜ from ≤ 23 ⌝ }
+    ensures { λ r. ⌜ r ≡ halfOften rows from l t ⌝ }
 {
-    let table = TABLE;
     let mut n = 0;
-    while n < property::KNOWN {
-        let ok = is_often(table[n], l, t[n]);
+    while n < HALF {
+        let ok = is_often(rows[n], l, t[from + n]);
         if ok {
             n += 1;
         } else {
@@ -66,6 +72,17 @@ fn all_often(l: usize, t: [u8; 46]) -> bool
         }
     }
     true
+}
+
+// Every property stands as often as the list `l` says.
+fn all_often(l: usize, t: [u8; 46]) -> bool
+    ensures { λ r. ⌜ r ≡ allOften l t ⌝ }
+{
+    let first = half_often(FIRST, 0, l, t);
+    if first {
+        return half_often(SECOND, HALF, l, t);
+    }
+    false
 }
 
 // The same by the list of a component, which for a VALARM its ACTION names.
@@ -86,7 +103,7 @@ fn often_at(k: usize, t: [u8; 46], action: usize) -> bool
 
 // VEVENT: DTSTART, unless the calendar has METHOD.
 fn event_start(t: [u8; 46], method: bool) -> bool
-    ensures { λ r. ⌜ r ≡ (method or eqb (getD t 19 0) 1) ⌝ }
+    ensures { λ r. ⌜ r ≡ (method or eqb (getD t property.DTSTART 0) 1) ⌝ }
 {
     if method {
         return true;
@@ -96,7 +113,10 @@ fn event_start(t: [u8; 46], method: bool) -> bool
 
 // VEVENT: the same, and not both DTEND and DURATION.
 fn event_pair(t: [u8; 46], method: bool) -> bool
-    ensures { λ r. ⌜ r ≡ ((method or eqb (getD t 19 0) 1) and (eqb (getD t 17 0) 0 or eqb (getD t 20 0) 0)) ⌝ }
+    ensures { λ r. ⌜
+        r
+        ≡ ((method or eqb (getD t property.DTSTART 0) 1)
+        and (eqb (getD t property.DTEND 0) 0 or eqb (getD t property.DURATION 0) 0)) ⌝ }
 {
     let started = event_start(t, method);
     if started {
@@ -110,7 +130,10 @@ fn event_pair(t: [u8; 46], method: bool) -> bool
 
 // VTODO: DURATION only with DTSTART and without DUE.
 fn todo_pair(t: [u8; 46]) -> bool
-    ensures { λ r. ⌜ r ≡ (eqb (getD t 20 0) 0 or (eqb (getD t 19 0) 1 and eqb (getD t 18 0) 0)) ⌝ }
+    ensures { λ r. ⌜
+        r
+        ≡ (eqb (getD t property.DURATION 0) 0
+        or (eqb (getD t property.DTSTART 0) 1 and eqb (getD t property.DUE 0) 0)) ⌝ }
 {
     if t[property::DURATION] == 0 {
         return true;
@@ -123,7 +146,7 @@ fn todo_pair(t: [u8; 46]) -> bool
 
 // VALARM: DURATION and REPEAT, or neither.
 fn alarm_pair(t: [u8; 46]) -> bool
-    ensures { λ r. ⌜ r ≡ eqb (getD t 20 0) (getD t 39 0) ⌝ }
+    ensures { λ r. ⌜ r ≡ eqb (getD t property.DURATION 0) (getD t property.REPEAT 0) ⌝ }
 {
     t[property::DURATION] == t[property::REPEAT]
 }

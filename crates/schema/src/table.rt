@@ -4,12 +4,14 @@ use crate::property;
 use crate::value_type;
 use names::packed::pack;
 ghost use mathlib.Core.Path.{_≡_};
+ghost use mathlib.Core.Bool.{true};
+ghost use Prim.Native.Nat.{_≤_};
 ghost use Rattle.octets.specs.Class.{upper};
 ghost use Rattle.source.specs.Source.{rest};
 ghost use Rattle.names.specs.Table.{placeOf};
-ghost use Rattle.schema.specs.Properties.{propertyNames};
-ghost use Rattle.schema.specs.Coded.{rowAt, placeBy};
-ghost use Rattle.schema.specs.Halving.{keyFor};
+ghost use Rattle.schema.specs.Properties.{propertyNames, unrecognisedProperty};
+ghost use Rattle.schema.specs.Coded.{coded, rowAt, placeBy};
+ghost use Rattle.schema.specs.Halving.{shortKey, longKey, keyFor, rising, foundIn};
 
 // A property: the first bytes of its name, and its name (names::pack); the permitted parameters, types and components; the lists in which it stands at least once, at most once, any number of times;
 // the type of its values where no VALUE is given; whether it takes a list of values.
@@ -38,10 +40,24 @@ pub struct Row {
     pub components: u32,
 }
 
-pub const TABLE: [Entry; 46] = [
+// What stands for a property that is no row: one value of any type.
+const UNRECOGNISED: Row = Row {
+    number: property::KNOWN,
+    default: value_type::UNKNOWN,
+    listed: false,
+    types: 0x7fff,
+    parameters: 0x0,
+    components: 0x0,
+};
+
+// How many entries a half has.
+pub const HALF: usize = 23;
+
+// The table in two halves: a search copies what it indexes onto the stack, and so only one of them.
+pub const FIRST: [Entry; 23] = [
     // ACTION
     Entry {
-        key: 0x4187524cf9c00000,
+        key: 0xc187524cf9c00000,
         high: 0x0,
         low: 0x60c3a9267ce,
         parameters: 0x0,
@@ -55,7 +71,7 @@ pub const TABLE: [Entry; 46] = [
     },
     // ATTACH
     Entry {
-        key: 0x41a9520c39000000,
+        key: 0xc1a9520c39000000,
         high: 0x0,
         low: 0x60d4a9061c8,
         parameters: 0xc0,
@@ -69,7 +85,7 @@ pub const TABLE: [Entry; 46] = [
     },
     // ATTENDEE
     Entry {
-        key: 0x41a9522ce8916280,
+        key: 0xc1a9522ce8916280,
         high: 0x1,
         low: 0x8352a459d122c5,
         parameters: 0x38e3e,
@@ -83,7 +99,7 @@ pub const TABLE: [Entry; 46] = [
     },
     // CALSCALE
     Entry {
-        key: 0x4383329c38332280,
+        key: 0xc383329c38332280,
         high: 0x1,
         low: 0x87066538706645,
         parameters: 0x0,
@@ -97,7 +113,7 @@ pub const TABLE: [Entry; 46] = [
     },
     // CATEGORIES
     Entry {
-        key: 0x4383522c79f4a4c5,
+        key: 0xc383522c79f4a4c5,
         high: 0x61c1,
         low: 0xa9163cfa5262d3,
         parameters: 0x200,
@@ -111,7 +127,7 @@ pub const TABLE: [Entry; 46] = [
     },
     // CLASS
     Entry {
-        key: 0x4399069d30000000,
+        key: 0xc399069d30000000,
         high: 0x0,
         low: 0xc399069d3,
         parameters: 0x0,
@@ -125,7 +141,7 @@ pub const TABLE: [Entry; 46] = [
     },
     // COMMENT
     Entry {
-        key: 0x439f366c59d50000,
+        key: 0xc39f366c59d50000,
         high: 0x0,
         low: 0x30e7cd9b16754,
         parameters: 0x201,
@@ -139,7 +155,7 @@ pub const TABLE: [Entry; 46] = [
     },
     // COMPLETED
     Entry {
-        key: 0x439f3684c8b522c4,
+        key: 0xc39f3684c8b522c4,
         high: 0xc3,
         low: 0x9f3684c8b522c4,
         parameters: 0x0,
@@ -153,7 +169,7 @@ pub const TABLE: [Entry; 46] = [
     },
     // CONTACT
     Entry {
-        key: 0x439f3aa418750000,
+        key: 0xc39f3aa418750000,
         high: 0x0,
         low: 0x30e7cea9061d4,
         parameters: 0x201,
@@ -167,7 +183,7 @@ pub const TABLE: [Entry; 46] = [
     },
     // CREATED
     Entry {
-        key: 0x43a5160d48b10000,
+        key: 0xc3a5160d48b10000,
         high: 0x0,
         low: 0x30e94583522c4,
         parameters: 0x0,
@@ -181,7 +197,7 @@ pub const TABLE: [Entry; 46] = [
     },
     // DESCRIPTION
     Entry {
-        key: 0x448b4e1d29342a49,
+        key: 0xc48b4e1d29342a49,
         high: 0x3122d3,
         low: 0x874a4d0a9267ce,
         parameters: 0x201,
@@ -195,7 +211,7 @@ pub const TABLE: [Entry; 46] = [
     },
     // DTEND
     Entry {
-        key: 0x44a9167440000000,
+        key: 0xc4a9167440000000,
         high: 0x0,
         low: 0xc4a916744,
         parameters: 0x40000,
@@ -209,7 +225,7 @@ pub const TABLE: [Entry; 46] = [
     },
     // DTSTAMP
     Entry {
-        key: 0x44a94ea419b40000,
+        key: 0xc4a94ea419b40000,
         high: 0x0,
         low: 0x312a53a9066d0,
         parameters: 0x0,
@@ -223,7 +239,7 @@ pub const TABLE: [Entry; 46] = [
     },
     // DTSTART
     Entry {
-        key: 0x44a94ea41a550000,
+        key: 0xc4a94ea41a550000,
         high: 0x0,
         low: 0x312a53a906954,
         parameters: 0x40000,
@@ -237,7 +253,7 @@ pub const TABLE: [Entry; 46] = [
     },
     // DUE
     Entry {
-        key: 0x44ab140000000000,
+        key: 0xc4ab140000000000,
         high: 0x0,
         low: 0x312ac5,
         parameters: 0x40000,
@@ -251,7 +267,7 @@ pub const TABLE: [Entry; 46] = [
     },
     // DURATION
     Entry {
-        key: 0x44ab4a0d4933e700,
+        key: 0xc4ab4a0d4933e700,
         high: 0x1,
         low: 0x8956941a9267ce,
         parameters: 0x0,
@@ -265,7 +281,7 @@ pub const TABLE: [Entry; 46] = [
     },
     // EXDATE
     Entry {
-        key: 0x45b1120d48a00000,
+        key: 0xc5b1120d48a00000,
         high: 0x0,
         low: 0x62d88906a45,
         parameters: 0x40000,
@@ -279,7 +295,7 @@ pub const TABLE: [Entry; 46] = [
     },
     // FREEBUSY
     Entry {
-        key: 0x46a5162c2ab4ec80,
+        key: 0xc6a5162c2ab4ec80,
         high: 0x1,
         low: 0x8d4a2c585569d9,
         parameters: 0x100,
@@ -293,7 +309,7 @@ pub const TABLE: [Entry; 46] = [
     },
     // GEO
     Entry {
-        key: 0x478b3c0000000000,
+        key: 0xc78b3c0000000000,
         high: 0x0,
         low: 0x31e2cf,
         parameters: 0x0,
@@ -307,7 +323,7 @@ pub const TABLE: [Entry; 46] = [
     },
     // LAST-MODIFIED
     Entry {
-        key: 0x4c834ea2d9b3e249,
+        key: 0xcc834ea2d9b3e249,
         high: 0xcc834ea2d,
         low: 0x9b3e2498d262c4,
         parameters: 0x0,
@@ -321,7 +337,7 @@ pub const TABLE: [Entry; 46] = [
     },
     // LOCATION
     Entry {
-        key: 0x4c9f0e0d4933e700,
+        key: 0xcc9f0e0d4933e700,
         high: 0x1,
         low: 0x993e1c1a9267ce,
         parameters: 0x201,
@@ -335,7 +351,7 @@ pub const TABLE: [Entry; 46] = [
     },
     // METHOD
     Entry {
-        key: 0x4d8b5244f8800000,
+        key: 0xcd8b5244f8800000,
         high: 0x0,
         low: 0x66c5a9227c4,
         parameters: 0x0,
@@ -349,7 +365,7 @@ pub const TABLE: [Entry; 46] = [
     },
     // ORGANIZER
     Entry {
-        key: 0x4fa51e0ce936a2d2,
+        key: 0xcfa51e0ce936a2d2,
         high: 0xcf,
         low: 0xa51e0ce936a2d2,
         parameters: 0x20222,
@@ -361,9 +377,12 @@ pub const TABLE: [Entry; 46] = [
         default: value_type::CAL_ADDRESS as u8,
         listed: false,
     },
+];
+
+pub const SECOND: [Entry; 23] = [
     // PERCENT-COMPLETE
     Entry {
-        key: 0x508b4a1c59d516c3,
+        key: 0xd08b4a1c59d516c3,
         high: 0x1a1169438b3aa2d,
         low: 0x873e6d09916a45,
         parameters: 0x0,
@@ -377,7 +396,7 @@ pub const TABLE: [Entry; 46] = [
     },
     // PRIORITY
     Entry {
-        key: 0x50a5267d29352c80,
+        key: 0xd0a5267d29352c80,
         high: 0x1,
         low: 0xa14a4cfa526a59,
         parameters: 0x0,
@@ -391,7 +410,7 @@ pub const TABLE: [Entry; 46] = [
     },
     // PRODID
     Entry {
-        key: 0x50a53e2498800000,
+        key: 0xd0a53e2498800000,
         high: 0x0,
         low: 0x68529f124c4,
         parameters: 0x0,
@@ -405,7 +424,7 @@ pub const TABLE: [Entry; 46] = [
     },
     // RDATE
     Entry {
-        key: 0x528906a450000000,
+        key: 0xd28906a450000000,
         high: 0x0,
         low: 0xd28906a45,
         parameters: 0x40000,
@@ -419,7 +438,7 @@ pub const TABLE: [Entry; 46] = [
     },
     // RECURRENCE-ID
     Entry {
-        key: 0x528b0ead2a516743,
+        key: 0xd28b0ead2a516743,
         high: 0xd28b0ead2,
         low: 0xa5167438ab64c4,
         parameters: 0x41000,
@@ -433,7 +452,7 @@ pub const TABLE: [Entry; 46] = [
     },
     // RELATED-TO
     Entry {
-        key: 0x528b320d48b116d4,
+        key: 0xd28b320d48b116d4,
         high: 0x6945,
         low: 0x9906a4588b6a4f,
         parameters: 0x4000,
@@ -447,7 +466,7 @@ pub const TABLE: [Entry; 46] = [
     },
     // REPEAT
     Entry {
-        key: 0x528b422c1a800000,
+        key: 0xd28b422c1a800000,
         high: 0x0,
         low: 0x6945a1160d4,
         parameters: 0x0,
@@ -461,7 +480,7 @@ pub const TABLE: [Entry; 46] = [
     },
     // REQUEST-STATUS
     Entry {
-        key: 0x528b46ac5a7516d3,
+        key: 0xd28b46ac5a7516d3,
         high: 0x6945a3562d3,
         low: 0xa8b69d48352ad3,
         parameters: 0x200,
@@ -475,7 +494,7 @@ pub const TABLE: [Entry; 46] = [
     },
     // RESOURCES
     Entry {
-        key: 0x528b4e7d5a50e2d3,
+        key: 0xd28b4e7d5a50e2d3,
         high: 0xd2,
         low: 0x8b4e7d5a50e2d3,
         parameters: 0x201,
@@ -489,7 +508,7 @@ pub const TABLE: [Entry; 46] = [
     },
     // RRULE
     Entry {
-        key: 0x52a5566450000000,
+        key: 0xd2a5566450000000,
         high: 0x0,
         low: 0xd2a556645,
         parameters: 0x0,
@@ -503,7 +522,7 @@ pub const TABLE: [Entry; 46] = [
     },
     // SEQUENCE
     Entry {
-        key: 0x538b46ac59d0e280,
+        key: 0xd38b46ac59d0e280,
         high: 0x1,
         low: 0xa7168d58b3a1c5,
         parameters: 0x0,
@@ -517,7 +536,7 @@ pub const TABLE: [Entry; 46] = [
     },
     // STATUS
     Entry {
-        key: 0x53a906a55a600000,
+        key: 0xd3a906a55a600000,
         high: 0x0,
         low: 0x69d48352ad3,
         parameters: 0x0,
@@ -531,7 +550,7 @@ pub const TABLE: [Entry; 46] = [
     },
     // SUMMARY
     Entry {
-        key: 0x53ab366c1a564000,
+        key: 0xd3ab366c1a564000,
         high: 0x0,
         low: 0x34eacd9b06959,
         parameters: 0x201,
@@ -545,7 +564,7 @@ pub const TABLE: [Entry; 46] = [
     },
     // TRANSP
     Entry {
-        key: 0x54a506753a000000,
+        key: 0xd4a506753a000000,
         high: 0x0,
         low: 0x6a52833a9d0,
         parameters: 0x0,
@@ -559,7 +578,7 @@ pub const TABLE: [Entry; 46] = [
     },
     // TRIGGER
     Entry {
-        key: 0x54a5263c78b48000,
+        key: 0xd4a5263c78b48000,
         high: 0x0,
         low: 0x3529498f1e2d2,
         parameters: 0x2000,
@@ -573,7 +592,7 @@ pub const TABLE: [Entry; 46] = [
     },
     // TZID
     Entry {
-        key: 0x54b5262000000000,
+        key: 0xd4b5262000000000,
         high: 0x0,
         low: 0x1a96a4c4,
         parameters: 0x0,
@@ -587,7 +606,7 @@ pub const TABLE: [Entry; 46] = [
     },
     // TZNAME
     Entry {
-        key: 0x54b53a0cd8a00000,
+        key: 0xd4b53a0cd8a00000,
         high: 0x0,
         low: 0x6a5a9d066c5,
         parameters: 0x200,
@@ -601,7 +620,7 @@ pub const TABLE: [Entry; 46] = [
     },
     // TZOFFSETFROM
     Entry {
-        key: 0x54b53e346a716a46,
+        key: 0xd4b53e346a716a46,
         high: 0x1a96a7c6,
         low: 0x8d4e2d48d4a7cd,
         parameters: 0x0,
@@ -615,7 +634,7 @@ pub const TABLE: [Entry; 46] = [
     },
     // TZOFFSETTO
     Entry {
-        key: 0x54b53e346a716a54,
+        key: 0xd4b53e346a716a54,
         high: 0x6a5a,
         low: 0x9f1a3538b52a4f,
         parameters: 0x0,
@@ -629,7 +648,7 @@ pub const TABLE: [Entry; 46] = [
     },
     // TZURL
     Entry {
-        key: 0x54b55694c0000000,
+        key: 0xd4b55694c0000000,
         high: 0x0,
         low: 0xd4b55694c,
         parameters: 0x0,
@@ -643,7 +662,7 @@ pub const TABLE: [Entry; 46] = [
     },
     // UID
     Entry {
-        key: 0x5593100000000000,
+        key: 0xd593100000000000,
         high: 0x0,
         low: 0x3564c4,
         parameters: 0x0,
@@ -657,7 +676,7 @@ pub const TABLE: [Entry; 46] = [
     },
     // URL
     Entry {
-        key: 0x55a5300000000000,
+        key: 0xd5a5300000000000,
         high: 0x0,
         low: 0x35694c,
         parameters: 0x0,
@@ -671,7 +690,7 @@ pub const TABLE: [Entry; 46] = [
     },
     // VERSION
     Entry {
-        key: 0x568b4a9c99f38000,
+        key: 0xd68b4a9c99f38000,
         high: 0x0,
         low: 0x35a2d2a7267ce,
         parameters: 0x0,
@@ -685,53 +704,131 @@ pub const TABLE: [Entry; 46] = [
     },
 ];
 
-// What a digit of a name's number is worth, and where its halves are full.
-const BASE: u64 = 128;
+// The key from which on a name is in the second half.
+const MIDDLE: u64 = 0xd08b4a1c59d516c3;
 
-const FULL: u64 = 0x100000000000000;
+// Powers of the base of a name's number.
+const POWER_1: u64 = 0x80;
 
-const EIGHTH: u64 = 0x2000000000000;
+const POWER_2: u64 = 0x4000;
 
-// The key of a name's number: its digits are moved up until the 1 in front of them is the seventeenth.
+const POWER_3: u64 = 0x20_0000;
+
+const POWER_4: u64 = 0x1000_0000;
+
+const POWER_5: u64 = 0x8_0000_0000;
+
+const POWER_6: u64 = 0x400_0000_0000;
+
+const POWER_7: u64 = 0x2_0000_0000_0000;
+
+const POWER_8: u64 = 0x100_0000_0000_0000;
+
+const POWER_9: u64 = 0x8000_0000_0000_0000;
+
+// The number of a name of so many bytes, or its high half of so many digits, is below this.
+const UNDER_1: u64 = 0x100;
+
+const UNDER_2: u64 = 0x8000;
+
+const UNDER_3: u64 = 0x40_0000;
+
+const UNDER_4: u64 = 0x2000_0000;
+
+const UNDER_5: u64 = 0x10_0000_0000;
+
+const UNDER_6: u64 = 0x800_0000_0000;
+
+const UNDER_7: u64 = 0x4_0000_0000_0000;
+
+const UNDER_8: u64 = 0x200_0000_0000_0000;
+
+// The key of the number of a name of seven bytes at most.
+fn short_key(low: u64) -> u64
+    ensures { λ r. ⌜ r ≡ shortKey low ⌝ }
+{
+    if UNDER_6 <= low {
+        return low % UNDER_7 * POWER_2;
+    }
+    if UNDER_5 <= low {
+        return low * POWER_3;
+    }
+    if UNDER_4 <= low {
+        return low * POWER_4;
+    }
+    if UNDER_3 <= low {
+        return low * POWER_5;
+    }
+    if UNDER_2 <= low {
+        return low * POWER_6;
+    }
+    if UNDER_1 <= low {
+        return low * POWER_7;
+    }
+    low * POWER_8
+}
+
+// Of nine bytes or more.
+fn long_key(high: u64, low: u64) -> u64
+    ensures { λ r. ⌜ r ≡ longKey high low ⌝ }
+{
+    if high < UNDER_1 {
+        return high * POWER_8 + low % POWER_8;
+    }
+    if high < UNDER_2 {
+        return high * POWER_7 + low % POWER_8 / POWER_1;
+    }
+    if high < UNDER_3 {
+        return high * POWER_6 + low % POWER_8 / POWER_2;
+    }
+    if high < UNDER_4 {
+        return high * POWER_5 + low % POWER_8 / POWER_3;
+    }
+    if high < UNDER_5 {
+        return high * POWER_4 + low % POWER_8 / POWER_4;
+    }
+    if high < UNDER_6 {
+        return high * POWER_3 + low % POWER_8 / POWER_5;
+    }
+    if high < UNDER_7 {
+        return high * POWER_2 + low % POWER_8 / POWER_6;
+    }
+    high % UNDER_8 * POWER_1 + low % POWER_8 / POWER_7
+}
+
+// What a name is ordered by.
 fn key_for(high: u64, low: u64) -> u64
     ensures { λ r. ⌜ r ≡ keyFor high low ⌝ }
 {
-    let mut h = high;
-    let mut l = low;
-    let mut left: usize = 16;
-    while 0 < left {
-        if h < FULL {
-            h = h * BASE + l / EIGHTH;
-            l = l % EIGHTH * BASE;
-            left -= 1;
-        } else {
-            return h % FULL * BASE + l / EIGHTH;
-        }
+    if high == 0 {
+        return short_key(low);
     }
-    h % FULL * BASE + l / EIGHTH
+    if high == 1 {
+        return POWER_9 + low % POWER_8 * POWER_1;
+    }
+    long_key(high, low)
 }
 
-// The row of the property whose name has these halves, by halving; of an unrecognised one, what stands for it.
-fn row_by(high: u64, low: u64) -> Row
-    ensures { λ r. ⌜ r ≡ rowAt (placeBy high low) ⌝ }
+// The row of the entry that has these halves, by halving; `from` is the number of the first. Both calls of it are folded into row_by, so that no entry is copied.
+fn row_in(rows: [Entry; 23], from: usize, key: u64, high: u64, low: u64) -> Row
+    requires { ⌜ (rising rows ≡ true) × (from ≤ 46) ⌝ }
+    ensures { λ r. ⌜ r ≡ foundIn rows from key high low (coded unrecognisedProperty) ⌝ }
 {
-    let key = key_for(high, low);
-    let table = TABLE;
     let mut first = 0;
-    let mut end = property::KNOWN;
+    let mut end = HALF;
     while first < end {
         let middle = first + (end - first) / 2;
-        if table[middle].key < key {
+        if rows[middle].key < key {
             first = middle + 1;
         } else {
             end = middle;
         }
     }
-    if first < property::KNOWN {
-        let e = table[first];
+    if first < HALF {
+        let e = rows[first];
         if (low == e.low) & (high == e.high) {
             return Row {
-                number: first,
+                number: from + first,
                 default: e.default as usize,
                 listed: e.listed,
                 types: e.types as u32,
@@ -739,18 +836,23 @@ fn row_by(high: u64, low: u64) -> Row
                 components: e.components as u32,
             };
         }
+        return UNRECOGNISED;
     }
-    Row {
-        number: property::KNOWN,
-        default: value_type::UNKNOWN,
-        listed: false,
-        types: 0x7fff,
-        parameters: 0,
-        components: 0,
-    }
+    UNRECOGNISED
 }
 
-// The row of the property of a name.
+// The row of the property whose name has these halves.
+fn row_by(high: u64, low: u64) -> Row
+    ensures { λ r. ⌜ r ≡ rowAt (placeBy high low) ⌝ }
+{
+    let key = key_for(high, low);
+    if key < MIDDLE {
+        return row_in(FIRST, 0, key, high, low);
+    }
+    row_in(SECOND, HALF, key, high, low)
+}
+
+// The row of the property of a name; of an unrecognised one, what stands for it.
 pub fn row_of(mode: usize, s: &[u8], at: usize) -> Row
     ensures { λ r. ⌜ r ≡ rowAt (placeOf (upper (rest mode (now (s .entry)) at)) propertyNames) ⌝ }
 {

@@ -110,7 +110,7 @@ unfolding schema-compute typesMasked even
 all-types = refl
 
 pub types-at : (p : ℕ) (t : ValueType) → permitsType (rowAt p) (typePlace t) ≡ isTypeOf t (propertyAt p .default ∷ propertyAt p .others)
-unfolding permitsType rowAt typesMasked
+unfolding permitsType rowAt typesMasked _and_ every
 types-at p t =
     let a = and-both _ _ all-types in
     even-is _ _ (type-passes (λ u. even (has (typeMask (propertyAt p .default ∷ propertyAt p .others)) (typePlace u)) (isTypeOf u (propertyAt p .default ∷ propertyAt p .others)))
@@ -141,7 +141,7 @@ unfolding schema-compute parametersMasked even
 all-parameters = refl
 
 pub parameters-at : (p : ℕ) (q : List ℕ) → isOneOf q parameterNames ≡ true → has (rowAt p .parameters) (placeOf q parameterNames) ≡ isOneOf q (propertyAt p .parameters)
-unfolding rowAt parametersMasked
+unfolding rowAt parametersMasked _and_ every
 parameters-at p q h =
     let a = and-both _ _ all-parameters in
     even-is _ _ (word-passes (λ v. even (has (parameterMask (propertyAt p .parameters)) (placeOf v parameterNames)) (isOneOf v (propertyAt p .parameters))) parameterNames q
@@ -232,8 +232,12 @@ all-narrow : every narrow (unrecognisedProperty ∷ propertyTable) ≡ true
 unfolding schema-compute columns narrow
 all-narrow = refl
 
+nowhere : coded unrecognisedProperty .components ≡ 0
+unfolding columns pick
+nowhere = refl
+
 pub row-stands : (k p : ℕ) → standsAt k (rowAt p) ≡ mayStand (componentName k) (propertyName p)
-unfolding standsAt rowAt narrow standsMasked
+unfolding standsAt rowAt narrow standsMasked _and_ every
 row-stands k p = go (decLe 9 k) (decLe 46 p)
   where
     small : coded (propertyAt p) .components < 2 ^ 9
@@ -241,7 +245,7 @@ row-stands k p = go (decLe 9 k) (decLe 46 p)
 
     go : Dec (9 ≤ k) → Dec (46 ≤ p) → has (coded (propertyAt p) .components) k ≡ mayStand (componentName k) (propertyName p)
     go (yes h) l = has-past 9 (coded (propertyAt p) .components) k small h ∙ stand-past-component k (propertyName p) h
-    go (no h) (yes l) = ap (λ (r : PropertyRow). has (coded r .components) k) (List·getD-eq-default propertyTable unrecognisedProperty l) ∙ has-none k ∙ stand-past-property (componentName k) p l
+    go (no h) (yes l) = ap (λ (r : PropertyRow). has (coded r .components) k) (List·getD-eq-default propertyTable unrecognisedProperty l) ∙ ap (λ (m : ℕ). has m k) nowhere ∙ has-none k ∙ stand-past-property (componentName k) p l
     go (no h) (no l) =
         let b : k < 9 = omega (arith, h) in
         let c : p < 46 = omega (arith, l) in

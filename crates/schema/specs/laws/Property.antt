@@ -6,7 +6,6 @@ use Prim.Native.Nat.{ℕ}
 use Rattle.names.specs.Table.{placeOf}
 use Rattle.schema.specs.Properties.{propertyNames}
 use Rattle.schema.specs.Computing.{schema-compute}
-use Rattle.schema.specs.Table.{ruleNames}
 use Rattle.schema.specs.Property as property
 
 abbrev numbers : List ℕ
@@ -20,6 +19,6 @@ numbers =
     ∷ property.TRANSP ∷ property.TRIGGER ∷ property.TZID ∷ property.TZNAME ∷ property.TZOFFSETFROM ∷ property.TZOFFSETTO
     ∷ property.TZURL ∷ property.UID ∷ property.URL ∷ property.VERSION ∷ []
 
-pub numbers-placed : map (λ w. placeOf w propertyNames) ruleNames ≡ numbers
+pub numbers-placed : map (λ w. placeOf w propertyNames) propertyNames ≡ numbers
 unfolding schema-compute
 numbers-placed = refl
