@@ -7,6 +7,7 @@
 --     Comparing   names compared
 --     Collecting  names collected by their cursors
 --     Before      names that stand before others
+--     Judging     one parameter, each way that code goes
 --     Walking     the walk over a line's parameters, by numbers
 pub mod Cutting
 pub mod Typing
@@ -16,4 +17,5 @@ pub mod Readable
 pub mod Comparing
 pub mod Collecting
 pub mod Before
+pub mod Judging
 pub mod Walking

@@ -26,7 +26,7 @@ ghost use Rattle.source.specs.Source.{cuts};
 ghost use Rattle.read_text_line.specs.Cursor.{valuesAt, paramsAt};
 ghost use Rattle.read_text_parameters.specs.Cutting.{nameCut};
 ghost use Rattle.read_text_parameters.specs.Comparing.{namesOf};
-ghost use Rattle.read_text_parameters.specs.Stating.{numberRead};
+ghost use Rattle.read_text_parameters.specs.Stating.{NumberOf};
 ghost use Rattle.read_text_parameters.specs.Walking.{numberOf, otherAgain, comesAgain, soughtBy, typeFor};
 ghost use Rattle.read_text_parameters.specs.Walking.{encodesBy, fitsBy, behindAt, statedBy, Notes, endedBy, ParametersAt};
 
@@ -168,8 +168,8 @@ fn is_fit(row: Row, t: usize, q: usize, mode: usize, s: &[u8], first: usize) -> 
 fn type_behind(row: Row, n: Noted, q: usize, mode: usize, s: &[u8], a: ParamRead) -> TypeRead
     requires { ⌜ cuts mode ≡ true ⌝ }
     ensures { λ r. ⌜
-        numberRead r ≡ behindAt row (statedBy n (paramsAt mode (now (s .entry)) (a .next))) (n .«value_type») q
-        (valuesAt mode (now (s .entry)) (a .first)) ⌝ }
+        NumberOf (behindAt row (statedBy n (paramsAt mode (now (s .entry)) (a .next))) (n .«value_type») q
+        (valuesAt mode (now (s .entry)) (a .first))) r ⌝ }
 {
     if q == VALUE {
         return type_in(mode, s, a.first);
@@ -183,7 +183,7 @@ fn type_behind(row: Row, n: Noted, q: usize, mode: usize, s: &[u8], a: ParamRead
 }
 
 // One parameter more, of the number `q`, and the type behind it.
-fn noted(n: Noted, q: usize, t: usize) -> Noted
+fn added(n: Noted, q: usize, t: usize) -> Noted
     requires { ⌜ (q < 32) × (n .count + 1 < 2 ^ 64) ⌝ }
     ensures { λ r. ⌜ Notes n q t r ⌝ }
 {
@@ -236,7 +236,7 @@ pub fn read_parameters(row: Row, mode: usize, s: &[u8], e: usize) -> ParametersR
                 let TypeRead::Type(t) = type_behind(row, m, q, mode, s, a) else {
                     return ParametersRead::Faulty(n.count);
                 };
-                n = noted(m, q, t);
+                n = added(m, q, t);
                 c = a.next;
             } else {
                 return ended(n);

@@ -1,11 +1,12 @@
 -- Names that stand before others.
 --     onto                 names, the last first, in front of others
 --     before-take          so many names from the front are those;   before-one: a name is one of them
+--     first-..             the first names of a list, compared one after another
 --     word-..              a value is one word, for code
 use mathlib.Core.Path.{_≡_, refl, sym, ap, _∙_}
 use mathlib.Core.Bool.{Bool, true, false}
 use mathlib.Core.List.{List, [], _∷_}
-use Prim.Native.Nat.{ℕ, suc, _+_, _-_, _<_}
+use Prim.Native.Nat.{ℕ, zero, suc, _+_, _-_, _≤_, _<_}
 use native.Mathlib.Omega.{arith}
 use lib.ListN.{length, take}
 use Rattle.octets.specs.Pick.{_or_}
@@ -27,8 +28,8 @@ onto (w ∷ before) ns = onto before (w ∷ ns)
 
 take-onto : (b ns : List (List ℕ)) (j : ℕ) → take (length b + j) (onto b ns) ≡ onto b (take j ns)
 unfolding onto
-take-onto [] ns j = ap (λ (i : ℕ). take i ns) (omega arith)
-take-onto (w ∷ b) ns j = ap (λ (i : ℕ). take i (onto b (w ∷ ns))) (omega arith) ∙ take-onto b (w ∷ ns) (suc j)
+take-onto [] ns j = let e : 0 + j ≡ j = omega arith in ap (λ (i : ℕ). take i ns) e
+take-onto (w ∷ b) ns j = let e : suc (length b) + j ≡ length b + suc j = omega arith in ap (λ (i : ℕ). take i (onto b (w ∷ ns))) e ∙ take-onto b (w ∷ ns) (suc j)
 
 one-onto : (v : List ℕ) (b ns : List (List ℕ)) → isOneOf v (onto b ns) ≡ (isOneOf v b or isOneOf v ns)
 unfolding onto isOneOf _or_
@@ -50,14 +51,28 @@ before-one v b ns =
 -- ---- the first names of a list, compared one after another
 
 module _ (w : List ℕ) where
-  pub first-none : isOneOf w (take 0 []) ≡ false
-  unfolding isOneOf
-  first-none = refl
-
   pub first-over : (k : ℕ) → isOneOf w (take k []) ≡ false
   unfolding isOneOf
-  first-over 0 = refl
+  first-over zero = refl
   first-over (suc k) = refl
+
+  pub first-zero : (k : ℕ) (ns : List (List ℕ)) → k ≤ 0 → isOneOf w (take k ns) ≡ false
+  unfolding isOneOf
+  first-zero zero ns h = refl
+  first-zero (suc k) ns h = absurd (omega arith)
+
+  module _ (x : List ℕ) (ns : List (List ℕ)) (k : ℕ) {t : Bool} (l : 0 < k) (e : t ≡ same w x) where
+    one-more : isOneOf w (take k (x ∷ ns)) ≡ (same w x or isOneOf w (take (k - 1) ns))
+    unfolding isOneOf
+    one-more = let z : k ≡ suc (k - 1) = omega arith in ap (λ (i : ℕ). isOneOf w (take i (x ∷ ns))) z
+
+    pub first-go : t ≡ false → isOneOf w (take k (x ∷ ns)) ≡ isOneOf w (take (k - 1) ns)
+    unfolding _or_
+    first-go h = one-more ∙ rw (← e, h)
+
+    pub first-halt : t ≡ true → isOneOf w (take k (x ∷ ns)) ≡ true
+    unfolding _or_
+    first-halt h = one-more ∙ rw (← e, h)
 
 -- ---- one word
 

@@ -2,11 +2,11 @@
 --     number-..        the number of a name
 --     Walked           the invariant of the walk: what is noted of the parameters before `rest`
 --     walked-start, walked-again, walked-bad, walked-more, walked-end      its laws
-use mathlib.Core.Path.{_≡_, refl, sym, ap, _∙_}
+use mathlib.Core.Path.{_≡_, refl, sym, ap, subst, _∙_}
 use mathlib.Core.Bool.{Bool, true, false, not, cond, false≢true}
 use mathlib.Core.List.{List, [], _∷_}
 use mathlib.Core.Option.{Option, none, some, Option·map}
-use Prim.Native.Nat.{ℕ, suc, _+_, _≤_, _<_}
+use Prim.Native.Nat.{ℕ, suc, _+_, _^_, _≤_, _<_}
 use native.Mathlib.Omega.{arith}
 use lib.Dec.{eqb, ltb}
 use lib.ListN.{length, take}
@@ -35,10 +35,20 @@ use Rattle.distinct.specs.Again.{firstAgain}
 use Rattle.read_text_line.specs.ContentLine.{ParamValue, RawParameter}
 use Rattle.text.specs.Parameters.{isWord, isValueParameter, typeIn}
 use Rattle.text.specs.Faults.{isEncoding, isSound, isFaulty, firstFaulty, placeOfFault}
+use Rattle.source.specs.Source.{cuts}
+use Rattle.read_text_line.specs.ContentLine.{nextParam}
+use Rattle.read_text_line.specs.Cursor.{valuesAt, paramsAt}
+use Rattle.read_text_line.specs.Params.{ParamOf}
+use Rattle.read_text_line.specs.laws.Params.{param-less}
+use Rattle.read_text_line.specs.declared.ParamRead.{ParamRead}
+use Rattle.read_text_parameters.specs.Cutting.{nameCut, paramCut}
+use Rattle.read_text_parameters.specs.laws.Cutting.{params-step, params-over, params-fault}
 use Rattle.read_text_parameters.specs.Comparing.{namesOf}
 use Rattle.read_text_parameters.specs.Readable.{isReadBy}
 use Rattle.read_text_parameters.specs.laws.Readable.{parameter-read}
-use Rattle.read_text_parameters.specs.Stating.{statedAt}
+use Rattle.read_text_parameters.specs.Stating.{numberRead, NumberOf, statedAt}
+use Rattle.read_text_parameters.specs.declared.TypeRead.{TypeRead}
+use Rattle.read_text_parameters.specs.declared.TypeRead.the-variants.{«Type» as Known, Bad}
 use Rattle.read_text_parameters.specs.laws.Before.{onto, before-one}
 use Rattle.read_text_parameters.specs.Walking.{numberOf, comesAgain, soughtBy, typeFor, encodesBy, fitsBy, isBinaryAt, fitsAt, behindAt, statedBy, lacksAt, Notes, endedBy, whereOf, faultAs, ParametersAt}
 use Rattle.read_text_parameters.specs.declared.walk.Noted.{Noted}
@@ -84,6 +94,9 @@ number-most w = go (same w (ascii "VALUE")) refl
     go true k = omega (arith, number-value w k)
     go false k = omega (arith, number-other w k, place-most w)
 
+pub number-fits : {q : ℕ} (w : List ℕ) → q ≡ numberOf w → q < 32
+number-fits w e = let l = number-most w in omega (arith, l, e)
+
 encoding-place : (w : List ℕ) → same w (ascii "ENCODING") ≡ eqb (placeOf w parameterNames) 6
 unfolding octets-compute placeOf
 encoding-place w = same-place w (ascii "ENCODING") parameterNames refl
@@ -104,7 +117,7 @@ number-same v w h = go (same v (ascii "VALUE")) (same w (ascii "VALUE")) refl re
     known p = one-of-place v parameterNames ∙ lt-ltb (placeOf v parameterNames) 19 (let l = place-most v in let n = eqb-false (placeOf v parameterNames) 19 (ap (λ (i : ℕ). eqb i 19) (sym (number-other v p)) ∙ h) in omega (arith, l, n))
 
     go : (a b : Bool) → same v (ascii "VALUE") ≡ a → same w (ascii "VALUE") ≡ b → eqb (numberOf w) (numberOf v) ≡ same v w
-    go true true p q = rw (same-true v (ascii "VALUE") p, same-true w (ascii "VALUE") q) (eq-eqb _ _ refl ∙ sym (same-self (ascii "VALUE")))
+    go true true p q = rw (same-true v (ascii "VALUE") p, same-true w (ascii "VALUE") q) (eq-eqb (numberOf (ascii "VALUE")) (numberOf (ascii "VALUE")) refl ∙ sym (same-self (ascii "VALUE")))
     go true false p q = rw (number-value v p, number-other w q) (ne-eqb (placeOf w parameterNames) 20 (λ z. let l = place-most w in omega (arith, l)) ∙ sym (apart v w p q (same v w) refl))
     go false true p q = rw (number-other v p, number-value w q) (ne-eqb 20 (placeOf v parameterNames) (λ z. let l = place-most v in omega (arith, l)) ∙ sym (ap (λ (b : Bool). b) (same-either v w) ∙ apart w v q p (same w v) refl))
     go false false p q = rw (number-other v p, number-other w q) (sym (same-place w v parameterNames (known p)) ∙ same-either w v)
@@ -134,25 +147,19 @@ encodes-none true v false = refl
 encodes-none false v true = refl
 encodes-none false v false = refl
 
+-- by the tests for RELATED and ENCODING
+fits-cases : (row : Row) (t : Option ℕ) (q : ℕ) (vs : List ParamValue) (x e : Bool) → eqb q 13 ≡ x →
+    (permitsAt row (pick (x or e) (readOr 5 t) 5) q and isReadBy (parameterAt q) vs and (not (eqb (pick (x or e) (readOr 5 t) 5) 0 and e) or isWord (ascii "BASE64") vs))
+    ≡ (permitsAt row (readOr 5 t) q and isReadBy (parameterAt q) vs and (not (isBinaryAt t and e) or (e and isWord (ascii "BASE64") vs)))
+unfolding pick _or_
+fits-cases row t q vs true true h = rw (binary-at t, encodes-at true (isBinaryAt t) (isWord (ascii "BASE64") vs))
+fits-cases row t q vs true false h = rw (encodes-none (eqb (readOr 5 t) 0) (isWord (ascii "BASE64") vs) (isBinaryAt t))
+fits-cases row t q vs false true h = rw (binary-at t, encodes-at true (isBinaryAt t) (isWord (ascii "BASE64") vs))
+fits-cases row t q vs false false h = rw (permits-any row 5 (readOr 5 t) q h, encodes-none (eqb 5 0) (isWord (ascii "BASE64") vs) (isBinaryAt t))
+
 pub fits-by : (row : Row) (t : Option ℕ) (r : RawParameter) → fitsBy row (typeFor (placeOf (upper (r .name)) parameterNames) t) (placeOf (upper (r .name)) parameterNames) (r .values) ≡ fitsAt row t r
-unfolding fitsAt
-fits-by row t r = rw (parameter-read r, encoding-place (upper (r .name))) (go (eqb q 13) (eqb q 6) refl)
-  where
-    q : ℕ
-    q = placeOf (upper (r .name)) parameterNames
-
-    base64 : Bool
-    base64 = isWord (ascii "BASE64") (r .values)
-
-    go : (x e : Bool) → eqb q 13 ≡ x →
-        (permitsAt row (pick (x or e) (readOr 5 t) 5) q and isReadBy (parameterAt q) (r .values) and (not (eqb (pick (x or e) (readOr 5 t) 5) 0 and e) or base64))
-        ≡ (permitsAt row (readOr 5 t) q and isReadBy (parameterAt q) (r .values) and (not (isBinaryAt t and e) or (e and base64)))
-    unfolding q base64 pick _or_
-    go true true h = rw (binary-at t) (ap (λ (b : Bool). permitsAt row (readOr 5 t) q and isReadBy (parameterAt q) (r .values) and b) (encodes-at true (isBinaryAt t) base64))
-    go true false h = ap (λ (b : Bool). permitsAt row (readOr 5 t) q and isReadBy (parameterAt q) (r .values) and b) (encodes-none (eqb (readOr 5 t) 0) base64 (isBinaryAt t))
-    go false true h = rw (binary-at t) (ap (λ (b : Bool). permitsAt row (readOr 5 t) q and isReadBy (parameterAt q) (r .values) and b) (encodes-at true (isBinaryAt t) base64))
-    go false false h = rw (permits-any row 5 (readOr 5 t) q h) (ap (λ (b : Bool). permitsAt row (readOr 5 t) q and isReadBy (parameterAt q) (r .values) and b) (encodes-none false base64 (isBinaryAt t)))
-
+unfolding fitsAt pick _or_
+fits-by row t r = rw (parameter-read r, encoding-place (upper (r .name))) (fits-cases row t (placeOf (upper (r .name)) parameterNames) (r .values) (eqb (placeOf (upper (r .name)) parameterNames) 13) (eqb (placeOf (upper (r .name)) parameterNames) 6) refl)
 -- ---- the walk
 
 pub record Walked (row : Row) (all left : List RawParameter) (n : Noted) : Type 0 where
@@ -175,7 +182,7 @@ walked-start row all = record {
   first = refl;
   comes = omega arith;
   noted = λ w h. has-none (numberOf w);
-  typed = rw (has-none 20);
+  typed = refl;
   encoded = refl;
   sought = λ h. absurd (omega arith);
 }
@@ -185,8 +192,8 @@ module _ {row : Row} {all left : List RawParameter} {x : RawParameter} {n : Note
 
   place-again : (b : Bool) → isOneOf (upper (x .name)) (i .before) ≡ b → eqb (n .count) (firstAgain [] (namesOf all)) ≡ b
   unfolding firstAgain pick
-  place-again true h = eq-eqb _ _ (sym (i .comes ∙ rw h (omega arith)))
-  place-again false h = ne-eqb _ _ (λ z. let e = i .comes ∙ ap (λ (b : Bool). n .count + pick b 0 (suc (firstAgain (upper (x .name) ∷ i .before) (namesOf left)))) h in omega (arith, z, e))
+  place-again true h = eq-eqb (n .count) (firstAgain [] (namesOf all)) (sym (i .comes ∙ rw h (omega arith)))
+  place-again false h = ne-eqb (n .count) (firstAgain [] (namesOf all)) (λ (z : n .count ≡ firstAgain [] (namesOf all)). let e = i .comes ∙ ap (λ (b : Bool). n .count + pick b 0 (suc (firstAgain (upper (x .name) ∷ i .before) (namesOf left)))) h in omega (arith, z, e))
 
   sought-is : (b : Bool) → ltb (n .count) 16 ≡ false → eqb (n .count) 16 ≡ b → pick b (firstAgain [] (namesOf all)) (n .again) ≡ firstAgain [] (namesOf all)
   unfolding pick
@@ -275,10 +282,10 @@ module _ {row : Row} {all left : List RawParameter} {x : RawParameter} {n : Note
     more-typed false h =
         let q = number-other (upper (x .name)) h in
         let l = place-most (upper (x .name)) in
-        let y : eqb (placeOf (upper (x .name)) parameterNames) 20 ≡ false = ne-eqb _ _ (λ z. omega (arith, l)) in
+        let y : eqb (placeOf (upper (x .name)) parameterNames) 20 ≡ false = ne-eqb (placeOf (upper (x .name)) parameterNames) 20 (λ (z : placeOf (upper (x .name)) parameterNames ≡ 20). omega (arith, l, z)) in
         let s : has (r .seen) 20 ≡ has (n .seen) 20 = g .seen 20 ∙ rw (q, y) in
         let o : some t ≡ provided (fitsBy row (typeFor (placeOf (upper (x .name)) parameterNames) (statedBy n left)) (placeOf (upper (x .name)) parameterNames) (x .values)) (n .«value_type») = e ∙ rw (q, y) in
-        let u : t ≡ n .«value_type» = given _ o in
+        let u : t ≡ n .«value_type» = given (fitsBy row (typeFor (placeOf (upper (x .name)) parameterNames) (statedBy n left)) (placeOf (upper (x .name)) parameterNames) (x .values)) o in
         stated-behind h ∙ rw (s, g .typed, u)
       where
         given : (b : Bool) → some t ≡ provided b (n .«value_type») → t ≡ n .«value_type»
@@ -343,3 +350,56 @@ module _ {row : Row} {all : List RawParameter} {n : Noted} (i : Walked row all [
       same-type true true t h = cc
       same-type true false t h = let z : _≡_ {A = ℕ} 0 1 = cc in absurd (omega arith)
       same-type false c t h = cc
+
+-- ---- through a cursor
+
+pub record Stepping (row : Row) (m : ℕ) (s : List ℕ) (e c : ℕ) (n : Noted) : Type 0 where
+  pub walked : Walked row (paramsAt m s e) (paramsAt m s c) n
+  pub past : n .count ≤ c
+
+pub step-start : (row : Row) (m : ℕ) (s : List ℕ) (e : ℕ) → Stepping row m s e e (record { count = 0; seen = 0; again = 0; «value_type» = row .default })
+step-start row m s e = record { walked = walked-start row (paramsAt m s e); past = omega arith }
+
+module _ {row : Row} {m : ℕ} {s : List ℕ} {e c : ℕ} {n : Noted} {r : ParamRead} (y : cuts m ≡ true) (i : Stepping row m s e c n) (a : ParamOf nextParam m s c r) where
+  step-none : paramsAt m s c ≡ [] → Walked row (paramsAt m s e) [] n
+  step-none h = subst (λ (l : List RawParameter). Walked row (paramsAt m s e) l n) h (i .walked)
+
+  pub step-over : {p : ParametersRead} → r .there ≡ false → p ≡ endedBy n → ParametersAt row (paramsAt m s e) p
+  step-over h = walked-end (step-none (params-over y (λ (rs : List RawParameter). rs) refl a h))
+
+  pub step-fault : {p : ParametersRead} → r .there ≡ true → r .ok ≡ false → p ≡ endedBy n → ParametersAt row (paramsAt m s e) p
+  step-fault h k = walked-end (step-none (params-fault y (λ (rs : List RawParameter). rs) refl a h k))
+
+  module _ {q : ℕ} {v : Noted} {b : Bool} (h : r .there ≡ true) (k : r .ok ≡ true) (f : q ≡ numberOf (nameCut m s (r .name) (r .end))) (g : v ≡ soughtBy n (namesOf (paramsAt m s e)))
+      (x : b ≡ comesAgain v q (nameCut m s (r .name) (r .end)) (namesOf (paramsAt m s e))) where
+    here : Walked row (paramsAt m s e) (paramCut m s (r .name) (r .end) (r .first) ∷ paramsAt m s (r .next)) n
+    here = subst (λ (l : List RawParameter). Walked row (paramsAt m s e) l n) (params-step y (λ (rs : List RawParameter). rs) refl a h k) (i .walked)
+
+    comes : b ≡ comesAgain (soughtBy n (namesOf (paramsAt m s e))) (numberOf (nameCut m s (r .name) (r .end))) (nameCut m s (r .name) (r .end)) (namesOf (paramsAt m s e))
+    comes = subst (λ (u : Noted). b ≡ comesAgain u (numberOf (nameCut m s (r .name) (r .end))) (nameCut m s (r .name) (r .end)) (namesOf (paramsAt m s e))) g
+        (subst (λ (j : ℕ). b ≡ comesAgain v j (nameCut m s (r .name) (r .end)) (namesOf (paramsAt m s e))) f x)
+
+    pub step-again : b ≡ true → ParametersAt row (paramsAt m s e) (Faulty (n .count))
+    step-again z = walked-again here comes z
+
+    module _ {t : TypeRead} (o : NumberOf (behindAt row (statedBy v (paramsAt m s (r .next))) (v .«value_type») q (valuesAt m s (r .first))) t) where
+      behind : numberRead t ≡ behindAt row (statedBy n (paramsAt m s (r .next))) (n .«value_type») (numberOf (nameCut m s (r .name) (r .end))) (valuesAt m s (r .first))
+      behind = subst (λ (u : Noted). numberRead t ≡ behindAt row (statedBy u (paramsAt m s (r .next))) (u .«value_type») (numberOf (nameCut m s (r .name) (r .end))) (valuesAt m s (r .first))) g
+          (subst (λ (j : ℕ). numberRead t ≡ behindAt row (statedBy v (paramsAt m s (r .next))) (v .«value_type») j (valuesAt m s (r .first))) f (o .is))
+
+      pub step-bad : t ≡ Bad → ParametersAt row (paramsAt m s e) (Faulty (n .count))
+      step-bad z = walked-bad here (ap numberRead (sym z) ∙ behind)
+
+      step-small : v .count + 1 ≤ r .next
+      step-small = let l = param-less a h k in let p = i .past in let w : v .count ≡ n .count = ap (λ (u : Noted). u .count) g in omega (arith, l, p, w)
+
+      pub step-room : r .next < 2 ^ 64 → v .count + 1 < 2 ^ 64
+      step-room b = let l = step-small in omega (arith, l, b)
+
+      pub step-more : {u : ℕ} {w : Noted} → b ≡ false → t ≡ Known u → Notes v q u w → Stepping row m s e (r .next) w
+      step-more {u} {w} z d p =
+          let p₁ : Notes (soughtBy n (namesOf (paramsAt m s e))) q u w = subst (λ (j : Noted). Notes j q u w) g p in
+          let p₂ : Notes (soughtBy n (namesOf (paramsAt m s e))) (numberOf (nameCut m s (r .name) (r .end))) u w = subst (λ (j : ℕ). Notes (soughtBy n (namesOf (paramsAt m s e))) j u w) f p₁ in
+          let l = step-small in
+          let k : w .count ≡ v .count + 1 = p .count in
+          record { walked = walked-more here p₂ (sym (again-is here comes) ∙ z) (ap numberRead (sym d) ∙ behind); past = omega (arith, l, k) }
