@@ -9,6 +9,7 @@
 --     Before      names that stand before others
 --     Judging     one parameter, each way that code goes
 --     Walking     the walk over a line's parameters, by numbers
+--     Named       the same, of a property by its name
 pub mod Cutting
 pub mod Typing
 pub mod Stating
@@ -19,3 +20,4 @@ pub mod Collecting
 pub mod Before
 pub mod Judging
 pub mod Walking
+pub mod Named

@@ -12,9 +12,9 @@ ghost use mathlib.Core.Bool.{true};
 ghost use Rattle.source.specs.Source.{rest, cuts};
 ghost use Rattle.read_text_line.specs.Cursor.{paramsAt};
 ghost use Rattle.read_text_property.specs.ValuesAt.{goodAt};
-ghost use Rattle.read_text_property.specs.Faults.{faultOf, valueFault, faultAt};
+ghost use Rattle.read_text_property.specs.Faults.{FaultIs, valueFault, faultAt};
 
-// The fault of the value from the cursor on, of the type `t`.
+// The fault of the value from the cursor on.
 fn value_fault(c: Context, mode: usize, s: &[u8], at: usize) -> LineFault
     requires { ⌜ cuts mode ≡ true ⌝ }
     ensures { λ r. ⌜
@@ -30,7 +30,8 @@ fn value_fault(c: Context, mode: usize, s: &[u8], at: usize) -> LineFault
 pub fn property_fault(k: usize, row: Row, mode: usize, s: &[u8], l: LineCursors) -> LineFault
     requires { ⌜ cuts mode ≡ true ⌝ }
     ensures { λ r. ⌜
-        faultOf r ≡ faultAt k row (paramsAt mode (now (s .entry)) (l .parameters)) (rest mode (now (s .entry)) (l .value)) ⌝ }
+        FaultIs (faultAt k row (paramsAt mode (now (s .entry)) (l .parameters))
+        (rest mode (now (s .entry)) (l .value))) r ⌝ }
 {
     match read_parameters(row, mode, s, l.parameters) {
         ParametersRead::Good(t) => {
