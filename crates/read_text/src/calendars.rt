@@ -3,6 +3,8 @@ use crate::Checked;
 use crate::Step;
 use crate::component::body;
 use crate::line::no_params;
+use crate::line::parameter_place;
+use crate::Outer;
 use names::is_word_any_case;
 use read_text_line::Ending;
 use read_text_line::LineCursors;
@@ -31,22 +33,22 @@ ghost use Rattle.read_text.specs.Outer.{outward, beginsOuter, Outer};
 ghost use Rattle.read_text.specs.Answers.{Checks};
 
 // The fault of a BEGIN where nothing is open, NO_FAULT where it has none: it begins a VCALENDAR.
-fn begin_fault(mode: usize, s: &[u8], l: LineCursors) -> u8
+fn begin_fault(mode: usize, s: &[u8], l: LineCursors) -> Outer
     ensures { λ r. ⌜ beginsOuter mode (now (s .entry)) l ≡ outward r ⌝ }
 {
     let n = component_number(mode, s, l.value);
     if n == component::VCALENDAR {
         let bare = no_params(mode, s, l.parameters);
         if bare {
-            return NO_FAULT;
+            return Outer::Begins;
         }
-        return PARAMETER;
+        return Outer::Faulty(PARAMETER, parameter_place(mode, s, l.parameters, 0));
     }
-    FRAME
+    Outer::Faulty(FRAME, l.name)
 }
 
 // The fault of a content line where nothing is open.
-fn content_fault(mode: usize, s: &[u8], l: LineCursors) -> u8
+fn content_fault(mode: usize, s: &[u8], l: LineCursors) -> Outer
     requires { ⌜ (l .name ≤ length (now s)) × Parts mode (now s) l × (cuts mode ≡ true) ⌝ }
     ensures { λ r. ⌜ moveBy (named mode (now (s .entry)) l) [] ≡ outward r ⌝ }
 {
@@ -58,18 +60,18 @@ fn content_fault(mode: usize, s: &[u8], l: LineCursors) -> u8
         if begin {
             return begin_fault(mode, s, l);
         }
-        return FRAME;
+        return Outer::Faulty(FRAME, l.name);
     }
-    NAME
+    Outer::Faulty(NAME, l.name)
 }
 
 // The fault of a line where nothing is open, NO_FAULT where it begins a VCALENDAR.
-fn outer_fault(mode: usize, s: &[u8], at: usize) -> u8
+fn outer_fault(mode: usize, s: &[u8], at: usize) -> Outer
     requires { ⌜ (at ≤ length (now s)) × (cuts mode ≡ true) ⌝ }
     ensures { λ r. ⌜ move (rest mode (now (s .entry)) at) [] ≡ outward r ⌝ }
 {
     let LineRead::Line(l) = line_at(mode, s, at) else {
-        return LINE;
+        return Outer::Faulty(LINE, at);
     };
     content_fault(mode, s, l)
 }
@@ -82,11 +84,10 @@ fn calendar(mode: usize, s: &[u8], at: usize) -> Step
     let Ending::Whole(e, next) = line_end(mode, s, at) else {
         return Step::Failed(LINE, at);
     };
-    let fault = outer_fault(mode, &s[..e], at);
-    if fault == NO_FAULT {
-        return body(mode, s, next, component::VCALENDAR, false);
+    match outer_fault(mode, &s[..e], at) {
+        Outer::Begins => body(mode, s, next, component::VCALENDAR, false),
+        Outer::Faulty(r, p) => Step::Failed(r, p),
     }
-    Step::Failed(fault, at)
 }
 
 // The check of an unfolded text.

@@ -6,12 +6,13 @@ use read_text_line::LineRead;
 use read_text_line::line_at;
 use read_text_line::names_carried;
 use read_text_line::next_param;
+use read_text_property::LineFault;
 use read_text_property::property_fault;
 use refusals::FRAME;
 use refusals::LINE;
 use refusals::NAME;
-use refusals::NO_FAULT;
 use refusals::PARAMETER;
+use refusals::VALUE;
 use schema::Row;
 use schema::action;
 use schema::action_number;
@@ -57,6 +58,19 @@ pub fn no_params(mode: usize, s: &[u8], e: usize) -> bool
     true
 }
 
+// The cursor of the name of the parameter of the number `i`, of those from the cursor `e` on.
+pub fn parameter_place(mode: usize, s: &[u8], e: usize, i: usize) -> usize {
+    let mut c = e;
+    let mut k = 0;
+    while k < i {
+        let a = next_param(mode, s, c);
+        c = a.next;
+        k += 1;
+    }
+    let n = unit(mode, s, c);
+    n.next
+}
+
 // The kind of a BEGIN.
 fn begin_line(k: usize, mode: usize, s: &[u8], l: LineCursors) -> Kind
     requires { ⌜ k < 9 ⌝ }
@@ -69,9 +83,9 @@ fn begin_line(k: usize, mode: usize, s: &[u8], l: LineCursors) -> Kind
         if bare {
             return Kind::Starts(n);
         }
-        return Kind::Faulty(PARAMETER);
+        return Kind::Faulty(PARAMETER, parameter_place(mode, s, l.parameters, 0));
     }
-    Kind::Faulty(FRAME)
+    Kind::Faulty(FRAME, l.name)
 }
 
 // The kind of an END.
@@ -85,9 +99,9 @@ fn end_line(k: usize, mode: usize, s: &[u8], l: LineCursors) -> Kind
         if bare {
             return Kind::Stops;
         }
-        return Kind::Faulty(PARAMETER);
+        return Kind::Faulty(PARAMETER, parameter_place(mode, s, l.parameters, 0));
     }
-    Kind::Faulty(FRAME)
+    Kind::Faulty(FRAME, l.name)
 }
 
 // Properties stand before subcomponents, except in VTIMEZONE.
@@ -141,13 +155,20 @@ fn row_line(k: usize, inner: bool, row: Row, mode: usize, s: &[u8], l: LineCurso
     let may = may_hold(k, inner, row);
     if may {
         let f = property_fault(k, row, mode, s, l);
-        if f == NO_FAULT {
-            let a = action_of(p, mode, s, l.value);
-            return Kind::Holds(p, a);
+        match f {
+            LineFault::Parameter(i) => {
+                let c = parameter_cursor(mode, s, l.parameters, i);
+                return Kind::Faulty(PARAMETER, c);
+            }
+            LineFault::Encoding => return Kind::Faulty(PARAMETER, l.value),
+            LineFault::Value => return Kind::Faulty(VALUE, l.value),
+            LineFault::None => {
+                let a = action_of(p, mode, s, l.value);
+                return Kind::Holds(p, a);
+            }
         }
-        return Kind::Faulty(f);
     }
-    Kind::Faulty(FRAME)
+    Kind::Faulty(FRAME, l.name)
 }
 
 // The kind of a line that is a property.
@@ -179,7 +200,7 @@ fn content_line(k: usize, inner: bool, mode: usize, s: &[u8], l: LineCursors) ->
         }
         return property_line(k, inner, mode, s, l);
     }
-    Kind::Faulty(NAME)
+    Kind::Faulty(NAME, l.name)
 }
 
 // The kind of a line in the component of the number `k`, in which a subcomponent has come or not.
@@ -188,7 +209,7 @@ pub fn line_kind(k: usize, inner: bool, mode: usize, s: &[u8], at: usize) -> Kin
     ensures { λ r. ⌜ KindIs (lineKind (componentName k) inner (rest mode (now (s .entry)) at)) r ⌝ }
 {
     let LineRead::Line(l) = line_at(mode, s, at) else {
-        return Kind::Faulty(LINE);
+        return Kind::Faulty(LINE, at);
     };
     content_line(k, inner, mode, s, l)
 }
