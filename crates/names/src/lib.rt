@@ -137,13 +137,6 @@ fn find_cased(k: Case, mode: usize, s: &[u8], at: usize, table: &[u8]) -> usize
     name
 }
 
-// The number of a name, in any case.
-pub fn find_name(mode: usize, s: &[u8], at: usize, table: &[u8]) -> usize
-    ensures { λ r. ⌜ r ≡ placeOf (upper (rest mode (now (s .entry)) at)) (namesIn (now (table .entry))) ⌝ }
-{
-    find_cased(Case::Capital, mode, s, at, table)
-}
-
 // The number of a word, in any case in text, as it stands in XML.
 pub fn find_word(xcal: bool, mode: usize, s: &[u8], at: usize, table: &[u8]) -> usize
     ensures { λ r. ⌜

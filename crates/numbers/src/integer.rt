@@ -12,7 +12,7 @@ ghost use Rattle.octets.specs.Decimal.{digits};
 ghost use Rattle.octets.specs.Reading.{orNothing};
 ghost use Rattle.source.specs.Source.{rest};
 ghost use Rattle.sink.specs.Sink.{Put};
-ghost use Rattle.numbers.specs.Integer.{whole, writeWhole, readInteger, writeInteger};
+ghost use Rattle.numbers.specs.Integer.{integerOf, writeWhole, readInteger, writeInteger};
 ghost use Rattle.numbers.specs.ReadInteger.{numberIn, wholeFrom, wholeOf, wholeIs};
 
 // A number: whether it is negative, and its magnitude.
@@ -63,7 +63,7 @@ pub fn read_integer(mode: usize, s: &[u8], at: usize) -> IntegerRead
     signed(false, n)
 }
 
-fn digit(n: u32) -> u8
+fn digit(n: u64) -> u8
     requires { ⌜ n < 10 ⌝ }
     ensures { λ r. ⌜ r ≡ 48 + n ⌝ }
 {
@@ -71,7 +71,7 @@ fn digit(n: u32) -> u8
 }
 
 // The last `left` + 1 digits of `n`, without leading zeros.
-fn put_digits(out: &mut [u8], o: usize, left: u8, n: u32) -> usize
+pub fn put_digits(out: &mut [u8], o: usize, left: u8, n: u64) -> usize
     ensures { λ r. ⌜ Put (now (out .entry)) (now (out .exit)) o r (digits left n) ⌝ }
 {
     if left == 0 {
@@ -89,9 +89,9 @@ pub fn put_whole(out: &mut [u8], o: usize, neg: bool, m: u32) -> usize
 {
     if neg {
         let q = put(out, o, b'-');
-        return put_digits(out, q, 9, m);
+        return put_digits(out, q, 9, m as u64);
     }
-    put_digits(out, o, 9, m)
+    put_digits(out, o, 9, m as u64)
 }
 
 pub fn put_integer(out: &mut [u8], o: usize, mode: usize, s: &[u8], at: usize) -> usize

@@ -15,7 +15,7 @@ use Rattle.names.specs.Table.{placeOf}
 use Rattle.schema.specs.Parameters.{parameterNames}
 use Rattle.schema.specs.Columns.{permitsAt}
 use Rattle.read_text_line.specs.ContentLine.{RawParameter}
-use Rattle.text.specs.Parameters.{isBase64, readParameters}
+use Rattle.text.specs.Parameters.{isRawBase64Encoding, readParameters}
 use Rattle.read_text_parameters.specs.Comparing.{namesOf}
 
 abbrev pub permitsName : ℕ → ℕ → List ℕ → Bool
@@ -30,4 +30,4 @@ goodAt p t rs =
     distinct (namesOf rs)
     and isRead (readParameters rs)
     and every (permitsIt p t) rs
-    and (not (eqb t 0) or anyOne isBase64 rs)
+    and (not (eqb t 0) or anyOne isRawBase64Encoding rs)

@@ -9,7 +9,7 @@ ghost use Rattle.octets.specs.Ascii.{ascii};
 ghost use Rattle.octets.specs.Lists.{anyOne};
 ghost use Rattle.source.specs.Source.{cuts};
 ghost use Rattle.read_text_line.specs.Cursor.{valuesAt, paramsAt};
-ghost use Rattle.text.specs.Parameters.{isWord, isBase64};
+ghost use Rattle.text.specs.Parameters.{isWord, isRawBase64Encoding};
 ghost use Rattle.read_text_parameters.specs.Cutting.{paramCut};
 
 // The one value is BASE64.
@@ -30,7 +30,7 @@ fn is_base64_value(mode: usize, s: &[u8], first: usize) -> bool
 
 fn is_base64(mode: usize, s: &[u8], name: usize, end: usize, first: usize) -> bool
     requires { ⌜ cuts mode ≡ true ⌝ }
-    ensures { λ r. ⌜ r ≡ isBase64 (paramCut mode (now (s .entry)) name end first) ⌝ }
+    ensures { λ r. ⌜ r ≡ isRawBase64Encoding (paramCut mode (now (s .entry)) name end first) ⌝ }
 {
     let encoding = is_named(mode, s, name, end, b"ENCODING");
     if encoding {
@@ -42,7 +42,7 @@ fn is_base64(mode: usize, s: &[u8], name: usize, end: usize, first: usize) -> bo
 // A parameter from the cursor `e` on is ENCODING=BASE64.
 pub fn has_base64(mode: usize, s: &[u8], e: usize) -> bool
     requires { ⌜ cuts mode ≡ true ⌝ }
-    ensures { λ r. ⌜ r ≡ anyOne isBase64 (paramsAt mode (now (s .entry)) e) ⌝ }
+    ensures { λ r. ⌜ r ≡ anyOne isRawBase64Encoding (paramsAt mode (now (s .entry)) e) ⌝ }
 {
     let mut c = e;
     loop {

@@ -14,7 +14,7 @@ ghost use Rattle.octets.specs.Pick.{_or_};
 ghost use Rattle.octets.specs.Lists.{every, anyOne};
 ghost use Rattle.source.specs.Source.{cuts};
 ghost use Rattle.read_text_line.specs.Cursor.{paramsAt};
-ghost use Rattle.text.specs.Parameters.{isBase64};
+ghost use Rattle.text.specs.Parameters.{isRawBase64Encoding};
 ghost use Rattle.read_text_parameters.specs.Cutting.{nameCut};
 ghost use Rattle.read_text_parameters.specs.Permitted.{permitsName, permitsIt, goodAt};
 
@@ -59,7 +59,7 @@ fn are_permitted(p: usize, t: usize, mode: usize, s: &[u8], e: usize) -> bool
 // BINARY has ENCODING=BASE64.
 fn is_encoded(t: usize, mode: usize, s: &[u8], e: usize) -> bool
     requires { ⌜ cuts mode ≡ true ⌝ }
-    ensures { λ r. ⌜ r ≡ (not (eqb t 0) or anyOne isBase64 (paramsAt mode (now (s .entry)) e)) ⌝ }
+    ensures { λ r. ⌜ r ≡ (not (eqb t 0) or anyOne isRawBase64Encoding (paramsAt mode (now (s .entry)) e)) ⌝ }
 {
     if t == value_type::BINARY {
         return has_base64(mode, s, e);

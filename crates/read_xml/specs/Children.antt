@@ -15,7 +15,7 @@ use Rattle.octets.specs.Pick.{pick, _and_, _or_}
 use Rattle.source.specs.Source.{rest}
 use Rattle.schema.specs.Numbers.{propertyAt, typeWords}
 use Rattle.xcal.specs.Layout.{Slot}
-use Rattle.xcal.specs.ValueNodes.{may, must, typeElements}
+use Rattle.xcal.specs.ValueNodes.{geoElements, statusElements, typeElements, may, must}
 use Rattle.read_xml_nodes.specs.declared.Node.{Node}
 
 abbrev pub nameOf : List ℕ → Node → List ℕ
@@ -24,10 +24,10 @@ nameOf s n = rest 0 (take (n .«name_end») s) (n .name)
 -- ---- their names and slots
 
 abbrev pub geoWords : List (List ℕ)
-geoWords = ascii "parameters" ∷ ascii "latitude" ∷ ascii "longitude" ∷ []
+geoWords = ascii "parameters" ∷ geoElements
 
 abbrev pub statusWords : List (List ℕ)
-statusWords = ascii "parameters" ∷ ascii "code" ∷ ascii "description" ∷ ascii "data" ∷ []
+statusWords = ascii "parameters" ∷ statusElements
 
 abbrev pub otherWords : List (List ℕ)
 otherWords = ascii "parameters" ∷ typeWords

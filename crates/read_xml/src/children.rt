@@ -2,7 +2,10 @@
 use crate::After;
 use crate::Next;
 use crate::Tried;
+use markup::element;
+use markup::table;
 use names::find_word;
+use names::is_word;
 use octets::is_space;
 use read_xml_nodes::Element;
 use read_xml_nodes::Judged;
@@ -17,7 +20,7 @@ use schema::is_listed;
 use schema::property;
 ghost use mathlib.Core.Path.{_≡_};
 ghost use mathlib.Core.List.{List, []};
-ghost use Prim.Native.Nat.{ℕ, _≤_};
+ghost use Prim.Native.Nat.{ℕ, suc, _≤_};
 ghost use lib.Dec.{eqb, ltb};
 ghost use lib.ListN.{length, take};
 ghost use Rattle.octets.specs.Pick.{pick, _and_, _or_};
@@ -25,8 +28,9 @@ ghost use Rattle.octets.specs.Class.{isSpace};
 ghost use Rattle.calendar.specs.Refusal.{FRAME, fine, refuse};
 ghost use Rattle.source.specs.Source.{rest};
 ghost use Rattle.names.specs.Table.{placeOf};
-ghost use Rattle.schema.specs.Numbers.{propertyAt, typeAt};
+ghost use Rattle.schema.specs.Numbers.{propertyAt, typeAt, typeWords};
 ghost use Rattle.xcal.specs.Layout.{sequence};
+ghost use Rattle.xcal.specs.ValueNodes.{geoElements, statusElements};
 ghost use Rattle.xcal.specs.PropertyNodes.{propertySlots, childVerdict};
 ghost use Rattle.read_xml_value.specs.Sequencing.{isShort};
 ghost use Rattle.xml.specs.NodesAt.{nodesAt};
@@ -37,23 +41,63 @@ ghost use Rattle.read_xml.specs.Children.{childWords, slotAt, afterAt, f
 ghost use Rattle.read_xml.specs.Turning.{afterOf, Holder, ChildAt, Turns};
 ghost use Rattle.read_xml.specs.declared.Next.the-variants.{Goes, Ends};
 
+// The number of the name of an element of GEO's value, from the cursor on. It is counted from 1: 0 is `parameters`.
+fn geo_word(s: &[u8], at: usize) -> usize
+    ensures { λ r. ⌜ r ≡ suc (placeOf (rest 0 (now (s .entry)) at) geoElements) ⌝ }
+{
+    let latitude = is_word(0, s, at, &element::LATITUDE);
+    if latitude {
+        return 1;
+    }
+    let longitude = is_word(0, s, at, &element::LONGITUDE);
+    if longitude {
+        return 2;
+    }
+    3
+}
+
+// The same of REQUEST-STATUS's value.
+fn status_word(s: &[u8], at: usize) -> usize
+    ensures { λ r. ⌜ r ≡ suc (placeOf (rest 0 (now (s .entry)) at) statusElements) ⌝ }
+{
+    let code = is_word(0, s, at, &element::CODE);
+    if code {
+        return 1;
+    }
+    let description = is_word(0, s, at, &element::DESCRIPTION);
+    if description {
+        return 2;
+    }
+    let data = is_word(0, s, at, &element::DATA);
+    if data {
+        return 3;
+    }
+    4
+}
+
+// The same of the value of another property, whose elements are named as types.
+fn type_word(s: &[u8], at: usize) -> usize
+    ensures { λ r. ⌜ r ≡ suc (placeOf (rest 0 (now (s .entry)) at) typeWords) ⌝ }
+{
+    let t = find_word(true, 0, s, at, &table::TYPES);
+    t + 1
+}
+
 // The number of a child's name, from the cursor on.
 fn child_word(p: usize, s: &[u8], at: usize) -> usize
     ensures { λ r. ⌜ r ≡ placeOf (rest 0 (now (s .entry)) at) (childWords p) ⌝ }
 {
+    let parameters = is_word(0, s, at, &element::PARAMETERS);
+    if parameters {
+        return 0;
+    }
     if p == property::GEO {
-        return find_word(true, 0, s, at, b"parameters\nlatitude\nlongitude\n");
+        return geo_word(s, at);
     }
     if p == property::REQUEST_STATUS {
-        return find_word(true, 0, s, at, b"parameters\ncode\ndescription\ndata\n");
+        return status_word(s, at);
     }
-    find_word(
-        true,
-        0,
-        s,
-        at,
-        b"parameters\nbinary\nboolean\ncal-address\ndate\ndate-time\nduration\nfloat\ninteger\nperiod\nrecur\ntext\ntime\nuri\nutc-offset\nunknown\n",
-    )
+    type_word(s, at)
 }
 
 // A number below a bound, else 4.

@@ -7,7 +7,6 @@ mod tag;
 mod token;
 
 pub use formed::well_formed;
-pub use prolog::prolog_end;
 pub use tag::root_at;
 pub use token::token_at;
 

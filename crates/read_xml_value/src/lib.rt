@@ -5,8 +5,6 @@ mod turns;
 mod types;
 mod value;
 
-pub use leaves::leaf;
-pub use leaves::leaf_value;
 pub use types::element_type;
 pub use types::type_of_nodes;
 pub use value::value_verdict;

@@ -1,8 +1,10 @@
 // The children of PERIOD and RECUR, by the numbers of their names. `rule` is true for RECUR. See specs/Parts.antt.
 use crate::leaves::leaf_item;
 use crate::leaves::leaf_value;
+use markup::element;
 use markup::table;
 use names::find_word;
+use names::is_word;
 use octets::is_within;
 use read_xml_nodes::Judged;
 use recur::part;
@@ -19,7 +21,7 @@ ghost use Rattle.names.specs.Table.{placeOf};
 ghost use Rattle.xml.specs.NodesAt.{nodesAt};
 ghost use Rattle.read_xml_nodes.specs.Judging.{judgedAs};
 ghost use Rattle.read_xml_value.specs.Sequencing.{isShort};
-ghost use Rattle.read_xml_value.specs.Parts.{namesOf, countOf, slotNumber, afterAt};
+ghost use Rattle.read_xml_value.specs.Parts.{periodNames, namesOf, countOf, slotNumber, afterAt};
 ghost use Rattle.read_xml_value.specs.PartContents.{insideAt, flagsOf};
 
 // The slot after a child, or that it has no place.
@@ -28,14 +30,33 @@ pub enum After {
     Nowhere,
 }
 
-// The number of a child's name, from the cursor on.
+// The number of the name of a child of PERIOD, from the cursor on.
+fn period_word(s: &[u8], at: usize) -> usize
+    ensures { λ r. ⌜ r ≡ placeOf (rest 0 (now (s .entry)) at) periodNames ⌝ }
+{
+    let start = is_word(0, s, at, &element::START);
+    if start {
+        return 0;
+    }
+    let end = is_word(0, s, at, &element::END);
+    if end {
+        return 1;
+    }
+    let duration = is_word(0, s, at, &element::DURATION);
+    if duration {
+        return 2;
+    }
+    3
+}
+
+// The same of PERIOD or RECUR.
 fn part_word(rule: bool, s: &[u8], at: usize) -> usize
     ensures { λ r. ⌜ r ≡ placeOf (rest 0 (now (s .entry)) at) (namesOf rule) ⌝ }
 {
     if rule {
         return find_word(true, 0, s, at, &table::PARTS);
     }
-    find_word(true, 0, s, at, b"start\nend\nduration\n")
+    period_word(s, at)
 }
 
 // The same of the name from `name` to `name_end`.

@@ -2,13 +2,11 @@
 use calls::Answer;
 use calls::number_of;
 use calls::value_of;
-use sink::put;
+use numbers::integer::put_digits;
 use sink::put_all;
 ghost use mathlib.Core.Path.{_≡_};
-ghost use Prim.Native.Nat.{_+_, _<_};
 ghost use Rattle.octets.specs.Ascii.{ascii};
 ghost use Rattle.octets.specs.Append.{_⊕_};
-ghost use Rattle.octets.specs.Decimal.{digits};
 ghost use Rattle.sink.specs.Sink.{Put};
 ghost use Rattle.calls.specs.Answered.{outcomeOf};
 ghost use Rattle.reporting.specs.Line.{decimal, between, refusedLine, lineOf, shownOf};
@@ -18,27 +16,6 @@ const WRITTEN: u64 = 0;
 
 // The refusal of a result that has no room, as wide as an answer's number.
 const ROOM: u64 = refusals::ROOM as u64;
-
-fn digit(n: u64) -> u8
-    requires { ⌜ n < 10 ⌝ }
-    ensures { λ r. ⌜ r ≡ 48 + n ⌝ }
-{
-    b'0' + n as u8
-}
-
-// The last `left` + 1 digits of `n`, without leading zeros.
-fn put_digits(out: &mut [u8], o: usize, left: u8, n: u64) -> usize
-    ensures { λ r. ⌜ Put (now (out .entry)) (now (out .exit)) o r (digits left n) ⌝ }
-{
-    if left == 0 {
-        return put(out, o, digit(n % 10));
-    }
-    if n < 10 {
-        return put(out, o, digit(n));
-    }
-    let q = put_digits(out, o, left - 1, n / 10);
-    put(out, q, digit(n % 10))
-}
 
 // What stands between the number and the value.
 fn put_between(out: &mut [u8], o: usize, number: u64) -> usize

@@ -28,7 +28,7 @@ pub fn plain_unit(s: &[u8], at: usize) -> Step
 }
 
 // The bytes of a text with its folds in place: folds are passed over.
-pub fn folded_unit(s: &[u8], at: usize) -> Step
+fn folded_unit(s: &[u8], at: usize) -> Step
     ensures { λ r. ⌜ Reads 2 (now (s .entry)) at r ⌝ }
 {
     if at < s.len() {

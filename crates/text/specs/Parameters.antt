@@ -72,8 +72,8 @@ abbrev pub isWord : List ℕ → List ParamValue → Bool
 isWord w [] = false
 isWord w (v ∷ vs) = same (upper (v .chars)) w and isEmpty vs
 
-abbrev pub isBase64 : RawParameter → Bool
-isBase64 r = same (upper (r .name)) (ascii "ENCODING") and isWord (ascii "BASE64") (r .values)
+abbrev pub isRawBase64Encoding : RawParameter → Bool
+isRawBase64Encoding r = same (upper (r .name)) (ascii "ENCODING") and isWord (ascii "BASE64") (r .values)
 
 -- of the property n with a value of type t: no parameter twice, each readable and permitted; BINARY needs ENCODING=BASE64
 unfoldable pub parametersGood : List ℕ → ValueType → List RawParameter → Bool
@@ -81,4 +81,4 @@ parametersGood n t rs =
     distinct (map (λ (r : RawParameter). upper (r .name)) rs)
     and isRead (readParameters rs)
     and every (λ (r : RawParameter). permitsParameter n t (upper (r .name))) (ownParameters rs)
-    and (not (sameType t BINARY) or anyOne isBase64 rs)
+    and (not (sameType t BINARY) or anyOne isRawBase64Encoding rs)

@@ -2,15 +2,14 @@
 --     valueNames p    the names of the children that are the value of the property of the number p
 --     ParametersAt    the content of `parameters`: the contract of `parameters_inside`
 use mathlib.Core.Path.{_≡_}
-use mathlib.Core.List.{List, [], _∷_}
+use mathlib.Core.List.{List}
 use Prim.Native.Nat.{ℕ, _≤_}
 use lib.Dec.{eqb}
 use lib.ListN.{length}
-use Rattle.octets.specs.Ascii.{ascii}
 use Rattle.octets.specs.Pick.{pick}
 use Rattle.names.specs.Table.{placeOf}
 use Rattle.schema.specs.Properties.{propertyNames}
-use Rattle.xcal.specs.ValueNodes.{typeElements}
+use Rattle.xcal.specs.ValueNodes.{typeElements, geoElements, statusElements}
 use Rattle.xcal.specs.PropertyNodes.{parametersIn}
 use Rattle.xml.specs.NodesAt.{nodesAt}
 
@@ -18,9 +17,7 @@ use Rattle.xml.specs.NodesAt.{nodesAt}
 
 -- 9 is GEO, 45 is REQUEST-STATUS
 abbrev pub valueNames : ℕ → List (List ℕ)
-valueNames p =
-    pick (eqb p 9) (ascii "latitude" ∷ ascii "longitude" ∷ [])
-    (pick (eqb p 45) (ascii "code" ∷ ascii "description" ∷ ascii "data" ∷ []) typeElements)
+valueNames p = pick (eqb p 9) geoElements (pick (eqb p 45) statusElements typeElements)
 
 -- ---- `parameters`
 

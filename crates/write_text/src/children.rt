@@ -1,17 +1,20 @@
 // Children by their names. See specs/Children.antt, Parameters.antt.
 use markup::element;
+use markup::table;
 use names::find_word;
 use names::is_word;
 use read_xml_nodes::NodeKind;
 use read_xml_nodes::node_end;
 use read_xml_nodes::node_head;
 use schema::property;
+use schema::value_type;
 ghost use mathlib.Core.Path.{_≡_};
 ghost use Prim.Native.Nat.{_≤_};
 ghost use lib.ListN.{length};
 ghost use Rattle.octets.specs.Ascii.{ascii};
 ghost use Rattle.octets.specs.Words.{same, isOneOf};
 ghost use Rattle.source.specs.Source.{rest};
+ghost use Rattle.xcal.specs.ValueNodes.{geoElements, statusElements};
 ghost use Rattle.write_text.specs.Children.{InsideAt, nameIn};
 ghost use Rattle.write_text.specs.Parameters.{valueNames, ParametersAt};
 
@@ -61,26 +64,44 @@ pub fn inside_of(s: &[u8], from: usize, w: &[u8]) -> usize
     }
 }
 
+// The word is the name of an element of GEO's value.
+fn is_geo_name(s: &[u8], at: usize) -> bool
+    ensures { λ r. ⌜ r ≡ isOneOf (rest 0 (now (s .entry)) at) geoElements ⌝ }
+{
+    let latitude = is_word(0, s, at, &element::LATITUDE);
+    if latitude {
+        return true;
+    }
+    is_word(0, s, at, &element::LONGITUDE)
+}
+
+// The same of REQUEST-STATUS's value.
+fn is_status_name(s: &[u8], at: usize) -> bool
+    ensures { λ r. ⌜ r ≡ isOneOf (rest 0 (now (s .entry)) at) statusElements ⌝ }
+{
+    let code = is_word(0, s, at, &element::CODE);
+    if code {
+        return true;
+    }
+    let description = is_word(0, s, at, &element::DESCRIPTION);
+    if description {
+        return true;
+    }
+    is_word(0, s, at, &element::DATA)
+}
+
 // The word is the name of a child that belongs to the value of the property of the number `p`.
 fn is_value_name(p: usize, s: &[u8], at: usize) -> bool
     ensures { λ r. ⌜ r ≡ isOneOf (rest 0 (now (s .entry)) at) (valueNames p) ⌝ }
 {
     if p == property::GEO {
-        let i = find_word(true, 0, s, at, b"latitude\nlongitude\n");
-        return i < 2;
+        return is_geo_name(s, at);
     }
     if p == property::REQUEST_STATUS {
-        let i = find_word(true, 0, s, at, b"code\ndescription\ndata\n");
-        return i < 3;
+        return is_status_name(s, at);
     }
-    let i = find_word(
-        true,
-        0,
-        s,
-        at,
-        b"unknown\nbinary\nboolean\ncal-address\ndate\ndate-time\nduration\nfloat\ninteger\nperiod\nrecur\ntext\ntime\nuri\nutc-offset\n",
-    );
-    i < 15
+    let t = find_word(true, 0, s, at, &table::TYPES);
+    t <= value_type::UNKNOWN
 }
 
 // The same of the name from `name` to `end`.

@@ -5,4 +5,3 @@ mod property;
 mod shown;
 
 pub use property::put_property;
-pub use shown::put_values;

@@ -36,6 +36,13 @@ typeElements = ascii "unknown" ∷ map (λ t. lower (typeName t)) valueTypes
 
 -- ---- which children are the value
 
+-- the elements of GEO's value, and of REQUEST-STATUS's
+abbrev pub geoElements : List (List ℕ)
+geoElements = ascii "latitude" ∷ ascii "longitude" ∷ []
+
+abbrev pub statusElements : List (List ℕ)
+statusElements = ascii "code" ∷ ascii "description" ∷ ascii "data" ∷ []
+
 abbrev pub must : List ℕ → Slot
 must n = record { names = n ∷ []; several = false; required = true }
 

@@ -4,8 +4,8 @@
 use Prim.{tt}
 use mathlib.Core.Path.{_≡_, refl, sym, ap, subst, _∙_}
 use mathlib.Core.Bool.{Bool, true, false}
-use mathlib.Core.List.{List, []}
-use Prim.Native.Nat.{ℕ, _+_, _-_, _≤_, _<_}
+use mathlib.Core.List.{List, [], _∷_}
+use Prim.Native.Nat.{ℕ, suc, _+_, _-_, _^_, _≤_, _<_}
 use native.Mathlib.Omega.{arith}
 use lib.Dec.{eqb}
 use lib.ListN.{length, take}
@@ -15,17 +15,19 @@ use borrow.Author.Tests.{eq-eqb, ne-eqb, lt-ltb, le-ltb}
 use Rattle.octets.specs.Ascii.{ascii}
 use Rattle.octets.specs.Pick.{pick, _and_, _or_}
 use Rattle.octets.specs.Class.{isSpace}
+use Rattle.octets.specs.Words.{same}
 use Rattle.octets.specs.Computing.{octets-compute}
 use Rattle.source.specs.Source.{rest}
 use Rattle.names.specs.Table.{placeOf, namesIn}
-use Rattle.names.specs.laws.Table.{by-table}
+use Rattle.names.specs.laws.Table.{by-table, place-within}
 use Rattle.calendar.specs.Refusal.{FRAME, Verdict, fine, refuse, _otherwise_}
 use Rattle.schema.specs.Components.{componentNames}
 use Rattle.schema.specs.Properties.{propertyNames}
-use Rattle.schema.specs.Numbers.{propertyAt, typeAt}
+use Rattle.schema.specs.Numbers.{propertyAt, typeAt, typeWords}
+use Rattle.schema.specs.laws.Numbers.{type-words-are}
 use Rattle.xml.specs.Nodes.{Nodes}
 use Rattle.xcal.specs.Layout.{slotOf, afterSlot, unexpected, sequence}
-use Rattle.xcal.specs.ValueNodes.{valueVerdict}
+use Rattle.xcal.specs.ValueNodes.{geoElements, statusElements, valueVerdict}
 use Rattle.xcal.specs.ParameterNodes.{parametersVerdict}
 use Rattle.xcal.specs.PropertyNodes.{propertySlots, childVerdict}
 use Rattle.read_xml_value.specs.Sequencing.{isShort, walked, marked}
@@ -54,35 +56,90 @@ use Rattle.read_xml.specs.declared.Next.the-variants.{Goes, Ends}
 
 -- ---- a child's number, and the slot after it
 
-geo-are : namesIn (ascii "parameters\nlatitude\nlongitude\n") ≡ geoWords
-unfolding namesIn pick
-geo-are = refl
+-- the names of GEO's value, counted from 1
+module _ (w : List ℕ) {a : Bool} (e : a ≡ same w (ascii "latitude")) where
+  pub geo-first : a ≡ true → 1 ≡ suc (placeOf w geoElements)
+  unfolding placeOf pick
+  geo-first h = rw (← e, h)
 
-status-are : namesIn (ascii "parameters\ncode\ndescription\ndata\n") ≡ statusWords
-unfolding namesIn pick
-status-are = refl
+  module _ (h : a ≡ false) {b : Bool} (f : b ≡ same w (ascii "longitude")) where
+    pub geo-second : b ≡ true → 2 ≡ suc (placeOf w geoElements)
+    unfolding placeOf pick
+    geo-second k = rw (← e, h, ← f, k)
 
-other-are : namesIn (ascii "parameters\nbinary\nboolean\ncal-address\ndate\ndate-time\nduration\nfloat\ninteger\nperiod\nrecur\ntext\ntime\nuri\nutc-offset\nunknown\n") ≡ otherWords
-unfolding namesIn pick
-other-are = refl
+    pub geo-other : b ≡ false → 3 ≡ suc (placeOf w geoElements)
+    unfolding placeOf pick
+    geo-other k = rw (← e, h, ← f, k)
 
-module _ (n : List ℕ) {r : ℕ} (p : ℕ) where
-  pub word-geo : p ≡ 9 → r ≡ placeOf n (namesIn (ascii "parameters\nlatitude\nlongitude\n")) → r ≡ placeOf n (childWords p)
+-- and of REQUEST-STATUS's
+module _ (w : List ℕ) {a : Bool} (e : a ≡ same w (ascii "code")) where
+  pub status-first : a ≡ true → 1 ≡ suc (placeOf w statusElements)
+  unfolding placeOf pick
+  status-first h = rw (← e, h)
+
+  module _ (h : a ≡ false) {b : Bool} (f : b ≡ same w (ascii "description")) where
+    pub status-second : b ≡ true → 2 ≡ suc (placeOf w statusElements)
+    unfolding placeOf pick
+    status-second k = rw (← e, h, ← f, k)
+
+    module _ (k : b ≡ false) {c : Bool} (g : c ≡ same w (ascii "data")) where
+      pub status-third : c ≡ true → 3 ≡ suc (placeOf w statusElements)
+      unfolding placeOf pick
+      status-third l = rw (← e, h, ← f, k, ← g, l)
+
+      pub status-other : c ≡ false → 4 ≡ suc (placeOf w statusElements)
+      unfolding placeOf pick
+      status-other l = rw (← e, h, ← f, k, ← g, l)
+
+-- `parameters` is the first of all
+first-place : (n : List ℕ) (ws : List (List ℕ)) {a : Bool} → a ≡ same n (ascii "parameters") → a ≡ true → 0 ≡ placeOf n (ascii "parameters" ∷ ws)
+unfolding placeOf pick
+first-place n ws e h = rw (← e, h)
+
+later-place : (n : List ℕ) (ws : List (List ℕ)) {a : Bool} → a ≡ same n (ascii "parameters") → a ≡ false → suc (placeOf n ws) ≡ placeOf n (ascii "parameters" ∷ ws)
+unfolding placeOf pick
+later-place n ws e h = rw (← e, h)
+
+module _ (n : List ℕ) (p : ℕ) {a : Bool} (e : a ≡ same n (ascii "parameters")) where
+  pub word-first : a ≡ true → 0 ≡ placeOf n (childWords p)
   unfolding pick
-  word-geo h e = rw (eq-eqb p 9 h) (by-table n geo-are e)
+  word-first h = go (eqb p 9) (eqb p 45)
+    where
+      go : (s t : Bool) → 0 ≡ placeOf n (pick s geoWords (pick t statusWords otherWords))
+      go true t = first-place n geoElements e h
+      go false true = first-place n statusElements e h
+      go false false = first-place n typeWords e h
 
-  pub word-status : (p ≡ 9 → ⊥) → p ≡ 45 → r ≡ placeOf n (namesIn (ascii "parameters\ncode\ndescription\ndata\n")) → r ≡ placeOf n (childWords p)
-  unfolding pick
-  word-status g h e = rw (ne-eqb p 9 g, eq-eqb p 45 h) (by-table n status-are e)
+  module _ (h : a ≡ false) {r : ℕ} where
+    pub word-geo : p ≡ 9 → r ≡ suc (placeOf n geoElements) → r ≡ placeOf n (childWords p)
+    unfolding pick
+    word-geo q k = rw (eq-eqb p 9 q) (k ∙ later-place n geoElements e h)
 
-  pub word-other : (p ≡ 9 → ⊥) → (p ≡ 45 → ⊥) → r ≡ placeOf n (namesIn (ascii "parameters\nbinary\nboolean\ncal-address\ndate\ndate-time\nduration\nfloat\ninteger\nperiod\nrecur\ntext\ntime\nuri\nutc-offset\nunknown\n")) → r ≡ placeOf n (childWords p)
-  unfolding pick
-  word-other g h e = rw (ne-eqb p 9 g, ne-eqb p 45 h) (by-table n other-are e)
+    pub word-status : (p ≡ 9 → ⊥) → p ≡ 45 → r ≡ suc (placeOf n statusElements) → r ≡ placeOf n (childWords p)
+    unfolding pick
+    word-status g q k = rw (ne-eqb p 9 g, eq-eqb p 45 q) (k ∙ later-place n statusElements e h)
+
+    pub word-other : (p ≡ 9 → ⊥) → (p ≡ 45 → ⊥) → r ≡ suc (placeOf n typeWords) → r ≡ placeOf n (childWords p)
+    unfolding pick
+    word-other g q k = rw (ne-eqb p 9 g, ne-eqb p 45 q) (k ∙ later-place n typeWords e h)
+
+-- a type's number and one more
+module _ (n : List ℕ) {t : ℕ} (e : t ≡ placeOf n (namesIn (ascii "binary\nboolean\ncal-address\ndate\ndate-time\nduration\nfloat\ninteger\nperiod\nrecur\ntext\ntime\nuri\nutc-offset\nunknown\n"))) where
+  counted : t ≡ placeOf n typeWords
+  counted = by-table n type-words-are e
+
+  pub type-counted : t + 1 < 2 ^ 64
+  type-counted = let k : length typeWords ≡ 15 = refl in omega (arith, counted, place-within n typeWords, k)
+
+  pub type-after : t + 1 ≡ suc (placeOf n typeWords)
+  type-after = let k : t + 1 ≡ suc t = omega arith in k ∙ ap suc counted
 
 pub slot-numbered : (p : ℕ) (n : List ℕ) {r i : ℕ} → r ≡ slotAt p i → i ≡ placeOf n (childWords p) → r ≡ slotAt p (placeOf n (childWords p))
 slot-numbered p n e h = e ∙ ap (slotAt p) h
 
-pub ruleset wording = (word-geo, word-status, word-other, slot-numbered, length-take-le, needs)
+pub ruleset counting = (geo-first, geo-second, geo-other, status-first, status-second, status-third, status-other, type-counted, type-after, needs)
+
+pub ruleset wording = (word-first, word-geo, word-status, word-other, slot-numbered, length-take-le, needs)
 
 module _ (p k next : ℕ) where
   pub after-out : 4 ≤ k → afterOf Nowhere ≡ afterAt (propertyAt p .listed) k next

@@ -1,9 +1,8 @@
 -- Laws of what specs/Children.antt defines.
---     Skips f, skipped       a function that passes over characters says the same of it
+--     skipped    a function that passes over characters says the same from the next element on
 --     Looking    the invariant of its loop;   `search looking`
 --     children-none, children-some, child-less    a walk over elements
 --     encoding-..            the walk that looks for ENCODING
---     whole                  a slice from its first byte on
 use mathlib.Core.Path.{_≡_, refl, sym, ap, _∙_}
 use mathlib.Core.Bool.{Bool, true, false}
 use mathlib.Core.List.{List}
@@ -12,37 +11,29 @@ use native.Mathlib.Omega.{arith}
 use lib.ListN.{length}
 use borrow.Author.Needs.{needs}
 use Rattle.octets.specs.Ascii.{ascii}
-use Rattle.octets.specs.Pick.{pick, _or_}
+use Rattle.octets.specs.Pick.{_or_}
 use Rattle.octets.specs.Words.{same}
 use Rattle.source.specs.Source.{rest}
-use Rattle.source.specs.laws.Facts.{rest-part}
+use Rattle.source.specs.laws.Facts.{rest-plain, rest-part}
 use Rattle.xml.specs.Nodes.{Nodes, noNodes, element, literal, referred}
 use Rattle.xcal.specs.ParameterNodes.{hasEncoding}
 use Rattle.xml.specs.NodesAt.{nodesAt}
 use Rattle.read_xml_nodes.specs.NodeFound.{NodeAt}
 use Rattle.read_xml_nodes.specs.laws.NodeFound.{node-none, node-element, node-literal, node-referred, element-onward, literal-onward, referred-onward, literal-less, referred-less}
-use Rattle.read_xml_nodes.specs.laws.Walks.{Passing, passing-start}
+use Rattle.read_xml_nodes.specs.laws.Walks.{Passing, passing-start, Skips}
 use Rattle.read_xml_nodes.specs.declared.Node.{Node}
 use Rattle.read_xml_nodes.specs.declared.NodeKind.the-variants.{None, Element, Literal, Referred}
 use Rattle.read_xml_parameters.specs.Children.{fromElement, nameOf, childOf, ChildAt}
 use Rattle.read_xml_parameters.specs.declared.Child.{Child}
 
-pub record Skips {A : Type 0} (f : Nodes → A) : Type 0 where
-  pub literals : (p b : ℕ) (more : Nodes) → f (literal p b more) ≡ f more
-  pub references : (p : ℕ) (bs : List ℕ) (more : Nodes) → f (referred p bs more) ≡ f more
-
 pub skipped : {A : Type 0} (f : Nodes → A) → Skips f → (kids : Nodes) → f kids ≡ f (fromElement kids)
 unfolding fromElement
 skipped f k noNodes = refl
-skipped f k (literal p b more) = k .literals p b more ∙ skipped f k more
-skipped f k (referred p bs more) = k .references p bs more ∙ skipped f k more
+skipped f k (literal p b more) = k .over-literal p b more ∙ skipped f k more
+skipped f k (referred p bs more) = k .over-referred p bs more ∙ skipped f k more
 skipped f k (element p m x kids more) = refl
 
 -- ---- the next element
-
-pub whole : (s : List ℕ) → rest 0 s 0 ≡ s
-unfolding rest pick
-whole s = refl
 
 pub record Looking (s : List ℕ) (from at : ℕ) : Type 0 where
   pub is : fromElement (nodesAt s from) ≡ fromElement (nodesAt s at)
@@ -107,7 +98,7 @@ module _ {A : Type 0} {f : Nodes → A} (k : Skips f) {s : List ℕ} {from at : 
 
 skips-encoding : Skips hasEncoding
 unfolding hasEncoding
-skips-encoding = record { literals = λ p b more. refl; references = λ p bs more. refl }
+skips-encoding = record { over-literal = λ p b more. refl; over-referred = λ p bs more. refl }
 
 module _ {s : List ℕ} {from at : ℕ} {r : Child} (p : Passing hasEncoding s from at) (n : ChildAt s at r) where
   pub encoding-none : r .there ≡ false → false ≡ hasEncoding (nodesAt s from)
@@ -124,6 +115,6 @@ module _ {s : List ℕ} {from at : ℕ} {r : Child} (p : Passing hasEncoding s f
     encoding-later q = record { is = children-some skips-encoding p n h ∙ rw (← e, q) }
 
 pub is-whole : {A : Type 0} (f : List ℕ → A) (w : List ℕ) {r : A} → r ≡ f (rest 0 w 0) → r ≡ f w
-is-whole f w e = e ∙ ap f (whole w)
+is-whole f w e = e ∙ ap f (rest-plain w)
 
 pub ruleset encodings = (passing-start, encoding-none, encoding-here, encoding-later, child-less, needs)

@@ -19,12 +19,13 @@ use Rattle.source.specs.Source.{rest}
 use Rattle.source.specs.laws.Facts.{rest-part}
 use Rattle.xml.specs.Nodes.{Nodes, noNodes, element, literal, referred}
 use Rattle.xml.specs.NodesAt.{nodesAt}
+use Rattle.read_xml_nodes.specs.laws.Walks.{Skips}
 use Rattle.distinct.specs.Listed.{wordAt, listed}
 use Rattle.distinct.specs.laws.Listed.{listed-same}
 use Rattle.distinct.specs.Keeping.{Keeps}
 use Rattle.distinct.specs.laws.Keeping.{keeps-more, keeps-others}
 use Rattle.read_xml_parameters.specs.Children.{ChildAt, nameOf}
-use Rattle.read_xml_parameters.specs.laws.Children.{Skips, skipped}
+use Rattle.read_xml_parameters.specs.laws.Children.{skipped}
 use Rattle.read_xml_parameters.specs.Fresh.{firstNames, Collected}
 use Rattle.read_xml_parameters.specs.declared.Child.{Child}
 
@@ -50,7 +51,7 @@ none-listed w = refl
 
 skips-first : (k : ℕ) → Skips (λ (kids : Nodes). firstNames kids k)
 unfolding firstNames
-skips-first k = record { literals = λ p b more. refl; references = λ p bs more. refl }
+skips-first k = record { over-literal = λ p b more. refl; over-referred = λ p bs more. refl }
 
 -- ---- a walk
 

@@ -20,7 +20,7 @@ use Rattle.octets.specs.Words.{isOneOf, holds}
 use Rattle.octets.specs.Reading.{isRead}
 use Rattle.calendar.specs.Calendar.{xcal, Value}
 use Rattle.source.specs.Source.{rest, Reads}
-use Rattle.source.specs.laws.Facts.{rest-byte, rest-end, byte-small}
+use Rattle.source.specs.laws.Facts.{rest-byte, rest-end, byte-small, rest-plain}
 use Rattle.source.specs.declared.Step.{Step}
 use Rattle.names.specs.Table.{placeOf, namesIn}
 use Rattle.schema.specs.Types.{typePlace}
@@ -33,7 +33,6 @@ use Rattle.schema.specs.laws.Places.{type-word}
 use Rattle.values.specs.ReadValue.{readValue}
 use Rattle.xml.specs.Nodes.{Nodes, charactersOf, hasElement}
 use Rattle.xcal.specs.ParameterNodes.{readWordIn}
-use Rattle.read_xml_parameters.specs.laws.Children.{whole}
 use Rattle.read_xml_parameters.specs.Rows.{rowAt, readLeaf}
 use Rattle.read_xml_parameters.specs.Leaves.{isValue}
 
@@ -115,7 +114,7 @@ module _ (r : ParameterRow) (kids : Nodes) {a : Bool} (e : a ≡ hasElement kids
 module _ (q : ℕ) (w : List ℕ) (kids : Nodes) {t k : ℕ} (e : t ≡ typePlace (parameterAt q .type))
     (f : k ≡ placeOf (rest 0 w 0) (namesIn (ascii "binary\nboolean\ncal-address\ndate\ndate-time\nduration\nfloat\ninteger\nperiod\nrecur\ntext\ntime\nuri\nutc-offset\nunknown\n"))) where
   placed : k ≡ placeOf w typeWords
-  placed = f ∙ rw (whole w, type-words-are)
+  placed = f ∙ rw (rest-plain w, type-words-are)
 
   pub value-named : {b : Bool} → k ≡ t → b ≡ isRead (readLeaf (rowAt q) kids) → b ≡ isValue (rowAt q) w kids
   unfolding rowAt

@@ -16,6 +16,7 @@ use Rattle.octets.specs.Reading.{readOr}
 use Rattle.sink.specs.Sink.{Put, Todo}
 use Rattle.sink.specs.laws.Sink.{put-length, todo-all, todo-step, todo-done, _▷_}
 use Rattle.source.specs.Source.{rest}
+use Rattle.source.specs.laws.Facts.{rest-plain}
 use Rattle.names.specs.Table.{placeOf}
 use Rattle.schema.specs.Parameters.{ParameterRow, parameterRow, parameterNames}
 use Rattle.read_text_line.specs.Write.{writeParamValue, writeParameter}
@@ -24,9 +25,9 @@ use Rattle.text.specs.WriteText.{rawOf}
 use Rattle.xml.specs.Nodes.{Nodes, charactersOf}
 use Rattle.xcal.specs.ParameterNodes.{readParameterNodes}
 use Rattle.xml.specs.NodesAt.{nodesAt}
-use Rattle.read_xml_nodes.specs.laws.Walks.{passing-start}
+use Rattle.read_xml_nodes.specs.laws.Walks.{passing-start, Skips}
 use Rattle.read_xml_parameters.specs.Children.{ChildAt, nameOf}
-use Rattle.read_xml_parameters.specs.laws.Children.{Skips, whole, children-none, children-some}
+use Rattle.read_xml_parameters.specs.laws.Children.{children-none, children-some}
 use Rattle.read_xml_parameters.specs.Rows.{rowAt, readLeaves}
 use Rattle.read_xml_parameters.specs.laws.Rows.{row-named, leaves-are}
 use Rattle.read_xml_parameters.specs.Written.{rowValue, itemShown, listShown, valuesShown}
@@ -51,7 +52,7 @@ module _ {d₀ : List ℕ} {at₀ : ℕ} {all d : List ℕ} {at : ℕ} {left : L
 
 skips-list : (r : ParameterRow) (later : Bool) → Skips (listShown r later)
 unfolding listShown
-skips-list r later = record { literals = λ p b more. refl; references = λ p bs more. refl }
+skips-list r later = record { over-literal = λ p b more. refl; over-referred = λ p bs more. refl }
 
 module _ (r : ParameterRow) (later : Bool) {d₀ : List ℕ} {at₀ : ℕ} {all d : List ℕ} {at : ℕ} {s : List ℕ} {c : ℕ} {n : Child}
     (t : Emits d₀ at₀ all d at (listShown r later (nodesAt s c))) (a : ChildAt s c n) where
@@ -87,11 +88,11 @@ parameter-is m kids = rw (leaves-are (upper m) kids) (by-row (rowAt (placeOf (up
 pub parameter-put : {d e f : List ℕ} {o a n q : ℕ} (w : List ℕ) (kids : Nodes) → q ≡ placeOf (upper (rest 0 w 0)) parameterNames →
     Put d e o a (opening (upper (rest 0 w 0))) → Put e f a n (valuesShown (rowAt q) kids) → Put d f o n (parameterShown w kids)
 parameter-put {d} {e} {f} {o} {a} {n} {q} w kids h x y =
-    rw (parameter-is w kids) (subst (λ (l : List ℕ). Put d e o a (opening (upper l))) (whole w) x ▷ subst (λ (k : ℕ). Put e f a n (valuesShown (rowAt k) kids)) (h ∙ rw (whole w)) y)
+    rw (parameter-is w kids) (subst (λ (l : List ℕ). Put d e o a (opening (upper l))) (rest-plain w) x ▷ subst (λ (k : ℕ). Put e f a n (valuesShown (rowAt k) kids)) (h ∙ rw (rest-plain w)) y)
 
 skips-parameters : Skips parametersShown
 unfolding parametersShown readParameterNodes
-skips-parameters = record { literals = λ p b more. refl; references = λ p bs more. refl }
+skips-parameters = record { over-literal = λ p b more. refl; over-referred = λ p bs more. refl }
 
 module _ {d₀ : List ℕ} {at₀ : ℕ} {all d : List ℕ} {at : ℕ} {s : List ℕ} {c : ℕ} {n : Child} (t : Emits d₀ at₀ all d at (parametersShown (nodesAt s c))) (a : ChildAt s c n) where
   pub parameter-more : {e : List ℕ} {m : ℕ} → n .there ≡ true → Put d e at m (parameterShown (nameOf s (n .name) (n .«name_end»)) (nodesAt s (n .inside))) →

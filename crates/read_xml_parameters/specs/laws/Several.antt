@@ -21,15 +21,15 @@ use Rattle.schema.specs.Types.{typeName}
 use Rattle.schema.specs.Parameters.{ParameterRow}
 use Rattle.schema.specs.Numbers.{parameterAt}
 use Rattle.xml.specs.Nodes.{Nodes, noNodes, element, literal, referred, charactersOf, hasElement}
-use Rattle.xcal.specs.ParameterNodes.{readWordIn, asMany, valuesGood, isBase64}
+use Rattle.xcal.specs.ParameterNodes.{readWordIn, asMany, valuesGood, areBase64}
 use Rattle.xml.specs.NodesAt.{nodesAt}
 use Rattle.read_xml_nodes.specs.NodeFound.{NodeAt}
 use Rattle.read_xml_nodes.specs.laws.NodeFound.{node-none, node-literal, node-referred, element-less, literal-less}
-use Rattle.read_xml_nodes.specs.laws.Walks.{Passing, passing-start}
+use Rattle.read_xml_nodes.specs.laws.Walks.{Passing, passing-start, Skips}
 use Rattle.read_xml_nodes.specs.declared.Node.{Node}
 use Rattle.read_xml_nodes.specs.declared.NodeKind.the-variants.{None, Element, Literal, Referred}
 use Rattle.read_xml_parameters.specs.Children.{ChildAt, nameOf}
-use Rattle.read_xml_parameters.specs.laws.Children.{Skips, node-named, children-none, children-some}
+use Rattle.read_xml_parameters.specs.laws.Children.{node-named, children-none, children-some}
 use Rattle.read_xml_parameters.specs.Rows.{rowAt, readLeaf, readLeaves}
 use Rattle.read_xml_parameters.specs.laws.Rows.{literal-read, element-read}
 use Rattle.read_xml_parameters.specs.Leaves.{isValue}
@@ -119,7 +119,7 @@ good-is r kids = rw (← (all-read r kids)) (go (readLeaves r kids) refl)
 
 skips-single : Skips isSingle
 unfolding isSingle
-skips-single = record { literals = λ p b more. refl; references = λ p bs more. refl }
+skips-single = record { over-literal = λ p b more. refl; over-referred = λ p bs more. refl }
 
 module _ {s : List ℕ} {at : ℕ} {r : Child} (n : ChildAt s at r) where
   pub single-none : r .there ≡ false → true ≡ isSingle (nodesAt s at)
@@ -163,7 +163,7 @@ word-read r ws k kids v h = go (hasElement kids or holds 34 (charactersOf kids) 
         (ap (λ (o : Option (List (List ℕ))). readWordIn o (r .type) (charactersOf kids)) (sym k) ∙ e) .1
 
 -- the first of the words that were read
-pub first-is : (r : ParameterRow) (ws : List (List ℕ)) → r .words ≡ some ws → (kids : Nodes) (vs : List Value) → readLeaves r kids ≡ some vs → isBase64 vs ≡ firstIs (ascii "BASE64") kids
+pub first-is : (r : ParameterRow) (ws : List (List ℕ)) → r .words ≡ some ws → (kids : Nodes) (vs : List Value) → readLeaves r kids ≡ some vs → areBase64 vs ≡ firstIs (ascii "BASE64") kids
 unfolding readLeaves firstIs pick readOr
 first-is r ws k noNodes vs h = let z : [] ≡ vs = cc in rw (← z)
 first-is r ws k (literal p b more) vs h = first-is r ws k more vs (literal-read r vs p b more h)
@@ -172,7 +172,7 @@ first-is r ws k (element p m x kids more) vs h = let a = element-read r vs p m x
 
 skips-first : (w : List ℕ) → Skips (firstIs w)
 unfolding firstIs
-skips-first w = record { literals = λ p b more. refl; references = λ p bs more. refl }
+skips-first w = record { over-literal = λ p b more. refl; over-referred = λ p bs more. refl }
 
 module _ (w : List ℕ) {s : List ℕ} {at : ℕ} {r : Child} (n : ChildAt s at r) where
   pub first-none : r .there ≡ false → true ≡ firstIs w (nodesAt s at)

@@ -19,6 +19,7 @@ use Rattle.octets.specs.Reading.{isRead, readOr}
 use Rattle.octets.specs.Computing.{octets-compute}
 use Rattle.calendar.specs.Calendar.{Value}
 use Rattle.source.specs.Source.{rest}
+use Rattle.source.specs.laws.Facts.{rest-plain}
 use Rattle.names.specs.Table.{placeOf}
 use Rattle.names.specs.laws.Places.{same-place}
 use Rattle.schema.specs.Types.{sameType}
@@ -31,8 +32,7 @@ use Rattle.schema.specs.laws.Places.{type-back}
 use Rattle.read_text_line.specs.Names.{isCarriedName}
 use Rattle.xml.specs.Nodes.{Nodes}
 use Rattle.xcal.specs.Layout.{hasCapital}
-use Rattle.xcal.specs.ParameterNodes.{readParamNodes, valuesGood, encodes, isBase64, badName}
-use Rattle.read_xml_parameters.specs.laws.Children.{whole}
+use Rattle.xcal.specs.ParameterNodes.{readParamNodes, valuesGood, encodes, areBase64, badName}
 use Rattle.read_xml_parameters.specs.Rows.{rowAt, readLeaves}
 use Rattle.read_xml_parameters.specs.laws.Rows.{row-named, leaves-are}
 use Rattle.read_xml_parameters.specs.Several.{goodBy, firstIs}
@@ -43,7 +43,7 @@ use Rattle.read_xml_parameters.specs.Sound.{encodedBy, soundBy}
 
 module _ (w : List ℕ) {a : Bool} (e : a ≡ hasCapital (rest 0 (take (length w) w) 0)) where
   capital : a ≡ hasCapital w
-  capital = e ∙ rw (take-length w, whole w)
+  capital = e ∙ rw (take-length w, rest-plain w)
 
   pub bad-capital : a ≡ true → true ≡ badName w
   unfolding _or_
@@ -51,7 +51,7 @@ module _ (w : List ℕ) {a : Bool} (e : a ≡ hasCapital (rest 0 (take (length w
 
   module _ {b : Bool} (h : a ≡ false) (f : b ≡ isCarriedName (rest 0 w 0)) where
     carried : b ≡ isCarriedName w
-    carried = f ∙ rw (whole w)
+    carried = f ∙ rw (rest-plain w)
 
     pub bad-start : b ≡ false → true ≡ badName w
     unfolding _or_
@@ -59,7 +59,7 @@ module _ (w : List ℕ) {a : Bool} (e : a ≡ hasCapital (rest 0 (take (length w
 
     pub bad-value : {c : Bool} → b ≡ true → c ≡ same (rest 0 w 0) (ascii "value") → c ≡ badName w
     unfolding _or_
-    bad-value k g = g ∙ rw (whole w, ← capital, h, ← carried, k)
+    bad-value k g = g ∙ rw (rest-plain w, ← capital, h, ← carried, k)
 
 -- ---- ENCODING, the parameter of the number 6, and BINARY, the type of the number 0
 
@@ -117,11 +117,11 @@ module _ (n : List ℕ) (kids : Nodes) where
       ∙ good-is (rowAt (placeOf n parameterNames)) kids
 
   module _ (t : ℕ) (k : t ≤ 14) (g : goodBy (rowAt (placeOf n parameterNames)) kids ≡ true) where
-    base64 : placeOf n parameterNames ≡ 6 → firstIs (ascii "BASE64") kids ≡ isBase64 (readOr [] (readParamNodes n kids))
+    base64 : placeOf n parameterNames ≡ 6 → firstIs (ascii "BASE64") kids ≡ areBase64 (readOr [] (readParamNodes n kids))
     unfolding goodBy isRead readOr
     base64 h = rw leaves-at (go (readLeaves (rowAt (placeOf n parameterNames)) kids) refl (all-read _ kids ∙ and-both _ _ g .0))
       where
-        go : (o : Option (List Value)) → readLeaves (rowAt (placeOf n parameterNames)) kids ≡ o → isRead o ≡ true → firstIs (ascii "BASE64") kids ≡ isBase64 (readOr [] o)
+        go : (o : Option (List Value)) → readLeaves (rowAt (placeOf n parameterNames)) kids ≡ o → isRead o ≡ true → firstIs (ascii "BASE64") kids ≡ areBase64 (readOr [] o)
         go none e z = absurd (false≢true z)
         go (some vs) e z = sym (first-is (rowAt (placeOf n parameterNames)) encodings (rw h encoding-words) kids vs e)
 
@@ -129,7 +129,7 @@ module _ (n : List ℕ) (kids : Nodes) where
     unfolding encodedBy sameType _and_ _or_
     encoded-is = rw (same-place n (ascii "ENCODING") parameterNames encoding-known, encoding-place, type-back t k) (go (eqb (placeOf n parameterNames) 6) (eqb t 0) refl)
       where
-        go : (a b : Bool) → eqb (placeOf n parameterNames) 6 ≡ a → (not (a and b) or firstIs (ascii "BASE64") kids) ≡ (not (a and b) or isBase64 (readOr [] (readParamNodes n kids)))
+        go : (a b : Bool) → eqb (placeOf n parameterNames) 6 ≡ a → (not (a and b) or firstIs (ascii "BASE64") kids) ≡ (not (a and b) or areBase64 (readOr [] (readParamNodes n kids)))
         go false b e = refl
         go true false e = refl
         go true true e = base64 (eqb-true _ _ e)

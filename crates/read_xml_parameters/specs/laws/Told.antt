@@ -19,6 +19,7 @@ use Rattle.octets.specs.laws.Words.{same-either}
 use Rattle.octets.specs.Lists.{distinct}
 use Rattle.calendar.specs.Refusal.{_otherwise_}
 use Rattle.source.specs.Source.{rest}
+use Rattle.source.specs.laws.Facts.{rest-plain}
 use Rattle.names.specs.Table.{placeOf}
 use Rattle.schema.specs.Properties.{propertyNames}
 use Rattle.schema.specs.Parameters.{parameterNames}
@@ -35,7 +36,7 @@ use Rattle.read_xml_nodes.specs.declared.Judged.the-variants.{Fine, Refused}
 use Rattle.read_xml_nodes.specs.declared.Node.{Node}
 use Rattle.read_xml_nodes.specs.declared.NodeKind.the-variants.{None, Element, Literal, Referred}
 use Rattle.read_xml_parameters.specs.Children.{nameOf}
-use Rattle.read_xml_parameters.specs.laws.Children.{whole, node-named}
+use Rattle.read_xml_parameters.specs.laws.Children.{node-named}
 use Rattle.read_xml_parameters.specs.Seen.{isBefore}
 use Rattle.read_xml_parameters.specs.Fresh.{firstNames}
 use Rattle.read_xml_parameters.specs.laws.Fresh.{Fresh, fresh-start, fresh-skip, fresh-next, fresh-here}
@@ -52,7 +53,7 @@ module _ (p t : ℕ) (m : List ℕ) (kids : Nodes) {a again : Bool} (e : a ≡ a
 
   module _ {q : ℕ} {b : Bool} (h : a ≡ false) (f : q ≡ placeOf (upper (rest 0 m 0)) parameterNames) (g : b ≡ soundBy p t q kids) where
     named : b ≡ soundBy p t (placeOf (upper m) parameterNames) kids
-    named = g ∙ rw (f, whole m)
+    named = g ∙ rw (f, rest-plain m)
 
     pub against-not : b ≡ true → false ≡ againstBy again p t m kids
     unfolding againstBy _or_

@@ -13,6 +13,7 @@ use borrow.Author.Needs.{needs}
 use borrow.Author.Tests.{lt-ltb, le-ltb, ltb-true}
 use Rattle.octets.specs.Ascii.{ascii}
 use Rattle.octets.specs.Pick.{pick, within}
+use Rattle.octets.specs.Words.{same}
 use Rattle.octets.specs.Computing.{octets-compute}
 use Rattle.names.specs.Table.{placeOf, namesIn}
 use Rattle.names.specs.laws.Table.{by-table}
@@ -27,16 +28,34 @@ pub recur-names-are : namesIn (ascii "freq\nuntil\ncount\ninterval\nbysecond\nby
 unfolding namesIn pick
 recur-names-are = refl
 
-period-names-are : namesIn (ascii "start\nend\nduration\n") ≡ periodNames
-unfolding namesIn pick
-period-names-are = refl
-
 pub named-rule : (w : List ℕ) {r : ℕ} {rule : Bool} → rule ≡ true →
     r ≡ placeOf w (namesIn (ascii "freq\nuntil\ncount\ninterval\nbysecond\nbyminute\nbyhour\nbyday\nbymonthday\nbyyearday\nbyweekno\nbymonth\nbysetpos\nwkst\n")) → r ≡ placeOf w (namesOf rule)
 named-rule w h e = rw h (by-table w recur-names-are e)
 
-pub named-period : (w : List ℕ) {r : ℕ} {rule : Bool} → rule ≡ false → r ≡ placeOf w (namesIn (ascii "start\nend\nduration\n")) → r ≡ placeOf w (namesOf rule)
-named-period w h e = rw h (by-table w period-names-are e)
+pub named-period : (w : List ℕ) {r : ℕ} {rule : Bool} → rule ≡ false → r ≡ placeOf w periodNames → r ≡ placeOf w (namesOf rule)
+named-period w h e = rw h e
+
+-- the three names of PERIOD, one after another
+module _ (w : List ℕ) {a : Bool} (e : a ≡ same w (ascii "start")) where
+  pub period-start : a ≡ true → 0 ≡ placeOf w periodNames
+  unfolding placeOf pick
+  period-start h = rw (← e, h)
+
+  module _ (h : a ≡ false) {b : Bool} (f : b ≡ same w (ascii "end")) where
+    pub period-end : b ≡ true → 1 ≡ placeOf w periodNames
+    unfolding placeOf pick
+    period-end k = rw (← e, h, ← f, k)
+
+    module _ (k : b ≡ false) {c : Bool} (g : c ≡ same w (ascii "duration")) where
+      pub period-duration : c ≡ true → 2 ≡ placeOf w periodNames
+      unfolding placeOf pick
+      period-duration l = rw (← e, h, ← f, k, ← g, l)
+
+      pub period-other : c ≡ false → 3 ≡ placeOf w periodNames
+      unfolding placeOf pick
+      period-other l = rw (← e, h, ← f, k, ← g, l)
+
+pub ruleset periods = (period-start, period-end, period-duration, period-other, needs)
 
 -- ---- the slot of a child
 

@@ -2,7 +2,7 @@
 --     rest-byte, rest-end       what the bytes from the cursor on are, where a byte was found, and where none was
 --     byte-small                a unit that is not the end's is a byte
 --     plain-byte, plain-end     the step over bytes as they stand;   none-end: over an encoding that there is not
---     rest-part                 what a slice that is cut at e has from c on
+--     rest-plain                bytes as they stand, from the first on;   rest-part: what a slice that is cut at e has from c on
 --     reach-here, reach-on, reach-cut    cursors with whole steps between them: none, one after another, in what is cut further on
 --     rest-past                 past the end nothing stands;   reach-end: the end is reached from the start
 --     rest-cut, cut-is          what stands from a cursor on, cut in two at a cursor that is reached from it
@@ -155,6 +155,10 @@ drop-take (x ∷ s) (suc c) (suc e) = let k : suc e - suc c ≡ e - c = omega ar
 -- the same from a later index on
 later : (s : List ℕ) (c e : ℕ) → c ≤ e → drop e s ≡ drop (e - c) (drop c s)
 later s c e h = let k : e ≡ c + (e - c) = omega arith in ap (λ (n : ℕ). drop n s) k ∙ sym (drop-drop (e - c) c s)
+
+pub rest-plain : (s : List ℕ) → rest 0 s 0 ≡ s
+unfolding rest pick
+rest-plain s = refl
 
 pub rest-part : (s : List ℕ) (c e : ℕ) → rest 0 (take e s) c ≡ take (e - c) (drop c s)
 unfolding rest pick

@@ -13,6 +13,7 @@ use Rattle.octets.specs.Append.{_⊕_}
 use Rattle.calendar.specs.Refusal.{fine, refuse, answer, _otherwise_, refusalAt}
 use Rattle.sink.specs.Sink.{Put}
 use Rattle.source.specs.Source.{rest}
+use Rattle.source.specs.laws.Facts.{rest-plain}
 use Rattle.folding.specs.Unfold.{unfolded, origin, Unfolds}
 use Rattle.folding.specs.laws.Unfold.{unfolded-front, length-unfolded}
 use Rattle.folding.specs.Lines.{lines}
@@ -39,19 +40,15 @@ Converts s w w′ d d′ r = (outcomeOf r ≡ toXmlOutcome s w d) × (d′ ≡ t
 
 -- ---- the check and the writer read the unfolded text as bytes as they stand
 
-pub kept-plain : (u : List ℕ) → rest 0 u 0 ≡ u
-unfolding rest pick
-kept-plain u = refl
-
 module _ {u : List ℕ} where
   pub check-fine : Checks 0 u checked.Fine → linesVerdict (length u) (lines u) ≡ fine
-  check-fine k = rw (kept-plain u) at (k .is)
+  check-fine k = rw (rest-plain u) at (k .is)
 
   pub check-refused : {n p : ℕ} → Checks 0 u (checked.Refused n p) → linesVerdict (length u) (lines u) ≡ refuse (refusalAt n) p
-  check-refused {n} {p} k = (rw (kept-plain u) at (k .is)) ∙ ap (refuse (refusalAt n)) (index-plain u p (k .place))
+  check-refused {n} {p} k = (rw (rest-plain u) at (k .is)) ∙ ap (refuse (refusalAt n)) (index-plain u p (k .place))
 
 pub put-kept : (u : List ℕ) {d e : List ℕ} {o r : ℕ} → Put d e o r (writeDocument (calendarOf (lines (rest 0 u 0)))) → Put d e o r (writeDocument (calendarOf (lines u)))
-put-kept u w = rw (kept-plain u) at w
+put-kept u w = rw (rest-plain u) at w
 
 -- ---- the steps
 

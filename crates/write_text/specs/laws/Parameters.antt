@@ -3,24 +3,29 @@
 --     geo-at, status-at    GEO and REQUEST-STATUS by their numbers
 use mathlib.Core.Path.{_≡_, refl, sym, ap, _∙_}
 use mathlib.Core.Bool.{Bool, true, false, not}
-use mathlib.Core.List.{List, [], _∷_, _++_}
+use mathlib.Core.List.{List, [], _∷_, _++_, map}
 use mathlib.Core.Option.{some}
 use Prim.Native.Nat.{ℕ, suc}
 use native.Mathlib.Omega.{arith}
-use lib.Dec.{eqb, ltb}
+use lib.Dec.{eqb, ltb, leb}
 use lib.ListN.{length}
 use borrow.Author.Needs.{needs}
-use borrow.Author.Tests.{ne-eqb}
+use borrow.Author.Tests.{ne-eqb, le-leb, lt-leb, ltb-true, ltb-false}
 use Rattle.octets.specs.Ascii.{ascii}
 use Rattle.octets.specs.Pick.{pick, _or_}
+use Rattle.octets.specs.laws.Pick.{or-false}
+use Rattle.octets.specs.Class.{lower}
 use Rattle.octets.specs.Words.{same, isOneOf}
 use Rattle.octets.specs.Computing.{octets-compute}
 use Rattle.names.specs.Table.{placeOf, namesIn}
-use Rattle.names.specs.laws.Table.{one-of-place}
+use Rattle.names.specs.laws.Table.{by-table, one-of-place}
 use Rattle.names.specs.laws.Places.{same-place}
+use Rattle.schema.specs.Types.{typeName, valueTypes}
 use Rattle.schema.specs.Properties.{propertyNames, isListedProperty}
+use Rattle.schema.specs.Numbers.{typeWords}
+use Rattle.schema.specs.laws.Numbers.{type-words-are}
 use Rattle.xcal.specs.Layout.{Slot, slotOf}
-use Rattle.xcal.specs.ValueNodes.{must, may, typeElements, valueSlots}
+use Rattle.xcal.specs.ValueNodes.{typeElements, geoElements, statusElements, must, may, valueSlots}
 use Rattle.xcal.specs.PropertyNodes.{stillBefore, parametersIn}
 use Rattle.xml.specs.NodesAt.{nodesAt}
 use Rattle.xml.specs.laws.NodesAt.{nodes-none}
@@ -61,7 +66,7 @@ before-all m (s ∷ ss) k = go (isOneOf m (s .names)) (before-all m ss (suc k)) 
 by-number : (a b : Bool) (w : List ℕ) →
     slotNames (pick a (must (ascii "latitude") ∷ must (ascii "longitude") ∷ []) (pick b (must (ascii "code") ∷ must (ascii "description") ∷ may (ascii "data") ∷ [])
     (record { names = typeElements; several = isListedProperty w; required = true } ∷ [])))
-    ≡ pick a (ascii "latitude" ∷ ascii "longitude" ∷ []) (pick b (ascii "code" ∷ ascii "description" ∷ ascii "data" ∷ []) typeElements)
+    ≡ pick a geoElements (pick b statusElements typeElements)
 unfolding pick
 by-number true b w = refl
 by-number false true w = refl
@@ -124,31 +129,67 @@ pub ruleset sought = (sought-start, sought-none, sought-here, sought-value, soug
 
 -- ---- the names of those children, in the code
 
-geo-names : namesIn (ascii "latitude\nlongitude\n") ≡ ascii "latitude" ∷ ascii "longitude" ∷ []
-unfolding namesIn pick
-geo-names = refl
+module _ (m : List ℕ) {a : Bool} (e : a ≡ same m (ascii "latitude")) where
+  pub geo-first : a ≡ true → true ≡ isOneOf m geoElements
+  unfolding isOneOf _or_
+  geo-first h = rw (← e, h)
 
-status-names : namesIn (ascii "code\ndescription\ndata\n") ≡ ascii "code" ∷ ascii "description" ∷ ascii "data" ∷ []
-unfolding namesIn pick
-status-names = refl
+  pub geo-last : a ≡ false → {b : Bool} → b ≡ same m (ascii "longitude") → b ≡ isOneOf m geoElements
+  unfolding isOneOf _or_
+  geo-last h {b} f = rw (← e, h, ← f) (sym (or-false b))
 
-type-names : namesIn (ascii "unknown\nbinary\nboolean\ncal-address\ndate\ndate-time\nduration\nfloat\ninteger\nperiod\nrecur\ntext\ntime\nuri\nutc-offset\n") ≡ typeElements
-unfolding octets-compute namesIn
-type-names = refl
+module _ (m : List ℕ) {a : Bool} (e : a ≡ same m (ascii "code")) where
+  pub status-first : a ≡ true → true ≡ isOneOf m statusElements
+  unfolding isOneOf _or_
+  status-first h = rw (← e, h)
 
-found-by : (m : List ℕ) {i : ℕ} {l ns : List (List ℕ)} (k : ℕ) → l ≡ ns → length ns ≡ k → i ≡ placeOf m l → ltb i k ≡ isOneOf m ns
-found-by m k q z e = sym (one-of-place m _ ∙ rw (z, ← q, ← e))
+  module _ (h : a ≡ false) {b : Bool} (f : b ≡ same m (ascii "description")) where
+    pub status-second : b ≡ true → true ≡ isOneOf m statusElements
+    unfolding isOneOf _or_
+    status-second k = rw (← e, h, ← f, k)
 
-module _ {p i : ℕ} (m : List ℕ) where
-  pub geo-found : p ≡ 9 → i ≡ placeOf m (namesIn (ascii "latitude\nlongitude\n")) → ltb i 2 ≡ isOneOf m (valueNames p)
+    pub status-last : b ≡ false → {c : Bool} → c ≡ same m (ascii "data") → c ≡ isOneOf m statusElements
+    unfolding isOneOf _or_
+    status-last k {c} g = rw (← e, h, ← f, k, ← g) (sym (or-false c))
+
+-- `unknown` stands first in the one list of types and last in the other
+last-of : (m u : List ℕ) (ws : List (List ℕ)) → isOneOf m (u ∷ ws) ≡ isOneOf m (ws ++ u ∷ [])
+unfolding isOneOf _or_
+last-of m u [] = refl
+last-of m u (w ∷ ws) = go (same m u) (same m w) (last-of m u ws)
+  where
+    go : (a b : Bool) → (a or isOneOf m ws) ≡ isOneOf m (ws ++ u ∷ []) → (a or (b or isOneOf m ws)) ≡ (b or isOneOf m (ws ++ u ∷ []))
+    go true true ih = refl
+    go true false ih = ih
+    go false true ih = refl
+    go false false ih = ih
+
+types-are : map (λ t. lower (typeName t)) valueTypes ++ ascii "unknown" ∷ [] ≡ typeWords
+unfolding octets-compute
+types-are = refl
+
+type-one : (m : List ℕ) → isOneOf m typeElements ≡ ltb (placeOf m typeWords) 15
+type-one m = last-of m (ascii "unknown") (map (λ t. lower (typeName t)) valueTypes) ∙ ap (isOneOf m) types-are ∙ one-of-place m typeWords
+
+most : (i : ℕ) → ltb i 15 ≡ leb i 14
+most i = go (ltb i 15) refl
+  where
+    go : (t : Bool) → ltb i 15 ≡ t → ltb i 15 ≡ leb i 14
+    go true e = e ∙ sym (le-leb i 14 (omega (arith, ltb-true i 15 e)))
+    go false e = e ∙ sym (lt-leb i 14 (omega (arith, ltb-false i 15 e)))
+
+module _ {p : ℕ} (m : List ℕ) where
+  pub geo-found : {r : Bool} → p ≡ 9 → r ≡ isOneOf m geoElements → r ≡ isOneOf m (valueNames p)
   unfolding pick
-  geo-found q e = rw q (found-by m 2 geo-names refl e)
+  geo-found q e = rw q e
 
-  pub status-found : (p ≡ 9 → ⊥) → p ≡ 45 → i ≡ placeOf m (namesIn (ascii "code\ndescription\ndata\n")) → ltb i 3 ≡ isOneOf m (valueNames p)
+  pub status-found : {r : Bool} → (p ≡ 9 → ⊥) → p ≡ 45 → r ≡ isOneOf m statusElements → r ≡ isOneOf m (valueNames p)
   unfolding pick
-  status-found n q e = rw q (found-by m 3 status-names refl e)
+  status-found n q e = rw q e
 
-  pub type-found : (p ≡ 9 → ⊥) → (p ≡ 45 → ⊥) →
-      i ≡ placeOf m (namesIn (ascii "unknown\nbinary\nboolean\ncal-address\ndate\ndate-time\nduration\nfloat\ninteger\nperiod\nrecur\ntext\ntime\nuri\nutc-offset\n")) → ltb i 15 ≡ isOneOf m (valueNames p)
+  pub type-found : (p ≡ 9 → ⊥) → (p ≡ 45 → ⊥) → {i : ℕ} →
+      i ≡ placeOf m (namesIn (ascii "binary\nboolean\ncal-address\ndate\ndate-time\nduration\nfloat\ninteger\nperiod\nrecur\ntext\ntime\nuri\nutc-offset\nunknown\n")) → leb i 14 ≡ isOneOf m (valueNames p)
   unfolding pick
-  type-found n o e = rw (ne-eqb p 9 n, ne-eqb p 45 o) (found-by m 15 type-names refl e)
+  type-found n o {i} e = rw (ne-eqb p 9 n, ne-eqb p 45 o) (sym (type-one m ∙ ap (λ (k : ℕ). ltb k 15) (sym (by-table m type-words-are e)) ∙ most i))
+
+pub ruleset naming = (geo-first, geo-last, status-first, status-second, status-last, geo-found, status-found, type-found, needs)

@@ -8,7 +8,6 @@ part-word-spec = tie.close (tie.spec
     (λ c. search slots)  -- slice-aggregate-find-word
     (λ c κs. search slots)  -- find-word-requires
     (λ c. search slots)  -- returns
-    (λ c. search slots)  -- slice-aggregate-find-word-2
-    (λ c κs. search slots)  -- find-word-requires-2
+    (λ c κs. search slots)  -- period-word-requires
     (λ c. search slots)  -- returns-2
     )
