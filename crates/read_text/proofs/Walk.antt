@@ -17,6 +17,7 @@ use Rattle.schema.specs.Arrays.{bumped, tallies}
 use Rattle.schema.specs.Completing.{actionNumber, completeAt, methodAt}
 use Rattle.schema.specs.laws.Completing.{complete-tallies, method-tallies}
 use Rattle.schema.specs.laws.Places.{component-at}
+use Rattle.schema.specs.Property as property
 use Rattle.folding.specs.Lines.{Line, lines, linesAfter}
 use Rattle.folding.specs.laws.Lines.{lines-some}
 use Rattle.source.specs.Source.{rest, cuts, Settled}
@@ -50,7 +51,7 @@ pub record Reached (k : ℕ) (method : Bool) (m : ℕ) (s : List ℕ) (from at :
   pub acted : action ≡ actionNumber (actionOf seen)
   pub agrees : (st : List Open) → methodIn st ≡ method → onFrom m s from (opened (componentName k) ∷ st) ≡ onFrom m s at (openIn k seen inner ∷ st)
 
-pub reached-none : (k : ℕ) (method : Bool) (m : ℕ) (s : List ℕ) (from : ℕ) → Ready m s from → Reached k method m s from from (replicate 46 0) 3 false
+pub reached-none : (k : ℕ) (method : Bool) (m : ℕ) (s : List ℕ) (from : ℕ) → Ready m s from → Reached k method m s from from (replicate property.KNOWN 0) 3 false
 unfolding tallies actionOf
 reached-none k method m s from h = record { low = omega arith; high = h; seen = []; tallied = refl; acted = refl; agrees = λ st i. refl }
 
@@ -72,7 +73,7 @@ module _ {k : ℕ} {method : Bool} {m : ℕ} {s : List ℕ} {from at : ℕ} {cou
     body-faulty {n} e = record { ends = r .high .most; agrees = λ st i. moves st i ∙ rw (said-as (Faulty n) e) }
 
     -- a property
-    pub reached-held : {p a action' : ℕ} {counts' : List ℕ} → t .kind ≡ Holds p a → counts' ≡ bumped p counts → action' ≡ pick (eqb p 38) a action →
+    pub reached-held : {p a action' : ℕ} {counts' : List ℕ} → t .kind ≡ Holds p a → counts' ≡ bumped p counts → action' ≡ pick (eqb p property.ACTION) a action →
         Reached k method m s from (t .next) counts' action' inner
     unfolding step onward tallies
     reached-held {p} {a} e f g = let h : Held (d .line) p a = said-as (Holds p a) e in record {

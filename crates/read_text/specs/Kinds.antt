@@ -9,16 +9,17 @@ use Rattle.schema.specs.Properties.{propertyNames}
 use Rattle.schema.specs.Numbers.{componentName}
 use Rattle.schema.specs.Counts.{firstText}
 use Rattle.schema.specs.Completing.{actionNumber}
+use Rattle.schema.specs.Property.{ACTION}
 use Rattle.text.specs.LineKind.{LineKind, starts, stops, holds, faulty}
 use Rattle.read_text.specs.declared.Kind.{Kind}
 use Rattle.read_text.specs.declared.Kind.the-variants.{Starts, Stops, Holds, Faulty}
 
--- x is a property of the number p; if that is ACTION's, 38, its word has the number a
+-- x is a property of the number p; if that is ACTION's, its word has the number a
 pub record Held (x : LineKind) (p a : ℕ) : Type 0 where
   pub property : Property
   pub is : x ≡ holds property
   pub number : p ≡ placeOf (property .name) propertyNames
-  pub action : p ≡ 38 → a ≡ actionNumber (firstText (property .values))
+  pub action : p ≡ ACTION → a ≡ actionNumber (firstText (property .values))
 
 abbrev pub KindIs : LineKind → Kind → Type 0
 KindIs x (Starts n) = (x ≡ starts (componentName n)) × (n < 9)

@@ -18,6 +18,7 @@ ghost use Prim.Native.Nat.{_<_};
 ghost use lib.Dec.{eqb};
 ghost use lib.ListN.{length};
 ghost use Rattle.octets.specs.Pick.{pick};
+ghost use Rattle.schema.specs.Property.{ACTION};
 ghost use Rattle.read_text_line.specs.Ready.{Ready};
 ghost use Rattle.read_text.specs.Turns.{Turned, Body};
 
@@ -38,7 +39,7 @@ fn next_line(k: usize, inner: bool, mode: usize, s: &[u8], at: usize) -> Turn
 
 // The number of ACTION's word behind a property of the number `p`.
 fn action_after(p: usize, a: usize, last: usize) -> usize
-    ensures { λ r. ⌜ r ≡ pick (eqb p 38) a last ⌝ }
+    ensures { λ r. ⌜ r ≡ pick (eqb p ACTION) a last ⌝ }
 {
     if p == property::ACTION {
         return a;

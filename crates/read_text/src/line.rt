@@ -12,6 +12,7 @@ use refusals::LINE;
 use refusals::NAME;
 use refusals::NO_FAULT;
 use refusals::PARAMETER;
+use schema::Row;
 use schema::action;
 use schema::action_number;
 use schema::component;
@@ -19,7 +20,7 @@ use schema::component_number;
 use schema::may_begin;
 use schema::may_stand;
 use schema::property;
-use schema::property_number;
+use schema::row_of;
 ghost use mathlib.Core.Path.{_≡_};
 ghost use mathlib.Core.Bool.{true, not};
 ghost use mathlib.Core.List.{List};
@@ -32,6 +33,8 @@ ghost use Rattle.octets.specs.Words.{isEmpty};
 ghost use Rattle.source.specs.Source.{rest, cuts};
 ghost use Rattle.names.specs.Table.{placeOf};
 ghost use Rattle.schema.specs.Numbers.{componentName};
+ghost use Rattle.schema.specs.Coded.{rowAt};
+ghost use Rattle.schema.specs.Property.{ACTION};
 ghost use Rattle.schema.specs.Properties.{propertyNames};
 ghost use Rattle.schema.specs.Completing.{actionNames};
 ghost use Rattle.read_text_line.specs.Cursor.{paramsAt};
@@ -97,13 +100,17 @@ fn may_follow(k: usize, inner: bool) -> bool
     true
 }
 
-// The property of the number `p` may stand in the component.
-fn may_hold(k: usize, inner: bool, p: usize) -> bool
+// The property of the row may stand in the component.
+fn may_hold(k: usize, inner: bool, row: Row) -> bool
     requires { ⌜ k < 9 ⌝ }
-    ensures { λ r. ⌜ ((w : List ℕ) → p ≡ placeOf w propertyNames → r ≡ mayHold w (openAs (componentName k) inner)) ⌝ }
+    ensures { λ r. ⌜
+        ((w : List ℕ) →
+        row ≡ rowAt (placeOf w propertyNames) →
+        r ≡ mayHold w (openAs (componentName k) inner)) ⌝ }
 {
+    let p = row.number;
     if p < property::KNOWN {
-        let may = may_stand(k, p);
+        let may = may_stand(k, row);
         if may {
             return may_follow(k, inner);
         }
@@ -114,7 +121,7 @@ fn may_hold(k: usize, inner: bool, p: usize) -> bool
 
 // The number of the word of ACTION, NONE where the property is another.
 fn action_of(p: usize, mode: usize, s: &[u8], v: usize) -> usize
-    ensures { λ r. ⌜ r ≡ pick (eqb p 38) (placeOf (upper (rest mode (now (s .entry)) v)) actionNames) 3 ⌝ }
+    ensures { λ r. ⌜ r ≡ pick (eqb p ACTION) (placeOf (upper (rest mode (now (s .entry)) v)) actionNames) 3 ⌝ }
 {
     if p == property::ACTION {
         return action_number(false, mode, s, v);
@@ -122,17 +129,18 @@ fn action_of(p: usize, mode: usize, s: &[u8], v: usize) -> usize
     action::NONE
 }
 
-// The kind of a line that is a property of the number `p`.
-fn numbered_line(k: usize, inner: bool, p: usize, mode: usize, s: &[u8], l: LineCursors) -> Kind
+// The kind of a line that is a property of the row.
+fn row_line(k: usize, inner: bool, row: Row, mode: usize, s: &[u8], l: LineCursors) -> Kind
     requires { ⌜ (k < 9) × (cuts mode ≡ true) ⌝ }
     ensures { λ r. ⌜
         ((w : List ℕ) →
-        p ≡ placeOf (upper w) propertyNames →
+        row ≡ rowAt (placeOf (upper w) propertyNames) →
         KindIs (propertyKind (componentName k) inner (lineFrom w mode (now (s .entry)) l)) r) ⌝ }
 {
-    let may = may_hold(k, inner, p);
+    let p = row.number;
+    let may = may_hold(k, inner, row);
     if may {
-        let f = property_fault(k, p, mode, s, l);
+        let f = property_fault(k, row, mode, s, l);
         if f == NO_FAULT {
             let a = action_of(p, mode, s, l.value);
             return Kind::Holds(p, a);
@@ -148,8 +156,8 @@ fn property_line(k: usize, inner: bool, mode: usize, s: &[u8], l: LineCursors) -
     ensures { λ r. ⌜ KindIs (propertyKind (componentName k) inner (named mode (now (s .entry)) l)) r ⌝ }
 {
     let e = l.parameters;
-    let p = property_number(mode, &s[..e], l.name);
-    numbered_line(k, inner, p, mode, s, l)
+    let row = row_of(mode, &s[..e], l.name);
+    row_line(k, inner, row, mode, s, l)
 }
 
 // The kind of a content line.

@@ -1,4 +1,4 @@
--- The rules of a property's parameters, by numbers.
+-- The rules of a property's parameters, by its row.
 --     permitsName, permitsIt    a name is VALUE, or that of a parameter which the property permits
 --     goodAt                    all that `parametersGood` asks for
 use mathlib.Core.Bool.{Bool, not}
@@ -14,20 +14,21 @@ use Rattle.octets.specs.Reading.{isRead}
 use Rattle.names.specs.Table.{placeOf}
 use Rattle.schema.specs.Parameters.{parameterNames}
 use Rattle.schema.specs.Columns.{permitsAt}
+use Rattle.schema.specs.declared.table.Row.{Row}
 use Rattle.read_text_line.specs.ContentLine.{RawParameter}
 use Rattle.text.specs.Parameters.{isRawBase64Encoding, readParameters}
 use Rattle.read_text_parameters.specs.Comparing.{namesOf}
 
-abbrev pub permitsName : ℕ → ℕ → List ℕ → Bool
-permitsName p t n = same n (ascii "VALUE") or permitsAt p t (placeOf n parameterNames)
+abbrev pub permitsName : Row → ℕ → List ℕ → Bool
+permitsName row t n = same n (ascii "VALUE") or permitsAt row t (placeOf n parameterNames)
 
-abbrev pub permitsIt : ℕ → ℕ → RawParameter → Bool
-permitsIt p t r = permitsName p t (upper (r .name))
+abbrev pub permitsIt : Row → ℕ → RawParameter → Bool
+permitsIt row t r = permitsName row t (upper (r .name))
 
 -- 0 is BINARY
-abbrev pub goodAt : ℕ → ℕ → List RawParameter → Bool
-goodAt p t rs =
+abbrev pub goodAt : Row → ℕ → List RawParameter → Bool
+goodAt row t rs =
     distinct (namesOf rs)
     and isRead (readParameters rs)
-    and every (permitsIt p t) rs
+    and every (permitsIt row t) rs
     and (not (eqb t 0) or anyOne isRawBase64Encoding rs)

@@ -5,17 +5,14 @@ use crate::several::is_last;
 use octets::smaller;
 use read_text_line::next_param;
 use read_text_line::param_value;
-use schema::default_type;
 use schema::type_number;
 use schema::value_type;
 ghost use mathlib.Core.Path.{_≡_};
 ghost use mathlib.Core.Bool.{true};
-ghost use mathlib.Core.Option.{some};
 ghost use lib.ListN.{take};
 ghost use Rattle.octets.specs.Class.{upper};
 ghost use Rattle.source.specs.Source.{rest, cuts};
 ghost use Rattle.schema.specs.Types.{typeNamed};
-ghost use Rattle.schema.specs.Numbers.{propertyAt};
 ghost use Rattle.read_text_line.specs.Cursor.{valuesAt};
 ghost use Rattle.text.specs.Parameters.{typeIn};
 ghost use Rattle.read_text_parameters.specs.Stating.{TypeOf, StatedAt};
@@ -48,18 +45,10 @@ fn type_in(mode: usize, s: &[u8], at: usize) -> TypeRead
     TypeRead::Bad
 }
 
-// The property's default.
-fn default_read(p: usize) -> TypeRead
-    ensures { λ r. ⌜ TypeOf (some (propertyAt p .default)) r ⌝ }
-{
-    let t = default_type(p);
-    TypeRead::Type(t)
-}
-
-// The type that VALUE names, of the parameters from the cursor `e` on, or the default of the property of the number `p`.
-pub fn stated_type(p: usize, mode: usize, s: &[u8], e: usize) -> TypeRead
+// The type that VALUE names, of the parameters from the cursor `e` on, or the property's default.
+pub fn stated_type(default: usize, mode: usize, s: &[u8], e: usize) -> TypeRead
     requires { ⌜ cuts mode ≡ true ⌝ }
-    ensures { λ r. ⌜ StatedAt p mode (now (s .entry)) e r ⌝ }
+    ensures { λ r. ⌜ StatedAt default mode (now (s .entry)) e r ⌝ }
 {
     let mut c = e;
     loop {
@@ -72,10 +61,10 @@ pub fn stated_type(p: usize, mode: usize, s: &[u8], e: usize) -> TypeRead
                 }
                 c = a.next;
             } else {
-                return default_read(p);
+                return TypeRead::Type(default);
             }
         } else {
-            return default_read(p);
+            return TypeRead::Type(default);
         }
     }
 }

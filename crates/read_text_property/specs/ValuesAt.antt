@@ -1,15 +1,17 @@
--- The values of a property by numbers, of the component, of the property and of the type: what the code asks is what `readValues` says of the names.
+-- The values of a property by its row and the numbers of the component and of the type: what the code asks is what `readValues` says of the names.
 --     valuesRead      the answer of `read_values`: the type's number where the values are good
---     ownAt, goodAt   whether the values are good, by numbers;   goodAt: and their type is permitted
+--     ownAt, goodAt   whether the values are good, by these;   goodAt: and their type is permitted
 use mathlib.Core.Bool.{Bool, true, false}
 use mathlib.Core.List.{List}
 use Prim.Native.Nat.{ℕ}
 use lib.Dec.{eqb}
 use Rattle.octets.specs.Pick.{pick}
 use Rattle.octets.specs.Reading.{isRead}
-use Rattle.schema.specs.Numbers.{typeAt, propertyAt}
+use Rattle.schema.specs.Numbers.{typeAt}
 use Rattle.schema.specs.Columns.{permitsType}
 use Rattle.schema.specs.Sets.{wordsAt}
+use Rattle.schema.specs.Property as property
+use Rattle.schema.specs.declared.table.Row.{Row}
 use Rattle.numbers.specs.Geo.{readGeo}
 use Rattle.texts.specs.RequestStatus.{readRequestStatus}
 use Rattle.text.specs.Values.{readListed, readChosen}
@@ -20,12 +22,11 @@ abbrev pub valuesRead : ℕ → Bool → ValuesRead
 valuesRead t true = Good t
 valuesRead t false = Bad
 
--- 9 is GEO, 45 is REQUEST-STATUS
-abbrev pub ownAt : ℕ → ℕ → ℕ → List ℕ → Bool
-ownAt k p t l =
-    pick (eqb p 9) (isRead (readGeo l))
-    (pick (eqb p 45) (isRead (readRequestStatus l))
-    (pick (propertyAt p .listed) (isRead (readListed (typeAt t) l)) (isRead (readChosen (wordsAt k p) (typeAt t) l))))
+abbrev pub ownAt : ℕ → Row → ℕ → List ℕ → Bool
+ownAt k row t l =
+    pick (eqb (row .number) property.GEO) (isRead (readGeo l))
+    (pick (eqb (row .number) property.REQUEST-STATUS) (isRead (readRequestStatus l))
+    (pick (row .listed) (isRead (readListed (typeAt t) l)) (isRead (readChosen (wordsAt k (row .number)) (typeAt t) l))))
 
-abbrev pub goodAt : ℕ → ℕ → ℕ → List ℕ → Bool
-goodAt k p t l = pick (permitsType p t) (ownAt k p t l) false
+abbrev pub goodAt : ℕ → Row → ℕ → List ℕ → Bool
+goodAt k row t l = pick (permitsType row t) (ownAt k row t l) false

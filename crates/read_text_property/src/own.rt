@@ -1,4 +1,4 @@
-// The values of a property in a component, by numbers. See specs/ValuesAt.antt.
+// The values of a property in a component, by its row. See specs/ValuesAt.antt.
 use crate::ValuesRead;
 use crate::list::read_listed;
 use numbers::geo::GeoRead;
@@ -6,7 +6,6 @@ use numbers::geo::read_geo;
 use schema::Context;
 use schema::WordRead;
 use schema::has_words;
-use schema::is_listed;
 use schema::permits_type;
 use schema::property;
 use schema::read_word_of;
@@ -50,12 +49,13 @@ fn read_chosen(c: Context, mode: usize, s: &[u8], at: usize) -> ValuesRead
     requires { ⌜ cuts mode ≡ true ⌝ }
     ensures { λ r. ⌜
         r ≡ valuesRead (c .«value_type») (isRead
-        (readChosen (wordsAt (c .component) (c .property)) (typeAt (c .«value_type»))
+        (readChosen (wordsAt (c .component) (c .row .number)) (typeAt (c .«value_type»))
         (rest mode (now (s .entry)) at))) ⌝ }
 {
-    let closed = has_words(c.component, c.property);
+    let p = c.row.number;
+    let closed = has_words(c.component, p);
     if closed {
-        let WordRead::At(i) = read_word_of(c.component, c.property, false, mode, s, at) else {
+        let WordRead::At(i) = read_word_of(c.component, p, false, mode, s, at) else {
             return ValuesRead::Bad;
         };
         return ValuesRead::Good(c.value_type);
@@ -71,17 +71,16 @@ fn read_own(c: Context, mode: usize, s: &[u8], at: usize) -> ValuesRead
     requires { ⌜ cuts mode ≡ true ⌝ }
     ensures { λ r. ⌜
         r ≡ valuesRead (c .«value_type»)
-        (ownAt (c .component) (c .property) (c .«value_type») (rest mode (now (s .entry)) at)) ⌝ }
+        (ownAt (c .component) (c .row) (c .«value_type») (rest mode (now (s .entry)) at)) ⌝ }
 {
-    let p = c.property;
+    let p = c.row.number;
     if p == property::GEO {
         return read_geo_value(c.value_type, mode, s, at);
     }
     if p == property::REQUEST_STATUS {
         return read_status(c.value_type, mode, s, at);
     }
-    let many = is_listed(p);
-    if many {
+    if c.row.listed {
         return read_listed(c.value_type, mode, s, at);
     }
     read_chosen(c, mode, s, at)
@@ -92,9 +91,9 @@ pub fn read_values(c: Context, mode: usize, s: &[u8], at: usize) -> ValuesRead
     requires { ⌜ cuts mode ≡ true ⌝ }
     ensures { λ r. ⌜
         r ≡ valuesRead (c .«value_type»)
-        (goodAt (c .component) (c .property) (c .«value_type») (rest mode (now (s .entry)) at)) ⌝ }
+        (goodAt (c .component) (c .row) (c .«value_type») (rest mode (now (s .entry)) at)) ⌝ }
 {
-    let fits = permits_type(c.property, c.value_type);
+    let fits = permits_type(c.row, c.value_type);
     if fits {
         return read_own(c, mode, s, at);
     }

@@ -1,4 +1,4 @@
--- The children of a property, by the property's number p and the child's number: 9 is GEO, 45 is REQUEST-STATUS.
+-- The children of a property, by the property's number p and the child's number.
 --     nameOf                    the name of an element
 --     childWords p              the names of the children
 --     slotsAt                   their slots;   slotAt p i: the slot of the child of the number i, 4 where it has none
@@ -14,6 +14,7 @@ use Rattle.octets.specs.Ascii.{ascii}
 use Rattle.octets.specs.Pick.{pick, _and_, _or_}
 use Rattle.source.specs.Source.{rest}
 use Rattle.schema.specs.Numbers.{propertyAt, typeWords}
+use Rattle.schema.specs.Property as property
 use Rattle.xcal.specs.Layout.{Slot}
 use Rattle.xcal.specs.ValueNodes.{geoElements, statusElements, typeElements, may, must}
 use Rattle.read_xml_nodes.specs.declared.Node.{Node}
@@ -33,7 +34,7 @@ abbrev pub otherWords : List (List ℕ)
 otherWords = ascii "parameters" ∷ typeWords
 
 abbrev pub childWords : ℕ → List (List ℕ)
-childWords p = pick (eqb p 9) geoWords (pick (eqb p 45) statusWords otherWords)
+childWords p = pick (eqb p property.GEO) geoWords (pick (eqb p property.REQUEST-STATUS) statusWords otherWords)
 
 abbrev pub slotsOf : Bool → Bool → Bool → List Slot
 slotsOf g s l =
@@ -43,12 +44,12 @@ slotsOf g s l =
     (record { names = typeElements; several = l; required = true } ∷ []))
 
 unfoldable pub slotsAt : ℕ → List Slot
-slotsAt p = slotsOf (eqb p 9) (eqb p 45) (propertyAt p .listed)
+slotsAt p = slotsOf (eqb p property.GEO) (eqb p property.REQUEST-STATUS) (propertyAt p .listed)
 
 -- ---- the slot of a child
 
 abbrev pub slotAt : ℕ → ℕ → ℕ
-slotAt p i = pick (eqb p 9) (pick (ltb i 3) i 4) (pick (eqb p 45) (pick (ltb i 4) i 4) (pick (eqb i 0) 0 (pick (ltb i 16) 1 4)))
+slotAt p i = pick (eqb p property.GEO) (pick (ltb i 3) i 4) (pick (eqb p property.REQUEST-STATUS) (pick (ltb i 4) i 4) (pick (eqb i 0) 0 (pick (ltb i 16) 1 4)))
 
 -- ---- the slot after a child
 
@@ -58,7 +59,7 @@ afterAt l k next = pick (ltb k 4) (pick (ltb k next) none (pick (eqb k 1 and l) 
 -- ---- slots that must be filled
 
 abbrev pub hasTwo : ℕ → Bool
-hasTwo p = eqb p 9 or eqb p 45
+hasTwo p = eqb p property.GEO or eqb p property.REQUEST-STATUS
 
 abbrev pub flagsOf : Bool → Bool → Bool → List Bool
 flagsOf true f g = f ∷ g ∷ []

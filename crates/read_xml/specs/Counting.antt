@@ -16,6 +16,7 @@ use Rattle.schema.specs.Properties.{propertyNames}
 use Rattle.schema.specs.Counts.{firstText, actionOf}
 use Rattle.schema.specs.Arrays.{tallies}
 use Rattle.schema.specs.Completing.{actionNumber}
+use Rattle.schema.specs.Property as property
 use Rattle.xml.specs.Nodes.{Nodes}
 use Rattle.xcal.specs.ValueNodes.{typedValues}
 use Rattle.xcal.specs.PropertyNodes.{propertyIn}
@@ -25,9 +26,8 @@ pub record Counted (ps : List Property) (t : Kept) : Type 0 where
   pub tallied : t .counts ≡ tallies ps
   pub acting : t .action ≡ actionNumber (actionOf ps)
 
--- 38 is ACTION
 abbrev pub actionAfter : ℕ → Kept → Nodes → ℕ
-actionAfter p t kids = pick (eqb p 38) (pick (eqb (getD (t .counts) 38 0) 0) (actionNumber (firstText (typedValues kids))) (t .action)) (t .action)
+actionAfter p t kids = pick (eqb p property.ACTION) (pick (eqb (getD (t .counts) property.ACTION 0) 0) (actionNumber (firstText (typedValues kids))) (t .action)) (t .action)
 
 pub record CountsOn (p : ℕ) (kids : Nodes) (t r : Kept) : Type 0 where
   pub is : (ps : List Property) (m : List ℕ) → p ≡ placeOf (upper m) propertyNames → Counted ps t → Counted (ps ⊕ (propertyIn m kids ∷ [])) r

@@ -10,6 +10,8 @@ use Rattle.names.specs.Table.{placeOf}
 use Rattle.schema.specs.Components.{componentNames, mayStand}
 use Rattle.schema.specs.Properties.{propertyNames, isKnownProperty}
 use Rattle.schema.specs.Numbers.{typeAt}
+use Rattle.schema.specs.Coded.{rowAt}
+use Rattle.schema.specs.declared.table.Row.{Row}
 use Rattle.xml.specs.Nodes.{Nodes}
 use Rattle.xcal.specs.ValueNodes.{typeOfNodes}
 use Rattle.xcal.specs.PropertyNodes.{lacksEncoding, propertyVerdict, propertiesVerdict, readProperties}
@@ -29,8 +31,8 @@ pub record LacksAt (p t : ℕ) (kids : Nodes) (r : Bool) : Type 0 where
 
 -- ---- its name, and whether it may stand there
 
-pub record OffAt (k p : ℕ) (r : Bool) : Type 0 where
-  pub is : (c w : List ℕ) → k ≡ placeOf c componentNames → p ≡ placeOf w propertyNames → r ≡ (isKnownProperty w and not (mayStand c w))
+pub record OffAt (k : ℕ) (row : Row) (r : Bool) : Type 0 where
+  pub is : (c w : List ℕ) → k ≡ placeOf c componentNames → row ≡ rowAt (placeOf w propertyNames) → r ≡ (isKnownProperty w and not (mayStand c w))
 
 -- ---- the element
 

@@ -1,5 +1,5 @@
 -- A walk over the children of a property, a node a turn.
---     Holder       the numbers of a context are those of a component and a property of these names, and of a type
+--     Holder       a context is that of a component and a property of these names, and of a type
 --     ChildAt      the contract of `child`: a child that is fine, and the slot after it, or the refusal
 --     Turns        the contract of `turn`: where the next turn begins, or the verdict
 use Prim.{Unit}
@@ -14,6 +14,7 @@ use Rattle.calendar.specs.Refusal.{Verdict}
 use Rattle.schema.specs.Components.{componentNames}
 use Rattle.schema.specs.Properties.{propertyNames}
 use Rattle.schema.specs.Numbers.{typeAt}
+use Rattle.schema.specs.Coded.{rowAt}
 use Rattle.xml.specs.Nodes.{Nodes}
 use Rattle.xcal.specs.Layout.{slotOf, afterSlot, admitted}
 use Rattle.xcal.specs.PropertyNodes.{childVerdict}
@@ -31,7 +32,7 @@ use Rattle.read_xml.specs.declared.Next.the-variants.{Goes, Ends}
 
 pub record Holder (context : Context) (c w : List ℕ) : Type 0 where
   pub component : context .component ≡ placeOf c componentNames
-  pub property : context .property ≡ placeOf w propertyNames
+  pub row : context .row ≡ rowAt (placeOf w propertyNames)
   pub small : context .«value_type» ≤ 14
 
 -- ---- a child's number, and the slot after it
@@ -48,7 +49,7 @@ childOf (Stops j) after = judgedAs j
 
 pub record ChildAt (context : Context) (next place : ℕ) (n : List ℕ) (end : ℕ) (kids : Nodes) (r : Tried) : Type 0 where
   pub is : (c w : List ℕ) → Holder context c w → (after : ℕ → Verdict) →
-      admitted (afterSlot (slotOf n (slotsAt (context .property)) 0) next) place n (childVerdict c w (typeAt (context .«value_type»)) place n end kids) after ≡ childOf r after
+      admitted (afterSlot (slotOf n (slotsAt (context .row .number)) 0) next) place n (childVerdict c w (typeAt (context .«value_type»)) place n end kids) after ≡ childOf r after
 
 -- ---- a turn
 
@@ -63,6 +64,6 @@ Onward s c (Ends j) = Unit {0}
 
 pub record Turns (context : Context) (s : List ℕ) (e at next : ℕ) (f g : Bool) (r : Next) : Type 0 where
   pub is : (c w : List ℕ) → Holder context c w →
-      walked (slotsAt (context .property)) (childVerdict c w (typeAt (context .«value_type»))) (nodesAt s at) next (flagsAt (context .property) f g) e ≡
-      turnOf (context .property) (childVerdict c w (typeAt (context .«value_type»))) s e r
+      walked (slotsAt (context .row .number)) (childVerdict c w (typeAt (context .«value_type»))) (nodesAt s at) next (flagsAt (context .row .number) f g) e ≡
+      turnOf (context .row .number) (childVerdict c w (typeAt (context .«value_type»))) s e r
   pub onward : Onward s at r

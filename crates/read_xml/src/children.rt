@@ -16,7 +16,6 @@ use read_xml_parameters::parameters_verdict;
 use read_xml_value::value_verdict;
 use refusals::FRAME;
 use schema::Context;
-use schema::is_listed;
 use schema::property;
 ghost use mathlib.Core.Path.{_≡_};
 ghost use mathlib.Core.List.{List, []};
@@ -28,7 +27,7 @@ ghost use Rattle.octets.specs.Class.{isSpace};
 ghost use Rattle.calendar.specs.Refusal.{FRAME, fine, refuse};
 ghost use Rattle.source.specs.Source.{rest};
 ghost use Rattle.names.specs.Table.{placeOf};
-ghost use Rattle.schema.specs.Numbers.{propertyAt, typeAt, typeWords};
+ghost use Rattle.schema.specs.Numbers.{typeAt, typeWords};
 ghost use Rattle.xcal.specs.Layout.{sequence};
 ghost use Rattle.xcal.specs.ValueNodes.{geoElements, statusElements};
 ghost use Rattle.xcal.specs.PropertyNodes.{propertySlots, childVerdict};
@@ -139,24 +138,24 @@ pub fn child_slot(p: usize, s: &[u8], name: usize, name_end: usize) -> usize
 }
 
 // The values of a listed property may stand several times.
-fn several(p: usize, slot: usize) -> bool
-    ensures { λ r. ⌜ r ≡ (eqb slot 1 and (propertyAt p .listed)) ⌝ }
+fn several(listed: bool, slot: usize) -> bool
+    ensures { λ r. ⌜ r ≡ (eqb slot 1 and listed) ⌝ }
 {
     if slot == 1 {
-        return is_listed(p);
+        return listed;
     }
     false
 }
 
-// The slot after a child of a slot, where slots before `next` have passed.
-fn child_after(p: usize, slot: usize, next: usize) -> After
-    ensures { λ r. ⌜ afterOf r ≡ afterAt (propertyAt p .listed) slot next ⌝ }
+// The slot after a child of a slot, where slots before `next` have passed; `listed`, whether the property is.
+fn child_after(listed: bool, slot: usize, next: usize) -> After
+    ensures { λ r. ⌜ afterOf r ≡ afterAt listed slot next ⌝ }
 {
     if slot < 4 {
         if slot < next {
             return After::Nowhere;
         }
-        let many = several(p, slot);
+        let many = several(listed, slot);
         if many {
             return After::Slot(slot);
         }
@@ -171,13 +170,13 @@ fn child_inside(context: Context, slot: usize, s: &[u8], e: Element) -> Judged
     ensures { λ r. ⌜
         ((c w : List ℕ) →
         Holder context c w →
-        slot ≡ slotAt (context .property) (placeOf (nameAt (now (s .entry)) e) (childWords (context .property))) →
+        slot ≡ slotAt (context .row .number) (placeOf (nameAt (now (s .entry)) e) (childWords (context .row .number))) →
         judgedAs r
         ≡ childVerdict c w (typeAt (context .«value_type»)) (e .place) (nameAt (now (s .entry)) e) (e .end)
         (nodesAt (now (s .entry)) (e .inside))) ⌝ }
 {
     if slot == 0 {
-        return parameters_verdict(context.property, context.value_type, s, e.inside);
+        return parameters_verdict(context.row, context.value_type, s, e.inside);
     }
     value_verdict(context, s, e)
 }
@@ -186,11 +185,11 @@ fn child_inside(context: Context, slot: usize, s: &[u8], e: Element) -> Judged
 fn child(context: Context, slot: usize, next: usize, s: &[u8], e: Element) -> Tried
     requires { ⌜ (length (now s) ≤ 65535) × (e .inside ≤ length (now s)) ⌝ }
     ensures { λ r. ⌜
-        (slot ≡ slotAt (context .property) (placeOf (nameAt (now (s .entry)) e) (childWords (context .property))) →
+        (slot ≡ slotAt (context .row .number) (placeOf (nameAt (now (s .entry)) e) (childWords (context .row .number))) →
         ChildAt context next (e .place) (nameAt (now (s .entry)) e) (e .end) (nodesAt (now (s .entry)) (e .inside))
         r) ⌝ }
 {
-    let a = child_after(context.property, slot, next);
+    let a = child_after(context.row.listed, slot, next);
     match a {
         After::Slot(m) => {
             let j = child_inside(context, slot, s, e);
@@ -272,11 +271,11 @@ fn turn(
     let kind = n.kind;
     match kind {
         NodeKind::None => {
-            let j = at_end(context.property, first, second, e);
+            let j = at_end(context.row.number, first, second, e);
             Next::Ends(j)
         }
         NodeKind::Element => {
-            let slot = child_slot(context.property, s, n.name, n.name_end);
+            let slot = child_slot(context.row.number, s, n.name, n.name_end);
             let element = Element {
                 place: at,
                 name: n.name,

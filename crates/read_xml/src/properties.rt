@@ -19,9 +19,10 @@ use refusals::FRAME;
 use refusals::NAME;
 use refusals::PARAMETER;
 use schema::Context;
+use schema::Row;
 use schema::may_stand;
 use schema::property;
-use schema::property_number;
+use schema::row_of;
 use schema::value_type;
 ghost use mathlib.Core.Path.{_≡_};
 ghost use mathlib.Core.List.{List};
@@ -31,6 +32,7 @@ ghost use Rattle.octets.specs.Class.{upper};
 ghost use Rattle.source.specs.Source.{rest};
 ghost use Rattle.names.specs.Table.{placeOf};
 ghost use Rattle.schema.specs.Properties.{propertyNames};
+ghost use Rattle.schema.specs.Coded.{rowAt};
 ghost use Rattle.xcal.specs.PropertyNodes.{badName, parametersIn};
 ghost use Rattle.xml.specs.NodesAt.{nodesAt};
 ghost use Rattle.read_xml.specs.Children.{nameOf};
@@ -106,12 +108,13 @@ fn bad_name(s: &[u8], name: usize, name_end: usize) -> bool
     true
 }
 
-// The property of the number `p` is known, and may not stand in the component of the number `k`.
-fn is_misplaced(k: usize, p: usize) -> bool
-    ensures { λ r. ⌜ OffAt k p r ⌝ }
+// The property of the row is known, and may not stand in the component of the number `k`.
+fn is_misplaced(k: usize, row: Row) -> bool
+    ensures { λ r. ⌜ OffAt k row r ⌝ }
 {
+    let p = row.number;
     if p < property::KNOWN {
-        let may = may_stand(k, p);
+        let may = may_stand(k, row);
         if may {
             return false;
         }
@@ -120,37 +123,38 @@ fn is_misplaced(k: usize, p: usize) -> bool
     false
 }
 
-// The number of the property whose element is `n`.
-fn property_at(s: &[u8], n: Node) -> usize
+// The row of the property whose element is `n`.
+fn property_at(s: &[u8], n: Node) -> Row
     requires { ⌜ n .«name_end» ≤ length (now s) ⌝ }
-    ensures { λ r. ⌜ r ≡ placeOf (upper (nameOf (now (s .entry)) n)) propertyNames ⌝ }
+    ensures { λ r. ⌜ r ≡ rowAt (placeOf (upper (nameOf (now (s .entry)) n)) propertyNames) ⌝ }
 {
     let name_end = n.name_end;
-    property_number(0, &s[..name_end], n.name)
+    row_of(0, &s[..name_end], n.name)
 }
 
-// The property of the number `p` in the component of the number `k`: its element is `n`, at `at`.
-fn property_verdict(k: usize, p: usize, s: &[u8], at: usize, n: Node) -> Judged
+// The property of the row in the component of the number `k`: its element is `n`, at `at`.
+fn property_verdict(k: usize, row: Row, s: &[u8], at: usize, n: Node) -> Judged
     requires { ⌜ (length (now s) ≤ 65535) × (n .«name_end» ≤ length (now s)) ⌝ }
     ensures { λ r. ⌜
-        (p ≡ placeOf (upper (nameOf (now (s .entry)) n)) propertyNames → PropertyAt k (now (s .entry)) at n r) ⌝ }
+        (row ≡ rowAt (placeOf (upper (nameOf (now (s .entry)) n)) propertyNames) →
+        PropertyAt k (now (s .entry)) at n r) ⌝ }
 {
     let bad = bad_name(s, n.name, n.name_end);
     if bad {
         return Judged::Refused(NAME, at);
     }
-    let off = is_misplaced(k, p);
+    let off = is_misplaced(k, row);
     if off {
         return Judged::Refused(FRAME, at);
     }
-    let t = type_of_nodes(p, s, n.inside);
-    let lacks = lacks_encoding(p, t, s, n.inside);
+    let t = type_of_nodes(row, s, n.inside);
+    let lacks = lacks_encoding(row.number, t, s, n.inside);
     if lacks {
         return Judged::Refused(PARAMETER, at);
     }
     let context = Context {
         component: k,
-        property: p,
+        row,
         value_type: t,
     };
     children_verdict(context, s, n.inside, n.end)
@@ -172,11 +176,11 @@ pub fn properties_verdict(k: usize, s: &[u8], inside: usize) -> Listed
                 return Listed { judged, kept };
             }
             NodeKind::Element => {
-                let p = property_at(s, n);
-                let j = property_verdict(k, p, s, at, n);
+                let row = property_at(s, n);
+                let j = property_verdict(k, row, s, at, n);
                 match j {
                     Judged::Fine => {
-                        let more = count(kept, p, s, n.inside);
+                        let more = count(kept, row.number, s, n.inside);
                         kept = more;
                         at = n.next;
                     }

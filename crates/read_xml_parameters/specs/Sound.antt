@@ -1,4 +1,4 @@
--- What a parameter must be, by the numbers of the property, of the type of its value, and of the parameter.
+-- What a parameter must be, by the property's row and the numbers of the type of its value and of the parameter.
 --     encodedBy              with a value of type BINARY, ENCODING is BASE64
 --     soundBy                permitted, with good values, and encoded so
 use mathlib.Core.Bool.{Bool, not}
@@ -7,6 +7,7 @@ use lib.Dec.{eqb}
 use Rattle.octets.specs.Ascii.{ascii}
 use Rattle.octets.specs.Pick.{_and_, _or_}
 use Rattle.schema.specs.Columns.{permitsAt}
+use Rattle.schema.specs.declared.table.Row.{Row}
 use Rattle.xml.specs.Nodes.{Nodes}
 use Rattle.read_xml_parameters.specs.Rows.{rowAt}
 use Rattle.read_xml_parameters.specs.Several.{goodBy, firstIs}
@@ -18,5 +19,5 @@ encodedBy q t kids = not (eqb q 6 and eqb t 0) or firstIs (ascii "BASE64") kids
 
 -- ---- all of it
 
-unfoldable pub soundBy : ℕ → ℕ → ℕ → Nodes → Bool
-soundBy p t q kids = permitsAt p t q and goodBy (rowAt q) kids and encodedBy q t kids
+unfoldable pub soundBy : Row → ℕ → ℕ → Nodes → Bool
+soundBy row t q kids = permitsAt row t q and goodBy (rowAt q) kids and encodedBy q t kids

@@ -10,6 +10,7 @@ use Rattle.octets.specs.Class.{upper}
 use Rattle.calendar.specs.Refusal.{NAME, FRAME, PARAMETER, Verdict, fine, refuse}
 use Rattle.names.specs.Table.{placeOf}
 use Rattle.schema.specs.Parameters.{parameterNames}
+use Rattle.schema.specs.declared.table.Row.{Row}
 use Rattle.xml.specs.Nodes.{Nodes, hasElement}
 use Rattle.xcal.specs.ParameterNodes.{badName}
 use Rattle.xml.specs.NodesAt.{nodesAt}
@@ -18,13 +19,13 @@ use Rattle.read_xml_parameters.specs.Sound.{soundBy}
 
 -- ---- one parameter
 
-unfoldable pub againstBy : Bool → ℕ → ℕ → List ℕ → Nodes → Bool
-againstBy again p t m kids = again or not (soundBy p t (placeOf (upper m) parameterNames) kids)
+unfoldable pub againstBy : Bool → Row → ℕ → List ℕ → Nodes → Bool
+againstBy again row t m kids = again or not (soundBy row t (placeOf (upper m) parameterNames) kids)
 
 -- at the tags at and x: whether its name is bad, it is against a rule, it has a value
 unfoldable pub judgedBy : Bool → Bool → Bool → ℕ → ℕ → Verdict
 judgedBy bad against some at x = pick bad (refuse NAME at) (pick (eqb at x) (refuse FRAME at) (pick against (refuse PARAMETER at) (pick some fine (refuse FRAME x))))
 
 -- the verdict on the parameter m, by the parameters from `from` on
-abbrev pub verdictAt : ℕ → ℕ → List ℕ → ℕ → ℕ → List ℕ → ℕ → Nodes → Verdict
-verdictAt p t s from at m x kids = judgedBy (badName m) (againstBy (isBefore m at (nodesAt s from)) p t m kids) (hasElement kids) at x
+abbrev pub verdictAt : Row → ℕ → List ℕ → ℕ → ℕ → List ℕ → ℕ → Nodes → Verdict
+verdictAt row t s from at m x kids = judgedBy (badName m) (againstBy (isBefore m at (nodesAt s from)) row t m kids) (hasElement kids) at x

@@ -14,6 +14,7 @@ use read_xml_nodes::next_node;
 use refusals::FRAME;
 use refusals::NAME;
 use refusals::PARAMETER;
+use schema::Row;
 use schema::parameter;
 use schema::parameter_number;
 use schema::permits_parameter;
@@ -26,6 +27,7 @@ ghost use lib.ListN.{length};
 ghost use Rattle.names.specs.Table.{placeOf};
 ghost use Rattle.schema.specs.Properties.{propertyNames};
 ghost use Rattle.schema.specs.Numbers.{typeAt};
+ghost use Rattle.schema.specs.Coded.{rowAt};
 ghost use Rattle.xcal.specs.ParameterNodes.{badName, parametersVerdict};
 ghost use Rattle.xml.specs.NodesAt.{nodesAt};
 ghost use Rattle.read_xml_nodes.specs.Judging.{judgedAs};
@@ -99,11 +101,11 @@ fn is_encoded(q: usize, t: usize, s: &[u8], inside: usize) -> bool
 }
 
 // The parameter is permitted, and its values are good.
-fn is_sound(p: usize, t: usize, q: usize, s: &[u8], inside: usize) -> bool
+fn is_sound(row: Row, t: usize, q: usize, s: &[u8], inside: usize) -> bool
     requires { ⌜ length (now s) ≤ 65535 ⌝ }
-    ensures { λ r. ⌜ r ≡ soundBy p t q (nodesAt (now (s .entry)) inside) ⌝ }
+    ensures { λ r. ⌜ r ≡ soundBy row t q (nodesAt (now (s .entry)) inside) ⌝ }
 {
-    let permitted = permits_parameter(p, t, q);
+    let permitted = permits_parameter(row, t, q);
     if permitted {
         let good = are_good(q, s, inside);
         if good {
@@ -116,7 +118,7 @@ fn is_sound(p: usize, t: usize, q: usize, s: &[u8], inside: usize) -> bool
 
 // The parameter of the name `w` at the place `at` stood before, or is not sound.
 fn is_against(
-    p: usize,
+    row: Row,
     t: usize,
     s: &[u8],
     from: usize,
@@ -128,7 +130,7 @@ fn is_against(
     requires { ⌜ (length (now s) ≤ 65535) × (fresh ≡ true → isBefore (now w) at (nodesAt (now s) from) ≡ false) ⌝ }
     ensures { λ r. ⌜
         r
-        ≡ againstBy (isBefore (now (w .entry)) at (nodesAt (now (s .entry)) from)) p t (now (w .entry))
+        ≡ againstBy (isBefore (now (w .entry)) at (nodesAt (now (s .entry)) from)) row t (now (w .entry))
         (nodesAt (now (s .entry)) inside) ⌝ }
 {
     let again = is_again(s, from, at, w, fresh);
@@ -136,7 +138,7 @@ fn is_against(
         return true;
     }
     let q = parameter_number(0, w, 0);
-    let sound = is_sound(p, t, q, s, inside);
+    let sound = is_sound(row, t, q, s, inside);
     if sound {
         return false;
     }
@@ -145,7 +147,7 @@ fn is_against(
 
 // The verdict on the parameter of the name `w` at the tags `at` and `end`; `fresh` says that no parameter before it has the name.
 fn judge(
-    p: usize,
+    row: Row,
     t: usize,
     s: &[u8],
     from: usize,
@@ -157,7 +159,7 @@ fn judge(
 ) -> Judged
     requires { ⌜ (length (now s) ≤ 65535) × (fresh ≡ true → isBefore (now w) at (nodesAt (now s) from) ≡ false) ⌝ }
     ensures { λ r. ⌜
-        verdictAt p t (now (s .entry)) from at (now (w .entry)) end (nodesAt (now (s .entry)) inside) ≡ judgedAs r ⌝ }
+        verdictAt row t (now (s .entry)) from at (now (w .entry)) end (nodesAt (now (s .entry)) inside) ≡ judgedAs r ⌝ }
 {
     let bad = is_bad_name(w);
     if bad {
@@ -166,7 +168,7 @@ fn judge(
     if at == end {
         return Judged::Refused(FRAME, at);
     }
-    let against = is_against(p, t, s, from, at, w, inside, fresh);
+    let against = is_against(row, t, s, from, at, w, inside, fresh);
     if against {
         return Judged::Refused(PARAMETER, at);
     }
@@ -177,12 +179,12 @@ fn judge(
     Judged::Refused(FRAME, end)
 }
 
-// The verdict on the parameters whose content begins at `inside`, of the property of the number `p` with a value of the type of the number `t`.
-pub fn parameters_verdict(p: usize, t: usize, s: &[u8], inside: usize) -> Judged
+// The verdict on the parameters whose content begins at `inside`, of the property of the row with a value of the type of the number `t`.
+pub fn parameters_verdict(row: Row, t: usize, s: &[u8], inside: usize) -> Judged
     requires { ⌜ length (now s) ≤ 65535 ⌝ }
     ensures { λ r. ⌜
         ((w : List ℕ) →
-        p ≡ placeOf w propertyNames →
+        row ≡ rowAt (placeOf w propertyNames) →
         t ≤ 14 →
         judgedAs r ≡ parametersVerdict w (typeAt t) (nodesAt (now (s .entry)) inside) []) ⌝ }
 {
@@ -200,7 +202,7 @@ pub fn parameters_verdict(p: usize, t: usize, s: &[u8], inside: usize) -> Judged
                 let a = n.name;
                 let e = n.name_end;
                 let k = known_fresh(s, inside, i, fresh);
-                let j = judge(p, t, s, inside, c, &s[a..e], n.end, n.inside, i < k);
+                let j = judge(row, t, s, inside, c, &s[a..e], n.end, n.inside, i < k);
                 match j {
                     Judged::Fine => {
                         c = n.next;

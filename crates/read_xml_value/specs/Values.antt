@@ -16,4 +16,4 @@ abbrev pub typedAt : Context → ℕ → ℕ → Nodes → Verdict
 typedAt x place e kids =
     pick (eqb (x .«value_type») 8) (sequence periodSlots periodInside kids 0 [] e)
     (pick (eqb (x .«value_type») 9) (sequence recurSlots recurInside kids 0 [] e)
-    (leaf (readWordOf (wordsAt (x .component) (x .property)) (typeAt (x .«value_type»))) place kids))
+    (leaf (readWordOf (wordsAt (x .component) (x .row .number)) (typeAt (x .«value_type»))) place kids))

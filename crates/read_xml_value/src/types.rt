@@ -5,7 +5,7 @@ use names::find_word;
 use read_xml_nodes::NodeKind;
 use read_xml_nodes::node_end;
 use read_xml_nodes::node_head;
-use schema::default_type;
+use schema::Row;
 use schema::property;
 ghost use mathlib.Core.Path.{_≡_};
 ghost use mathlib.Core.List.{List};
@@ -15,6 +15,7 @@ ghost use Rattle.source.specs.Source.{rest};
 ghost use Rattle.names.specs.Table.{placeOf};
 ghost use Rattle.schema.specs.Properties.{propertyNames};
 ghost use Rattle.schema.specs.Numbers.{typeAt, typeWords};
+ghost use Rattle.schema.specs.Coded.{rowAt};
 ghost use Rattle.xcal.specs.ValueNodes.{firstType, typeOfNodes};
 ghost use Rattle.xml.specs.NodesAt.{nodesAt};
 ghost use Rattle.read_xml_value.specs.ElementTypes.{TypeNamed};
@@ -49,8 +50,8 @@ pub fn element_type(s: &[u8], name: usize, name_end: usize) -> Named
 
 // The type of the first element from `inside` on that is named as one, or `t`.
 fn first_type(t: usize, s: &[u8], inside: usize) -> usize
-    requires { ⌜ t ≤ 14 ⌝ }
-    ensures { λ r. ⌜ (typeAt r ≡ firstType (typeAt t) (nodesAt (now (s .entry)) inside)) × (r ≤ 14) ⌝ }
+    ensures { λ r. ⌜
+        (typeAt r ≡ firstType (typeAt t) (nodesAt (now (s .entry)) inside)) × (t ≤ 14 → r ≤ 14) ⌝ }
 {
     let mut c = inside;
     loop {
@@ -82,18 +83,19 @@ fn first_type(t: usize, s: &[u8], inside: usize) -> usize
     }
 }
 
-// The type of the values of the property of the number `p` whose content begins at `inside`.
-pub fn type_of_nodes(p: usize, s: &[u8], inside: usize) -> usize
+// The type of the values of the property of the row whose content begins at `inside`.
+pub fn type_of_nodes(row: Row, s: &[u8], inside: usize) -> usize
     ensures { λ r. ⌜
-        ((w : List ℕ) → p ≡ placeOf w propertyNames → typeAt r ≡ typeOfNodes w (nodesAt (now (s .entry)) inside))
-        × (r ≤ 14) ⌝ }
+        ((w : List ℕ) →
+        row ≡ rowAt (placeOf w propertyNames) →
+        (typeAt r ≡ typeOfNodes w (nodesAt (now (s .entry)) inside)) × (r ≤ 14)) ⌝ }
 {
-    let t = default_type(p);
+    let p = row.number;
     if p == property::GEO {
-        return t;
+        return row.default;
     }
     if p == property::REQUEST_STATUS {
-        return t;
+        return row.default;
     }
-    first_type(t, s, inside)
+    first_type(row.default, s, inside)
 }

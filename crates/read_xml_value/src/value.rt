@@ -24,6 +24,7 @@ ghost use Rattle.names.specs.Table.{placeOf};
 ghost use Rattle.schema.specs.Components.{componentNames};
 ghost use Rattle.schema.specs.Properties.{propertyNames};
 ghost use Rattle.schema.specs.Numbers.{typeAt};
+ghost use Rattle.schema.specs.Coded.{rowAt};
 ghost use Rattle.schema.specs.Columns.{permitsType};
 ghost use Rattle.schema.specs.Sets.{wordsAt};
 ghost use Rattle.xcal.specs.Layout.{leaf};
@@ -38,12 +39,13 @@ fn leaf_typed(context: Context, s: &[u8], e: Element) -> Judged
     requires { ⌜ (length (now s) ≤ 65535) × (e .inside ≤ length (now s)) ⌝ }
     ensures { λ r. ⌜
         judgedAs r
-        ≡ leaf (readWordOf (wordsAt (context .component) (context .property)) (typeAt (context .«value_type»)))
+        ≡ leaf (readWordOf (wordsAt (context .component) (context .row .number)) (typeAt (context .«value_type»)))
         (e .place) (nodesAt (now (s .entry)) (e .inside)) ⌝ }
 {
-    let closed = has_words(context.component, context.property);
+    let p = context.row.number;
+    let closed = has_words(context.component, p);
     if closed {
-        return leaf_word(context.component, context.property, s, e.place, e.inside);
+        return leaf_word(context.component, p, s, e.place, e.inside);
     }
     leaf_value(context.value_type, s, e.place, e.inside)
 }
@@ -67,11 +69,11 @@ fn typed_as(context: Context, u: usize, s: &[u8], e: Element) -> Judged
     requires { ⌜ (length (now s) ≤ 65535) × (e .inside ≤ length (now s)) ⌝ }
     ensures { λ r. ⌜
         judgedAs r
-        ≡ pick (permitsType (context .property) u and eqb u (context .«value_type»))
+        ≡ pick (permitsType (context .row) u and eqb u (context .«value_type»))
         (typedAt context (e .place) (e .end) (nodesAt (now (s .entry)) (e .inside)))
         (refuse VALUE (e .place)) ⌝ }
 {
-    let permitted = permits_type(context.property, u);
+    let permitted = permits_type(context.row, u);
     if permitted {
         if u == context.value_type {
             return typed_verdict(context, s, e);
@@ -87,16 +89,17 @@ pub fn value_verdict(context: Context, s: &[u8], e: Element) -> Judged
     ensures { λ r. ⌜
         ((c w : List ℕ) →
         context .component ≡ placeOf c componentNames →
-        context .property ≡ placeOf w propertyNames →
+        context .row ≡ rowAt (placeOf w propertyNames) →
         context .«value_type» ≤ 14 →
         judgedAs r
         ≡ valueVerdict c w (typeAt (context .«value_type»)) (e .place) (nameAt (now (s .entry)) e) (e .end)
         (nodesAt (now (s .entry)) (e .inside))) ⌝ }
 {
-    if context.property == property::GEO {
+    let p = context.row.number;
+    if p == property::GEO {
         return leaf_value(value_type::FLOAT, s, e.place, e.inside);
     }
-    if context.property == property::REQUEST_STATUS {
+    if p == property::REQUEST_STATUS {
         return leaf(Judged::Fine, s, e.inside);
     }
     let m = element_type(s, e.name, e.name_end);

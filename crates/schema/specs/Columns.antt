@@ -1,23 +1,29 @@
--- What the tables of properties, parameters and components say, by numbers, and that it is what they say of the names.
---     permitsType, permitsAt, mayBegin     by numbers: of a property and a type; of a property, its type and a parameter; of a component and one in it
+-- What the tables of properties and components say, by numbers: of a property its row (rowAt), of a type, a parameter or a component its number.
+--     permitsType      the property may have values of the type
+--     permitsAt        the property, whose values have the type t, permits the parameter q; unrecognised ones: any
+--     standsAt         the property may stand in the component k
+--     mayBegin         a component may stand directly in another
 use mathlib.Core.Bool.{Bool, true}
-use mathlib.Core.List.{_∷_}
 use Prim.Native.Nat.{ℕ}
 use lib.Dec.{eqb, ltb}
+use Rattle.bits.specs.Masks.{has}
 use Rattle.octets.specs.Pick.{pick, _and_}
 use Rattle.octets.specs.Words.{isOneOf}
-use Rattle.schema.specs.Types.{isTypeOf}
-use Rattle.schema.specs.Numbers.{typeAt, componentAt, propertyAt, componentName, parameterName}
+use Rattle.schema.specs.Numbers.{componentAt, componentName}
+use Rattle.schema.specs.declared.table.Row.{Row}
 
-abbrev pub permitsType : ℕ → ℕ → Bool
-permitsType p t = isTypeOf (typeAt t) (propertyAt p .default ∷ propertyAt p .others)
+unfoldable pub permitsType : Row → ℕ → Bool
+permitsType r t = has (r .types) t
 
 -- 13 is RELATED, 5 is DURATION
-abbrev pub permitsAt : ℕ → ℕ → ℕ → Bool
-permitsAt p t q =
+unfoldable pub permitsAt : Row → ℕ → ℕ → Bool
+permitsAt r t q =
     pick (ltb q 19)
-    (pick (ltb p 46) (isOneOf (parameterName q) (propertyAt p .parameters) and pick (eqb q 13) (eqb t 5) true) true)
+    (pick (ltb (r .number) 46) (has (r .parameters) q and pick (eqb q 13) (eqb t 5) true) true)
     true
+
+unfoldable pub standsAt : ℕ → Row → Bool
+standsAt k r = has (r .components) k
 
 -- whether the component k may stand directly in the component c
 abbrev pub mayBegin : ℕ → ℕ → Bool

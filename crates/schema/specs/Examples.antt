@@ -17,7 +17,9 @@ use Rattle.schema.specs.Components.{alarmTable, componentNames, subcompo
 use Rattle.schema.specs.Properties.{propertyTable, propertyNames, isKnownProperty, defaultType, permittedTypes, isListedProperty, permitsParameter, propertyWords}
 use Rattle.schema.specs.Counts.{Around, methodFor, complete}
 use Rattle.names.specs.Table.{placeOf}
-use Rattle.schema.specs.Completing.{signAt}
+use Rattle.schema.specs.Numbers.{propertyAt}
+use Rattle.schema.specs.Coded.{columns, coded}
+use Rattle.schema.specs.Property as property
 use Rattle.schema.specs.Computing.{schema-compute}
 
 -- ---- the tables agree
@@ -91,7 +93,7 @@ unfolding schema-compute
 permitted = refl
 
 listed-properties : passing (λ p. isListedProperty p) propertyNames ≡
-    ascii "CATEGORIES" ∷ ascii "RESOURCES" ∷ ascii "FREEBUSY" ∷ ascii "EXDATE" ∷ ascii "RDATE" ∷ []
+    ascii "CATEGORIES" ∷ ascii "EXDATE" ∷ ascii "FREEBUSY" ∷ ascii "RDATE" ∷ ascii "RESOURCES" ∷ []
 unfolding schema-compute passing
 listed-properties = refl
 
@@ -140,7 +142,7 @@ unfolding schema-compute
 subcomponents = refl
 
 in-valarm : passing (λ p. mayStand (ascii "VALARM") p) propertyNames ≡
-    ascii "ATTACH" ∷ ascii "DESCRIPTION" ∷ ascii "SUMMARY" ∷ ascii "DURATION" ∷ ascii "ATTENDEE" ∷ ascii "ACTION" ∷ ascii "REPEAT" ∷ ascii "TRIGGER" ∷ []
+    ascii "ACTION" ∷ ascii "ATTACH" ∷ ascii "ATTENDEE" ∷ ascii "DESCRIPTION" ∷ ascii "DURATION" ∷ ascii "REPEAT" ∷ ascii "SUMMARY" ∷ ascii "TRIGGER" ∷ []
 unfolding schema-compute passing
 in-valarm = refl
 
@@ -253,11 +255,12 @@ alarms = refl
 
 -- ---- by numbers
 
-numbers : map (λ w. placeOf w propertyNames) (ascii "CALSCALE" ∷ ascii "UID" ∷ ascii "REQUEST-STATUS" ∷ ascii "X-A" ∷ ascii "uid" ∷ []) ≡ 0 ∷ 34 ∷ 45 ∷ 46 ∷ 46 ∷ []
+numbers : map (λ w. placeOf w propertyNames) (ascii "ACTION" ∷ ascii "UID" ∷ ascii "VERSION" ∷ ascii "X-A" ∷ ascii "uid" ∷ []) ≡ 0 ∷ 43 ∷ 45 ∷ 46 ∷ 46 ∷ []
 unfolding schema-compute
 numbers = refl
 
--- UID in VCALENDAR, VEVENT, VTODO, VJOURNAL, VFREEBUSY, VTIMEZONE, a VALARM of AUDIO
-signs : map (λ l. signAt l 34) (0 ∷ 1 ∷ 2 ∷ 3 ∷ 4 ∷ 5 ∷ 9 ∷ []) ≡ ascii ".1111.."
-unfolding schema-compute
-signs = refl
+-- ATTENDEE as the code has it: types, components and parameters as masks, and how often it stands by each list; by a VALARM of EMAIL at least once
+attendee : map (λ e. e .types ∷ e .parameters ∷ e .components ∷ e .least ∷ e .once ∷ e .many ∷ []) (coded (propertyAt property.ATTENDEE) ∷ []) ≡
+    (0x4 ∷ 0x38e3e ∷ 0x11e ∷ 0x400 ∷ 0 ∷ 0x41e ∷ []) ∷ []
+unfolding schema-compute columns
+attendee = refl

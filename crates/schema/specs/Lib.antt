@@ -3,10 +3,13 @@
 -- `tools/check-schema.py` compares the tables with it.
 --     Types       the value types by name
 --     Parameters  parameters: type, whether listed, whether quoted, closed sets
+--     Properties  the one table of properties: types, parameters, whether listed, how often by which list; closed sets
 --     Components  components: subcomponents, and how often each property stands
---     Properties  properties: types, parameters, whether listed, closed sets
 --     Counts      the tallies of a component compared with its list (refusal 9)
 --     Numbers     names by their numbers, and the rows of numbers
+--     Property    the numbers of properties by name
+--     Halving     a name found by halving
+--     Coded       the one table as the code has it
 --     Packs       the numbers by which code finds names
 --     Cells       tables that a definition fills
 --     Columns     what the tables say, by numbers
@@ -18,10 +21,13 @@
 --     laws        laws of these, and what proofs need
 pub mod Types
 pub mod Parameters
-pub mod Components
 pub mod Properties
+pub mod Components
 pub mod Counts
 pub mod Numbers
+pub mod Property
+pub mod Halving
+pub mod Coded
 pub mod Packs
 pub mod Cells
 pub mod Columns

@@ -1,6 +1,6 @@
--- The numbers of the schema's names (specs/Packing.antt of crate names), with their places, in groups as the code compares them: each in the order of its low halves.
+-- The numbers of the schema's names other than properties' (specs/Packing.antt of crate names), with their places, in groups as the code compares them: each in the order of its low halves.
 -- That they are the names of specs/Numbers.antt and of the tables is computed in specs/laws/Numbers.antt.
---     typeRows, componentRows, propertyRows, parameterRows    the groups of each list but the last, each with the bound of its low halves; the rows of a group have its number behind
+--     typeRows, componentRows, parameterRows    the groups of each list but the last, each with the bound of its low halves; the rows of a group have its number behind
 use mathlib.Core.List.{List, [], _∷_}
 use Rattle.names.specs.Packing.{Row, row, Group, group}
 
@@ -28,44 +28,6 @@ componentRows2 =
 
 abbrev pub componentRows : List Group
 componentRows = group 0x8906ccc931e454 componentRows1 ∷ []
-
-abbrev pub propertyRows1 : List Row
-propertyRows1 =
-    row 0x0 0x312ac5 18 ∷ row 0x0 0x31e2cf 9 ∷ row 0x0 0x3564c4 34 ∷ row 0x0 0x35694c 33
-    ∷ row 0x0 0x1a96a4c4 23 ∷ row 0x0 0xc399069d3 6 ∷ row 0x0 0xc4a916744 17 ∷ []
-
-abbrev pub propertyRows2 : List Row
-propertyRows2 =
-    row 0x0 0xd28906a45 36 ∷ row 0x0 0xd2a556645 37 ∷ row 0x0 0xd4b55694c 27 ∷ row 0x0 0x60c3a9267ce 38
-    ∷ row 0x0 0x60d4a9061c8 4 ∷ row 0x0 0x62d88906a45 35 ∷ row 0x0 0x66c5a9227c4 1 ∷ row 0x0 0x68529f124c4 2 ∷ []
-
-abbrev pub propertyRows3 : List Row
-propertyRows3 =
-    row 0x0 0x6945a1160d4 39 ∷ row 0x0 0x69d48352ad3 14 ∷ row 0x0 0x6a52833a9d0 22 ∷ row 0x0 0x6a5a9d066c5 24
-    ∷ row 0x0 0x30e7cd9b16754 7 ∷ row 0x0 0x30e7cea9061d4 29 ∷ row 0x0 0x30e94583522c4 41 ∷ row 0x0 0x312a53a9066d0 42 ∷ []
-
-abbrev pub propertyRows4 : List Row
-propertyRows4 =
-    row 0x0 0x312a53a906954 19 ∷ row 0x0 0x34eacd9b06959 15 ∷ row 0x0 0x3529498f1e2d2 40 ∷ row 0x0 0x35a2d2a7267ce 3
-    ∷ row 0x1 0x8352a459d122c5 28 ∷ row 0x1 0x87066538706645 0 ∷ row 0x1a1169438b3aa2d 0x873e6d09916a45 11 ∷ []
-
-abbrev pub propertyRows5 : List Row
-propertyRows5 =
-    row 0x3122d3 0x874a4d0a9267ce 8 ∷ row 0x1 0x8956941a9267ce 20 ∷ row 0xd2 0x8b4e7d5a50e2d3 13 ∷ row 0x1 0x8d4a2c585569d9 21
-    ∷ row 0x1a96a7c6 0x8d4e2d48d4a7cd 25 ∷ row 0x6945 0x9906a4588b6a4f 32 ∷ row 0x1 0x993e1c1a9267ce 10 ∷ row 0xcc834ea2d 0x9b3e2498d262c4 43 ∷ []
-
-abbrev pub propertyRows6 : List Row
-propertyRows6 =
-    row 0x6a5a 0x9f1a3538b52a4f 26 ∷ row 0xc3 0x9f3684c8b522c4 16 ∷ row 0x1 0xa14a4cfa526a59 12 ∷ row 0xd28b0ead2 0xa5167438ab64c4 31
-    ∷ row 0xcf 0xa51e0ce936a2d2 30 ∷ row 0x1 0xa7168d58b3a1c5 44 ∷ row 0x6945a3562d3 0xa8b69d48352ad3 45 ∷ row 0x61c1 0xa9163cfa5262d3 5 ∷ []
-
-abbrev pub propertyRows : List Group
-propertyRows =
-    group 0xd28906a45 propertyRows1
-    ∷ group 0x6945a1160d4 propertyRows2
-    ∷ group 0x312a53a906954 propertyRows3
-    ∷ group 0x874a4d0a9267ce propertyRows4
-    ∷ group 0x9f1a3538b52a4f propertyRows5 ∷ []
 
 abbrev pub parameterRows1 : List Row
 parameterRows1 =

@@ -16,6 +16,7 @@ use Rattle.octets.specs.Words.{isOneOf}
 use Rattle.names.specs.Table.{placeOf, nth}
 use Rattle.schema.specs.Parameters.{cutypes, encodings, fbtypes, partstats, ranges, trigrels, reltypes, roles}
 use Rattle.schema.specs.Numbers.{parameterAt}
+use Rattle.schema.specs.Property as property
 use Rattle.schema.specs.declared.WordRead.{WordRead}
 use Rattle.schema.specs.declared.WordRead.the-variants.{At, NoWord}
 
@@ -43,13 +44,17 @@ wordSets =
 abbrev pub statusSet : ℕ → ℕ
 statusSet k = pick (eqb k 1) 5 (pick (eqb k 2) 6 (pick (eqb k 3) 7 16))
 
--- CALSCALE, VERSION, CLASS, TRANSP, ACTION
 abbrev pub propertySet : ℕ → ℕ
-propertySet p = pick (eqb p 0) 0 (pick (eqb p 3) 1 (pick (eqb p 6) 2 (pick (eqb p 22) 3 (pick (eqb p 38) 4 16))))
+propertySet p =
+    pick (eqb p property.CALSCALE) 0
+    (pick (eqb p property.VERSION) 1
+    (pick (eqb p property.CLASS) 2
+    (pick (eqb p property.TRANSP) 3
+    (pick (eqb p property.ACTION) 4
+    16))))
 
--- 14 is STATUS
 abbrev pub setAt : ℕ → ℕ → ℕ
-setAt k p = pick (eqb p 14) (statusSet k) (propertySet p)
+setAt k p = pick (eqb p property.STATUS) (statusSet k) (propertySet p)
 
 abbrev pub wordsAt : ℕ → ℕ → Option (List (List ℕ))
 wordsAt k p = nth wordSets (setAt k p)

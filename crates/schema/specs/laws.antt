@@ -10,6 +10,10 @@
 --     Sets        closed sets, by numbers
 --     Arrays      the tallies of a component in an array
 --     Completing  counts over that array
+--     Property    the numbers of properties by name
+--     Halving     a name found by halving
+--     Lists       the lists that the table was made of
+--     Table       the table answers what they answer
 pub mod Types
 pub mod Rows
 pub mod Closed
@@ -20,4 +24,8 @@ pub mod Places
 pub mod Columns
 pub mod Sets
 pub mod Arrays
+pub mod Halving
 pub mod Completing
+pub mod Property
+pub mod Lists
+pub mod Table

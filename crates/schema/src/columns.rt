@@ -1,214 +1,31 @@
-// What the tables say of a component, a property, a type, a parameter, by their numbers. The tables of bytes are those of specs/ by computation.
+// What the tables say: of a property by its row, of a type, a parameter, a component by its number. The tables of bytes are those of specs/ by computation.
 use crate::component;
 use crate::parameter;
 use crate::property;
+use crate::table::Row;
 use crate::value_type;
+use bits::holds;
 use octets::wide;
 ghost use mathlib.Core.Path.{_≡_};
-ghost use Prim.Native.Nat.{_<_};
 ghost use lib.Dec.{eqb};
-ghost use Rattle.octets.specs.Words.{isOneOf};
 ghost use Rattle.schema.specs.Types.{typePlace};
-ghost use Rattle.schema.specs.Components.{mayStand};
-ghost use Rattle.schema.specs.Numbers.{propertyAt, parameterAt, componentName, propertyName, parameterName};
-ghost use Rattle.schema.specs.Columns.{permitsType, permitsAt, mayBegin};
+ghost use Rattle.schema.specs.Numbers.{parameterAt};
+ghost use Rattle.schema.specs.Columns.{permitsType, permitsAt, standsAt, mayBegin};
 
-// The type of each property's values where no VALUE is given.
-const DEFAULTS: [u8; 46] = [
-    value_type::TEXT as u8, // CALSCALE
-    value_type::TEXT as u8, // METHOD
-    value_type::TEXT as u8, // PRODID
-    value_type::TEXT as u8, // VERSION
-    value_type::URI as u8, // ATTACH
-    value_type::TEXT as u8, // CATEGORIES
-    value_type::TEXT as u8, // CLASS
-    value_type::TEXT as u8, // COMMENT
-    value_type::TEXT as u8, // DESCRIPTION
-    value_type::FLOAT as u8, // GEO
-    value_type::TEXT as u8, // LOCATION
-    value_type::INTEGER as u8, // PERCENT-COMPLETE
-    value_type::INTEGER as u8, // PRIORITY
-    value_type::TEXT as u8, // RESOURCES
-    value_type::TEXT as u8, // STATUS
-    value_type::TEXT as u8, // SUMMARY
-    value_type::DATE_TIME as u8, // COMPLETED
-    value_type::DATE_TIME as u8, // DTEND
-    value_type::DATE_TIME as u8, // DUE
-    value_type::DATE_TIME as u8, // DTSTART
-    value_type::DURATION as u8, // DURATION
-    value_type::PERIOD as u8, // FREEBUSY
-    value_type::TEXT as u8, // TRANSP
-    value_type::TEXT as u8, // TZID
-    value_type::TEXT as u8, // TZNAME
-    value_type::UTC_OFFSET as u8, // TZOFFSETFROM
-    value_type::UTC_OFFSET as u8, // TZOFFSETTO
-    value_type::URI as u8, // TZURL
-    value_type::CAL_ADDRESS as u8, // ATTENDEE
-    value_type::TEXT as u8, // CONTACT
-    value_type::CAL_ADDRESS as u8, // ORGANIZER
-    value_type::DATE_TIME as u8, // RECURRENCE-ID
-    value_type::TEXT as u8, // RELATED-TO
-    value_type::URI as u8, // URL
-    value_type::TEXT as u8, // UID
-    value_type::DATE_TIME as u8, // EXDATE
-    value_type::DATE_TIME as u8, // RDATE
-    value_type::RECUR as u8, // RRULE
-    value_type::TEXT as u8, // ACTION
-    value_type::INTEGER as u8, // REPEAT
-    value_type::DURATION as u8, // TRIGGER
-    value_type::DATE_TIME as u8, // CREATED
-    value_type::DATE_TIME as u8, // DTSTAMP
-    value_type::DATE_TIME as u8, // LAST-MODIFIED
-    value_type::INTEGER as u8, // SEQUENCE
-    value_type::TEXT as u8, // REQUEST-STATUS
-];
-
-pub fn default_type(p: usize) -> usize
-    ensures { λ r. ⌜ r ≡ typePlace (propertyAt p .default) ⌝ }
+// Whether the values of a property may have the type `t`.
+pub fn permits_type(row: Row, t: usize) -> bool
+    ensures { λ r. ⌜ r ≡ permitsType row t ⌝ }
 {
-    if p < property::KNOWN {
-        return wide(DEFAULTS[p]);
-    }
-    value_type::UNKNOWN
-}
-
-// A line for each property, a column for each of the fourteen types: 1 where its values may have the type.
-const PERMITTED: [u8; 644] = *b"\
-    00000000001000\
-    00000000001000\
-    00000000001000\
-    00000000001000\
-    10000000000010\
-    00000000001000\
-    00000000001000\
-    00000000001000\
-    00000000001000\
-    00000010000000\
-    00000000001000\
-    00000001000000\
-    00000001000000\
-    00000000001000\
-    00000000001000\
-    00000000001000\
-    00001000000000\
-    00011000000000\
-    00011000000000\
-    00011000000000\
-    00000100000000\
-    00000000100000\
-    00000000001000\
-    00000000001000\
-    00000000001000\
-    00000000000001\
-    00000000000001\
-    00000000000010\
-    00100000000000\
-    00000000001000\
-    00100000000000\
-    00011000000000\
-    00000000001000\
-    00000000000010\
-    00000000001000\
-    00011000000000\
-    00011000100000\
-    00000000010000\
-    00000000001000\
-    00000001000000\
-    00001100000000\
-    00001000000000\
-    00001000000000\
-    00001000000000\
-    00000001000000\
-    00000000001000";
-
-pub fn permits_type(p: usize, t: usize) -> bool
-    ensures { λ r. ⌜ r ≡ permitsType p t ⌝ }
-{
-    if p < property::KNOWN {
-        if t < value_type::KNOWN {
-            return PERMITTED[p * value_type::KNOWN + t] == b'1';
-        }
-        return false;
-    }
-    true
-}
-
-// 1 where the property takes a list of values.
-const LISTED: [u8; 46] = *b"0000010000000100000001000000000000011000000000";
-
-pub fn is_listed(p: usize) -> bool
-    ensures { λ r. ⌜ r ≡ propertyAt p .listed ⌝ }
-{
-    if p < property::KNOWN {
-        return LISTED[p] == b'1';
-    }
-    false
-}
-
-// A line for each property, a column for each parameter: 1 where it may stand there.
-const PERMITS: [u8; 874] = *b"\
-    0000000000000000000\
-    0000000000000000000\
-    0000000000000000000\
-    0000000000000000000\
-    0000001100000000000\
-    0000000001000000000\
-    0000000000000000000\
-    1000000001000000000\
-    1000000001000000000\
-    0000000000000000000\
-    1000000001000000000\
-    0000000000000000000\
-    0000000000000000000\
-    1000000001000000000\
-    0000000000000000000\
-    1000000001000000000\
-    0000000000000000000\
-    0000000000000000001\
-    0000000000000000001\
-    0000000000000000001\
-    0000000000000000000\
-    0000000010000000000\
-    0000000000000000000\
-    0000000000000000000\
-    0000000001000000000\
-    0000000000000000000\
-    0000000000000000000\
-    0000000000000000000\
-    0111110001110001110\
-    1000000001000000000\
-    0100010001000000010\
-    0000000000001000001\
-    0000000000000010000\
-    0000000000000000000\
-    0000000000000000000\
-    0000000000000000001\
-    0000000000000000001\
-    0000000000000000000\
-    0000000000000000000\
-    0000000000000000000\
-    0000000000000100000\
-    0000000000000000000\
-    0000000000000000000\
-    0000000000000000000\
-    0000000000000000000\
-    0000000001000000000";
-
-// The property permits the parameter.
-fn carries(p: usize, q: usize) -> bool
-    requires { ⌜ (p < 46) × (q < 19) ⌝ }
-    ensures { λ r. ⌜ r ≡ isOneOf (parameterName q) (propertyAt p .parameters) ⌝ }
-{
-    PERMITS[p * parameter::KNOWN + q] == b'1'
+    holds(row.types, t)
 }
 
 // Whether a property whose values have the type `t` permits a parameter; RELATED only with DURATION.
-pub fn permits_parameter(p: usize, t: usize, q: usize) -> bool
-    ensures { λ r. ⌜ r ≡ permitsAt p t q ⌝ }
+pub fn permits_parameter(row: Row, t: usize, q: usize) -> bool
+    ensures { λ r. ⌜ r ≡ permitsAt row t q ⌝ }
 {
     if q < parameter::KNOWN {
-        if p < property::KNOWN {
-            let ok = carries(p, q);
+        if row.number < property::KNOWN {
+            let ok = holds(row.parameters, q);
             if ok {
                 if q == parameter::RELATED {
                     return t == value_type::DURATION;
@@ -220,6 +37,13 @@ pub fn permits_parameter(p: usize, t: usize, q: usize) -> bool
         return true;
     }
     true
+}
+
+// Whether a property may stand in the component `k`.
+pub fn may_stand(k: usize, row: Row) -> bool
+    ensures { λ r. ⌜ r ≡ standsAt k row ⌝ }
+{
+    holds(row.components, k)
 }
 
 // The type of each parameter's values.
@@ -274,30 +98,6 @@ pub fn is_quoted_parameter(q: usize) -> bool
 {
     if q < parameter::KNOWN {
         return QUOTED[q] == b'1';
-    }
-    false
-}
-
-// A line for each component, a column for each property: 1 where it may stand there.
-const STANDING: [u8; 414] = *b"\
-    1111000000000000000000000000000000000000000000\
-    0000111111101111010110100000111111111100011111\
-    0000111111111111101110000000111111111100011111\
-    0000111110000011000100000000111111111100011111\
-    0000000100000000010111000000111001100000001001\
-    0000000000000000000000010001000000000000000100\
-    0000000100000000000100001110000000001100000000\
-    0000000100000000000100001110000000001100000000\
-    0000100010000001000010000000100000000011100000";
-
-pub fn may_stand(k: usize, p: usize) -> bool
-    ensures { λ r. ⌜ r ≡ mayStand (componentName k) (propertyName p) ⌝ }
-{
-    if k < component::KNOWN {
-        if p < property::KNOWN {
-            return STANDING[k * property::KNOWN + p] == b'1';
-        }
-        return false;
     }
     false
 }

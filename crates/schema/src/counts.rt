@@ -2,13 +2,22 @@
 use crate::action;
 use crate::component;
 use crate::property;
+use crate::table::Entry;
+use crate::table::HALF;
+use crate::table::first_half;
+use crate::table::second_half;
+use bits::holds;
 ghost use mathlib.Core.Path.{_≡_};
-ghost use Prim.Native.Nat.{_<_};
+ghost use Prim.Native.Nat.{_≤_};
 ghost use lib.Dec.{eqb};
 ghost use lib.ListN.{getD};
 ghost use Rattle.octets.specs.Pick.{_and_, _or_};
 ghost use Rattle.schema.specs.Arrays.{bumped};
-ghost use Rattle.schema.specs.Completing.{signAt, isSigned, allOften, oftenAt, pairsAt, completeAt, methodAt};
+ghost use Rattle.schema.specs.Property as property;
+ghost use Rattle.schema.specs.Completing.{oftenIn, halfOften, allOften, oftenAt, pairsAt, completeAt, methodAt};
+
+// How many lists there are: a component's by its number, and from VALARM's number on one for each ACTION.
+const LISTS: usize = 11;
 
 // One more of the property `p`; of an unrecognised one, nothing.
 pub fn bump(t: [u8; 46], p: usize) -> [u8; 46]
@@ -26,60 +35,36 @@ pub fn bump(t: [u8; 46], p: usize) -> [u8; 46]
     u
 }
 
-// A line for each component, and at the end three for VALARM, by its ACTION: AUDIO, DISPLAY, EMAIL. A column for each property, with a sign of how often it stands, as in the schema:
-// 1 once, ? at most once, * any number of times, + at least once, a point where it may not stand.
-const SIGNS: [u8; 552] = *b"\
-    ??11..........................................\
-    ....**?*???.?*??.?.??.?.....**??*?1**?...?1??*\
-    ....**?*?????*???.???.......**??*?1**?...?1??*\
-    ....**?*?.....??...?........**??*?1**?...?1??*\
-    .......*.........?.??*......*??..?1.......1..*\
-    .......................1...?...............?..\
-    .......*...........1....*11.........*?........\
-    .......*...........1....*11.........*?........\
-    ..............................................\
-    ....?...............?.................1?1.....\
-    ........1...........?.................1?1.....\
-    ....*...1......1....?.......+.........1?1.....";
-
-// How often the property `p` stands by the list `l`.
-fn sign_at(l: usize, p: usize) -> u8
-    requires { ⌜ p < 46 ⌝ }
-    ensures { λ r. ⌜ r ≡ signAt l p ⌝ }
+// A property stands `n` times, and by the list `l` it may.
+fn is_often(e: Entry, l: usize, n: u8) -> bool
+    ensures { λ r. ⌜ r ≡ oftenIn e l n ⌝ }
 {
-    if l < 12 {
-        return SIGNS[l * property::KNOWN + p];
-    }
-    b'.'
-}
-
-// A tally is as often as a sign says.
-fn is_signed(sign: u8, n: u8) -> bool
-    ensures { λ r. ⌜ r ≡ isSigned sign n ⌝ }
-{
-    if sign == b'1' {
-        return n == 1;
-    }
-    if sign == b'?' {
-        return n <= 1;
-    }
-    if sign == b'*' {
+    if n == 0 {
+        let needed = holds(e.least as u32, l);
+        if needed {
+            return false;
+        }
         return true;
     }
-    if sign == b'+' {
-        return 1 <= n;
+    let many = holds(e.many as u32, l);
+    if many {
+        return true;
     }
-    n == 0
+    let once = holds(e.once as u32, l);
+    if once {
+        return n == 1;
+    }
+    false
 }
 
-// Every property stands as often as the list `l` says.
-fn all_often(l: usize, t: [u8; 46]) -> bool
-    ensures { λ r. ⌜ r ≡ allOften l t ⌝ }
+// Every property of a half of the table, whose first has the number `from`, stands as often as the list `l` says.
+fn half_often(rows: [Entry; 23], from: usize, l: usize, t: [u8; 46]) -> bool
+    requires { ⌜ from ≤ 23 ⌝ }
+    ensures { λ r. ⌜ r ≡ halfOften rows from l t ⌝ }
 {
     let mut n = 0;
-    while n < property::KNOWN {
-        let sign = sign_at(l, n);
-        let ok = is_signed(sign, t[n]);
+    while n < HALF {
+        let ok = is_often(rows[n], l, t[from + n]);
         if ok {
             n += 1;
         } else {
@@ -89,25 +74,38 @@ fn all_often(l: usize, t: [u8; 46]) -> bool
     true
 }
 
+// Every property stands as often as the list `l` says.
+fn all_often(l: usize, t: [u8; 46]) -> bool
+    ensures { λ r. ⌜ r ≡ allOften l t ⌝ }
+{
+    let rows = first_half();
+    let first = half_often(rows, 0, l, t);
+    if first {
+        let others = second_half();
+        return half_often(others, HALF, l, t);
+    }
+    false
+}
+
 // The same by the list of a component, which for a VALARM its ACTION names.
 fn often_at(k: usize, t: [u8; 46], action: usize) -> bool
     ensures { λ r. ⌜ r ≡ oftenAt k t action ⌝ }
 {
     if k == component::VALARM {
         if action < action::NONE {
-            return all_often(action + component::KNOWN, t);
+            return all_often(action + component::VALARM, t);
         }
         return false;
     }
     if k < component::KNOWN {
         return all_often(k, t);
     }
-    all_often(12, t)
+    all_often(LISTS, t)
 }
 
 // VEVENT: DTSTART, unless the calendar has METHOD.
 fn event_start(t: [u8; 46], method: bool) -> bool
-    ensures { λ r. ⌜ r ≡ (method or eqb (getD t 19 0) 1) ⌝ }
+    ensures { λ r. ⌜ r ≡ (method or eqb (getD t property.DTSTART 0) 1) ⌝ }
 {
     if method {
         return true;
@@ -117,7 +115,10 @@ fn event_start(t: [u8; 46], method: bool) -> bool
 
 // VEVENT: the same, and not both DTEND and DURATION.
 fn event_pair(t: [u8; 46], method: bool) -> bool
-    ensures { λ r. ⌜ r ≡ ((method or eqb (getD t 19 0) 1) and (eqb (getD t 17 0) 0 or eqb (getD t 20 0) 0)) ⌝ }
+    ensures { λ r. ⌜
+        r
+        ≡ ((method or eqb (getD t property.DTSTART 0) 1)
+        and (eqb (getD t property.DTEND 0) 0 or eqb (getD t property.DURATION 0) 0)) ⌝ }
 {
     let started = event_start(t, method);
     if started {
@@ -131,7 +132,10 @@ fn event_pair(t: [u8; 46], method: bool) -> bool
 
 // VTODO: DURATION only with DTSTART and without DUE.
 fn todo_pair(t: [u8; 46]) -> bool
-    ensures { λ r. ⌜ r ≡ (eqb (getD t 20 0) 0 or (eqb (getD t 19 0) 1 and eqb (getD t 18 0) 0)) ⌝ }
+    ensures { λ r. ⌜
+        r
+        ≡ (eqb (getD t property.DURATION 0) 0
+        or (eqb (getD t property.DTSTART 0) 1 and eqb (getD t property.DUE 0) 0)) ⌝ }
 {
     if t[property::DURATION] == 0 {
         return true;
@@ -144,7 +148,7 @@ fn todo_pair(t: [u8; 46]) -> bool
 
 // VALARM: DURATION and REPEAT, or neither.
 fn alarm_pair(t: [u8; 46]) -> bool
-    ensures { λ r. ⌜ r ≡ eqb (getD t 20 0) (getD t 39 0) ⌝ }
+    ensures { λ r. ⌜ r ≡ eqb (getD t property.DURATION 0) (getD t property.REPEAT 0) ⌝ }
 {
     t[property::DURATION] == t[property::REPEAT]
 }

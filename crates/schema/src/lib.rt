@@ -10,12 +10,11 @@ mod numbers;
 pub mod parameter;
 pub mod property;
 mod set;
+mod table;
 pub mod value_type;
 mod words;
 
-pub use columns::default_type;
 pub use columns::is_alarm;
-pub use columns::is_listed;
 pub use columns::is_listed_parameter;
 pub use columns::is_quoted_parameter;
 pub use columns::may_begin;
@@ -28,18 +27,19 @@ pub use counts::complete_counts;
 pub use counts::method_for;
 pub use numbers::component_number;
 pub use numbers::parameter_number;
-pub use numbers::property_number;
 pub use numbers::type_number;
+pub use table::Row;
+pub use table::row_of;
 pub use words::action_number;
 pub use words::has_words;
 pub use words::parameter_has_words;
 pub use words::read_word_of;
 pub use words::read_word_of_parameter;
 
-// Where a value stands: its component, property and type, by their numbers.
+// Where a value stands: its component and type by their numbers, its property by its row.
 pub struct Context {
     pub component: usize,
-    pub property: usize,
+    pub row: Row,
     pub value_type: usize,
 }
 

@@ -2,7 +2,6 @@
 // in groups of at most eight (specs/Packs.antt). `tools/packed-names.py` prints them; one that is wrong is refused by the check.
 use crate::component;
 use crate::parameter;
-use crate::property;
 use crate::value_type;
 use names::packed::pack;
 ghost use mathlib.Core.Path.{_≡_};
@@ -12,11 +11,9 @@ ghost use Rattle.names.specs.Table.{placeOf};
 ghost use Rattle.names.specs.Packing.{lookup};
 ghost use Rattle.schema.specs.Numbers.{typeNames};
 ghost use Rattle.schema.specs.Components.{componentNames};
-ghost use Rattle.schema.specs.Properties.{propertyNames};
 ghost use Rattle.schema.specs.Parameters.{parameterNames};
 ghost use Rattle.schema.specs.Packs.{typeRows1, typeRows2};
 ghost use Rattle.schema.specs.Packs.{componentRows1, componentRows2};
-ghost use Rattle.schema.specs.Packs.{propertyRows1, propertyRows2, propertyRows3, propertyRows4, propertyRows5, propertyRows6};
 ghost use Rattle.schema.specs.Packs.{parameterRows1, parameterRows2, parameterRows3};
 
 fn type_1(high: u64, low: u64) -> usize
@@ -132,203 +129,6 @@ pub fn component_number(mode: usize, s: &[u8], at: usize) -> usize
         return component_1(w.high, w.low);
     }
     component_2(w.high, w.low)
-}
-
-fn property_1(high: u64, low: u64) -> usize
-    ensures { λ r. ⌜ r ≡ lookup high low propertyRows1 46 ⌝ }
-{
-    if (low == 0x312ac5) & (high == 0x0) {
-        return property::DUE;
-    }
-    if (low == 0x31e2cf) & (high == 0x0) {
-        return property::GEO;
-    }
-    if (low == 0x3564c4) & (high == 0x0) {
-        return property::UID;
-    }
-    if (low == 0x35694c) & (high == 0x0) {
-        return property::URL;
-    }
-    if (low == 0x1a96a4c4) & (high == 0x0) {
-        return property::TZID;
-    }
-    if (low == 0xc399069d3) & (high == 0x0) {
-        return property::CLASS;
-    }
-    if (low == 0xc4a916744) & (high == 0x0) {
-        return property::DTEND;
-    }
-    property::KNOWN
-}
-
-fn property_2(high: u64, low: u64) -> usize
-    ensures { λ r. ⌜ r ≡ lookup high low propertyRows2 46 ⌝ }
-{
-    if (low == 0xd28906a45) & (high == 0x0) {
-        return property::RDATE;
-    }
-    if (low == 0xd2a556645) & (high == 0x0) {
-        return property::RRULE;
-    }
-    if (low == 0xd4b55694c) & (high == 0x0) {
-        return property::TZURL;
-    }
-    if (low == 0x60c3a9267ce) & (high == 0x0) {
-        return property::ACTION;
-    }
-    if (low == 0x60d4a9061c8) & (high == 0x0) {
-        return property::ATTACH;
-    }
-    if (low == 0x62d88906a45) & (high == 0x0) {
-        return property::EXDATE;
-    }
-    if (low == 0x66c5a9227c4) & (high == 0x0) {
-        return property::METHOD;
-    }
-    if (low == 0x68529f124c4) & (high == 0x0) {
-        return property::PRODID;
-    }
-    property::KNOWN
-}
-
-fn property_3(high: u64, low: u64) -> usize
-    ensures { λ r. ⌜ r ≡ lookup high low propertyRows3 46 ⌝ }
-{
-    if (low == 0x6945a1160d4) & (high == 0x0) {
-        return property::REPEAT;
-    }
-    if (low == 0x69d48352ad3) & (high == 0x0) {
-        return property::STATUS;
-    }
-    if (low == 0x6a52833a9d0) & (high == 0x0) {
-        return property::TRANSP;
-    }
-    if (low == 0x6a5a9d066c5) & (high == 0x0) {
-        return property::TZNAME;
-    }
-    if (low == 0x30e7cd9b16754) & (high == 0x0) {
-        return property::COMMENT;
-    }
-    if (low == 0x30e7cea9061d4) & (high == 0x0) {
-        return property::CONTACT;
-    }
-    if (low == 0x30e94583522c4) & (high == 0x0) {
-        return property::CREATED;
-    }
-    if (low == 0x312a53a9066d0) & (high == 0x0) {
-        return property::DTSTAMP;
-    }
-    property::KNOWN
-}
-
-fn property_4(high: u64, low: u64) -> usize
-    ensures { λ r. ⌜ r ≡ lookup high low propertyRows4 46 ⌝ }
-{
-    if (low == 0x312a53a906954) & (high == 0x0) {
-        return property::DTSTART;
-    }
-    if (low == 0x34eacd9b06959) & (high == 0x0) {
-        return property::SUMMARY;
-    }
-    if (low == 0x3529498f1e2d2) & (high == 0x0) {
-        return property::TRIGGER;
-    }
-    if (low == 0x35a2d2a7267ce) & (high == 0x0) {
-        return property::VERSION;
-    }
-    if (low == 0x8352a459d122c5) & (high == 0x1) {
-        return property::ATTENDEE;
-    }
-    if (low == 0x87066538706645) & (high == 0x1) {
-        return property::CALSCALE;
-    }
-    if (low == 0x873e6d09916a45) & (high == 0x1a1169438b3aa2d) {
-        return property::PERCENT_COMPLETE;
-    }
-    property::KNOWN
-}
-
-fn property_5(high: u64, low: u64) -> usize
-    ensures { λ r. ⌜ r ≡ lookup high low propertyRows5 46 ⌝ }
-{
-    if (low == 0x874a4d0a9267ce) & (high == 0x3122d3) {
-        return property::DESCRIPTION;
-    }
-    if (low == 0x8956941a9267ce) & (high == 0x1) {
-        return property::DURATION;
-    }
-    if (low == 0x8b4e7d5a50e2d3) & (high == 0xd2) {
-        return property::RESOURCES;
-    }
-    if (low == 0x8d4a2c585569d9) & (high == 0x1) {
-        return property::FREEBUSY;
-    }
-    if (low == 0x8d4e2d48d4a7cd) & (high == 0x1a96a7c6) {
-        return property::TZOFFSETFROM;
-    }
-    if (low == 0x9906a4588b6a4f) & (high == 0x6945) {
-        return property::RELATED_TO;
-    }
-    if (low == 0x993e1c1a9267ce) & (high == 0x1) {
-        return property::LOCATION;
-    }
-    if (low == 0x9b3e2498d262c4) & (high == 0xcc834ea2d) {
-        return property::LAST_MODIFIED;
-    }
-    property::KNOWN
-}
-
-fn property_6(high: u64, low: u64) -> usize
-    ensures { λ r. ⌜ r ≡ lookup high low propertyRows6 46 ⌝ }
-{
-    if (low == 0x9f1a3538b52a4f) & (high == 0x6a5a) {
-        return property::TZOFFSETTO;
-    }
-    if (low == 0x9f3684c8b522c4) & (high == 0xc3) {
-        return property::COMPLETED;
-    }
-    if (low == 0xa14a4cfa526a59) & (high == 0x1) {
-        return property::PRIORITY;
-    }
-    if (low == 0xa5167438ab64c4) & (high == 0xd28b0ead2) {
-        return property::RECURRENCE_ID;
-    }
-    if (low == 0xa51e0ce936a2d2) & (high == 0xcf) {
-        return property::ORGANIZER;
-    }
-    if (low == 0xa7168d58b3a1c5) & (high == 0x1) {
-        return property::SEQUENCE;
-    }
-    if (low == 0xa8b69d48352ad3) & (high == 0x6945a3562d3) {
-        return property::REQUEST_STATUS;
-    }
-    if (low == 0xa9163cfa5262d3) & (high == 0x61c1) {
-        return property::CATEGORIES;
-    }
-    property::KNOWN
-}
-
-// The number of a property, 46 (KNOWN) where there is none of that name.
-pub fn property_number(mode: usize, s: &[u8], at: usize) -> usize
-    ensures { λ r. ⌜ r ≡ placeOf (upper (rest mode (now (s .entry)) at)) propertyNames ⌝ }
-{
-    let w = pack(mode, s, at);
-    if w.low < 0xd28906a45 {
-        return property_1(w.high, w.low);
-    }
-    if w.low < 0x6945a1160d4 {
-        return property_2(w.high, w.low);
-    }
-    if w.low < 0x312a53a906954 {
-        return property_3(w.high, w.low);
-    }
-    if w.low < 0x874a4d0a9267ce {
-        return property_4(w.high, w.low);
-    }
-    if w.low < 0x9f1a3538b52a4f {
-        return property_5(w.high, w.low);
-    }
-    property_6(w.high, w.low)
 }
 
 fn parameter_1(high: u64, low: u64) -> usize

@@ -10,14 +10,14 @@ use Rattle.octets.specs.Pick.{pick}
 use Rattle.names.specs.Table.{placeOf}
 use Rattle.schema.specs.Properties.{propertyNames}
 use Rattle.xcal.specs.ValueNodes.{typeElements, geoElements, statusElements}
+use Rattle.schema.specs.Property as property
 use Rattle.xcal.specs.PropertyNodes.{parametersIn}
 use Rattle.xml.specs.NodesAt.{nodesAt}
 
 -- ---- the children that are the value
 
--- 9 is GEO, 45 is REQUEST-STATUS
 abbrev pub valueNames : ℕ → List (List ℕ)
-valueNames p = pick (eqb p 9) geoElements (pick (eqb p 45) statusElements typeElements)
+valueNames p = pick (eqb p property.GEO) geoElements (pick (eqb p property.REQUEST-STATUS) statusElements typeElements)
 
 -- ---- `parameters`
 

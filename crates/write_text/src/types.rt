@@ -1,5 +1,4 @@
 // VALUE, where the type of a property's values is not its default. See specs/Typing.antt.
-use schema::default_type;
 use schema::value_type;
 use sink::put_all;
 ghost use Prim.Native.Nat.{_≤_, _<_};
@@ -51,12 +50,11 @@ fn put_type_name(out: &mut [u8], o: usize, t: usize) -> usize
     put_type_high(out, o, t)
 }
 
-// The parameter VALUE, where `t` is not the default type of the property of the number `p`.
-pub fn put_value_parameter(out: &mut [u8], o: usize, p: usize, t: usize) -> usize
-    ensures { λ r. ⌜ Put (now (out .entry)) (now (out .exit)) o r (valueAt p t) ⌝ }
+// The parameter VALUE, where `t` is not the property's default type.
+pub fn put_value_parameter(out: &mut [u8], o: usize, default: usize, t: usize) -> usize
+    ensures { λ r. ⌜ Put (now (out .entry)) (now (out .exit)) o r (valueAt default t) ⌝ }
 {
-    let d = default_type(p);
-    if t == d {
+    if t == default {
         return o;
     }
     let a = put_all(out, o, b";VALUE=");

@@ -4,7 +4,7 @@ use read_text_line::LineCursors;
 use read_text_parameters::TypeRead;
 use read_text_parameters::stated_type;
 use schema::Context;
-use schema::property_number;
+use schema::row_of;
 use schema::value_type;
 use tags::put_small_end;
 use tags::put_small_start;
@@ -23,18 +23,18 @@ fn put_stated(out: &mut [u8], o: usize, k: usize, mode: usize, s: &[u8], l: Line
     ensures { λ r. ⌜ Put (now (out .entry)) (now (out .exit)) o r (statedXml k mode (now (s .entry)) l) ⌝ }
 {
     let e = l.parameters;
-    let p = property_number(mode, &s[..e], l.name);
-    let TypeRead::Type(t) = stated_type(p, mode, s, e) else {
+    let row = row_of(mode, &s[..e], l.name);
+    let TypeRead::Type(t) = stated_type(row.default, mode, s, e) else {
         let untyped = Context {
             component: k,
-            property: p,
+            row,
             value_type: value_type::TEXT,
         };
         return put_values(out, o, untyped, mode, s, l.value);
     };
     let c = Context {
         component: k,
-        property: p,
+        row,
         value_type: t,
     };
     put_values(out, o, c, mode, s, l.value)

@@ -6,7 +6,6 @@ use read_text_property::read_values;
 use schema::Context;
 use schema::component;
 use schema::has_words;
-use schema::is_listed;
 use schema::property;
 use schema::value_type;
 use texts::put_request_status_xml;
@@ -14,15 +13,16 @@ use write_xml_value::put_value_element;
 use write_xml_value::put_word_element;
 ghost use mathlib.Core.Path.{_≡_};
 ghost use mathlib.Core.Bool.{true};
-ghost use mathlib.Core.List.{[]};
-ghost use Prim.Native.Nat.{_≤_};
+ghost use mathlib.Core.List.{List, []};
+ghost use Prim.Native.Nat.{ℕ, _≤_};
 ghost use Rattle.octets.specs.Reading.{readOr};
 ghost use Rattle.names.specs.Table.{placeOf};
 ghost use Rattle.sink.specs.Sink.{Put};
 ghost use Rattle.source.specs.Source.{rest, cuts};
 ghost use Rattle.schema.specs.Components.{componentNames};
 ghost use Rattle.schema.specs.Properties.{propertyNames};
-ghost use Rattle.schema.specs.Numbers.{typeAt, componentName, propertyName};
+ghost use Rattle.schema.specs.Numbers.{typeAt, componentName};
+ghost use Rattle.schema.specs.Coded.{rowAt};
 ghost use Rattle.text.specs.Values.{readValues};
 ghost use Rattle.xcal.specs.WriteXml.{valuesXml};
 ghost use Rattle.write_xml_property.specs.Shown.{singleXml, shownXml};
@@ -32,9 +32,9 @@ fn put_single(out: &mut [u8], o: usize, c: Context, mode: usize, s: &[u8], at: u
     requires { ⌜ cuts mode ≡ true ⌝ }
     ensures { λ r. ⌜
         Put (now (out .entry)) (now (out .exit)) o r
-        (singleXml (c .component) (c .property) (c .«value_type») (rest mode (now (s .entry)) at)) ⌝ }
+        (singleXml (c .component) (c .row) (c .«value_type») (rest mode (now (s .entry)) at)) ⌝ }
 {
-    let chosen = has_words(c.component, c.property);
+    let chosen = has_words(c.component, c.row.number);
     if chosen {
         return put_word_element(out, o, mode, s, at);
     }
@@ -46,17 +46,16 @@ fn put_shown(out: &mut [u8], o: usize, c: Context, mode: usize, s: &[u8], at: us
     requires { ⌜ cuts mode ≡ true ⌝ }
     ensures { λ r. ⌜
         Put (now (out .entry)) (now (out .exit)) o r
-        (shownXml (c .component) (c .property) (c .«value_type») (rest mode (now (s .entry)) at)) ⌝ }
+        (shownXml (c .component) (c .row) (c .«value_type») (rest mode (now (s .entry)) at)) ⌝ }
 {
-    let p = c.property;
+    let p = c.row.number;
     if p == property::GEO {
         return put_geo(out, o, mode, s, at);
     }
     if p == property::REQUEST_STATUS {
         return put_request_status_xml(out, o, mode, s, at);
     }
-    let listed = is_listed(p);
-    if listed {
+    if c.row.listed {
         return put_list(out, o, c.value_type, mode, s, at);
     }
     put_single(out, o, c, mode, s, at)
@@ -70,16 +69,6 @@ fn component_place(k: usize) -> usize
         return k;
     }
     component::KNOWN
-}
-
-// A property's number, KNOWN for all that are not recognised.
-fn property_place(p: usize) -> usize
-    ensures { λ r. ⌜ r ≡ placeOf (propertyName p) propertyNames ⌝ }
-{
-    if p < property::KNOWN {
-        return p;
-    }
-    property::KNOWN
 }
 
 // A type's number, UNKNOWN for all that are none of the fourteen.
@@ -96,16 +85,18 @@ fn type_place(t: usize) -> usize
 pub fn put_values(out: &mut [u8], o: usize, c: Context, mode: usize, s: &[u8], at: usize) -> usize
     requires { ⌜ cuts mode ≡ true ⌝ }
     ensures { λ r. ⌜
+        ((w : List ℕ) →
+        c .row ≡ rowAt (placeOf w propertyNames) →
         Put (now (out .entry)) (now (out .exit)) o r (valuesXml
-        (readOr [] (readValues (componentName (c .component)) (propertyName (c .property)) (typeAt (c .«value_type»))
-        (rest mode (now (s .entry)) at)))) ⌝ }
+        (readOr [] (readValues (componentName (c .component)) w (typeAt (c .«value_type»))
+        (rest mode (now (s .entry)) at))))) ⌝ }
 {
     let a = component_place(c.component);
-    let b = property_place(c.property);
+    let row = c.row;
     let u = type_place(c.value_type);
     let d = Context {
         component: a,
-        property: b,
+        row,
         value_type: u,
     };
     let ValuesRead::Good(n) = read_values(d, mode, s, at) else {

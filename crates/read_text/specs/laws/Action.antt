@@ -24,6 +24,7 @@ use Rattle.schema.specs.Properties.{propertyNames, propertyRow, permittedTypes,
 use Rattle.schema.specs.Counts.{firstText, actionOf}
 use Rattle.schema.specs.Completing.{actionNames, actionNumber}
 use Rattle.schema.specs.laws.Sets.{action-place, action-first}
+use Rattle.schema.specs.Property as property
 use Rattle.read_text_line.specs.ContentLine.{ContentLine}
 use Rattle.text.specs.Parameters.{statedType, parametersGood}
 use Rattle.text.specs.Values.{readValues, readOwn, oneValue}
@@ -58,7 +59,7 @@ none-fault (some t) k l h = go (parametersGood (upper (l .name)) t (l .parameter
     go true false e h = let z : _≡_ {A = Bool} false true = cc in absurd (false≢true z)
     go false b e h = let z : _≡_ {A = Bool} false true = cc in absurd (false≢true z)
 
-pub action-read : (k : List ℕ) (l : ContentLine) → propertyFault k l ≡ none → placeOf (upper (l .name)) propertyNames ≡ 38 →
+pub action-read : (k : List ℕ) (l : ContentLine) → propertyFault k l ≡ none → placeOf (upper (l .name)) propertyNames ≡ property.ACTION →
     actionNumber (firstText (propertyOf k l .values)) ≡ placeOf (upper (l .value)) actionNames
 unfolding propertyOf
 action-read k l h e =
@@ -66,11 +67,11 @@ action-read k l h e =
     (same-true (upper (l .name)) (ascii "ACTION") (action-place (upper (l .name)) ∙ eq-eqb _ _ e)) (none-fault (statedType (upper (l .name)) (l .parameters)) k l h))
 
 -- one property more
-pub action-seen : (p : Property) (ps : List Property) {n a b : ℕ} → n ≡ placeOf (p .name) propertyNames → (n ≡ 38 → a ≡ actionNumber (firstText (p .values))) → b ≡ actionNumber (actionOf ps) →
-    pick (eqb n 38) a b ≡ actionNumber (actionOf (p ∷ ps))
+pub action-seen : (p : Property) (ps : List Property) {n a b : ℕ} → n ≡ placeOf (p .name) propertyNames → (n ≡ property.ACTION → a ≡ actionNumber (firstText (p .values))) → b ≡ actionNumber (actionOf ps) →
+    pick (eqb n property.ACTION) a b ≡ actionNumber (actionOf (p ∷ ps))
 unfolding actionOf pick
-action-seen p ps {n} {a} {b} e f g = rw (action-first (p .name), ← e) (go (eqb n 38) refl)
+action-seen p ps {n} {a} {b} e f g = rw (action-first (p .name), ← e) (go (eqb n property.ACTION) refl)
   where
-    go : (t : Bool) → eqb n 38 ≡ t → pick t a b ≡ actionNumber (pick (eqb 38 n) (firstText (p .values)) (actionOf ps))
-    go true q = f (eqb-true n 38 q) ∙ rw (eq-eqb 38 n (sym (eqb-true n 38 q)))
-    go false q = g ∙ rw (eqb-swap n 38 q)
+    go : (t : Bool) → eqb n property.ACTION ≡ t → pick t a b ≡ actionNumber (pick (eqb property.ACTION n) (firstText (p .values)) (actionOf ps))
+    go true q = f (eqb-true n property.ACTION q) ∙ rw (eq-eqb property.ACTION n (sym (eqb-true n property.ACTION q)))
+    go false q = g ∙ rw (eqb-swap n property.ACTION q)

@@ -1,4 +1,4 @@
--- A property in an open component, by numbers.
+-- A property in an open component, by its row.
 --     follow-inner ..     a property may stand behind subcomponents, or not
 --     hold-known ..       it may stand in the component
 --     property-held ..    the kind of its line
@@ -20,13 +20,16 @@ use Rattle.names.specs.laws.Table.{one-of-place}
 use Rattle.calendar.specs.Calendar.{Property}
 use Rattle.calendar.specs.Refusal.{Refusal, LENGTH, numberOf, refusalAt}
 use Rattle.calendar.specs.laws.Refusal.{refusal-back}
-use Rattle.schema.specs.Components.{mayStand}
 use Rattle.schema.specs.Properties.{propertyNames, isKnownProperty}
-use Rattle.schema.specs.Numbers.{componentName, propertyName}
-use Rattle.schema.specs.laws.Columns.{stand-place}
+use Rattle.schema.specs.Numbers.{componentName}
+use Rattle.schema.specs.Coded.{rowAt}
+use Rattle.schema.specs.Columns.{standsAt}
+use Rattle.schema.specs.laws.Columns.{number-place, stand-place, row-stands}
 use Rattle.schema.specs.laws.Sets.{timezone-place}
 use Rattle.schema.specs.Completing.{actionNames}
 use Rattle.schema.specs.laws.Places.{component-at}
+use Rattle.schema.specs.Property as property
+use Rattle.schema.specs.declared.table.Row.{Row}
 use Rattle.read_text_line.specs.ContentLine.{ContentLine}
 use Rattle.text.specs.Statement.{propertyFault, propertyOf}
 use Rattle.text.specs.Nesting.{mayHold}
@@ -46,25 +49,29 @@ pub follow-first : (inner t : Bool) → inner ≡ false → true ≡ (not inner 
 unfolding _or_
 follow-first inner t h = rw h
 
-module _ {k p : ℕ} (inner : Bool) (w : List ℕ) (h : k < 9) (e : p ≡ placeOf w propertyNames) where
+-- the number of a name's row
+number-of : {row : Row} (w : List ℕ) → row ≡ rowAt (placeOf w propertyNames) → row .number ≡ placeOf w propertyNames
+number-of w e = ap (λ (r : Row). r .number) e ∙ number-place w
+
+module _ {k : ℕ} {row : Row} (inner : Bool) (w : List ℕ) (h : k < 9) (e : row ≡ rowAt (placeOf w propertyNames)) where
   follow-at : (not inner or same (componentName k) (ascii "VTIMEZONE")) ≡ (not inner or eqb k 5)
   follow-at = rw (timezone-place (componentName k), component-at k h)
 
-  hold-at : mayHold w (openAs (componentName k) inner) ≡ ((not (ltb p 46) or mayStand (componentName k) (propertyName p)) and (not inner or eqb k 5))
+  hold-at : mayHold w (openAs (componentName k) inner) ≡ ((not (ltb (row .number) property.KNOWN) or standsAt k row) and (not inner or eqb k 5))
   unfolding isKnownProperty
-  hold-at = rw (one-of-place w propertyNames, stand-place (componentName k) w, component-at k h, ← e, follow-at)
+  hold-at = rw (one-of-place w propertyNames, stand-place (componentName k) w, component-at k h, ← (row-stands k (placeOf w propertyNames)), ← e, ← (number-of w e), follow-at)
 
-  pub hold-known : {m r : Bool} → p < 46 → m ≡ mayStand (componentName k) (propertyName p) → m ≡ true → r ≡ (not inner or eqb k 5) → r ≡ mayHold w (openAs (componentName k) inner)
+  pub hold-known : {m r : Bool} → row .number < property.KNOWN → m ≡ standsAt k row → m ≡ true → r ≡ (not inner or eqb k 5) → r ≡ mayHold w (openAs (componentName k) inner)
   unfolding _and_ _or_
-  hold-known f q g u = u ∙ sym (hold-at ∙ rw (lt-ltb p 46 f, ← q, g))
+  hold-known f q g u = u ∙ sym (hold-at ∙ rw (lt-ltb (row .number) property.KNOWN f, ← q, g))
 
-  pub hold-not : {m : Bool} → p < 46 → m ≡ mayStand (componentName k) (propertyName p) → m ≡ false → false ≡ mayHold w (openAs (componentName k) inner)
+  pub hold-not : {m : Bool} → row .number < property.KNOWN → m ≡ standsAt k row → m ≡ false → false ≡ mayHold w (openAs (componentName k) inner)
   unfolding _and_ _or_
-  hold-not f q g = sym (hold-at ∙ rw (lt-ltb p 46 f, ← q, g))
+  hold-not f q g = sym (hold-at ∙ rw (lt-ltb (row .number) property.KNOWN f, ← q, g))
 
-  pub hold-other : {r : Bool} → 46 ≤ p → r ≡ (not inner or eqb k 5) → r ≡ mayHold w (openAs (componentName k) inner)
+  pub hold-other : {r : Bool} → property.KNOWN ≤ row .number → r ≡ (not inner or eqb k 5) → r ≡ mayHold w (openAs (componentName k) inner)
   unfolding _and_ _or_
-  hold-other f u = u ∙ sym (hold-at ∙ rw (le-ltb p 46 f))
+  hold-other f u = u ∙ sym (hold-at ∙ rw (le-ltb (row .number) property.KNOWN f))
 
 -- ---- its line
 
@@ -81,7 +88,7 @@ fault-some : (o : Option Refusal) (p : Property) (f : ℕ) → f ≡ faultNumber
 fault-some none p f e h = absurd (h e)
 fault-some (some r) p f e h = ap faulty (sym (ap refusalAt e ∙ refusal-back r))
 
-module _ (l : ContentLine) (k : ℕ) {p : ℕ} (inner : Bool) {m : Bool} (e : p ≡ placeOf (upper (l .name)) propertyNames) (q : m ≡ mayHold (upper (l .name)) (openAs (componentName k) inner)) where
+module _ (l : ContentLine) (k : ℕ) {row : Row} (inner : Bool) {m : Bool} (e : row ≡ rowAt (placeOf (upper (l .name)) propertyNames)) (q : m ≡ mayHold (upper (l .name)) (openAs (componentName k) inner)) where
   pub property-not : m ≡ false → KindIs (propertyKind (componentName k) inner l) (Faulty 6)
   unfolding refusalAt
   property-not g = pick-no _ _ _ (sym q ∙ g)
@@ -90,12 +97,12 @@ module _ (l : ContentLine) (k : ℕ) {p : ℕ} (inner : Bool) {m : Bool} (e : p 
     pub property-faulty : (f ≡ 0 → ⊥) → KindIs (propertyKind (componentName k) inner l) (Faulty f)
     property-faulty z = pick-yes _ _ _ (sym q ∙ g) ∙ fault-some (propertyFault (componentName k) l) (propertyOf (componentName k) l) f u z
 
-    pub property-held : {a : ℕ} → f ≡ 0 → a ≡ pick (eqb p 38) (placeOf (upper (l .value)) actionNames) 3 → KindIs (propertyKind (componentName k) inner l) (Holds p a)
+    pub property-held : {a : ℕ} → f ≡ 0 → a ≡ pick (eqb (row .number) property.ACTION) (placeOf (upper (l .value)) actionNames) 3 → KindIs (propertyKind (componentName k) inner l) (Holds (row .number) a)
     unfolding pick propertyOf
     property-held {a} z y =
         let none-here : propertyFault (componentName k) l ≡ none = fault-none (propertyFault (componentName k) l) (sym u ∙ z) in record {
           property = propertyOf (componentName k) l;
           is = pick-yes _ _ _ (sym q ∙ g) ∙ ap (λ (o : Option Refusal). heldBy o (propertyOf (componentName k) l)) none-here;
-          number = e;
-          action = λ x. y ∙ rw (eq-eqb p 38 x) (sym (action-read (componentName k) l none-here (sym e ∙ x)));
+          number = number-of (upper (l .name)) e;
+          action = λ x. y ∙ rw (eq-eqb (row .number) property.ACTION x) (sym (action-read (componentName k) l none-here (sym (number-of (upper (l .name)) e) ∙ x)));
         }

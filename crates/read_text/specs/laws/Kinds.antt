@@ -24,7 +24,9 @@ use Rattle.calendar.specs.Refusal.{refusalAt}
 use Rattle.schema.specs.Components.{componentNames}
 use Rattle.schema.specs.Properties.{propertyNames}
 use Rattle.schema.specs.Numbers.{componentName}
+use Rattle.schema.specs.Coded.{rowAt}
 use Rattle.schema.specs.Columns.{mayBegin}
+use Rattle.schema.specs.declared.table.Row.{Row}
 use Rattle.schema.specs.laws.Columns.{begin-none}
 use Rattle.read_text_line.specs.ContentLine.{ContentLine, nextParam}
 use Rattle.read_text_line.specs.Names.{isCarriedName}
@@ -123,8 +125,8 @@ module _ {m : ℕ} {s : List ℕ} {l : LineCursors} (y : cuts m ≡ true) (p : P
   name-is w q = q ∙ ap (λ (n : List ℕ). same (upper n) w) name-cut
 
   -- and looked up
-  pub name-number : {n : ℕ} → n ≡ placeOf (upper (rest m (take (l .parameters) s) (l .name))) propertyNames → n ≡ placeOf (upper (runOf isNameChar (rest m s (l .name)))) propertyNames
-  name-number q = q ∙ ap (λ (n : List ℕ). placeOf (upper n) propertyNames) name-cut
+  pub name-row : {row : Row} → row ≡ rowAt (placeOf (upper (rest m (take (l .parameters) s) (l .name))) propertyNames) → row ≡ rowAt (placeOf (upper (runOf isNameChar (rest m s (l .name)))) propertyNames)
+  name-row q = q ∙ ap (λ (n : List ℕ). rowAt (placeOf (upper n) propertyNames)) name-cut
 
   module _ (k : ℕ) (inner : Bool) {c : Bool} (q : c ≡ (isCarriedName (runOf isNameChar (rest m s (l .name))) and every carriesName (paramsAt m s (l .parameters)))) where
     pub kind-uncarried : c ≡ false → KindIs (kindBy (componentName k) inner (named m s l)) (Faulty 5)

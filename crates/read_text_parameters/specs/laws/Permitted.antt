@@ -18,7 +18,9 @@ use Rattle.schema.specs.Types.{sameType}
 use Rattle.schema.specs.Properties.{propertyNames, permitsParameter}
 use Rattle.schema.specs.Parameters.{parameterNames}
 use Rattle.schema.specs.Numbers.{typeAt}
+use Rattle.schema.specs.Coded.{rowAt}
 use Rattle.schema.specs.Columns.{permitsAt}
+use Rattle.schema.specs.declared.table.Row.{Row}
 use Rattle.schema.specs.laws.Columns.{permits-place}
 use Rattle.schema.specs.laws.Places.{type-back}
 use Rattle.read_text_line.specs.ContentLine.{RawParameter, paramValue, nextValue}
@@ -34,19 +36,19 @@ use Rattle.read_text_parameters.specs.Permitted.{permitsName, permitsIt,
 
 -- ---- of names
 
-pub good-place : (p t : ℕ) (rs : List RawParameter) {b : Bool} → b ≡ goodAt p t rs → (w : List ℕ) → p ≡ placeOf w propertyNames → t ≤ 14 → b ≡ parametersGood w (typeAt t) rs
+pub good-place : (row : Row) (t : ℕ) (rs : List RawParameter) {b : Bool} → b ≡ goodAt row t rs → (w : List ℕ) → row ≡ rowAt (placeOf w propertyNames) → t ≤ 14 → b ≡ parametersGood w (typeAt t) rs
 unfolding parametersGood sameType
-good-place p t rs e w h k =
-    e ∙ rw (type-back t k, own-every (λ r. permitsParameter w (typeAt t) (upper (r .name))) (permitsIt p t) (λ r. rw (permits-place w (upper (r .name)) (typeAt t), type-back t k, h)) rs)
+good-place row t rs e w h k =
+    e ∙ rw (type-back t k, own-every (λ r. permitsParameter w (typeAt t) (upper (r .name))) (permitsIt row t) (λ r. rw (permits-place w (upper (r .name)) (typeAt t), type-back t k, h)) rs)
 
 -- ---- for code
 
 module _ {b : Bool} (n : List ℕ) (e : b ≡ same n (ascii "VALUE")) where
-  pub permits-value : (p t : ℕ) → b ≡ true → true ≡ permitsName p t n
-  permits-value p t h = or-take _ _ (sym e ∙ h)
+  pub permits-value : (row : Row) (t : ℕ) → b ≡ true → true ≡ permitsName row t n
+  permits-value row t h = or-take _ _ (sym e ∙ h)
 
-  pub permits-other : {r : Bool} {q : ℕ} (p t : ℕ) → b ≡ false → q ≡ placeOf n parameterNames → r ≡ permitsAt p t q → r ≡ permitsName p t n
-  permits-other p t h k f = or-skip _ _ _ (sym e ∙ h) (f ∙ rw k)
+  pub permits-other : {r : Bool} {q : ℕ} (row : Row) (t : ℕ) → b ≡ false → q ≡ placeOf n parameterNames → r ≡ permitsAt row t q → r ≡ permitsName row t n
+  permits-other row t h k f = or-skip _ _ _ (sym e ∙ h) (f ∙ rw k)
 
 module _ {m : ℕ} (y : cuts m ≡ true) (w : List ℕ) {s : List ℕ} {c : ℕ} {r : ParamAt} (v : ValueAt paramValue m s c r) where
   module _ {b : Bool} (h : r .ok ≡ true) (e : b ≡ same (nameCut m s (r .from) (r .to)) w) where

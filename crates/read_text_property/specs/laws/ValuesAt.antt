@@ -7,7 +7,7 @@ use mathlib.Core.Path.{_≡_, refl, sym, ap, _∙_}
 use mathlib.Core.Bool.{Bool, true, false, false≢true}
 use mathlib.Core.List.{List, [], _∷_}
 use mathlib.Core.Option.{Option, none, some}
-use Prim.Native.Nat.{ℕ}
+use Prim.Native.Nat.{ℕ, _≤_}
 use Rattle.octets.specs.Pick.{pick}
 use Rattle.octets.specs.Class.{upper}
 use Rattle.octets.specs.Words.{isOneOf}
@@ -15,11 +15,15 @@ use Rattle.octets.specs.Reading.{isRead}
 use Rattle.calendar.specs.Calendar.{ical, ValueType, Value, text}
 use Rattle.source.specs.Source.{rest}
 use Rattle.names.specs.Table.{placeOf}
-use Rattle.schema.specs.Types.{isTypeOf}
+use Rattle.schema.specs.Types.{typePlace, isTypeOf}
+use Rattle.schema.specs.laws.Types.{place-type}
 use Rattle.schema.specs.Components.{componentNames}
-use Rattle.schema.specs.Properties.{PropertyRow, propertyNames, permittedTypes}
+use Rattle.schema.specs.Properties.{propertyNames, permittedTypes}
 use Rattle.schema.specs.Numbers.{typeAt}
-use Rattle.schema.specs.laws.Numbers.{property-place}
+use Rattle.schema.specs.Coded.{rowAt}
+use Rattle.schema.specs.laws.Columns.{number-place, listed-place, permits-type-place}
+use Rattle.schema.specs.laws.Places.{type-back}
+use Rattle.schema.specs.declared.table.Row.{Row}
 use Rattle.schema.specs.Sets.{isWordOf}
 use Rattle.schema.specs.laws.Sets.{words-place, geo-place, request-status-place}
 use Rattle.numbers.specs.Geo.{readGeo}
@@ -86,20 +90,20 @@ own-same : {a a′ b b′ d d′ : Bool} {o o′ : Option (List (List ℕ))} (t 
     ≡ pick a′ (isRead (readGeo l)) (pick b′ (isRead (readRequestStatus l)) (pick d′ (isRead (readListed t l)) (isRead (readChosen o′ t l))))
 own-same {a} {a′} {b} {b′} {d} {d′} {o} {o′} t l p q r u = rw (← p, ← q, ← r, ← u) (own-read a b d o t l)
 
-own-place : (c w : List ℕ) (t : ℕ) (l : List ℕ) → isRead (readOwn c w (typeAt t) l) ≡ ownAt (placeOf c componentNames) (placeOf w propertyNames) t l
-own-place c w t l = own-same (typeAt t) l (geo-place w) (request-status-place w) (ap (λ (r : PropertyRow). r .listed) (property-place w)) (words-place c w)
+own-place : (c w : List ℕ) (t : ValueType) (l : List ℕ) → isRead (readOwn c w t l) ≡ ownAt (placeOf c componentNames) (rowAt (placeOf w propertyNames)) (typePlace t) l
+own-place c w t l = rw (number-place w, listed-place w, place-type t) (own-same t l (geo-place w) (request-status-place w) refl (words-place c w))
 
 pick-read : {A : Type 0} (b : Bool) (o : Option A) → isRead (pick b o none) ≡ pick b (isRead o) false
 unfolding pick isRead
 pick-read true o = refl
 pick-read false o = refl
 
-pub values-place : (c w : List ℕ) (t : ℕ) (l : List ℕ) → isRead (readValues c w (typeAt t) l) ≡ goodAt (placeOf c componentNames) (placeOf w propertyNames) t l
+pub values-place : (c w : List ℕ) (t : ValueType) (l : List ℕ) → isRead (readValues c w t l) ≡ goodAt (placeOf c componentNames) (rowAt (placeOf w propertyNames)) (typePlace t) l
 unfolding readValues
 values-place c w t l =
-    pick-read (isTypeOf (typeAt t) (permittedTypes w)) (readOwn c w (typeAt t) l)
-    ∙ ap (λ (b : Bool). pick (isTypeOf (typeAt t) (permittedTypes w)) b false) (own-place c w t l)
-    ∙ ap (λ (r : PropertyRow). pick (isTypeOf (typeAt t) (r .default ∷ r .others)) (ownAt (placeOf c componentNames) (placeOf w propertyNames) t l) false) (property-place w)
+    pick-read (isTypeOf t (permittedTypes w)) (readOwn c w t l)
+    ∙ ap (λ (b : Bool). pick (isTypeOf t (permittedTypes w)) b false) (own-place c w t l)
+    ∙ ap (λ (b : Bool). pick b (ownAt (placeOf c componentNames) (rowAt (placeOf w propertyNames)) (typePlace t) l) false) (permits-type-place w t)
 
 -- ---- GEO, REQUEST-STATUS, a word of a closed set
 
@@ -135,7 +139,7 @@ module _ {a r : Bool} (o : Option (List (List ℕ))) (t : ValueType) (l : List �
 
 -- ---- the answer
 
--- of names that have these numbers
-pub values-named : {r : ValuesRead} (k p t : ℕ) (l : List ℕ) → r ≡ valuesRead t (goodAt k p t l) → (c w : List ℕ) → k ≡ placeOf c componentNames → p ≡ placeOf w propertyNames →
-    r ≡ valuesRead t (isRead (readValues c w (typeAt t) l))
-values-named k p t l e c w i j = e ∙ rw (values-place c w t l, i, j)
+-- of names that have this number and this row
+pub values-named : {r : ValuesRead} (k : ℕ) (row : Row) (t : ℕ) (l : List ℕ) → r ≡ valuesRead t (goodAt k row t l) → (c w : List ℕ) →
+    k ≡ placeOf c componentNames → row ≡ rowAt (placeOf w propertyNames) → t ≤ 14 → r ≡ valuesRead t (isRead (readValues c w (typeAt t) l))
+values-named k row t l e c w i j h = e ∙ rw (values-place c w (typeAt t) l, type-back t h, i, j)

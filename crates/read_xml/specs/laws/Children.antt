@@ -24,6 +24,7 @@ use Rattle.schema.specs.Properties.{PropertyRow, propertyNames, isListedPropert
 use Rattle.schema.specs.Numbers.{propertyAt}
 use Rattle.schema.specs.laws.Numbers.{property-place}
 use Rattle.schema.specs.laws.Sets.{geo-place, request-status-place}
+use Rattle.schema.specs.Property as property
 use Rattle.xcal.specs.Layout.{slotOf, afterSlot}
 use Rattle.xcal.specs.ValueNodes.{typeElements}
 use Rattle.xcal.specs.PropertyNodes.{propertySlots}
@@ -47,25 +48,25 @@ abbrev pub slotted : Bool → ℕ → Option (ℕ × Bool)
 slotted l k = pick (ltb k 4) (some (k, eqb k 1 and l)) none
 
 -- a property by its number: GEO, REQUEST-STATUS, or another
-by-number : (P : ℕ → Type 0) (p : ℕ) → P 9 → P 45 → (eqb p 9 ≡ false → eqb p 45 ≡ false → P p) → P p
-by-number P p a b d = go (eqb p 9) refl
+by-number : (P : ℕ → Type 0) (p : ℕ) → P property.GEO → P property.REQUEST-STATUS → (eqb p property.GEO ≡ false → eqb p property.REQUEST-STATUS ≡ false → P p) → P p
+by-number P p a b d = go (eqb p property.GEO) refl
   where
-    two : (t : Bool) → eqb p 45 ≡ t → eqb p 9 ≡ false → P p
-    two true h f = subst P (sym (eqb-true p 45 h)) b
+    two : (t : Bool) → eqb p property.REQUEST-STATUS ≡ t → eqb p property.GEO ≡ false → P p
+    two true h f = subst P (sym (eqb-true p property.REQUEST-STATUS h)) b
     two false h f = d f h
 
-    go : (t : Bool) → eqb p 9 ≡ t → P p
-    go true h = subst P (sym (eqb-true p 9 h)) a
-    go false h = two (eqb p 45) refl h
+    go : (t : Bool) → eqb p property.GEO ≡ t → P p
+    go true h = subst P (sym (eqb-true p property.GEO h)) a
+    go false h = two (eqb p property.REQUEST-STATUS) refl h
 
-geo-slot : (i : ℕ) → getD (map (λ w. slotOf w (slotsOf true false false) 0) geoWords) i none ≡ slotted false (slotAt 9 i)
+geo-slot : (i : ℕ) → getD (map (λ w. slotOf w (slotsOf true false false) 0) geoWords) i none ≡ slotted false (slotAt property.GEO i)
 unfolding octets-compute
 geo-slot zero = refl
 geo-slot (suc zero) = refl
 geo-slot (suc (suc zero)) = refl
 geo-slot (suc (suc (suc i))) = rw (le-ltb (suc (suc (suc i))) 3 (omega arith))
 
-status-slot : (i : ℕ) → getD (map (λ w. slotOf w (slotsOf false true false) 0) statusWords) i none ≡ slotted false (slotAt 45 i)
+status-slot : (i : ℕ) → getD (map (λ w. slotOf w (slotsOf false true false) 0) statusWords) i none ≡ slotted false (slotAt property.REQUEST-STATUS i)
 unfolding octets-compute
 status-slot zero = refl
 status-slot (suc zero) = refl
@@ -122,7 +123,7 @@ slot-at p n =
 first-slot : (p i : ℕ) → eqb (slotAt p i) 0 ≡ eqb i 0
 unfolding octets-compute
 first-slot p zero = by-number (λ (q : ℕ). eqb (slotAt q 0) 0 ≡ true) p refl refl (λ f h. rw (f, h))
-first-slot p (suc i) = rw (nonzero i) (go (eqb p 9) (eqb p 45) (ltb (suc i) 3) (ltb (suc i) 4) (ltb (suc i) 16))
+first-slot p (suc i) = rw (nonzero i) (go (eqb p property.GEO) (eqb p property.REQUEST-STATUS) (ltb (suc i) 3) (ltb (suc i) 4) (ltb (suc i) 16))
   where
     go : (a b x y z : Bool) → eqb (pick a (pick x (suc i) 4) (pick b (pick y (suc i) 4) (pick z 1 4))) 0 ≡ false
     go true b true y z = nonzero i
@@ -166,21 +167,21 @@ flags-start p = by-number (λ (q : ℕ). fillings (slotsAt q) [] ≡ flagsAt q f
 fills : (n : List ℕ) (ws l : List (List ℕ)) → every (λ x. isOneOf x ws) l ≡ true → isOneOf n l ≡ getD (map (λ w. isOneOf w l) ws) (placeOf n ws) false
 fills n ws l a = by-place n (λ w. isOneOf w l) false ws (λ h. unknown-list n ws h l a)
 
-geo-first : (i : ℕ) → getD (map (λ w. isOneOf w (ascii "latitude" ∷ [])) geoWords) i false ≡ eqb (slotAt 9 i) 1
+geo-first : (i : ℕ) → getD (map (λ w. isOneOf w (ascii "latitude" ∷ [])) geoWords) i false ≡ eqb (slotAt property.GEO i) 1
 unfolding octets-compute
 geo-first zero = refl
 geo-first (suc zero) = refl
 geo-first (suc (suc zero)) = refl
 geo-first (suc (suc (suc i))) = rw (le-ltb (suc (suc (suc i))) 3 (omega arith))
 
-geo-second : (i : ℕ) → getD (map (λ w. isOneOf w (ascii "longitude" ∷ [])) geoWords) i false ≡ eqb (slotAt 9 i) 2
+geo-second : (i : ℕ) → getD (map (λ w. isOneOf w (ascii "longitude" ∷ [])) geoWords) i false ≡ eqb (slotAt property.GEO i) 2
 unfolding octets-compute
 geo-second zero = refl
 geo-second (suc zero) = refl
 geo-second (suc (suc zero)) = refl
 geo-second (suc (suc (suc i))) = rw (le-ltb (suc (suc (suc i))) 3 (omega arith))
 
-status-first : (i : ℕ) → getD (map (λ w. isOneOf w (ascii "code" ∷ [])) statusWords) i false ≡ eqb (slotAt 45 i) 1
+status-first : (i : ℕ) → getD (map (λ w. isOneOf w (ascii "code" ∷ [])) statusWords) i false ≡ eqb (slotAt property.REQUEST-STATUS i) 1
 unfolding octets-compute
 status-first zero = refl
 status-first (suc zero) = refl
@@ -188,7 +189,7 @@ status-first (suc (suc zero)) = refl
 status-first (suc (suc (suc zero))) = refl
 status-first (suc (suc (suc (suc i)))) = rw (le-ltb (suc (suc (suc (suc i)))) 4 (omega arith))
 
-status-second : (i : ℕ) → getD (map (λ w. isOneOf w (ascii "description" ∷ [])) statusWords) i false ≡ eqb (slotAt 45 i) 2
+status-second : (i : ℕ) → getD (map (λ w. isOneOf w (ascii "description" ∷ [])) statusWords) i false ≡ eqb (slotAt property.REQUEST-STATUS i) 2
 unfolding octets-compute
 status-second zero = refl
 status-second (suc zero) = refl

@@ -25,13 +25,14 @@ use Rattle.schema.specs.Arrays.{bumped, tallies}
 use Rattle.schema.specs.laws.Arrays.{tally-count, tallies-end}
 use Rattle.schema.specs.Completing.{actionNumber}
 use Rattle.schema.specs.laws.Sets.{action-first, geo-place, request-status-place}
+use Rattle.schema.specs.Property as property
 use Rattle.xml.specs.Nodes.{Nodes}
 use Rattle.xcal.specs.ValueNodes.{typedValues, readValueNodes}
 use Rattle.xcal.specs.PropertyNodes.{propertyIn}
 use Rattle.read_xml.specs.Counting.{Counted, actionAfter, CountsOn}
 use Rattle.read_xml.specs.declared.Kept.{Kept}
 
-pub none-counted : Counted [] (record { counts = replicate 46 0; action = 3 })
+pub none-counted : Counted [] (record { counts = replicate property.KNOWN 0; action = 3 })
 unfolding tallies actionOf
 none-counted = record { tallied = refl; acting = refl }
 
@@ -67,30 +68,30 @@ module _ (x : Property) where
   action-other (p ∷ ps) h = ap (pick (same (ascii "ACTION") (p .name)) (firstText (p .values))) (action-other ps h)
 
 -- ACTION has a value of a type
-action-values : (w : List ℕ) (kids : Nodes) → placeOf w propertyNames ≡ 38 → readValueNodes w kids ≡ typedValues kids
+action-values : (w : List ℕ) (kids : Nodes) → placeOf w propertyNames ≡ property.ACTION → readValueNodes w kids ≡ typedValues kids
 unfolding readValueNodes pick
 action-values w kids h = rw (geo-place w, request-status-place w, h)
 
 module _ (m : List ℕ) (kids : Nodes) {p : ℕ} (o : p ≡ placeOf (upper m) propertyNames) (ps : List Property) {t : Kept} (i : Counted ps t) where
-  is-action : same (ascii "ACTION") (upper m) ≡ eqb 38 p
-  is-action = action-first (upper m) ∙ ap (eqb 38) (sym o)
+  is-action : same (ascii "ACTION") (upper m) ≡ eqb property.ACTION p
+  is-action = action-first (upper m) ∙ ap (eqb property.ACTION) (sym o)
 
-  action-here : p ≡ 38 → actionOf (propertyIn m kids ∷ []) ≡ firstText (typedValues kids)
+  action-here : p ≡ property.ACTION → actionOf (propertyIn m kids ∷ []) ≡ firstText (typedValues kids)
   unfolding actionOf pick
-  action-here z = rw (is-action, eq-eqb 38 p (sym z), action-values (upper m) kids (sym o ∙ z))
+  action-here z = rw (is-action, eq-eqb property.ACTION p (sym z), action-values (upper m) kids (sym o ∙ z))
 
-  count-of : getD (t .counts) 38 0 ≡ min 255 (tally (ascii "ACTION") ps)
-  count-of = ap (λ (l : List ℕ). getD l 38 0) (i .tallied) ∙ tally-count 38 ps (omega arith)
+  count-of : getD (t .counts) property.ACTION 0 ≡ min 255 (tally (ascii "ACTION") ps)
+  count-of = ap (λ (l : List ℕ). getD l property.ACTION 0) (i .tallied) ∙ tally-count property.ACTION ps (omega arith)
 
   action-end : actionAfter p t kids ≡ actionNumber (actionOf (ps ⊕ (propertyIn m kids ∷ [])))
   unfolding pick
-  action-end = go (eqb p 38) refl (eqb (getD (t .counts) 38 0) 0) refl
+  action-end = go (eqb p property.ACTION) refl (eqb (getD (t .counts) property.ACTION 0) 0) refl
     where
-      go : (a : Bool) → eqb p 38 ≡ a → (b : Bool) → eqb (getD (t .counts) 38 0) 0 ≡ b →
+      go : (a : Bool) → eqb p property.ACTION ≡ a → (b : Bool) → eqb (getD (t .counts) property.ACTION 0) 0 ≡ b →
           pick a (pick b (actionNumber (firstText (typedValues kids))) (t .action)) (t .action) ≡ actionNumber (actionOf (ps ⊕ (propertyIn m kids ∷ [])))
-      go true e true f = sym (ap actionNumber (action-none (propertyIn m kids) ps (omega (arith, count-of, eqb-true (getD (t .counts) 38 0) 0 f)) ∙ action-here (eqb-true p 38 e)))
-      go true e false f = i .acting ∙ sym (ap actionNumber (action-some (propertyIn m kids) ps (λ z. eqb-false (getD (t .counts) 38 0) 0 f (omega (arith, count-of, z)))))
-      go false e b f = i .acting ∙ sym (ap actionNumber (action-other (propertyIn m kids) ps (is-action ∙ eqb-swap p 38 e)))
+      go true e true f = sym (ap actionNumber (action-none (propertyIn m kids) ps (omega (arith, count-of, eqb-true (getD (t .counts) property.ACTION 0) 0 f)) ∙ action-here (eqb-true p property.ACTION e)))
+      go true e false f = i .acting ∙ sym (ap actionNumber (action-some (propertyIn m kids) ps (λ z. eqb-false (getD (t .counts) property.ACTION 0) 0 f (omega (arith, count-of, z)))))
+      go false e b f = i .acting ∙ sym (ap actionNumber (action-other (propertyIn m kids) ps (is-action ∙ eqb-swap p property.ACTION e)))
 
 -- ---- one property more
 

@@ -27,9 +27,13 @@ use Rattle.calendar.specs.Refusal.{_otherwise_}
 use Rattle.schema.specs.Types.{sameType}
 use Rattle.schema.specs.Components.{componentNames, mayStand}
 use Rattle.schema.specs.Properties.{propertyNames, isKnownProperty}
-use Rattle.schema.specs.Numbers.{componentName, propertyName, propertyAt, typeAt}
-use Rattle.schema.specs.laws.Columns.{stand-place}
+use Rattle.schema.specs.Numbers.{propertyAt, typeAt}
+use Rattle.schema.specs.Coded.{rowAt}
+use Rattle.schema.specs.Columns.{standsAt}
+use Rattle.schema.specs.laws.Columns.{stand-place, row-stands}
 use Rattle.schema.specs.laws.Places.{type-back}
+use Rattle.schema.specs.Property as property
+use Rattle.schema.specs.declared.table.Row.{Row}
 use Rattle.read_text_line.specs.Names.{isCarriedName}
 use Rattle.xml.specs.Nodes.{Nodes, noNodes}
 use Rattle.xcal.specs.Layout.{Slot, slotOf, sequence, hasCapital}
@@ -46,6 +50,7 @@ use Rattle.read_xml_nodes.specs.declared.Node.{Node}
 use Rattle.read_xml_nodes.specs.declared.NodeKind.the-variants.{None, Element, Literal, Referred}
 use Rattle.read_xml_nodes.specs.declared.Judged.{Judged}
 use Rattle.read_xml_nodes.specs.declared.Judged.the-variants.{Fine, Refused}
+use Rattle.read_xml_value.specs.laws.ElementTypes.{number-of}
 use Rattle.read_xml.specs.Children.{nameOf, childWords, slotAt}
 use Rattle.read_xml.specs.laws.Children.{slots-place, slotted, slot-at, parameters-at}
 use Rattle.read_xml.specs.Turning.{Holder}
@@ -177,53 +182,53 @@ module _ (m : List ℕ) {b : Bool} (e : b ≡ hasCapital m) where
 
 pub ruleset naming = (bad-capital, bad-carried, bad-begin, bad-end, length-take-le, needs)
 
-module _ (k p : ℕ) where
-  off-at : (c w : List ℕ) → k ≡ placeOf c componentNames → p ≡ placeOf w propertyNames →
-      (isKnownProperty w and not (mayStand c w)) ≡ (ltb p 46 and not (mayStand (componentName k) (propertyName p)))
+module _ (k : ℕ) (row : Row) where
+  off-at : (c w : List ℕ) → k ≡ placeOf c componentNames → row ≡ rowAt (placeOf w propertyNames) →
+      (isKnownProperty w and not (mayStand c w)) ≡ (ltb (row .number) property.KNOWN and not (standsAt k row))
   unfolding isKnownProperty
-  off-at c w a o = rw (one-of-place w propertyNames, stand-place c w, ← a, ← o)
+  off-at c w a o = rw (one-of-place w propertyNames, stand-place c w, ← a, ← (row-stands k (placeOf w propertyNames)), ← o, ← (number-of w o))
 
-  pub off-unknown : 46 ≤ p → OffAt k p false
+  pub off-unknown : property.KNOWN ≤ row .number → OffAt k row false
   unfolding _and_
-  off-unknown h = record { is = λ c w a o. sym (off-at c w a o ∙ rw (le-ltb p 46 h)) }
+  off-unknown h = record { is = λ c w a o. sym (off-at c w a o ∙ rw (le-ltb (row .number) property.KNOWN h)) }
 
-  module _ (h : p < 46) {b : Bool} (e : b ≡ mayStand (componentName k) (propertyName p)) where
-    pub off-may : b ≡ true → OffAt k p false
+  module _ (h : row .number < property.KNOWN) {b : Bool} (e : b ≡ standsAt k row) where
+    pub off-may : b ≡ true → OffAt k row false
     unfolding _and_
-    off-may f = record { is = λ c w a o. sym (off-at c w a o ∙ rw (lt-ltb p 46 h, ← e, f)) }
+    off-may f = record { is = λ c w a o. sym (off-at c w a o ∙ rw (lt-ltb (row .number) property.KNOWN h, ← e, f)) }
 
-    pub off-not : b ≡ false → OffAt k p true
+    pub off-not : b ≡ false → OffAt k row true
     unfolding _and_
-    off-not f = record { is = λ c w a o. sym (off-at c w a o ∙ rw (lt-ltb p 46 h, ← e, f)) }
+    off-not f = record { is = λ c w a o. sym (off-at c w a o ∙ rw (lt-ltb (row .number) property.KNOWN h, ← e, f)) }
 
 pub ruleset standing = (off-unknown, off-may, off-not, needs)
 
 -- ---- the element
 
-module _ (k : ℕ) (s : List ℕ) (at : ℕ) (n : Node) {p : ℕ} {b : Bool} (e : b ≡ badName (nameOf s n)) where
-  pub property-bad : b ≡ true → p ≡ placeOf (upper (nameOf s n)) propertyNames → PropertyAt k s at n (Refused 5 at)
+module _ (k : ℕ) (s : List ℕ) (at : ℕ) (n : Node) {row : Row} {b : Bool} (e : b ≡ badName (nameOf s n)) where
+  pub property-bad : b ≡ true → row ≡ rowAt (placeOf (upper (nameOf s n)) propertyNames) → PropertyAt k s at n (Refused 5 at)
   unfolding propertyVerdict pick
   property-bad h o = record { is = λ c a. rw (← e, h) (sym (is-name at)) }
 
-  module _ (h : b ≡ false) {d : Bool} (f : OffAt k p d) where
-    pub property-off : d ≡ true → p ≡ placeOf (upper (nameOf s n)) propertyNames → PropertyAt k s at n (Refused 6 at)
+  module _ (h : b ≡ false) {d : Bool} (f : OffAt k row d) where
+    pub property-off : d ≡ true → row ≡ rowAt (placeOf (upper (nameOf s n)) propertyNames) → PropertyAt k s at n (Refused 6 at)
     unfolding propertyVerdict pick
     property-off g o = record { is = λ c a. rw (← e, h, ← (f .is c (upper (nameOf s n)) a o), g) (sym (is-frame at)) }
 
-    module _ (g : d ≡ false) {t : ℕ} (y : ((w : List ℕ) → p ≡ placeOf w propertyNames → typeAt t ≡ typeOfNodes w (nodesAt s (n .inside))) × (t ≤ 14)) {x : Bool} (i : LacksAt p t (nodesAt s (n .inside)) x) where
-      pub property-lacks : x ≡ true → p ≡ placeOf (upper (nameOf s n)) propertyNames → PropertyAt k s at n (Refused 7 at)
+    module _ (g : d ≡ false) {t : ℕ} (y : (w : List ℕ) → row ≡ rowAt (placeOf w propertyNames) → (typeAt t ≡ typeOfNodes w (nodesAt s (n .inside))) × (t ≤ 14)) {x : Bool} (i : LacksAt (row .number) t (nodesAt s (n .inside)) x) where
+      pub property-lacks : x ≡ true → row ≡ rowAt (placeOf (upper (nameOf s n)) propertyNames) → PropertyAt k s at n (Refused 7 at)
       unfolding propertyVerdict pick
       property-lacks j o = record {
-        is = λ c a. rw (← e, h, ← (f .is c (upper (nameOf s n)) a o), g, ← (i .is (upper (nameOf s n)) o (y .1) (y .0 (upper (nameOf s n)) o)), j) (sym (is-parameter at));
+        is = λ c a. rw (← e, h, ← (f .is c (upper (nameOf s n)) a o), g, ← (i .is (upper (nameOf s n)) (number-of (upper (nameOf s n)) o) (y (upper (nameOf s n)) o .1) (y (upper (nameOf s n)) o .0)), j) (sym (is-parameter at));
       }
 
       pub property-children : {v : Judged} → x ≡ false →
-          ((c w : List ℕ) → Holder (record { component = k; property = p; «value_type» = t }) c w → judgedAs v ≡ sequence (propertySlots w) (childVerdict c w (typeAt t)) (nodesAt s (n .inside)) 0 [] (n .end)) →
-          p ≡ placeOf (upper (nameOf s n)) propertyNames → PropertyAt k s at n v
+          ((c w : List ℕ) → Holder (record { component = k; row = row; «value_type» = t }) c w → judgedAs v ≡ sequence (propertySlots w) (childVerdict c w (typeAt t)) (nodesAt s (n .inside)) 0 [] (n .end)) →
+          row ≡ rowAt (placeOf (upper (nameOf s n)) propertyNames) → PropertyAt k s at n v
       unfolding propertyVerdict pick
       property-children {v} j q o = record {
-        is = λ c a. rw (← e, h, ← (f .is c (upper (nameOf s n)) a o), g, ← (i .is (upper (nameOf s n)) o (y .1) (y .0 (upper (nameOf s n)) o)), j, ← (y .0 (upper (nameOf s n)) o))
-            (sym (q c (upper (nameOf s n)) (record { component = a; property = o; small = y .1 })));
+        is = λ c a. rw (← e, h, ← (f .is c (upper (nameOf s n)) a o), g, ← (i .is (upper (nameOf s n)) (number-of (upper (nameOf s n)) o) (y (upper (nameOf s n)) o .1) (y (upper (nameOf s n)) o .0)), j, ← (y (upper (nameOf s n)) o .0))
+            (sym (q c (upper (nameOf s n)) (record { component = a; row = o; small = y (upper (nameOf s n)) o .1 })));
       }
 
 pub ruleset propertying = (property-bad, property-off, property-lacks, property-children, length-take-le, needs)
@@ -269,15 +274,15 @@ module _ {k : ℕ} {s : List ℕ} {from at : ℕ} {t : Kept} {r : Node} (i : Lis
     unfolding propertiesVerdict pick
     list-text h = record { is = λ c a. verdict-on (node-literal n q) c a ∙ rw (← e, h) (sym (is-frame at)); counted = λ h. absurd (not-fine h) }
 
-  module _ (q : r .kind ≡ Element) {p : ℕ} (o : p ≡ placeOf (upper (nameOf s r)) propertyNames) {j : Judged} (d : p ≡ placeOf (upper (nameOf s r)) propertyNames → PropertyAt k s at r j) where
-    pub list-good : {u : Kept} → j ≡ Fine → CountsOn p (nodesAt s (r .inside)) t u → Listing k s from (r .next) u
+  module _ (q : r .kind ≡ Element) {row : Row} (o : row ≡ rowAt (placeOf (upper (nameOf s r)) propertyNames)) {j : Judged} (d : row ≡ rowAt (placeOf (upper (nameOf s r)) propertyNames) → PropertyAt k s at r j) where
+    pub list-good : {u : Kept} → j ≡ Fine → CountsOn (row .number) (nodesAt s (r .inside)) t u → Listing k s from (r .next) u
     unfolding propertiesVerdict readProperties _otherwise_
     list-good h m =
         let x : Property = propertyIn (nameOf s r) (nodesAt s (r .inside)) in
         let later : List Property = readProperties (nodesAt s (r .next)) in record {
           is = λ c a. verdict-on (node-element n q) c a ∙ rw (d o .is c a, h);
           seen = i .seen ⊕ (x ∷ []);
-          counted = m .is (i .seen) (nameOf s r) o (i .counted);
+          counted = m .is (i .seen) (nameOf s r) (number-of (upper (nameOf s r)) o) (i .counted);
           agrees = read-on (node-element n q) ∙ sym (append-regroup (i .seen) (x ∷ []) later ∙ rw (append-cons x [] later, append-empty later));
         }
 

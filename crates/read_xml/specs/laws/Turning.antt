@@ -22,14 +22,17 @@ use Rattle.names.specs.Table.{placeOf, namesIn}
 use Rattle.names.specs.laws.Table.{by-table, place-within}
 use Rattle.calendar.specs.Refusal.{FRAME, Verdict, fine, refuse, _otherwise_}
 use Rattle.schema.specs.Components.{componentNames}
-use Rattle.schema.specs.Properties.{propertyNames}
+use Rattle.schema.specs.Properties.{PropertyRow, propertyNames}
 use Rattle.schema.specs.Numbers.{propertyAt, typeAt, typeWords}
-use Rattle.schema.specs.laws.Numbers.{type-words-are}
+use Rattle.schema.specs.laws.Numbers.{property-place, type-words-are}
+use Rattle.schema.specs.Coded.{rowAt}
+use Rattle.schema.specs.laws.Columns.{listed-place}
 use Rattle.xml.specs.Nodes.{Nodes}
 use Rattle.xcal.specs.Layout.{slotOf, afterSlot, unexpected, sequence}
 use Rattle.xcal.specs.ValueNodes.{geoElements, statusElements, valueVerdict}
 use Rattle.xcal.specs.ParameterNodes.{parametersVerdict}
 use Rattle.xcal.specs.PropertyNodes.{propertySlots, childVerdict}
+use Rattle.read_xml_value.specs.laws.ElementTypes.{number-of}
 use Rattle.read_xml_value.specs.Sequencing.{isShort, walked, marked}
 use Rattle.read_xml_value.specs.laws.Sequencing.{walked-none, walked-space, walked-text, walked-referred, walked-element, sequence-walked}
 use Rattle.xml.specs.NodesAt.{nodesAt}
@@ -44,6 +47,8 @@ use Rattle.read_xml_nodes.specs.declared.NodeKind.the-variants.{None, Element, 
 use Rattle.read_xml_nodes.specs.declared.Judged.{Judged}
 use Rattle.read_xml_nodes.specs.declared.Judged.the-variants.{Fine, Refused}
 use Rattle.schema.specs.declared.Context.{Context}
+use Rattle.schema.specs.Property as property
+use Rattle.schema.specs.declared.table.Row.{Row}
 use Rattle.read_xml.specs.Children.{geoWords, statusWords, otherWords, childWords, slotsAt, slotAt, afterAt, hasTwo, flagsOf, flagsAt}
 use Rattle.read_xml.specs.laws.Children.{slots-place, after-at, flags-start, flags-more, parameters-at}
 use Rattle.read_xml.specs.Turning.{Holder, afterOf, childOf, ChildAt, Onward, Turns}
@@ -103,7 +108,7 @@ later-place n ws e h = rw (← e, h)
 module _ (n : List ℕ) (p : ℕ) {a : Bool} (e : a ≡ same n (ascii "parameters")) where
   pub word-first : a ≡ true → 0 ≡ placeOf n (childWords p)
   unfolding pick
-  word-first h = go (eqb p 9) (eqb p 45)
+  word-first h = go (eqb p property.GEO) (eqb p property.REQUEST-STATUS)
     where
       go : (s t : Bool) → 0 ≡ placeOf n (pick s geoWords (pick t statusWords otherWords))
       go true t = first-place n geoElements e h
@@ -111,17 +116,17 @@ module _ (n : List ℕ) (p : ℕ) {a : Bool} (e : a ≡ same n (ascii "parameter
       go false false = first-place n typeWords e h
 
   module _ (h : a ≡ false) {r : ℕ} where
-    pub word-geo : p ≡ 9 → r ≡ suc (placeOf n geoElements) → r ≡ placeOf n (childWords p)
+    pub word-geo : p ≡ property.GEO → r ≡ suc (placeOf n geoElements) → r ≡ placeOf n (childWords p)
     unfolding pick
-    word-geo q k = rw (eq-eqb p 9 q) (k ∙ later-place n geoElements e h)
+    word-geo q k = rw (eq-eqb p property.GEO q) (k ∙ later-place n geoElements e h)
 
-    pub word-status : (p ≡ 9 → ⊥) → p ≡ 45 → r ≡ suc (placeOf n statusElements) → r ≡ placeOf n (childWords p)
+    pub word-status : (p ≡ property.GEO → ⊥) → p ≡ property.REQUEST-STATUS → r ≡ suc (placeOf n statusElements) → r ≡ placeOf n (childWords p)
     unfolding pick
-    word-status g q k = rw (ne-eqb p 9 g, eq-eqb p 45 q) (k ∙ later-place n statusElements e h)
+    word-status g q k = rw (ne-eqb p property.GEO g, eq-eqb p property.REQUEST-STATUS q) (k ∙ later-place n statusElements e h)
 
-    pub word-other : (p ≡ 9 → ⊥) → (p ≡ 45 → ⊥) → r ≡ suc (placeOf n typeWords) → r ≡ placeOf n (childWords p)
+    pub word-other : (p ≡ property.GEO → ⊥) → (p ≡ property.REQUEST-STATUS → ⊥) → r ≡ suc (placeOf n typeWords) → r ≡ placeOf n (childWords p)
     unfolding pick
-    word-other g q k = rw (ne-eqb p 9 g, ne-eqb p 45 q) (k ∙ later-place n typeWords e h)
+    word-other g q k = rw (ne-eqb p property.GEO g, ne-eqb p property.REQUEST-STATUS q) (k ∙ later-place n typeWords e h)
 
 -- a type's number and one more
 module _ (n : List ℕ) {t : ℕ} (e : t ≡ placeOf n (namesIn (ascii "binary\nboolean\ncal-address\ndate\ndate-time\nduration\nfloat\ninteger\nperiod\nrecur\ntext\ntime\nuri\nutc-offset\nunknown\n"))) where
@@ -141,22 +146,22 @@ pub ruleset counting = (geo-first, geo-second, geo-other, status-first, status-s
 
 pub ruleset wording = (word-first, word-geo, word-status, word-other, slot-numbered, length-take-le, needs)
 
-module _ (p k next : ℕ) where
-  pub after-out : 4 ≤ k → afterOf Nowhere ≡ afterAt (propertyAt p .listed) k next
+module _ (listed : Bool) (k next : ℕ) where
+  pub after-out : 4 ≤ k → afterOf Nowhere ≡ afterAt listed k next
   unfolding pick afterAt
   after-out h = rw (le-ltb k 4 h)
 
   module _ (h : k < 4) where
-    pub after-passed : k < next → afterOf Nowhere ≡ afterAt (propertyAt p .listed) k next
+    pub after-passed : k < next → afterOf Nowhere ≡ afterAt listed k next
     unfolding pick afterAt
     after-passed l = rw (lt-ltb k 4 h, lt-ltb k next l)
 
-    module _ {b : Bool} (l : next ≤ k) (t : b ≡ (eqb k 1 and (propertyAt p .listed))) where
-      pub after-several : b ≡ true → afterOf (Then k) ≡ afterAt (propertyAt p .listed) k next
+    module _ {b : Bool} (l : next ≤ k) (t : b ≡ (eqb k 1 and listed)) where
+      pub after-several : b ≡ true → afterOf (Then k) ≡ afterAt listed k next
       unfolding pick afterAt
       after-several f = rw (lt-ltb k 4 h, le-ltb k next l, ← t, f)
 
-      pub after-one : b ≡ false → afterOf (Then (k + 1)) ≡ afterAt (propertyAt p .listed) k next
+      pub after-one : b ≡ false → afterOf (Then (k + 1)) ≡ afterAt listed k next
       unfolding pick afterAt
       after-one f = rw (lt-ltb k 4 h, le-ltb k next l, ← t, f)
 
@@ -165,33 +170,38 @@ pub ruleset aftering = (after-out, after-passed, after-several, after-one, needs
 -- ---- what stands in a child
 
 module _ (context : Context) (slot place : ℕ) (n : List ℕ) (end : ℕ) (kids : Nodes) {v : Verdict} where
-  pub inside-parameters : slot ≡ 0 → ((w : List ℕ) → context .property ≡ placeOf w propertyNames → context .«value_type» ≤ 14 → v ≡ parametersVerdict w (typeAt (context .«value_type»)) kids []) →
-      (c w : List ℕ) → Holder context c w → slot ≡ slotAt (context .property) (placeOf n (childWords (context .property))) → v ≡ childVerdict c w (typeAt (context .«value_type»)) place n end kids
+  pub inside-parameters : slot ≡ 0 → ((w : List ℕ) → context .row ≡ rowAt (placeOf w propertyNames) → context .«value_type» ≤ 14 → v ≡ parametersVerdict w (typeAt (context .«value_type»)) kids []) →
+      (c w : List ℕ) → Holder context c w → slot ≡ slotAt (context .row .number) (placeOf n (childWords (context .row .number))) → v ≡ childVerdict c w (typeAt (context .«value_type»)) place n end kids
   unfolding pick
-  inside-parameters z q c w o e = q w (o .property) (o .small) ∙ rw (parameters-at (context .property) n, ← e, eq-eqb slot 0 z)
+  inside-parameters z q c w o e = q w (o .row) (o .small) ∙ rw (parameters-at (context .row .number) n, ← e, eq-eqb slot 0 z)
 
-  pub inside-value : (slot ≡ 0 → ⊥) → ((c w : List ℕ) → context .component ≡ placeOf c componentNames → context .property ≡ placeOf w propertyNames → context .«value_type» ≤ 14 → v ≡ valueVerdict c w (typeAt (context .«value_type»)) place n end kids) →
-      (c w : List ℕ) → Holder context c w → slot ≡ slotAt (context .property) (placeOf n (childWords (context .property))) → v ≡ childVerdict c w (typeAt (context .«value_type»)) place n end kids
+  pub inside-value : (slot ≡ 0 → ⊥) → ((c w : List ℕ) → context .component ≡ placeOf c componentNames → context .row ≡ rowAt (placeOf w propertyNames) → context .«value_type» ≤ 14 → v ≡ valueVerdict c w (typeAt (context .«value_type»)) place n end kids) →
+      (c w : List ℕ) → Holder context c w → slot ≡ slotAt (context .row .number) (placeOf n (childWords (context .row .number))) → v ≡ childVerdict c w (typeAt (context .«value_type»)) place n end kids
   unfolding pick
-  inside-value z q c w o e = q c w (o .component) (o .property) (o .small) ∙ rw (parameters-at (context .property) n, ← e, ne-eqb slot 0 z)
+  inside-value z q c w o e = q c w (o .component) (o .row) (o .small) ∙ rw (parameters-at (context .row .number) n, ← e, ne-eqb slot 0 z)
 
 pub ruleset insides = (inside-parameters, inside-value, needs)
 
-place-after : (p : ℕ) (n : List ℕ) {slot : ℕ} (next : ℕ) (a : After) → afterOf a ≡ afterAt (propertyAt p .listed) slot next → slot ≡ slotAt p (placeOf n (childWords p)) → afterSlot (slotOf n (slotsAt p) 0) next ≡ afterOf a
-place-after p n next a e h = after-at p n next h ∙ sym e
+-- whether the property of a name's row is listed
+listed-of : {row : Row} (w : List ℕ) → row ≡ rowAt (placeOf w propertyNames) → propertyAt (row .number) .listed ≡ row .listed
+listed-of w e = ap (λ (p : ℕ). propertyAt p .listed) (number-of w e) ∙ sym (ap (λ (r : Row). r .listed) e ∙ listed-place w ∙ ap (λ (r : PropertyRow). r .listed) (property-place w))
 
-module _ (context : Context) {slot : ℕ} (next place : ℕ) (n : List ℕ) (end : ℕ) (kids : Nodes) {a : After} (e : afterOf a ≡ afterAt (propertyAt (context .property) .listed) slot next) where
-  module _ {m : ℕ} (g : a ≡ Then m) {j : Judged} (q : (c w : List ℕ) → Holder context c w → slot ≡ slotAt (context .property) (placeOf n (childWords (context .property))) → judgedAs j ≡ childVerdict c w (typeAt (context .«value_type»)) place n end kids) where
-    pub child-good : j ≡ Fine → slot ≡ slotAt (context .property) (placeOf n (childWords (context .property))) → ChildAt context next place n end kids (Good m)
+place-after : {row : Row} (n : List ℕ) {slot : ℕ} (next : ℕ) (a : After) → afterOf a ≡ afterAt (row .listed) slot next → slot ≡ slotAt (row .number) (placeOf n (childWords (row .number))) →
+    (w : List ℕ) → row ≡ rowAt (placeOf w propertyNames) → afterSlot (slotOf n (slotsAt (row .number)) 0) next ≡ afterOf a
+place-after {row} n {slot} next a e h w o = after-at (row .number) n next h ∙ ap (λ (l : Bool). afterAt l slot next) (listed-of w o) ∙ sym e
+
+module _ (context : Context) {slot : ℕ} (next place : ℕ) (n : List ℕ) (end : ℕ) (kids : Nodes) {a : After} (e : afterOf a ≡ afterAt (context .row .listed) slot next) where
+  module _ {m : ℕ} (g : a ≡ Then m) {j : Judged} (q : (c w : List ℕ) → Holder context c w → slot ≡ slotAt (context .row .number) (placeOf n (childWords (context .row .number))) → judgedAs j ≡ childVerdict c w (typeAt (context .«value_type»)) place n end kids) where
+    pub child-good : j ≡ Fine → slot ≡ slotAt (context .row .number) (placeOf n (childWords (context .row .number))) → ChildAt context next place n end kids (Good m)
     unfolding _otherwise_
-    child-good f h = record { is = λ c w o after. rw (place-after (context .property) n next a e h, g, ← (q c w o h), f) }
+    child-good f h = record { is = λ c w o after. rw (place-after n next a e h w (o .row), g, ← (q c w o h), f) }
 
-    pub child-bad : {x y : ℕ} → j ≡ Refused x y → slot ≡ slotAt (context .property) (placeOf n (childWords (context .property))) → ChildAt context next place n end kids (Stops (Refused x y))
+    pub child-bad : {x y : ℕ} → j ≡ Refused x y → slot ≡ slotAt (context .row .number) (placeOf n (childWords (context .row .number))) → ChildAt context next place n end kids (Stops (Refused x y))
     unfolding _otherwise_
-    child-bad f h = record { is = λ c w o after. rw (place-after (context .property) n next a e h, g, ← (q c w o h), f) }
+    child-bad f h = record { is = λ c w o after. rw (place-after n next a e h w (o .row), g, ← (q c w o h), f) }
 
-  pub child-nowhere : {j : Judged} → a ≡ Nowhere → unexpected place n ≡ judgedAs j → slot ≡ slotAt (context .property) (placeOf n (childWords (context .property))) → ChildAt context next place n end kids (Stops j)
-  child-nowhere g q h = record { is = λ c w o after. rw (place-after (context .property) n next a e h, g) q }
+  pub child-nowhere : {j : Judged} → a ≡ Nowhere → unexpected place n ≡ judgedAs j → slot ≡ slotAt (context .row .number) (placeOf n (childWords (context .row .number))) → ChildAt context next place n end kids (Stops j)
+  child-nowhere g q h = record { is = λ c w o after. rw (place-after n next a e h w (o .row), g) q }
 
 pub ruleset childing = (child-good, child-bad, child-nowhere, needs)
 
@@ -224,29 +234,29 @@ pub ruleset ending = (end-first, end-one, end-both, end-second, needs)
 -- ---- a turn
 
 module _ (context : Context) {s : List ℕ} (e : ℕ) {at : ℕ} (next : ℕ) (f g : Bool) {r : Node} (m : NodeAt s at r) where
-  pub turn-none : {j : Judged} → r .kind ≡ None → judgedAs j ≡ pick (isShort (flagsAt (context .property) f g)) (refuse FRAME e) fine → Turns context s e at next f g (Ends j)
-  turn-none h q = record { is = λ c w o. walked-none (slotsAt (context .property)) (childVerdict c w (typeAt (context .«value_type»))) next (flagsAt (context .property) f g) e (node-none m h) ∙ sym q; onward = tt }
+  pub turn-none : {j : Judged} → r .kind ≡ None → judgedAs j ≡ pick (isShort (flagsAt (context .row .number) f g)) (refuse FRAME e) fine → Turns context s e at next f g (Ends j)
+  turn-none h q = record { is = λ c w o. walked-none (slotsAt (context .row .number)) (childVerdict c w (typeAt (context .«value_type»))) next (flagsAt (context .row .number) f g) e (node-none m h) ∙ sym q; onward = tt }
 
   pub turn-referred : r .kind ≡ Referred → Turns context s e at next f g (Ends (Refused 6 at))
-  turn-referred h = record { is = λ c w o. walked-referred (slotsAt (context .property)) (childVerdict c w (typeAt (context .«value_type»))) next (flagsAt (context .property) f g) e (node-referred m h) ∙ sym (is-frame at); onward = tt }
+  turn-referred h = record { is = λ c w o. walked-referred (slotsAt (context .row .number)) (childVerdict c w (typeAt (context .«value_type»))) next (flagsAt (context .row .number) f g) e (node-referred m h) ∙ sym (is-frame at); onward = tt }
 
   pub turn-literal : {x : Next} → r .kind ≡ Literal → x ≡ pick (isSpace (r .unit)) (Goes (r .next) next f g) (Ends (Refused 6 at)) → Turns context s e at next f g x
   unfolding pick
   turn-literal {x} h q = go (isSpace (r .unit)) refl q
     where
       go : (b : Bool) → isSpace (r .unit) ≡ b → x ≡ pick b (Goes (r .next) next f g) (Ends (Refused 6 at)) → Turns context s e at next f g x
-      go true z y = rw y (record { is = λ c w o. walked-space (slotsAt (context .property)) (childVerdict c w (typeAt (context .«value_type»))) next (flagsAt (context .property) f g) e (node-literal m h) z; onward = (literal-onward m h, m .next-within) })
-      go false z y = rw y (record { is = λ c w o. walked-text (slotsAt (context .property)) (childVerdict c w (typeAt (context .«value_type»))) next (flagsAt (context .property) f g) e (node-literal m h) z ∙ sym (is-frame at); onward = tt })
+      go true z y = rw y (record { is = λ c w o. walked-space (slotsAt (context .row .number)) (childVerdict c w (typeAt (context .«value_type»))) next (flagsAt (context .row .number) f g) e (node-literal m h) z; onward = (literal-onward m h, m .next-within) })
+      go false z y = rw y (record { is = λ c w o. walked-text (slotsAt (context .row .number)) (childVerdict c w (typeAt (context .«value_type»))) next (flagsAt (context .row .number) f g) e (node-literal m h) z ∙ sym (is-frame at); onward = tt })
 
-  module _ (h : r .kind ≡ Element) {slot : ℕ} (y : slot ≡ slotAt (context .property) (placeOf (rest 0 (take (r .«name_end») s) (r .name)) (childWords (context .property))))
-      {q : Tried} (d : slot ≡ slotAt (context .property) (placeOf (rest 0 (take (r .«name_end») s) (r .name)) (childWords (context .property))) → ChildAt context next at (rest 0 (take (r .«name_end») s) (r .name)) (r .end) (nodesAt s (r .inside)) q) where
-    at-child : (c w : List ℕ) → Holder context c w → walked (slotsAt (context .property)) (childVerdict c w (typeAt (context .«value_type»))) (nodesAt s at) next (flagsAt (context .property) f g) e ≡
-        childOf q (λ n. walked (slotsAt (context .property)) (childVerdict c w (typeAt (context .«value_type»))) (nodesAt s (r .next)) n (marked (slotsAt (context .property)) (rest 0 (take (r .«name_end») s) (r .name)) (flagsAt (context .property) f g)) e)
-    at-child c w o = walked-element (slotsAt (context .property)) (childVerdict c w (typeAt (context .«value_type»))) next (flagsAt (context .property) f g) e (node-element m h) ∙ d y .is c w o _
+  module _ (h : r .kind ≡ Element) {slot : ℕ} (y : slot ≡ slotAt (context .row .number) (placeOf (rest 0 (take (r .«name_end») s) (r .name)) (childWords (context .row .number))))
+      {q : Tried} (d : slot ≡ slotAt (context .row .number) (placeOf (rest 0 (take (r .«name_end») s) (r .name)) (childWords (context .row .number))) → ChildAt context next at (rest 0 (take (r .«name_end») s) (r .name)) (r .end) (nodesAt s (r .inside)) q) where
+    at-child : (c w : List ℕ) → Holder context c w → walked (slotsAt (context .row .number)) (childVerdict c w (typeAt (context .«value_type»))) (nodesAt s at) next (flagsAt (context .row .number) f g) e ≡
+        childOf q (λ n. walked (slotsAt (context .row .number)) (childVerdict c w (typeAt (context .«value_type»))) (nodesAt s (r .next)) n (marked (slotsAt (context .row .number)) (rest 0 (take (r .«name_end») s) (r .name)) (flagsAt (context .row .number) f g)) e)
+    at-child c w o = walked-element (slotsAt (context .row .number)) (childVerdict c w (typeAt (context .«value_type»))) next (flagsAt (context .row .number) f g) e (node-element m h) ∙ d y .is c w o _
 
     pub turn-good : {n : ℕ} {f′ g′ : Bool} → q ≡ Good n → f′ ≡ (eqb slot 1 or f) → g′ ≡ (eqb slot 2 or g) → Turns context s e at next f g (Goes (r .next) n f′ g′)
     turn-good {n} z a b = record {
-      is = λ c w o. at-child c w o ∙ rw (z, flags-more (context .property) (rest 0 (take (r .«name_end») s) (r .name)) f g y, ← a, ← b);
+      is = λ c w o. at-child c w o ∙ rw (z, flags-more (context .row .number) (rest 0 (take (r .«name_end») s) (r .name)) f g y, ← a, ← b);
       onward = (element-onward m h .0, m .next-within);
     }
 
@@ -269,11 +279,11 @@ pub ruleset turning = (turn-none, turn-referred, turn-literal, turn-good, turn-s
 
 pub record Walking (context : Context) (s : List ℕ) (from e at next : ℕ) (f g : Bool) : Type 0 where
   pub is : (c w : List ℕ) → Holder context c w → sequence (propertySlots w) (childVerdict c w (typeAt (context .«value_type»))) (nodesAt s from) 0 [] e ≡
-      walked (slotsAt (context .property)) (childVerdict c w (typeAt (context .«value_type»))) (nodesAt s at) next (flagsAt (context .property) f g) e
+      walked (slotsAt (context .row .number)) (childVerdict c w (typeAt (context .«value_type»))) (nodesAt s at) next (flagsAt (context .row .number) f g) e
 
 pub walking-start : (context : Context) (s : List ℕ) (from e : ℕ) → Walking context s from e from 0 false false
 walking-start context s from e = record {
-  is = λ c w o. rw (slots-place w (o .property)) (sequence-walked (slotsAt (context .property)) (childVerdict c w (typeAt (context .«value_type»))) (nodesAt s from) 0 [] e ∙ rw (flags-start (context .property)));
+  is = λ c w o. rw (slots-place w (number-of w (o .row))) (sequence-walked (slotsAt (context .row .number)) (childVerdict c w (typeAt (context .«value_type»))) (nodesAt s from) 0 [] e ∙ rw (flags-start (context .row .number)));
 }
 
 module _ {context : Context} {s : List ℕ} {from e at next : ℕ} {f g : Bool} (m : Walking context s from e at next f g) {x : Next} (d : Turns context s e at next f g x) where

@@ -26,7 +26,9 @@ use Rattle.schema.specs.Types.{sameType}
 use Rattle.schema.specs.Properties.{propertyNames, permitsParameter}
 use Rattle.schema.specs.Parameters.{ParameterRow, parameterNames, isListedParameter, encodings}
 use Rattle.schema.specs.Numbers.{typeAt}
+use Rattle.schema.specs.Coded.{rowAt as propertyRowAt}
 use Rattle.schema.specs.Columns.{permitsAt}
+use Rattle.schema.specs.declared.table.Row.{Row}
 use Rattle.schema.specs.laws.Columns.{permits-place}
 use Rattle.schema.specs.laws.Places.{type-back}
 use Rattle.read_text_line.specs.Names.{isCarriedName}
@@ -78,17 +80,17 @@ module _ (q t : ℕ) (kids : Nodes) where
 
 -- ---- all of it
 
-module _ (p t q : ℕ) (kids : Nodes) {a : Bool} (e : a ≡ permitsAt p t q) where
-  pub sound-denied : a ≡ false → false ≡ soundBy p t q kids
+module _ (row : Row) (t q : ℕ) (kids : Nodes) {a : Bool} (e : a ≡ permitsAt row t q) where
+  pub sound-denied : a ≡ false → false ≡ soundBy row t q kids
   unfolding soundBy _and_
   sound-denied h = rw (← e, h)
 
   module _ {b : Bool} (h : a ≡ true) (f : b ≡ goodBy (rowAt q) kids) where
-    pub sound-other : b ≡ false → false ≡ soundBy p t q kids
+    pub sound-other : b ≡ false → false ≡ soundBy row t q kids
     unfolding soundBy _and_
     sound-other k = rw (← e, h, ← f, k)
 
-    pub sound-encoded : {c : Bool} → b ≡ true → c ≡ encodedBy q t kids → c ≡ soundBy p t q kids
+    pub sound-encoded : {c : Bool} → b ≡ true → c ≡ encodedBy q t kids → c ≡ soundBy row t q kids
     unfolding soundBy _and_
     sound-encoded k g = g ∙ rw (← e, h, ← f, k)
 
@@ -135,13 +137,13 @@ module _ (n : List ℕ) (kids : Nodes) where
         go true true e = base64 (eqb-true _ _ e)
 
 -- a parameter that is not sound, as the verdict has it
-pub sound-is : (w n : List ℕ) (p t : ℕ) (kids : Nodes) → p ≡ placeOf w propertyNames → t ≤ 14 →
-    not (soundBy p t (placeOf n parameterNames) kids)
+pub sound-is : (w n : List ℕ) (row : Row) (t : ℕ) (kids : Nodes) → row ≡ propertyRowAt (placeOf w propertyNames) → t ≤ 14 →
+    not (soundBy row t (placeOf n parameterNames) kids)
     ≡ (not (permitsParameter w (typeAt t) n) or not (valuesGood (isListedParameter n) (readParamNodes n kids)) or not (encodes n (typeAt t) kids))
 unfolding soundBy _and_ _or_
-sound-is w n p t kids h k =
+sound-is w n row t kids h k =
     rw (permits-place w n (typeAt t), type-back t k, ← h, good-at n kids)
-    (go (permitsAt p t (placeOf n parameterNames)) (goodBy (rowAt (placeOf n parameterNames)) kids) (encodedBy (placeOf n parameterNames) t kids) (encodes n (typeAt t) kids) (λ g. encoded-is n kids t k g))
+    (go (permitsAt row t (placeOf n parameterNames)) (goodBy (rowAt (placeOf n parameterNames)) kids) (encodedBy (placeOf n parameterNames) t kids) (encodes n (typeAt t) kids) (λ g. encoded-is n kids t k g))
   where
     go : (a b c d : Bool) → (b ≡ true → c ≡ d) → not (a and b and c) ≡ (not a or not b or not d)
     go false b c d f = refl

@@ -24,6 +24,8 @@ use Rattle.names.specs.Table.{placeOf}
 use Rattle.schema.specs.Properties.{propertyNames}
 use Rattle.schema.specs.Parameters.{parameterNames}
 use Rattle.schema.specs.Numbers.{typeAt}
+use Rattle.schema.specs.Coded.{rowAt}
+use Rattle.schema.specs.declared.table.Row.{Row}
 use Rattle.xml.specs.Nodes.{Nodes}
 use Rattle.xcal.specs.ParameterNodes.{parameterVerdict, parametersVerdict}
 use Rattle.xml.specs.NodesAt.{nodesAt}
@@ -46,20 +48,20 @@ use Rattle.read_xml_parameters.specs.Told.{againstBy, judgedBy, verdictA
 
 -- ---- one parameter
 
-module _ (p t : ℕ) (m : List ℕ) (kids : Nodes) {a again : Bool} (e : a ≡ again) where
-  pub against-again : a ≡ true → true ≡ againstBy again p t m kids
+module _ (row : Row) (t : ℕ) (m : List ℕ) (kids : Nodes) {a again : Bool} (e : a ≡ again) where
+  pub against-again : a ≡ true → true ≡ againstBy again row t m kids
   unfolding againstBy _or_
   against-again h = rw (← e, h)
 
-  module _ {q : ℕ} {b : Bool} (h : a ≡ false) (f : q ≡ placeOf (upper (rest 0 m 0)) parameterNames) (g : b ≡ soundBy p t q kids) where
-    named : b ≡ soundBy p t (placeOf (upper m) parameterNames) kids
+  module _ {q : ℕ} {b : Bool} (h : a ≡ false) (f : q ≡ placeOf (upper (rest 0 m 0)) parameterNames) (g : b ≡ soundBy row t q kids) where
+    named : b ≡ soundBy row t (placeOf (upper m) parameterNames) kids
     named = g ∙ rw (f, rest-plain m)
 
-    pub against-not : b ≡ true → false ≡ againstBy again p t m kids
+    pub against-not : b ≡ true → false ≡ againstBy again row t m kids
     unfolding againstBy _or_
     against-not k = rw (← e, h, ← named, k)
 
-    pub against-sound : b ≡ false → true ≡ againstBy again p t m kids
+    pub against-sound : b ≡ false → true ≡ againstBy again row t m kids
     unfolding againstBy _or_
     against-sound k = rw (← e, h, ← named, k)
 
@@ -88,39 +90,39 @@ module _ (bad against some : Bool) (at x : ℕ) {a : Bool} (e : a ≡ bad) where
 
 pub ruleset judgements = (judged-name, judged-empty, judged-against, judged-fine, judged-none, needs)
 
-pub verdict-is : (w : List ℕ) (p t : ℕ) (s : List ℕ) (from at : ℕ) (m : List ℕ) (x : ℕ) (kids : Nodes) (seen : List (List ℕ)) → p ≡ placeOf w propertyNames → t ≤ 14 →
-    isBefore m at (nodesAt s from) ≡ isOneOf m seen → parameterVerdict w (typeAt t) seen at m x kids ≡ verdictAt p t s from at m x kids
+pub verdict-is : (w : List ℕ) (row : Row) (t : ℕ) (s : List ℕ) (from at : ℕ) (m : List ℕ) (x : ℕ) (kids : Nodes) (seen : List (List ℕ)) → row ≡ rowAt (placeOf w propertyNames) → t ≤ 14 →
+    isBefore m at (nodesAt s from) ≡ isOneOf m seen → parameterVerdict w (typeAt t) seen at m x kids ≡ verdictAt row t s from at m x kids
 unfolding parameterVerdict judgedBy againstBy
-verdict-is w p t s from at m x kids seen h k e = rw (e, sound-is w (upper m) p t kids h k)
+verdict-is w row t s from at m x kids seen h k e = rw (e, sound-is w (upper m) row t kids h k)
 
 -- ---- all of them
 
 -- i elements stand before the place at
-pub record Told (p t : ℕ) (s : List ℕ) (from at i : ℕ) : Type 0 where
+pub record Told (row : Row) (t : ℕ) (s : List ℕ) (from at i : ℕ) : Type 0 where
   pub seen : List (List ℕ)
   pub fresh : Fresh s from at i seen
   pub known : (m : List ℕ) (k : ℕ) → at ≤ k → isBefore m k (nodesAt s from) ≡ (isOneOf m seen or isBefore m k (nodesAt s at))
-  pub is : (w : List ℕ) → p ≡ placeOf w propertyNames → t ≤ 14 → parametersVerdict w (typeAt t) (nodesAt s from) [] ≡ parametersVerdict w (typeAt t) (nodesAt s at) seen
+  pub is : (w : List ℕ) → row ≡ rowAt (placeOf w propertyNames) → t ≤ 14 → parametersVerdict w (typeAt t) (nodesAt s from) [] ≡ parametersVerdict w (typeAt t) (nodesAt s at) seen
 
-pub told-start : (p t : ℕ) (s : List ℕ) (from : ℕ) → Told p t s from from 0
+pub told-start : (row : Row) (t : ℕ) (s : List ℕ) (from : ℕ) → Told row t s from from 0
 unfolding isOneOf _or_
-told-start p t s from = record { seen = []; fresh = fresh-start s from; known = λ m k h. refl; is = λ w h k. refl }
+told-start row t s from = record { seen = []; fresh = fresh-start s from; known = λ m k h. refl; is = λ w h k. refl }
 
 -- the contract of `parameters_verdict`
-abbrev pub Judges : ℕ → ℕ → List ℕ → ℕ → Judged → Type 0
-Judges p t s from j = (w : List ℕ) → p ≡ placeOf w propertyNames → t ≤ 14 → judgedAs j ≡ parametersVerdict w (typeAt t) (nodesAt s from) []
+abbrev pub Judges : Row → ℕ → List ℕ → ℕ → Judged → Type 0
+Judges row t s from j = (w : List ℕ) → row ≡ rowAt (placeOf w propertyNames) → t ≤ 14 → judgedAs j ≡ parametersVerdict w (typeAt t) (nodesAt s from) []
 
-module _ {p t : ℕ} {s : List ℕ} {from at c : ℕ} {n : Node} (i : Told p t s from at c) (a : NodeAt s at n) where
-  pub told-none : n .kind ≡ None → Judges p t s from Fine
+module _ {row : Row} {t : ℕ} {s : List ℕ} {from at c : ℕ} {n : Node} (i : Told row t s from at c) (a : NodeAt s at n) where
+  pub told-none : n .kind ≡ None → Judges row t s from Fine
   unfolding parametersVerdict
   told-none q = λ w h k. sym (i .is w h k ∙ ap (λ (z : Nodes). parametersVerdict w (typeAt t) z (i .seen)) (node-none a q))
 
-  pub told-referred : n .kind ≡ Referred → Judges p t s from (Refused 6 at)
+  pub told-referred : n .kind ≡ Referred → Judges row t s from (Refused 6 at)
   unfolding parametersVerdict
   told-referred q = λ w h k. is-frame at ∙ sym (i .is w h k ∙ ap (λ (z : Nodes). parametersVerdict w (typeAt t) z (i .seen)) (node-referred a q))
 
   module _ {b : Bool} (q : n .kind ≡ Literal) (e : b ≡ isSpace (n .unit)) where
-    pub told-space : b ≡ true → Told p t s from (n .next) c
+    pub told-space : b ≡ true → Told row t s from (n .next) c
     unfolding parametersVerdict isBefore pick
     told-space z = record {
       seen = i .seen;
@@ -129,7 +131,7 @@ module _ {p t : ℕ} {s : List ℕ} {from at c : ℕ} {n : Node} (i : Told p t s
       is = λ w h k. i .is w h k ∙ ap (λ (x : Nodes). parametersVerdict w (typeAt t) x (i .seen)) (node-literal a q) ∙ rw (← e, z);
     }
 
-    pub told-character : b ≡ false → Judges p t s from (Refused 6 at)
+    pub told-character : b ≡ false → Judges row t s from (Refused 6 at)
     unfolding parametersVerdict pick
     told-character z = λ w h k. is-frame at ∙ sym (i .is w h k ∙ ap (λ (x : Nodes). parametersVerdict w (typeAt t) x (i .seen)) (node-literal a q) ∙ rw (← e, z))
 
@@ -146,20 +148,20 @@ module _ {p t : ℕ} {s : List ℕ} {from at c : ℕ} {n : Node} (i : Told p t s
     pub told-fresh : (k : ℕ) → distinct (firstNames (nodesAt s from) k) ≡ true → ltb c k ≡ true → isBefore (nameOf s (n .name) (n .«name_end»)) at (nodesAt s from) ≡ false
     told-fresh k h l = here ∙ fresh-here (i .fresh) (n .next) (node-named a q) k h (ltb-true c k l)
 
-    next : (w : List ℕ) → p ≡ placeOf w propertyNames → t ≤ 14 →
+    next : (w : List ℕ) → row ≡ rowAt (placeOf w propertyNames) → t ≤ 14 →
         parametersVerdict w (typeAt t) (nodesAt s from) [] ≡ (parameterVerdict w (typeAt t) (i .seen) at name (n .end) (nodesAt s (n .inside)) otherwise parametersVerdict w (typeAt t) (nodesAt s (n .next)) (name ∷ i .seen))
     unfolding parametersVerdict
     next w h k = i .is w h k ∙ ap (λ (x : Nodes). parametersVerdict w (typeAt t) x (i .seen)) (node-named a q)
 
-    own : (w : List ℕ) → p ≡ placeOf w propertyNames → t ≤ 14 →
-        parameterVerdict w (typeAt t) (i .seen) at name (n .end) (nodesAt s (n .inside)) ≡ verdictAt p t s from at name (n .end) (nodesAt s (n .inside))
-    own w h k = verdict-is w p t s from at name (n .end) (nodesAt s (n .inside)) (i .seen) h k here
+    own : (w : List ℕ) → row ≡ rowAt (placeOf w propertyNames) → t ≤ 14 →
+        parameterVerdict w (typeAt t) (i .seen) at name (n .end) (nodesAt s (n .inside)) ≡ verdictAt row t s from at name (n .end) (nodesAt s (n .inside))
+    own w h k = verdict-is w row t s from at name (n .end) (nodesAt s (n .inside)) (i .seen) h k here
 
-    module _ {j : Judged} (e : verdictAt p t s from at (nameOf s (n .name) (n .«name_end»)) (n .end) (nodesAt s (n .inside)) ≡ judgedAs j) where
-      pub told-refused : {c d : ℕ} → j ≡ Refused c d → Judges p t s from (Refused c d)
+    module _ {j : Judged} (e : verdictAt row t s from at (nameOf s (n .name) (n .«name_end»)) (n .end) (nodesAt s (n .inside)) ≡ judgedAs j) where
+      pub told-refused : {c d : ℕ} → j ≡ Refused c d → Judges row t s from (Refused c d)
       told-refused z = λ w h k. sym (next w h k ∙ after-refused _ (own w h k ∙ e) z)
 
-      pub told-next : j ≡ Fine → Told p t s from (n .next) (c + 1)
+      pub told-next : j ≡ Fine → Told row t s from (n .next) (c + 1)
       unfolding isBefore isOneOf _and_ _or_
       told-next z = record {
         seen = name ∷ i .seen;

@@ -1,6 +1,7 @@
 -- Laws of what specs/ElementTypes.antt defines.
 --     type-there, type-nowhere    its answers
 --     firsts            the rules of a walk to the first child that is named as a type
+--     number-of         the number of a name's row
 --     of-geo, of-status, of-first    the type of a property's value
 use Prim.{tt}
 use mathlib.Core.Path.{_≡_, refl, sym, ap, subst, _∙_}
@@ -26,11 +27,14 @@ use Rattle.names.specs.laws.Known.{by-place, unknown-word}
 use Rattle.calendar.specs.Calendar.{ValueType}
 use Rattle.schema.specs.Types.{typeName, typeNamed, typePlace}
 use Rattle.schema.specs.laws.Types.{type-named-is, place-type}
-use Rattle.schema.specs.Properties.{PropertyRow, propertyNames, defaultType}
-use Rattle.schema.specs.Numbers.{typeAt, propertyAt, typeWords}
-use Rattle.schema.specs.laws.Numbers.{property-place}
+use Rattle.schema.specs.Properties.{propertyNames, defaultType}
+use Rattle.schema.specs.Numbers.{typeAt, typeWords}
+use Rattle.schema.specs.Coded.{rowAt}
+use Rattle.schema.specs.laws.Columns.{number-place, default-place}
 use Rattle.schema.specs.laws.Places.{word-known, type-known}
 use Rattle.schema.specs.laws.Sets.{geo-place, request-status-place}
+use Rattle.schema.specs.Property as property
+use Rattle.schema.specs.declared.table.Row.{Row}
 use Rattle.xml.specs.Nodes.{Nodes}
 use Rattle.xcal.specs.laws.ElementNames.{lower-upper, no-capital}
 use Rattle.xcal.specs.ValueNodes.{elementType, firstType, typeOfNodes}
@@ -142,29 +146,43 @@ pub ruleset firsts = (passing-start, first-none, first-literal, first-referred, 
 
 -- ---- the type of a property's value
 
-module _ (p : ℕ) {t : ℕ} (kids : Nodes) (e : t ≡ typePlace (propertyAt p .default)) where
-  default-as : (w : List ℕ) → p ≡ placeOf w propertyNames → typeAt t ≡ defaultType w
-  default-as w h = rw (e, place-type (propertyAt p .default), h) (ap (λ (r : PropertyRow). r .default) (sym (property-place w)))
+pub number-of : {row : Row} (w : List ℕ) → row ≡ rowAt (placeOf w propertyNames) → row .number ≡ placeOf w propertyNames
+number-of w e = ap (λ (r : Row). r .number) e ∙ number-place w
 
-  default-known : t ≤ 14
-  default-known = rw e (type-known (propertyAt p .default))
+module _ (row : Row) (kids : Nodes) where
+  -- the type of the number t is that of a name that has the row
+  abbrev TypeFor : ℕ → Type 0
+  TypeFor t = (w : List ℕ) → row ≡ rowAt (placeOf w propertyNames) → (typeAt t ≡ typeOfNodes w kids) × (t ≤ 14)
 
-  pub of-geo : p ≡ 9 → ((w : List ℕ) → p ≡ placeOf w propertyNames → typeAt t ≡ typeOfNodes w kids) × (t ≤ 14)
+  default-place-of : (w : List ℕ) → row ≡ rowAt (placeOf w propertyNames) → row .default ≡ typePlace (defaultType w)
+  default-place-of w h = ap (λ (r : Row). r .default) h ∙ default-place w
+
+  default-as : (w : List ℕ) → row ≡ rowAt (placeOf w propertyNames) → typeAt (row .default) ≡ defaultType w
+  default-as w h = ap typeAt (default-place-of w h) ∙ place-type (defaultType w)
+
+  default-known : (w : List ℕ) → row ≡ rowAt (placeOf w propertyNames) → row .default ≤ 14
+  default-known w h = rw (default-place-of w h) (type-known (defaultType w))
+
+  pub of-geo : row .number ≡ property.GEO → TypeFor (row .default)
   unfolding typeOfNodes pick _or_
-  of-geo h = (λ w y. default-as w y ∙ rw (geo-place w, eq-eqb (placeOf w propertyNames) 9 (sym y ∙ h)), default-known)
+  of-geo h = λ w y. (default-as w y ∙ rw (geo-place w, eq-eqb (placeOf w propertyNames) property.GEO (sym (number-of w y) ∙ h)), default-known w y)
 
-  pub of-status : p ≡ 45 → ((w : List ℕ) → p ≡ placeOf w propertyNames → typeAt t ≡ typeOfNodes w kids) × (t ≤ 14)
+  pub of-status : row .number ≡ property.REQUEST-STATUS → TypeFor (row .default)
   unfolding typeOfNodes pick _or_
-  of-status h = (λ w y. default-as w y ∙ rw (request-status-place w, eq-eqb (placeOf w propertyNames) 45 (sym y ∙ h)) (own (same w (ascii "GEO")) w), default-known)
+  of-status h = λ w y. (
+    default-as w y ∙ rw (request-status-place w, eq-eqb (placeOf w propertyNames) property.REQUEST-STATUS (sym (number-of w y) ∙ h)) (own (same w (ascii "GEO")) w),
+    default-known w y,
+  )
     where
       own : (b : Bool) (w : List ℕ) → defaultType w ≡ pick (b or true) (defaultType w) (firstType (defaultType w) kids)
       own true w = refl
       own false w = refl
 
-  pub of-first : {r : ℕ} → (p ≡ 9 → ⊥) → (p ≡ 45 → ⊥) → (typeAt r ≡ firstType (typeAt t) kids) × (r ≤ 14) → ((w : List ℕ) → p ≡ placeOf w propertyNames → typeAt r ≡ typeOfNodes w kids) × (r ≤ 14)
+  pub of-first : {r : ℕ} → (row .number ≡ property.GEO → ⊥) → (row .number ≡ property.REQUEST-STATUS → ⊥) →
+      (typeAt r ≡ firstType (typeAt (row .default)) kids) × (row .default ≤ 14 → r ≤ 14) → TypeFor r
   unfolding typeOfNodes pick _or_
-  of-first g h q = (λ w y. q .0 ∙ rw (geo-place w, ne-eqb (placeOf w propertyNames) 9 (λ z. g (y ∙ z)), request-status-place w, ne-eqb (placeOf w propertyNames) 45 (λ z. h (y ∙ z)), default-as w y), q .1)
-
--- a type has a number up to 14
-pub type-small : {t : ℕ} (u : ValueType) → t ≡ typePlace u → t ≤ 14
-type-small u e = rw e (type-known u)
+  of-first g h q = λ w y. (
+    q .0
+        ∙ rw (geo-place w, ne-eqb (placeOf w propertyNames) property.GEO (λ z. g (number-of w y ∙ z)), request-status-place w, ne-eqb (placeOf w propertyNames) property.REQUEST-STATUS (λ z. h (number-of w y ∙ z)), default-as w y),
+    q .1 (default-known w y),
+  )

@@ -1,38 +1,48 @@
--- Laws of what specs/Columns.antt defines.
---     permits-type-place, permits-place, stand-place, begin-place, alarm-place     the same of names
---     permitted-at, carries-at, standing-at, inner-at, flag-at   the entries of the code's tables
---     type-unknown, stand-none, stand-nowhere, begin-none ..   unrecognised ones
+-- Laws of what specs/Columns.antt defines, and of rowAt (specs/Coded.antt), so that callers need not open them.
+--     row-number, row-default, row-listed, row-types, row-parameters, row-stands     what the row of a number says is what the definitions say of the number's name
+--     default-at, listed-at, types-at     the same of the table's row
+--     number-place, default-place, listed-place, permits-type-place, permits-place, stand-place, begin-place, alarm-place     the same of a name and its number
+--     inner-at, flag-at   the entries of the code's tables
+--     stand-none, stand-nowhere, begin-none ..   unrecognised ones
 use mathlib.Core.Path.{_≡_, refl, sym, ap, _∙_}
 use mathlib.Core.Bool.{Bool, true, false, not, false≢true}
 use mathlib.Core.List.{List, [], _∷_, map}
-use Prim.Native.Nat.{ℕ, _+_, _*_, _≤_, _<_}
+use Prim.Native.Nat.{ℕ, _+_, _*_, _^_, _≤_, _<_}
 use native.Mathlib.Omega.{arith}
+use native.Mathlib.Decide.{decLe}
 use lib.Dec.{eqb, ltb}
-use lib.ListN.{length, getD, List·getD-eq-default}
-use borrow.Author.Tests.{not-true}
+use lib.ListN.{length, getD, List·getD-map, List·getD-eq-default}
+use borrow.Author.Tests.{not-true, ltb-true, ltb-false}
+use Rattle.bits.specs.Masks.{has}
+use Rattle.bits.specs.laws.Masks.{has-past, has-none}
 use Rattle.octets.specs.Ascii.{ascii}
 use Rattle.octets.specs.Pick.{pick, _and_}
+use Rattle.octets.specs.laws.Pick.{and-both}
 use Rattle.octets.specs.Append.{_⊕_}
 use Rattle.octets.specs.Words.{isOneOf}
 use Rattle.octets.specs.laws.Words.{same-swap, same-apart}
 use Rattle.octets.specs.laws.Tables.{row-none, row-any-passes}
 use Rattle.octets.specs.Reading.{readOr}
 use Rattle.octets.specs.Lists.{every}
+use Rattle.octets.specs.laws.Lists.{word-passes}
 use Rattle.octets.specs.Computing.{octets-compute}
 use Rattle.names.specs.Table.{placeOf}
-use Rattle.names.specs.laws.Table.{one-of-place}
+use Rattle.names.specs.laws.Table.{one-of-place, place-within}
 use Rattle.names.specs.laws.Places.{name-place, placed, same-place}
 use Rattle.calendar.specs.Calendar.{ValueType, UNKNOWN}
 use Rattle.schema.specs.Types.{valueTypes, typePlace, sameType, isTypeOf}
-use Rattle.schema.specs.laws.Types.{place-type, type-any}
+use Rattle.schema.specs.laws.Types.{place-type, type-passes}
 use Rattle.schema.specs.Parameters.{parameterNames, isKnownParameter}
 use Rattle.schema.specs.Components.{ComponentRow, audioprop, dispprop, emailprop, componentTable, componentNames, componentRow, unknownComponent, subcomponentsOf, isAlarm, mayStand}
-use Rattle.schema.specs.Properties.{PropertyRow, permittedTypes, propertyTable, propertyNames, unrecognisedProperty, isKnownProperty, permitsParameter}
+use Rattle.schema.specs.Properties.{PropertyRow, defaultType, permittedTypes, isListedProperty, propertyTable, propertyNames, propertyRow, unrecognisedProperty, isKnownProperty, permitsParameter}
 use Rattle.schema.specs.laws.Rows.{stand-known, subcomponents-known}
 use Rattle.schema.specs.Numbers.{typeAt, propertyAt, componentName, propertyName, parameterName}
 use Rattle.schema.specs.laws.Numbers.{property-place, component-place}
+use Rattle.schema.specs.laws.Places.{known-component, component-at, property-at, no-property}
 use Rattle.schema.specs.laws.Cells.{digit, digit-is, grid, cell-at, column-at, at-passes, row-at-passes}
-use Rattle.schema.specs.Columns.{permitsType, permitsAt, mayBegin}
+use Rattle.schema.specs.Computing.{schema-compute}
+use Rattle.schema.specs.Coded.{typeMask, parameterMask, columns, coded, rowAt}
+use Rattle.schema.specs.Columns.{permitsType, permitsAt, standsAt, mayBegin}
 
 alarm-known : isOneOf (ascii "VALARM") componentNames ≡ true
 unfolding octets-compute
@@ -42,22 +52,75 @@ alarm-at : placeOf (ascii "VALARM") componentNames ≡ 8
 unfolding octets-compute placeOf
 alarm-at = refl
 
+-- ---- the row of a number
+
+pub row-number : (p : ℕ) → p ≤ 46 → rowAt p .number ≡ p
+unfolding rowAt
+row-number p h = omega arith
+
+pub number-place : (w : List ℕ) → rowAt (placeOf w propertyNames) .number ≡ placeOf w propertyNames
+number-place w = row-number (placeOf w propertyNames) (place-within w propertyNames)
+
+-- the row of the name of a number
+pub row-named : (p : ℕ) → propertyRow (propertyName p) ≡ propertyAt p
+row-named p = property-place (propertyName p) ∙ go (decLe 46 p)
+  where
+    go : Dec (46 ≤ p) → propertyAt (placeOf (propertyName p) propertyNames) ≡ propertyAt p
+    go (yes k) = rw (List·getD-eq-default propertyNames [] k, no-property, List·getD-eq-default propertyTable unrecognisedProperty k)
+    go (no k) = ap propertyAt (property-at p (omega (arith, k)))
+
+pub default-at : (p : ℕ) → rowAt p .default ≡ typePlace (propertyAt p .default)
+unfolding rowAt
+default-at p = refl
+
+pub row-default : (p : ℕ) → rowAt p .default ≡ typePlace (defaultType (propertyName p))
+row-default p = default-at p ∙ ap (λ (r : PropertyRow). typePlace (r .default)) (sym (row-named p))
+
+pub default-place : (w : List ℕ) → rowAt (placeOf w propertyNames) .default ≡ typePlace (defaultType w)
+default-place w = default-at (placeOf w propertyNames) ∙ ap (λ (r : PropertyRow). typePlace (r .default)) (sym (property-place w))
+
+pub listed-at : (p : ℕ) → rowAt p .listed ≡ propertyAt p .listed
+unfolding rowAt
+listed-at p = refl
+
+pub row-listed : (p : ℕ) → rowAt p .listed ≡ isListedProperty (propertyName p)
+row-listed p = listed-at p ∙ ap (λ (r : PropertyRow). r .listed) (sym (row-named p))
+
+pub listed-place : (w : List ℕ) → rowAt (placeOf w propertyNames) .listed ≡ isListedProperty w
+listed-place w = listed-at (placeOf w propertyNames) ∙ ap (λ (r : PropertyRow). r .listed) (sym (property-place w))
+
 -- ---- types
 
-rows-known : every (λ r. not (isTypeOf UNKNOWN (r .default ∷ r .others))) propertyTable ≡ true
-unfolding octets-compute isTypeOf sameType
-rows-known = refl
+unfoldable pub even : Bool → Bool → Bool
+even true b = b
+even false b = not b
 
-pub type-unknown : (p t : ℕ) → p < 46 → 14 ≤ t → false ≡ permitsType p t
-type-unknown p t h k =
-    rw (List·getD-eq-default valueTypes UNKNOWN k)
-    (sym (not-true _ (row-at-passes (λ r. not (isTypeOf UNKNOWN (r .default ∷ r .others))) unrecognisedProperty propertyTable p rows-known h)))
+pub even-is : (a b : Bool) → even a b ≡ true → a ≡ b
+unfolding even
+even-is true b h = sym h
+even-is false true h = absurd (false≢true h)
+even-is false false h = refl
 
-pub type-free : (p t : ℕ) → 46 ≤ p → true ≡ permitsType p t
-type-free p t h = rw (List·getD-eq-default propertyTable unrecognisedProperty h) (sym (type-any (typeAt t)))
+-- the mask of a row has the types of the row
+typesMasked : PropertyRow → Bool
+typesMasked r = every (λ t. even (has (typeMask (r .default ∷ r .others)) (typePlace t)) (isTypeOf t (r .default ∷ r .others))) (UNKNOWN ∷ valueTypes)
 
-pub permits-type-place : (w : List ℕ) (t : ValueType) → isTypeOf t (permittedTypes w) ≡ permitsType (placeOf w propertyNames) (typePlace t)
-permits-type-place w t = rw (place-type t) (ap (λ (r : PropertyRow). isTypeOf t (r .default ∷ r .others)) (property-place w))
+all-types : every typesMasked (unrecognisedProperty ∷ propertyTable) ≡ true
+unfolding schema-compute typesMasked even
+all-types = refl
+
+pub types-at : (p : ℕ) (t : ValueType) → permitsType (rowAt p) (typePlace t) ≡ isTypeOf t (propertyAt p .default ∷ propertyAt p .others)
+unfolding permitsType rowAt typesMasked _and_ every
+types-at p t =
+    let a = and-both _ _ all-types in
+    even-is _ _ (type-passes (λ u. even (has (typeMask (propertyAt p .default ∷ propertyAt p .others)) (typePlace u)) (isTypeOf u (propertyAt p .default ∷ propertyAt p .others)))
+    (at-passes typesMasked unrecognisedProperty propertyTable p (a .1) (a .0)) t)
+
+pub row-types : (p : ℕ) (t : ValueType) → permitsType (rowAt p) (typePlace t) ≡ isTypeOf t (permittedTypes (propertyName p))
+row-types p t = types-at p t ∙ ap (λ (r : PropertyRow). isTypeOf t (r .default ∷ r .others)) (sym (row-named p))
+
+pub permits-type-place : (w : List ℕ) (t : ValueType) → isTypeOf t (permittedTypes w) ≡ permitsType (rowAt (placeOf w propertyNames)) (typePlace t)
+permits-type-place w t = ap (λ (r : PropertyRow). isTypeOf t (r .default ∷ r .others)) (property-place w) ∙ sym (types-at (placeOf w propertyNames) t)
 
 -- ---- parameters
 
@@ -69,18 +132,42 @@ related-place : placeOf (ascii "RELATED") parameterNames ≡ 13
 unfolding octets-compute placeOf
 related-place = refl
 
-pub permits-place : (w v : List ℕ) (t : ValueType) → permitsParameter w t v ≡ permitsAt (placeOf w propertyNames) (typePlace t) (placeOf v parameterNames)
-unfolding permitsParameter isKnownParameter isKnownProperty sameType pick _and_
+-- the mask of a row has the parameters of the row
+parametersMasked : PropertyRow → Bool
+parametersMasked r = every (λ q. even (has (parameterMask (r .parameters)) (placeOf q parameterNames)) (isOneOf q (r .parameters))) parameterNames
+
+all-parameters : every parametersMasked (unrecognisedProperty ∷ propertyTable) ≡ true
+unfolding schema-compute parametersMasked even
+all-parameters = refl
+
+pub parameters-at : (p : ℕ) (q : List ℕ) → isOneOf q parameterNames ≡ true → has (rowAt p .parameters) (placeOf q parameterNames) ≡ isOneOf q (propertyAt p .parameters)
+unfolding rowAt parametersMasked _and_ every
+parameters-at p q h =
+    let a = and-both _ _ all-parameters in
+    even-is _ _ (word-passes (λ v. even (has (parameterMask (propertyAt p .parameters)) (placeOf v parameterNames)) (isOneOf v (propertyAt p .parameters))) parameterNames q
+    (at-passes parametersMasked unrecognisedProperty propertyTable p (a .1) (a .0)) h)
+
+pub permits-place : (w v : List ℕ) (t : ValueType) → permitsParameter w t v ≡ permitsAt (rowAt (placeOf w propertyNames)) (typePlace t) (placeOf v parameterNames)
+unfolding permitsParameter permitsAt isKnownParameter isKnownProperty sameType pick _and_
 permits-place w v t =
-    rw (property-place w, same-place v (ascii "RELATED") parameterNames related-known, related-place, one-of-place w propertyNames)
-    (go (isOneOf v parameterNames) (ltb (placeOf w propertyNames) 46) refl (propertyAt (placeOf w propertyNames) .parameters) (pick (eqb (placeOf v parameterNames) 13) (eqb (typePlace t) 5) true)
-    ∙ ap (λ (b : Bool). pick b (pick (ltb (placeOf w propertyNames) 46) (isOneOf (parameterName (placeOf v parameterNames)) (propertyAt (placeOf w propertyNames) .parameters) and pick (eqb (placeOf v parameterNames) 13) (eqb (typePlace t) 5) true) true) true)
+    rw (property-place w, same-place v (ascii "RELATED") parameterNames related-known, related-place, one-of-place w propertyNames, number-place w)
+    (go (isOneOf v parameterNames) (ltb (placeOf w propertyNames) 46) refl (pick (eqb (placeOf v parameterNames) 13) (eqb (typePlace t) 5) true)
+    ∙ ap (λ (b : Bool). pick b (pick (ltb (placeOf w propertyNames) 46)
+    (has (rowAt (placeOf w propertyNames) .parameters) (placeOf v parameterNames) and pick (eqb (placeOf v parameterNames) 13) (eqb (typePlace t) 5) true) true) true)
     (one-of-place v parameterNames))
   where
-    go : (b a : Bool) → isOneOf v parameterNames ≡ b → (qs : List (List ℕ)) (x : Bool) →
-        pick (b and a) (isOneOf v qs and x) true ≡ pick b (pick a (isOneOf (parameterName (placeOf v parameterNames)) qs and x) true) true
-    go true a e qs x = rw (name-place v parameterNames e)
-    go false a e qs x = refl
+    go : (b a : Bool) → isOneOf v parameterNames ≡ b → (x : Bool) →
+        pick (b and a) (isOneOf v (propertyAt (placeOf w propertyNames) .parameters) and x) true
+        ≡ pick b (pick a (has (rowAt (placeOf w propertyNames) .parameters) (placeOf v parameterNames) and x) true) true
+    go true a e x = rw (parameters-at (placeOf w propertyNames) v e)
+    go false a e x = refl
+
+pub row-parameters : (p : ℕ) (t : ValueType) (v : List ℕ) → p ≤ 46 → permitsAt (rowAt p) (typePlace t) (placeOf v parameterNames) ≡ permitsParameter (propertyName p) t v
+row-parameters p t v h = sym (permits-place (propertyName p) v t ∙ ap (λ (n : ℕ). permitsAt (rowAt n) (typePlace t) (placeOf v parameterNames)) (go (decLe 46 p)))
+  where
+    go : Dec (46 ≤ p) → placeOf (propertyName p) propertyNames ≡ p
+    go (yes k) = let e : p ≡ 46 = omega (arith, k, h) in rw (List·getD-eq-default propertyNames [] k, no-property) (sym e)
+    go (no k) = property-at p (omega (arith, k))
 
 -- ---- properties in a component
 
@@ -103,7 +190,7 @@ outside-row : (c : List ℕ) → isOneOf c componentNames ≡ false → componen
 unfolding componentRow readOr
 outside-row c u = rw (row-none (λ r. r .name) c componentTable u)
 
-stand-outside : (c w : List ℕ) → isOneOf c componentNames ≡ false → mayStand c w ≡ false
+pub stand-outside : (c w : List ℕ) → isOneOf c componentNames ≡ false → mayStand c w ≡ false
 unfolding mayStand isOneOf pick
 stand-outside c w u = go (isAlarm c) (same-swap (ascii "VALARM") c (same-apart (λ v. isOneOf v componentNames) (ascii "VALARM") c alarm-known u)) (componentRow c) (outside-row c u)
   where
@@ -129,6 +216,43 @@ stand-place c w = rw (placed c componentNames, placed w propertyNames) (one (isO
     two : (b : Bool) → isOneOf w propertyNames ≡ b → (d : List ℕ) → mayStand d w ≡ mayStand d (pick b w [])
     two true e d = refl
     two false e d = stand-unknown d w e ∙ sym (stand-unknown d [] none-unknown)
+
+-- the mask of a row has the components of its signs
+standsMasked : PropertyRow → Bool
+standsMasked r = every (λ c. even (has (coded r .components) (placeOf c componentNames)) (mayStand c (r .name))) componentNames
+
+all-standing : every standsMasked propertyTable ≡ true
+unfolding schema-compute columns standsMasked even
+all-standing = refl
+
+narrow : PropertyRow → Bool
+narrow r = ltb (coded r .components) (2 ^ 9)
+
+all-narrow : every narrow (unrecognisedProperty ∷ propertyTable) ≡ true
+unfolding schema-compute columns narrow
+all-narrow = refl
+
+nowhere : coded unrecognisedProperty .components ≡ 0
+unfolding columns pick
+nowhere = refl
+
+pub row-stands : (k p : ℕ) → standsAt k (rowAt p) ≡ mayStand (componentName k) (propertyName p)
+unfolding standsAt rowAt narrow standsMasked _and_ every
+row-stands k p = go (decLe 9 k) (decLe 46 p)
+  where
+    small : coded (propertyAt p) .components < 2 ^ 9
+    small = let a = and-both _ _ all-narrow in ltb-true _ _ (at-passes narrow unrecognisedProperty propertyTable p (a .1) (a .0))
+
+    go : Dec (9 ≤ k) → Dec (46 ≤ p) → has (coded (propertyAt p) .components) k ≡ mayStand (componentName k) (propertyName p)
+    go (yes h) l = has-past 9 (coded (propertyAt p) .components) k small h ∙ stand-past-component k (propertyName p) h
+    go (no h) (yes l) = ap (λ (r : PropertyRow). has (coded r .components) k) (List·getD-eq-default propertyTable unrecognisedProperty l) ∙ ap (λ (m : ℕ). has m k) nowhere ∙ has-none k ∙ stand-past-property (componentName k) p l
+    go (no h) (no l) =
+        let b : k < 9 = omega (arith, h) in
+        let c : p < 46 = omega (arith, l) in
+        ap (has (coded (propertyAt p) .components)) (sym (component-at k b))
+        ∙ even-is _ _ (word-passes (λ c. even (has (coded (propertyAt p) .components) (placeOf c componentNames)) (mayStand c (propertyAt p .name))) componentNames (componentName k)
+        (row-at-passes standsMasked unrecognisedProperty propertyTable p all-standing c) (known-component k b))
+        ∙ ap (mayStand (componentName k)) (sym (List·getD-map (λ r. r .name) propertyTable p unrecognisedProperty))
 
 -- ---- components in a component
 
@@ -159,21 +283,6 @@ pub alarm-place : (c : List ℕ) → isAlarm c ≡ eqb (placeOf c componentNames
 alarm-place c = same-place c (ascii "VALARM") componentNames alarm-known ∙ rw alarm-at
 
 -- ---- the tables of the code, entry by entry
-
-pub permitted-at : (p t : ℕ) → p < 46 → t < 14 → eqb (getD (grid (λ p t. digit (permitsType p t)) 14 644) (p * 14 + t) 0) 49 ≡ permitsType p t
-permitted-at p t h k = ap (λ (n : ℕ). eqb n 49) (cell-at (λ p t. digit (permitsType p t)) 14 644 p t (omega arith) (omega arith) (omega arith)) ∙ digit-is (permitsType p t)
-
-pub carries-at : (p q : ℕ) → p < 46 → q < 19 →
-    eqb (getD (grid (λ p q. digit (isOneOf (parameterName q) (propertyAt p .parameters))) 19 874) (p * 19 + q) 0) 49 ≡ isOneOf (parameterName q) (propertyAt p .parameters)
-carries-at p q h k =
-    ap (λ (n : ℕ). eqb n 49) (cell-at (λ p q. digit (isOneOf (parameterName q) (propertyAt p .parameters))) 19 874 p q (omega arith) (omega arith) (omega arith))
-    ∙ digit-is (isOneOf (parameterName q) (propertyAt p .parameters))
-
-pub standing-at : (k p : ℕ) → k < 9 → p < 46 →
-    eqb (getD (grid (λ k p. digit (mayStand (componentName k) (propertyName p))) 46 414) (k * 46 + p) 0) 49 ≡ mayStand (componentName k) (propertyName p)
-standing-at k p h l =
-    ap (λ (n : ℕ). eqb n 49) (cell-at (λ k p. digit (mayStand (componentName k) (propertyName p))) 46 414 k p (omega arith) (omega arith) (omega arith))
-    ∙ digit-is (mayStand (componentName k) (propertyName p))
 
 pub inner-at : (c k : ℕ) → c < 9 → k < 9 → eqb (getD (grid (λ c k. digit (mayBegin c k)) 9 81) (c * 9 + k) 0) 49 ≡ mayBegin c k
 inner-at c k h l = ap (λ (n : ℕ). eqb n 49) (cell-at (λ c k. digit (mayBegin c k)) 9 81 c k (omega arith) (omega arith) (omega arith)) ∙ digit-is (mayBegin c k)

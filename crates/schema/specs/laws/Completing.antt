@@ -1,50 +1,55 @@
 -- Laws of what specs/Completing.antt defines.
 --     actions-are    the table of these words in the code
 --     complete-tallies, method-tallies  they are what Counts says of the properties
---     sign-at, sign-past, Testing     for code: the table of signs, and the loop
+--     halves-often, Testing     for code: the table in two halves, and the loop over one
 use mathlib.Core.Path.{_≡_, refl, sym, ap, _∙_}
 use mathlib.Core.Bool.{Bool, true, false, false≢true}
 use mathlib.Core.List.{List, [], _∷_, map}
 use mathlib.Core.Option.{Option, none, some}
-use Prim.Native.Nat.{ℕ, zero, suc, _+_, _*_, _-_, _≤_, _<_, min}
+use Prim.Native.Nat.{ℕ, zero, suc, _+_, _-_, _≤_, _<_, min}
 use native.Mathlib.Nat.{not-suc-le-zero, le-of-suc-le-suc}
 use native.Mathlib.Omega.{arith}
+use native.Mathlib.Decide.{decLe}
 use lib.Dec.{eqb, leb, ltb}
-use lib.ListN.{length, getD, List·getD-map, List·getD-append, List·getD-eq-default}
-use lib.Seq.{getD-append-add}
+use lib.ListN.{length, getD, List·getD-map, List·getD-eq-default}
 use borrow.Author.Needs.{needs}
-use borrow.Author.Tests.{eqb-true, eqb-false, eq-eqb, ne-eqb, le-leb, leb-true, leb-false, ltb-true, ltb-false}
+use borrow.Author.Tests.{eqb-true, eqb-false, eq-eqb, ne-eqb, le-leb, lt-leb, leb-true, leb-false, ltb-true, ltb-false}
+use Rattle.bits.specs.Masks.{has}
 use Rattle.octets.specs.Ascii.{ascii}
 use Rattle.octets.specs.Pick.{pick, _and_, _or_}
-use Rattle.octets.specs.laws.Pick.{and-both, pick-first}
+use Rattle.octets.specs.laws.Pick.{and-both, pick-first, pick-take, pick-skip}
 use Rattle.octets.specs.Words.{isOneOf}
-use Rattle.octets.specs.laws.Tables.{row-any-passes}
 use Rattle.octets.specs.Lists.{every}
 use Rattle.octets.specs.Reading.{andThen}
 use Rattle.octets.specs.Computing.{octets-compute}
 use Rattle.names.specs.Table.{placeOf, namesIn}
 use Rattle.names.specs.laws.Table.{row-then}
 use Rattle.calendar.specs.Calendar.{Property}
-use Rattle.schema.specs.Components.{Occurrence, ComponentRow, componentTable, componentNames, unknownComponent, alarmTable, occurrencesOf, alarmOccurrences, isAlarm}
-use Rattle.schema.specs.Properties.{propertyNames}
-use Rattle.schema.specs.Counts.{tally, absent, occurrenceIn, isAtMost, isOften, eachOften, Around, methodFor, pairsOf, actionOf, listFor, oftenFor, complete}
+use Rattle.schema.specs.Components.{Occurrence, ComponentRow, componentTable, componentNames, unknownComponent, alarmTable, listIn, occurrencesOf, alarmOccurrences, isAlarm}
+use Rattle.schema.specs.Properties.{PropertyRow, propertyTable, unrecognisedProperty, propertyNames}
+use Rattle.schema.specs.Counts.{tally, occurrenceIn, isAtMost, isOften, eachOften, Around, methodFor, pairsOf, actionOf, listFor, oftenFor, complete}
 use Rattle.schema.specs.laws.Tallies.{often-at}
-use Rattle.schema.specs.Numbers.{componentAt, propertyName}
+use Rattle.schema.specs.Numbers.{componentAt, propertyAt, propertyName}
 use Rattle.schema.specs.laws.Numbers.{component-place}
-use Rattle.schema.specs.laws.Cells.{grid, cell-at, at-passes, row-at-passes, column-past}
+use Rattle.schema.specs.laws.Cells.{row-at-passes}
 use Rattle.schema.specs.laws.Columns.{alarm-place}
 use Rattle.schema.specs.laws.Sets.{calendar-place, event-place, todo-place, timezone-place}
 use Rattle.schema.specs.Arrays.{tallies, eachFrom}
 use Rattle.schema.specs.laws.Arrays.{tally-count, from-list, from-more, from-stop, from-end}
-use Rattle.schema.specs.Completing.{occurrenceLists, listAt, signBy, isSigned, signAt, allOften, oftenAt, pairsAt, completeAt, methodAt, actionNames, actionNumber}
+use Rattle.schema.specs.Computing.{schema-compute}
+use Rattle.schema.specs.Coded.{columns, coded, firstHalf, secondHalf}
+use Rattle.schema.specs.laws.Halving.{getD-any, first-at, second-at}
+use Rattle.schema.specs.Completing.{oftenIn, halfOften, allOften, oftenAt, pairsAt, completeAt, methodAt, actionNames, actionNumber}
+use Rattle.schema.specs.Property as property
+use Rattle.schema.specs.declared.table.Entry.{Entry}
 
 pub actions-are : namesIn (ascii "AUDIO\nDISPLAY\nEMAIL\n") ≡ actionNames
 unfolding namesIn pick
 actions-are = refl
 
--- ---- signs
+-- ---- how often
 
--- how often, in one of the five ways
+-- in one of the five ways
 abbrev plainBy : ℕ → Option ℕ → Bool
 plainBy l none = leb l 1
 plainBy l (some m) = leb m 1 and leb l m
@@ -70,36 +75,48 @@ eqb-agree a b c d f g = go (eqb a b) (eqb c d) refl refl
     go false true p q = sym p ∙ eq-eqb a b (g (eqb-true c d q))
     go false false p q = refl
 
-eqb-bounds : (k n : ℕ) → eqb n k ≡ (leb k n and leb n k)
-unfolding _and_
-eqb-bounds k n = go (leb k n) (leb n k) refl refl
+-- an entry's masks, as least and most
+abbrev leastIn : Entry → ℕ → ℕ
+leastIn e l = pick (has (e .least) l) 1 0
+
+abbrev mostIn : Entry → ℕ → Option ℕ
+mostIn e l = pick (has (e .many) l) none (some (pick (has (e .once) l) 1 0))
+
+one-at-most : (n : ℕ) → 1 ≤ n → eqb n 1 ≡ leb n 1
+one-at-most n k = go (leb n 1) refl
   where
-    go : (x y : Bool) → leb k n ≡ x → leb n k ≡ y → eqb n k ≡ (x and y)
-    go true true p q = eq-eqb n k (omega (arith, leb-true k n p, leb-true n k q))
-    go true false p q = ne-eqb n k (λ e. omega (arith, leb-false n k q))
-    go false y p q = ne-eqb n k (λ e. omega (arith, leb-false k n p))
+    go : (b : Bool) → leb n 1 ≡ b → eqb n 1 ≡ b
+    go true e = eq-eqb n 1 (omega (arith, k, leb-true n 1 e))
+    go false e = ne-eqb n 1 (λ q. omega (arith, q, leb-false n 1 e))
 
-both : (b : Bool) → b ≡ (b and true)
-unfolding _and_
-both true = refl
-both false = refl
-
-signed-by : (l : ℕ) (m : Option ℕ) (n : ℕ) → plainBy l m ≡ true → isSigned (signBy l m) n ≡ (leb l n and isAtMost m n)
+often-some : (n : ℕ) → 1 ≤ n → (least many once : Bool) →
+    pick many true (pick once (eqb n 1) false) ≡ (leb (pick least 1 0) n and isAtMost (pick many none (some (pick once 1 0))) n)
 unfolding pick _and_
-signed-by l none n h = go (eqb l 0) refl
+often-some n k true true once = rw (le-leb 1 n k)
+often-some n k false true once = rw (le-leb 0 n (omega arith))
+often-some n k true false true = rw (le-leb 1 n k) (one-at-most n k)
+often-some n k false false true = rw (le-leb 0 n (omega arith)) (one-at-most n k)
+often-some n k true false false = rw (le-leb 1 n k, lt-leb n 0 k)
+often-some n k false false false = rw (le-leb 0 n (omega arith), lt-leb n 0 k)
+
+often-none : (least many once : Bool) → pick least false true ≡ (leb (pick least 1 0) 0 and isAtMost (pick many none (some (pick once 1 0))) 0)
+unfolding pick _and_
+often-none true many once = refl
+often-none false true once = refl
+often-none false false true = refl
+often-none false false false = refl
+
+often-by : (least many once : Bool) (n : ℕ) →
+    pick (eqb n 0) (pick least false true) (pick many true (pick once (eqb n 1) false)) ≡ (leb (pick least 1 0) n and isAtMost (pick many none (some (pick once 1 0))) n)
+often-by least many once n = go (decLe 1 n)
   where
-    go : (b : Bool) → eqb l 0 ≡ b → isSigned (pick b 42 43) n ≡ (leb l n and true)
-    go true e = rw (eqb-true l 0 e, le-leb 0 n (omega arith))
-    go false e = let q : l ≡ 1 = omega (arith, leb-true l 1 h, eqb-false l 0 e) in rw q (both (leb 1 n))
-signed-by l (some m) n h = go (eqb m 0) (eqb l 0) refl refl
-  where
-    go : (b c : Bool) → eqb m 0 ≡ b → eqb l 0 ≡ c → isSigned (pick b 46 (pick c 63 49)) n ≡ (leb l n and leb n m)
-    go true c e f = let q : l ≡ 0 = omega (arith, leb-true l m (and-both (leb m 1) (leb l m) h .1), eqb-true m 0 e) in rw (q, eqb-true m 0 e) (eqb-bounds 0 n)
-    go false true e f = let q : m ≡ 1 = omega (arith, leb-true m 1 (and-both (leb m 1) (leb l m) h .0), eqb-false m 0 e) in rw (eqb-true l 0 f, q, le-leb 0 n (omega arith))
-    go false false e f =
-        let q : m ≡ 1 = omega (arith, leb-true m 1 (and-both (leb m 1) (leb l m) h .0), eqb-false m 0 e) in
-        let p : l ≡ 1 = omega (arith, leb-true l m (and-both (leb m 1) (leb l m) h .1), eqb-false l 0 f) in
-        rw (p, q) (eqb-bounds 1 n)
+    go : Dec (1 ≤ n) → pick (eqb n 0) (pick least false true) (pick many true (pick once (eqb n 1) false)) ≡ (leb (pick least 1 0) n and isAtMost (pick many none (some (pick once 1 0))) n)
+    go (yes k) = sym (pick-skip _ _ _ (ne-eqb n 0 (λ e. omega (arith, k, e))) (sym (often-some n k least many once)))
+    go (no k) = let z : n ≡ 0 = omega (arith, k) in sym (pick-take _ _ _ (eq-eqb n 0 z) (rw z (sym (often-none least many once))))
+
+often-is : (e : Entry) (l n : ℕ) → oftenIn e l n ≡ (leb (leastIn e l) n and isAtMost (mostIn e l) n)
+unfolding oftenIn
+often-is e l n = often-by (has (e .least) l) (has (e .many) l) (has (e .once) l) n
 
 -- counted to 255
 saturated : (l : ℕ) (m : Option ℕ) (n : ℕ) → plainBy l m ≡ true → (leb l (min 255 n) and isAtMost m (min 255 n)) ≡ (leb l n and isAtMost m n)
@@ -109,18 +126,50 @@ saturated l (some m) n h =
     let q : l ≤ m = leb-true l m (and-both (leb m 1) (leb l m) h .1) in
     rw (leb-agree l (min 255 n) l n (λ k. omega arith) (λ k. omega arith), leb-agree (min 255 n) m n m (λ k. omega arith) (λ k. omega arith))
 
-lists-plain : every (λ os. every isPlain os) occurrenceLists ≡ true
-unfolding octets-compute
-lists-plain = refl
+unfoldable pub evenMost : Option ℕ → Option ℕ → Bool
+evenMost none none = true
+evenMost none (some n) = false
+evenMost (some m) none = false
+evenMost (some m) (some n) = eqb m n
 
-plain-at : (l : ℕ) (w : List ℕ) → isPlain (occurrenceIn (listAt l) w) ≡ true
-unfolding every _and_
-plain-at l w = row-any-passes (λ o. o .property) w isPlain (absent w) (listAt l) (at-passes (λ os. every isPlain os) [] occurrenceLists l lists-plain refl) refl
+pub most-is : (a b : Option ℕ) → evenMost a b ≡ true → a ≡ b
+unfolding evenMost
+most-is none none h = refl
+most-is none (some n) h = absurd (false≢true h)
+most-is (some m) none h = absurd (false≢true h)
+most-is (some m) (some n) h = ap some (eqb-true m n h)
 
-signed-at : (l n : ℕ) (c : ℕ) → isSigned (signAt l n) (min 255 c) ≡ isOften (occurrenceIn (listAt l) (propertyName n)) c
-signed-at l n c =
-    signed-by (occurrenceIn (listAt l) (propertyName n) .least) (occurrenceIn (listAt l) (propertyName n) .most) (min 255 c) (plain-at l (propertyName n))
-    ∙ saturated (occurrenceIn (listAt l) (propertyName n) .least) (occurrenceIn (listAt l) (propertyName n) .most) c (plain-at l (propertyName n))
+-- the masks of a row say what the list says of its name, and that is one of the five ways
+oftenMasked : PropertyRow → ℕ → Bool
+oftenMasked r l =
+    eqb (leastIn (coded r) l) (occurrenceIn (listIn l) (r .name) .least) and evenMost (mostIn (coded r) l) (occurrenceIn (listIn l) (r .name) .most)
+    and isPlain (occurrenceIn (listIn l) (r .name))
+
+all-masked : every (λ r. eachFrom 0 12 (oftenMasked r)) propertyTable ≡ true
+unfolding schema-compute columns oftenMasked evenMost
+all-masked = refl
+
+from-passes : (p : ℕ → Bool) (i k n : ℕ) → eachFrom i k p ≡ true → n < k → p (i + n) ≡ true
+unfolding eachFrom
+from-passes p i zero n a h = absurd (not-suc-le-zero h)
+from-passes p i (suc k) zero a h = ap p (omega arith) ∙ and-both _ _ a .0
+from-passes p i (suc k) (suc n) a h = ap p (omega arith) ∙ from-passes p (suc i) k n (and-both _ _ a .1) (le-of-suc-le-suc h)
+
+pub below-passes : (p : ℕ → Bool) (k n : ℕ) → eachFrom 0 k p ≡ true → n < k → p n ≡ true
+below-passes p k n a h = let z : n ≡ 0 + n = omega arith in ap p z ∙ from-passes p 0 k n a h
+
+often-same : (e : Entry) (l c least : ℕ) (most : Option ℕ) → leastIn e l ≡ least → mostIn e l ≡ most → plainBy least most ≡ true →
+    oftenIn e l (min 255 c) ≡ (leb least c and isAtMost most c)
+often-same e l c least most f g p = rw (often-is e l (min 255 c), f, g) (saturated least most c p)
+
+often-entry : (l j c : ℕ) → l < 12 → j < 46 → oftenIn (coded (propertyAt j)) l (min 255 c) ≡ isOften (occurrenceIn (listIn l) (propertyName j)) c
+unfolding oftenMasked
+often-entry l j c h k =
+    let a = below-passes (oftenMasked (propertyAt j)) 12 l (row-at-passes (λ r. eachFrom 0 12 (oftenMasked r)) unrecognisedProperty propertyTable j all-masked k) h in
+    let b = and-both _ _ (and-both _ _ a .1) in
+    let w : List ℕ = propertyAt j .name in
+    rw (List·getD-map (λ r. r .name) propertyTable j unrecognisedProperty)
+    (often-same (coded (propertyAt j)) l c (occurrenceIn (listIn l) w .least) (occurrenceIn (listIn l) w .most) (eqb-true _ _ (and-both _ _ a .0)) (most-is _ _ (b .0)) (b .1))
 
 -- ---- every property by itself
 
@@ -129,69 +178,85 @@ unfolding eachOften every
 often-every [] os ps = refl
 often-every (w ∷ ws) os ps = rw (often-every ws os ps)
 
-pub all-often : (l : ℕ) (ps : List Property) → allOften l (tallies ps) ≡ eachOften propertyNames (listAt l) ps
+pub all-often : (l : ℕ) (ps : List Property) → l < 12 → allOften l (tallies ps) ≡ eachOften propertyNames (listIn l) ps
 unfolding allOften
-all-often l ps =
-    from-list propertyNames [] 0 (λ n. isSigned (signAt l n) (getD (tallies ps) n 0)) (λ w. isOften (occurrenceIn (listAt l) w) (tally w ps)) entry
-    ∙ sym (often-every propertyNames (listAt l) ps)
+all-often l ps k =
+    from-list propertyNames [] 0 (λ n. oftenIn (coded (propertyAt n)) l (getD (tallies ps) n 0)) (λ w. isOften (occurrenceIn (listIn l) w) (tally w ps)) entry
+    ∙ sym (often-every propertyNames (listIn l) ps)
   where
-    entry : (j : ℕ) → j < 46 → isSigned (signAt l (0 + j)) (getD (tallies ps) (0 + j) 0) ≡ isOften (occurrenceIn (listAt l) (propertyName j)) (tally (propertyName j) ps)
-    entry j h = let z : 0 + j ≡ j = omega arith in rw (z, tally-count j ps h) (signed-at l j (tally (propertyName j) ps))
+    entry : (j : ℕ) → j < 46 → oftenIn (coded (propertyAt (0 + j))) l (getD (tallies ps) (0 + j) 0) ≡ isOften (occurrenceIn (listIn l) (propertyName j)) (tally (propertyName j) ps)
+    entry j h = let z : 0 + j ≡ j = omega arith in rw (z, tally-count j ps h) (often-entry l j (tally (propertyName j) ps) k h)
 
 -- ---- the list that decides
 
-some-at : {A B : Type 0} (f : A → B) (d : B) (rows : List A) (n : ℕ) → n < length rows → getD (map (λ r. some (f r)) rows) n none ≡ some (getD (map f rows) n d)
-some-at f d [] n h = absurd (not-suc-le-zero h)
-some-at f d (a ∷ rows) zero h = refl
-some-at f d (a ∷ rows) (suc n) h = some-at f d rows n (le-of-suc-le-suc h)
+-- the list of a word of ACTION, by its number
+alarm-lists : map (λ r. some (r .occurrences)) alarmTable ≡ some (listIn 8) ∷ some (listIn 9) ∷ some (listIn 10) ∷ []
+alarm-lists = refl
 
-alarm-list : (n : ℕ) → getD (map (λ r. r .occurrences) alarmTable) n [] ≡ listAt (n + 9)
-alarm-list n = sym (getD-append-add (map (λ r. r .occurrences) componentTable) (map (λ r. r .occurrences) alarmTable) n []) ∙ ap listAt (order n)
-  where
-    order : (n : ℕ) → 9 + n ≡ n + 9
-    order n = omega arith
+alarm-list : (n : ℕ) → n < 3 → getD (map (λ r. some (r .occurrences)) alarmTable) n none ≡ some (listIn (n + 8))
+alarm-list zero h = refl
+alarm-list (suc zero) h = refl
+alarm-list (suc (suc zero)) h = refl
+alarm-list (suc (suc (suc n))) h = absurd (omega (arith, h))
 
-of-alarm : (a : Option (List ℕ)) (ps : List Property) → oftenFor (andThen a alarmOccurrences) ps ≡ pick (ltb (actionNumber a) 3) (allOften (actionNumber a + 9) (tallies ps)) false
+of-alarm : (a : Option (List ℕ)) (ps : List Property) → oftenFor (andThen a alarmOccurrences) ps ≡ pick (ltb (actionNumber a) 3) (allOften (actionNumber a + 8) (tallies ps)) false
 unfolding andThen alarmOccurrences pick
 of-alarm none ps = refl
 of-alarm (some w) ps = rw (row-then (λ r. r .action) w (λ r. some (r .occurrences)) alarmTable) (go (placeOf w actionNames) (ltb (placeOf w actionNames) 3) refl)
   where
-    go : (n : ℕ) (b : Bool) → ltb n 3 ≡ b → oftenFor (getD (map (λ r. some (r .occurrences)) alarmTable) n none) ps ≡ pick b (allOften (n + 9) (tallies ps)) false
-    go n true e = rw (some-at (λ r. r .occurrences) [] alarmTable n (ltb-true n 3 e), all-often (n + 9) ps) (ap (λ (os : List Occurrence). eachOften propertyNames os ps) (alarm-list n))
+    go : (n : ℕ) (b : Bool) → ltb n 3 ≡ b → oftenFor (getD (map (λ r. some (r .occurrences)) alarmTable) n none) ps ≡ pick b (allOften (n + 8) (tallies ps)) false
+    go n true e = let h = ltb-true n 3 e in rw (alarm-list n h, all-often (n + 8) ps (omega (arith, h)))
     go n false e = rw (List·getD-eq-default (map (λ r. some (r .occurrences)) alarmTable) none (ltb-false n 3 e))
 
-component-list : (k : ℕ) (b : Bool) → ltb k 9 ≡ b → componentAt k .occurrences ≡ listAt (pick b k 12)
+-- the list of a component other than VALARM; 11 is no list
+no-list : listIn 11 ≡ []
+unfolding schema-compute
+no-list = refl
+
+component-list : (k : ℕ) (b : Bool) → ltb k 9 ≡ b → eqb k 8 ≡ false → componentAt k .occurrences ≡ listIn (pick b k 11)
 unfolding pick
-component-list k true e =
-    sym (List·getD-map (λ r. r .occurrences) componentTable k unknownComponent)
-    ∙ sym (List·getD-append (map (λ r. r .occurrences) componentTable) (map (λ r. r .occurrences) alarmTable) [] k (ltb-true k 9 e))
-component-list k false e = sym (column-past (λ r. r .occurrences) unknownComponent componentTable k (ltb-false k 9 e))
+component-list k true e f = go k (ltb-true k 9 e) f
+  where
+    go : (k : ℕ) → k < 9 → eqb k 8 ≡ false → componentAt k .occurrences ≡ listIn k
+    go zero h f = refl
+    go (suc zero) h f = refl
+    go (suc (suc zero)) h f = refl
+    go (suc (suc (suc zero))) h f = refl
+    go (suc (suc (suc (suc zero)))) h f = refl
+    go (suc (suc (suc (suc (suc zero))))) h f = refl
+    go (suc (suc (suc (suc (suc (suc zero)))))) h f = refl
+    go (suc (suc (suc (suc (suc (suc (suc zero))))))) h f = refl
+    go (suc (suc (suc (suc (suc (suc (suc (suc zero)))))))) h f = absurd (false≢true (sym f))
+    go (suc (suc (suc (suc (suc (suc (suc (suc (suc n))))))))) h f = absurd (omega (arith, h))
+component-list k false e f = ap (λ (r : ComponentRow). r .occurrences) (List·getD-eq-default componentTable unknownComponent (ltb-false k 9 e)) ∙ sym no-list
 
 pick-through : (m n : ℕ) (f : ℕ → Bool) (b : Bool) → f (pick b m n) ≡ pick b (f m) (f n)
 unfolding pick
 pick-through m n f true = refl
 pick-through m n f false = refl
 
-of-component : (c : List ℕ) (ps : List Property) → eachOften propertyNames (occurrencesOf c) ps ≡
-    pick (ltb (placeOf c componentNames) 9) (allOften (placeOf c componentNames) (tallies ps)) (allOften 12 (tallies ps))
-of-component c ps =
+of-component : (c : List ℕ) (ps : List Property) → eqb (placeOf c componentNames) 8 ≡ false → eachOften propertyNames (occurrencesOf c) ps ≡
+    pick (ltb (placeOf c componentNames) 9) (allOften (placeOf c componentNames) (tallies ps)) (allOften 11 (tallies ps))
+unfolding pick
+of-component c ps f =
     ap (λ (r : ComponentRow). eachOften propertyNames (r .occurrences) ps) (component-place c)
-    ∙ ap (λ (os : List Occurrence). eachOften propertyNames os ps) (component-list (placeOf c componentNames) (ltb (placeOf c componentNames) 9) refl)
-    ∙ sym (all-often (pick (ltb (placeOf c componentNames) 9) (placeOf c componentNames) 12) ps)
-    ∙ chosen (ltb (placeOf c componentNames) 9)
+    ∙ ap (λ (os : List Occurrence). eachOften propertyNames os ps) (component-list (placeOf c componentNames) (ltb (placeOf c componentNames) 9) refl f)
+    ∙ sym (all-often (pick (ltb (placeOf c componentNames) 9) (placeOf c componentNames) 11) ps (small (ltb (placeOf c componentNames) 9) refl))
+    ∙ pick-through (placeOf c componentNames) 11 (λ l. allOften l (tallies ps)) (ltb (placeOf c componentNames) 9)
   where
-    chosen : (b : Bool) → allOften (pick b (placeOf c componentNames) 12) (tallies ps) ≡ pick b (allOften (placeOf c componentNames) (tallies ps)) (allOften 12 (tallies ps))
-    chosen b = pick-through (placeOf c componentNames) 12 (λ l. allOften l (tallies ps)) b
+    small : (b : Bool) → ltb (placeOf c componentNames) 9 ≡ b → pick b (placeOf c componentNames) 11 < 12
+    small true e = omega (arith, ltb-true (placeOf c componentNames) 9 e)
+    small false e = omega arith
 
 often-number : (c : List ℕ) (ps : List Property) → oftenFor (listFor c ps) ps ≡ oftenAt (placeOf c componentNames) (tallies ps) (actionNumber (actionOf ps))
 unfolding pick
-often-number c ps = rw (← (alarm-place c)) (go (isAlarm c))
+often-number c ps = rw (← (alarm-place c)) (go (isAlarm c) refl)
   where
-    go : (b : Bool) → oftenFor (pick b (andThen (actionOf ps) alarmOccurrences) (some (occurrencesOf c))) ps ≡
-        pick b (pick (ltb (actionNumber (actionOf ps)) 3) (allOften (actionNumber (actionOf ps) + 9) (tallies ps)) false)
-        (pick (ltb (placeOf c componentNames) 9) (allOften (placeOf c componentNames) (tallies ps)) (allOften 12 (tallies ps)))
-    go true = of-alarm (actionOf ps) ps
-    go false = of-component c ps
+    go : (b : Bool) → isAlarm c ≡ b → oftenFor (pick b (andThen (actionOf ps) alarmOccurrences) (some (occurrencesOf c))) ps ≡
+        pick b (pick (ltb (actionNumber (actionOf ps)) 3) (allOften (actionNumber (actionOf ps) + 8) (tallies ps)) false)
+        (pick (ltb (placeOf c componentNames) 9) (allOften (placeOf c componentNames) (tallies ps)) (allOften 11 (tallies ps)))
+    go true e = of-alarm (actionOf ps) ps
+    go false e = of-component c ps (sym (alarm-place c) ∙ e)
 
 -- ---- pairs
 
@@ -218,11 +283,11 @@ pairs-number c ps around h =
       todo-place c,
       timezone-place c,
       alarm-place c,
-      tally-count 17 ps (omega arith),
-      tally-count 18 ps (omega arith),
-      tally-count 20 ps (omega arith),
-      tally-count 19 ps (omega arith),
-      tally-count 39 ps (omega arith),
+      tally-count property.DTEND ps (omega arith),
+      tally-count property.DUE ps (omega arith),
+      tally-count property.DURATION ps (omega arith),
+      tally-count property.DTSTART ps (omega arith),
+      tally-count property.REPEAT ps (omega arith),
     )
     (pairs-saturated (eqb (placeOf c componentNames) 1) (eqb (placeOf c componentNames) 2) (eqb (placeOf c componentNames) 5) (eqb (placeOf c componentNames) 8)
     (tally (ascii "DTEND") ps) (tally (ascii "DUE") ps) (tally (ascii "DTSTART") ps) (tally (ascii "DURATION") ps) (tally (ascii "REPEAT") ps)
@@ -233,7 +298,7 @@ pairs-number c ps around h =
 pub method-tallies : (c : List ℕ) (ps : List Property) (m : Bool) → methodAt (placeOf c componentNames) (tallies ps) m ≡ methodFor c ps m
 unfolding methodFor
 method-tallies c ps m =
-    rw (calendar-place c, tally-count 1 ps (omega arith), leb-agree 1 (min 255 (tally (ascii "METHOD") ps)) 1 (tally (ascii "METHOD") ps) (λ k. omega arith) (λ k. omega arith))
+    rw (calendar-place c, tally-count property.METHOD ps (omega arith), leb-agree 1 (min 255 (tally (ascii "METHOD") ps)) 1 (tally (ascii "METHOD") ps) (λ k. omega arith) (λ k. omega arith))
 
 -- in a VALARM that is as often as its list says DURATION stands at most once
 abbrev pub isOnce : Option ℕ → Bool
@@ -244,9 +309,12 @@ pub once-short : (m : Option ℕ) (n : ℕ) → isOnce m ≡ true → isAtMost m
 once-short none n h k = absurd (false≢true h)
 once-short (some m) n h k = omega (arith, leb-true m 1 h, leb-true n m k)
 
-alarm-once : every (λ os. isOnce (occurrenceIn os (ascii "DURATION") .most)) (map (λ r. r .occurrences) alarmTable) ≡ true
-unfolding octets-compute
-alarm-once = refl
+alarm-once : (a : ℕ) → a < 3 → isOnce (occurrenceIn (listIn (a + 8)) (ascii "DURATION") .most) ≡ true
+unfolding schema-compute
+alarm-once zero h = refl
+alarm-once (suc zero) h = refl
+alarm-once (suc (suc zero)) h = refl
+alarm-once (suc (suc (suc a))) h = absurd (omega (arith, h))
 
 duration-known : isOneOf (ascii "DURATION") propertyNames ≡ true
 unfolding octets-compute
@@ -256,12 +324,13 @@ short : (c : List ℕ) (ps : List Property) → oftenFor (listFor c ps) ps ≡ t
 unfolding pick
 short c ps x a = go (pick-first _ _ (sym (of-alarm (actionOf ps) ps) ∙ rw a at x))
   where
-    go : (ltb (actionNumber (actionOf ps)) 3 ≡ true) × (allOften (actionNumber (actionOf ps) + 9) (tallies ps) ≡ true) → tally (ascii "DURATION") ps ≤ 1
+    go : (ltb (actionNumber (actionOf ps)) 3 ≡ true) × (allOften (actionNumber (actionOf ps) + 8) (tallies ps) ≡ true) → tally (ascii "DURATION") ps ≤ 1
     go q =
-        once-short (occurrenceIn (listAt (actionNumber (actionOf ps) + 9)) (ascii "DURATION") .most) (tally (ascii "DURATION") ps)
-        (rw (← (alarm-list (actionNumber (actionOf ps))))
-        (row-at-passes (λ os. isOnce (occurrenceIn os (ascii "DURATION") .most)) [] (map (λ r. r .occurrences) alarmTable) (actionNumber (actionOf ps)) alarm-once (ltb-true _ 3 (q .0))))
-        (and-both _ _ (often-at propertyNames (listAt (actionNumber (actionOf ps) + 9)) ps (ascii "DURATION") (sym (all-often (actionNumber (actionOf ps) + 9) ps) ∙ q .1) duration-known) .1)
+        let h = ltb-true (actionNumber (actionOf ps)) 3 (q .0) in
+        once-short (occurrenceIn (listIn (actionNumber (actionOf ps) + 8)) (ascii "DURATION") .most) (tally (ascii "DURATION") ps)
+        (alarm-once (actionNumber (actionOf ps)) h)
+        (and-both _ _ (often-at propertyNames (listIn (actionNumber (actionOf ps) + 8)) ps (ascii "DURATION")
+        (sym (all-often (actionNumber (actionOf ps) + 8) ps (omega (arith, h))) ∙ q .1) duration-known) .1)
 
 pub complete-tallies : (c : List ℕ) (ps : List Property) (sub : Around) →
     completeAt (placeOf c componentNames) (tallies ps) (actionNumber (actionOf ps)) sub ≡ complete c ps sub
@@ -272,36 +341,87 @@ complete-tallies c ps sub = rw (← (often-number c ps)) (go (oftenFor (listFor 
     go true e = pairs-number c ps sub (short c ps e)
     go false e = refl
 
--- ---- the table of the code
+-- ---- the halves of the table
 
-pub sign-at : (l n : ℕ) → l < 12 → n < 46 → getD (grid (λ l n. signAt l n) 46 552) (l * 46 + n) 0 ≡ signAt l n
-sign-at l n h k = cell-at (λ l n. signAt l n) 46 552 l n (omega arith) (omega arith) (omega arith)
+-- a run of numbers in two parts
+from-parts : (i j k : ℕ) (f : ℕ → Bool) → eachFrom i (j + k) f ≡ (eachFrom i j f and eachFrom (i + j) k f)
+unfolding eachFrom _and_
+from-parts i zero k f =
+    let a : 0 + k ≡ k = omega arith in
+    let z : i ≡ i + 0 = omega arith in
+    ap (λ (n : ℕ). eachFrom i n f) a ∙ ap (λ (n : ℕ). eachFrom n k f) z
+from-parts i (suc j) k f =
+    let a : suc j + k ≡ suc (j + k) = omega arith in
+    ap (λ (n : ℕ). eachFrom i n f) a ∙ go (f i) (from-parts (suc i) j k f)
+  where
+    go : (b : Bool) → eachFrom (suc i) (j + k) f ≡ (eachFrom (suc i) j f and eachFrom (suc i + j) k f) → (b and eachFrom (suc i) (j + k) f) ≡ ((b and eachFrom (suc i) j f) and eachFrom (i + suc j) k f)
+    go true ih = ih ∙ (let z : suc i + j ≡ i + suc j = omega arith in ap (λ (n : ℕ). eachFrom (suc i) j f and eachFrom n k f) z)
+    go false ih = refl
 
-pub sign-past : (l n : ℕ) → 12 ≤ l → 46 ≡ signAt l n
-unfolding octets-compute
-sign-past l n h = rw (List·getD-eq-default occurrenceLists [] h)
+-- the same test of shifted numbers
+from-same : (i j k : ℕ) (f g : ℕ → Bool) → ((n : ℕ) → n < k → f (i + n) ≡ g (j + n)) → eachFrom i k f ≡ eachFrom j k g
+unfolding eachFrom
+from-same i j zero f g h = refl
+from-same i j (suc k) f g h = rw (first, from-same (suc i) (suc j) k f g (λ n l. next n l))
+  where
+    first : f i ≡ g j
+    first = let a : i ≡ i + 0 = omega arith in let b : j + 0 ≡ j = omega arith in ap f a ∙ h 0 (omega arith) ∙ ap g b
 
--- ---- the loop over the properties: those from n on are left
+    next : (n : ℕ) → n < k → f (suc i + n) ≡ g (suc j + n)
+    next n l = let a : suc i + n ≡ i + suc n = omega arith in let b : j + suc n ≡ suc j + n = omega arith in ap f a ∙ h (suc n) (omega (arith, l)) ∙ ap g b
 
-pub record Testing (l : ℕ) (t : List ℕ) (n : ℕ) : Type 0 where
-  pub inside : n ≤ 46
-  pub left : allOften l t ≡ eachFrom n (46 - n) (λ n. isSigned (signAt l n) (getD t n 0))
+pub halves-often : (l : ℕ) (t : List ℕ) → allOften l t ≡ (halfOften firstHalf 0 l t and halfOften secondHalf 23 l t)
+unfolding allOften halfOften
+halves-often l t =
+    from-parts 0 23 23 (λ n. oftenIn (coded (propertyAt n)) l (getD t n 0))
+    ∙ rw (
+      from-same 0 0 23 (λ n. oftenIn (coded (propertyAt n)) l (getD t n 0)) (λ n. oftenIn (getD firstHalf n (coded unrecognisedProperty)) l (getD t (0 + n) 0)) one,
+      from-same 23 0 23 (λ n. oftenIn (coded (propertyAt n)) l (getD t n 0)) (λ n. oftenIn (getD secondHalf n (coded unrecognisedProperty)) l (getD t (23 + n) 0)) two,
+    )
+  where
+    one : (n : ℕ) → n < 23 →
+        oftenIn (coded (propertyAt (0 + n))) l (getD t (0 + n) 0) ≡ oftenIn (getD firstHalf (0 + n) (coded unrecognisedProperty)) l (getD t (0 + (0 + n)) 0)
+    one n h = let z : 0 + n ≡ n = omega arith in rw (z, z, first-at n (coded unrecognisedProperty) h)
 
-pub testing-start : (l : ℕ) (t : List ℕ) → Testing l t 0
-unfolding allOften
-testing-start l t = record { inside = omega arith; left = refl }
+    two : (n : ℕ) → n < 23 →
+        oftenIn (coded (propertyAt (23 + n))) l (getD t (23 + n) 0) ≡ oftenIn (getD secondHalf (0 + n) (coded unrecognisedProperty)) l (getD t (23 + (0 + n)) 0)
+    two n h = let z : 0 + n ≡ n = omega arith in rw (z, second-at n (coded unrecognisedProperty) h)
 
-module _ {l : ℕ} {t : List ℕ} {n : ℕ} (q : Testing l t n) where
-  pub testing-more : {s : ℕ} {b : Bool} → n < 46 → s ≡ signAt l n → b ≡ isSigned s (getD t n 0) → b ≡ true → Testing l t (n + 1)
-  testing-more h e f g = record {
+module _ (l : ℕ) (t : List ℕ) {a : Bool} {es : List Entry} (i : es ≡ firstHalf) (e : a ≡ halfOften es 0 l t) where
+  pub halves-stop : a ≡ false → false ≡ allOften l t
+  unfolding _and_
+  halves-stop h = sym (halves-often l t ∙ rw (← i, ← e, h))
+
+  pub halves-go : {b : Bool} {fs : List Entry} → a ≡ true → fs ≡ secondHalf → b ≡ halfOften fs 23 l t → b ≡ allOften l t
+  unfolding _and_
+  halves-go h j f = f ∙ ap (λ (es : List Entry). halfOften es 23 l t) j ∙ sym (halves-often l t ∙ rw (← i, ← e, h))
+
+-- ---- the loop over the entries of a half: those from n on are left
+
+pub record Testing (es : List Entry) (from l : ℕ) (t : List ℕ) (n : ℕ) : Type 0 where
+  pub sized : length es ≡ 23
+  pub inside : n ≤ 23
+  pub left : halfOften es from l t ≡ eachFrom n (23 - n) (λ n. oftenIn (getD es n (coded unrecognisedProperty)) l (getD t (from + n) 0))
+
+pub testing-start : (es : List Entry) (from l : ℕ) (t : List ℕ) → length es ≡ 23 → Testing es from l t 0
+unfolding halfOften
+testing-start es from l t h = record { sized = h; inside = omega arith; left = refl }
+
+module _ {es : List Entry} {from l : ℕ} {t : List ℕ} {n : ℕ} (q : Testing es from l t n) where
+  tested : {b : Bool} (d : Entry) → n < 23 → b ≡ oftenIn (getD es n d) l (getD t (from + n) 0) → oftenIn (getD es n (coded unrecognisedProperty)) l (getD t (from + n) 0) ≡ b
+  tested d h f = ap (λ (e : Entry). oftenIn e l (getD t (from + n) 0)) (getD-any es (coded unrecognisedProperty) d n (omega (arith, q .sized, h))) ∙ sym f
+
+  pub testing-more : {b : Bool} (d : Entry) → n < 23 → b ≡ oftenIn (getD es n d) l (getD t (from + n) 0) → b ≡ true → Testing es from l t (n + 1)
+  testing-more d h f g = record {
+    sized = q .sized;
     inside = omega arith;
-    left = q .left ∙ from-more n 46 (λ n. isSigned (signAt l n) (getD t n 0)) h (ap (λ (x : ℕ). isSigned x (getD t n 0)) (sym e) ∙ sym f ∙ g);
+    left = q .left ∙ from-more n 23 (λ n. oftenIn (getD es n (coded unrecognisedProperty)) l (getD t (from + n) 0)) h (tested d h f ∙ g);
   }
 
-  pub testing-stop : {s : ℕ} {b : Bool} → n < 46 → s ≡ signAt l n → b ≡ isSigned s (getD t n 0) → b ≡ false → false ≡ allOften l t
-  testing-stop h e f g = sym (q .left ∙ from-stop n 46 (λ n. isSigned (signAt l n) (getD t n 0)) h (ap (λ (x : ℕ). isSigned x (getD t n 0)) (sym e) ∙ sym f ∙ g))
+  pub testing-stop : {b : Bool} (d : Entry) → n < 23 → b ≡ oftenIn (getD es n d) l (getD t (from + n) 0) → b ≡ false → false ≡ halfOften es from l t
+  testing-stop d h f g = sym (q .left ∙ from-stop n 23 (λ n. oftenIn (getD es n (coded unrecognisedProperty)) l (getD t (from + n) 0)) h (tested d h f ∙ g))
 
-  pub testing-end : 46 ≤ n → true ≡ allOften l t
-  testing-end h = sym (q .left ∙ from-end n 46 (λ n. isSigned (signAt l n) (getD t n 0)) h)
+  pub testing-end : 23 ≤ n → true ≡ halfOften es from l t
+  testing-end h = sym (q .left ∙ from-end n 23 (λ n. oftenIn (getD es n (coded unrecognisedProperty)) l (getD t (from + n) 0)) h)
 
-pub ruleset testing = (testing-start, testing-more, testing-stop, testing-end, needs)
+pub ruleset testing = (testing-start, testing-end, needs)

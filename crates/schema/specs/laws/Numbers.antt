@@ -1,6 +1,6 @@
 -- Laws of what specs/Numbers.antt defines.
 --     property-place, parameter-place, component-place, type-place    the row of a name is the row of its number
---     types-packed, components-packed, parameters-packed, properties-packed    the numbers of the code are those of the names
+--     types-packed, components-packed, parameters-packed    the numbers of the code are those of the names
 --     type-words-are   a table of names in the code
 use mathlib.Core.Path.{_≡_, refl}
 use mathlib.Core.Bool.{true}
@@ -18,7 +18,7 @@ use Rattle.schema.specs.Parameters.{parameterTable, parameterNames, unre
 use Rattle.schema.specs.Components.{componentTable, componentNames, unknownComponent, componentRow}
 use Rattle.schema.specs.Properties.{propertyTable, propertyNames, unrecognisedProperty, propertyRow}
 use Rattle.schema.specs.Numbers.{typeNames, typeWords, typeAt, componentAt, propertyAt, parameterAt}
-use Rattle.schema.specs.Packs.{typeRows, typeRows2, componentRows, componentRows2, parameterRows, parameterRows3, propertyRows, propertyRows6}
+use Rattle.schema.specs.Packs.{typeRows, typeRows2, componentRows, componentRows2, parameterRows, parameterRows3}
 
 -- ---- rows
 
@@ -56,10 +56,6 @@ components-packed = refl
 pub parameters-packed : agree parameterRows parameterRows3 parameterNames ≡ true
 unfolding packing-compute
 parameters-packed = refl
-
-pub properties-packed : agree propertyRows propertyRows6 propertyNames ≡ true
-unfolding packing-compute
-properties-packed = refl
 
 pub type-words-are : namesIn (ascii "binary\nboolean\ncal-address\ndate\ndate-time\nduration\nfloat\ninteger\nperiod\nrecur\ntext\ntime\nuri\nutc-offset\nunknown\n") ≡ typeWords
 unfolding namesIn pick

@@ -8,8 +8,8 @@ use mathlib.Core.Path.{_≡_, refl, sym}
 use mathlib.Core.Bool.{Bool, true, false, not, false≢true}
 use mathlib.Core.List.{List, [], _∷_, map}
 use Prim.Native.Nat.{ℕ}
-use lib.Dec.{ltb}
-use lib.ListN.{length}
+use lib.Dec.{eqb, ltb}
+use lib.ListN.{length, getD}
 use borrow.Author.Tests.{not-true}
 use Rattle.octets.specs.Pick.{pick, _and_, _or_}
 use Rattle.octets.specs.laws.Pick.{pick-either, and-no-left, and-no-right, and-both}
@@ -20,15 +20,15 @@ use Rattle.octets.specs.Words.{same, isOneOf}
 use Rattle.octets.specs.laws.Words.{same-true}
 use Rattle.octets.specs.laws.Tables.{row-any-passes, row-known-passes, row-none}
 use Rattle.octets.specs.Lists.{every}
-use Rattle.octets.specs.laws.Lists.{word-passes}
+use Rattle.octets.specs.laws.Lists.{every-both, word-passes}
 use Rattle.octets.specs.Reading.{readOr}
 use Rattle.octets.specs.Computing.{octets-compute}
 use Rattle.calendar.specs.Calendar.{ValueType, BOOLEAN, CAL-ADDRESS, TEXT, URI, UNKNOWN}
 use Rattle.schema.specs.Types.{sameType, isTypeOf}
 use Rattle.schema.specs.laws.Types.{same-type-self, type-any}
 use Rattle.schema.specs.Parameters.{parameterTable, parameterRow, parameterNames, isKnownParameter, unrecognisedParameter, parameterType, isQuotedParameter}
-use Rattle.schema.specs.Components.{Occurrence, componentTable, componentRow, componentNames, subcomponentsOf, standingIn, isAlarm, mayStand, unknownComponent, audioprop, dispprop, emailprop, occurrencesOf}
-use Rattle.schema.specs.Properties.{propertyTable, propertyRow, propertyNames, isKnownProperty, unrecognisedProperty, defaultType, permittedTypes, permitsParameter}
+use Rattle.schema.specs.Components.{Occurrence, signed, standing, listIn, componentTable, componentRow, componentNames, subcomponentsOf, standingIn, isAlarm, mayStand, unknownComponent, audioprop, dispprop, emailprop, occurrencesOf}
+use Rattle.schema.specs.Properties.{PropertyRow, propertyTable, propertyRow, propertyNames, isKnownProperty, unrecognisedProperty, defaultType, permittedTypes, permitsParameter}
 
 -- ---- names
 
@@ -125,10 +125,41 @@ quoted-type w = agree _ _ (row-any-passes (λ r. r .name) w (λ r. pick (r .quot
 everyKnown : List Occurrence → Bool
 everyKnown os = every isKnownProperty (map (λ o. o .property) os)
 
+table-known : every isKnownProperty propertyNames ≡ true
+unfolding octets-compute isKnownProperty
+table-known = refl
+
+-- the properties of a column are rows
+standing-known : (l : ℕ) (rs : List PropertyRow) → every isKnownProperty (map (λ r. r .name) rs) ≡ true → everyKnown (standing l rs) ≡ true
+unfolding standing everyKnown every _and_ pick
+standing-known l [] a = refl
+standing-known l (r ∷ rs) a = go (eqb (getD (r .signs) l 46) 46) (standing-known l rs (every-both isKnownProperty (r .name) (map (λ r. r .name) rs) a .1))
+  where
+    go : (b : Bool) → everyKnown (standing l rs) ≡ true → everyKnown (pick b (standing l rs) (signed (r .name) (getD (r .signs) l 46) ∷ standing l rs)) ≡ true
+    go true h = h
+    go false h = rw (every-both isKnownProperty (r .name) (map (λ r. r .name) rs) a .0) h
+
+list-known : (l : ℕ) → everyKnown (listIn l) ≡ true
+list-known l = standing-known l propertyTable table-known
+
+pub list-names-known : (l : ℕ) → every isKnownProperty (map (λ o. o .property) (listIn l)) ≡ true
+unfolding everyKnown
+list-names-known l = list-known l
+
+both-known : (os ps : List Occurrence) → everyKnown os ≡ true → everyKnown ps ≡ true → everyKnown (os ⊕ ps) ≡ true
+unfolding everyKnown every _⊕_ _and_
+both-known [] ps h k = k
+both-known (o ∷ os) ps h k = let b = every-both isKnownProperty (o .property) (map (λ o. o .property) os) h in rw (b .0) (both-known os ps (b .1) k)
+
+components-known : every (λ r. everyKnown (r .occurrences)) componentTable ≡ true
+unfolding every _and_ everyKnown
+components-known = rw (list-known 0, list-known 1, list-known 2, list-known 3, list-known 4, list-known 5, list-known 6, list-known 7)
+
 all-known : (c : List ℕ) → every isKnownProperty (standingIn c) ≡ true
-unfolding octets-compute componentRow isKnownProperty everyKnown
-all-known c = pick-either (λ os. everyKnown os ≡ true) (isAlarm c) (audioprop ⊕ dispprop ⊕ emailprop) (occurrencesOf c) refl
-    (row-any-passes (λ r. r .name) c (λ r. everyKnown (r .occurrences)) unknownComponent componentTable refl refl)
+unfolding componentRow everyKnown every
+all-known c = pick-either (λ os. everyKnown os ≡ true) (isAlarm c) (audioprop ⊕ dispprop ⊕ emailprop) (occurrencesOf c)
+    (both-known audioprop (dispprop ⊕ emailprop) (list-known 8) (both-known dispprop emailprop (list-known 9) (list-known 10)))
+    (row-any-passes (λ r. r .name) c (λ r. everyKnown (r .occurrences)) unknownComponent componentTable components-known refl)
 
 all-components : (c : List ℕ) → every (λ w. isOneOf w componentNames) (subcomponentsOf c) ≡ true
 unfolding octets-compute componentRow

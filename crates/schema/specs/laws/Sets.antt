@@ -27,6 +27,7 @@ use Rattle.schema.specs.Components.{componentNames}
 use Rattle.schema.specs.Properties.{WordsRow, propertyNames, wordsTable, statusTable, propertyWords}
 use Rattle.schema.specs.laws.Numbers.{parameter-place}
 use Rattle.schema.specs.Sets.{wordSets, statusSet, propertySet, wordsAt, parameterWordsAt, parameterSetNumbers, parameterSet, isWordOf, wordAmong, wordIn}
+use Rattle.schema.specs.Property as property
 use Rattle.schema.specs.declared.WordRead.{WordRead}
 use Rattle.schema.specs.declared.WordRead.the-variants.{At, NoWord}
 
@@ -54,40 +55,40 @@ module _ (c : List ℕ) where
   timezone-place = same-place c (ascii "VTIMEZONE") componentNames refl
 
 module _ (p : List ℕ) where
-  pub calscale-place : same p (ascii "CALSCALE") ≡ eqb (placeOf p propertyNames) 0
+  pub calscale-place : same p (ascii "CALSCALE") ≡ eqb (placeOf p propertyNames) property.CALSCALE
   unfolding octets-compute placeOf
   calscale-place = same-place p (ascii "CALSCALE") propertyNames refl
 
-  pub version-place : same p (ascii "VERSION") ≡ eqb (placeOf p propertyNames) 3
+  pub version-place : same p (ascii "VERSION") ≡ eqb (placeOf p propertyNames) property.VERSION
   unfolding octets-compute placeOf
   version-place = same-place p (ascii "VERSION") propertyNames refl
 
-  pub class-place : same p (ascii "CLASS") ≡ eqb (placeOf p propertyNames) 6
+  pub class-place : same p (ascii "CLASS") ≡ eqb (placeOf p propertyNames) property.CLASS
   unfolding octets-compute placeOf
   class-place = same-place p (ascii "CLASS") propertyNames refl
 
-  pub status-place : same p (ascii "STATUS") ≡ eqb (placeOf p propertyNames) 14
+  pub status-place : same p (ascii "STATUS") ≡ eqb (placeOf p propertyNames) property.STATUS
   unfolding octets-compute placeOf
   status-place = same-place p (ascii "STATUS") propertyNames refl
 
-  pub transp-place : same p (ascii "TRANSP") ≡ eqb (placeOf p propertyNames) 22
+  pub transp-place : same p (ascii "TRANSP") ≡ eqb (placeOf p propertyNames) property.TRANSP
   unfolding octets-compute placeOf
   transp-place = same-place p (ascii "TRANSP") propertyNames refl
 
-  pub action-place : same p (ascii "ACTION") ≡ eqb (placeOf p propertyNames) 38
+  pub action-place : same p (ascii "ACTION") ≡ eqb (placeOf p propertyNames) property.ACTION
   unfolding octets-compute placeOf
   action-place = same-place p (ascii "ACTION") propertyNames refl
 
   -- ACTION, the other way round
-  pub action-first : same (ascii "ACTION") p ≡ eqb 38 (placeOf p propertyNames)
+  pub action-first : same (ascii "ACTION") p ≡ eqb property.ACTION (placeOf p propertyNames)
   unfolding octets-compute placeOf
   action-first = same-place-first p (ascii "ACTION") propertyNames refl
 
-  pub geo-place : same p (ascii "GEO") ≡ eqb (placeOf p propertyNames) 9
+  pub geo-place : same p (ascii "GEO") ≡ eqb (placeOf p propertyNames) property.GEO
   unfolding octets-compute placeOf
   geo-place = same-place p (ascii "GEO") propertyNames refl
 
-  pub request-status-place : same p (ascii "REQUEST-STATUS") ≡ eqb (placeOf p propertyNames) 45
+  pub request-status-place : same p (ascii "REQUEST-STATUS") ≡ eqb (placeOf p propertyNames) property.REQUEST-STATUS
   unfolding octets-compute placeOf
   request-status-place = same-place p (ascii "REQUEST-STATUS") propertyNames refl
 
@@ -119,7 +120,7 @@ of-property p = step _ _ _ 0 _ refl (step _ _ _ 1 _ refl (step _ _ _ 2 _ refl (s
 
 pub words-place : (c p : List ℕ) → propertyWords c p ≡ wordsAt (placeOf c componentNames) (placeOf p propertyNames)
 unfolding propertyWords
-words-place c p = rw (status-place p) (choose (statusSet (placeOf c componentNames)) (propertySet (placeOf p propertyNames)) (eqb (placeOf p propertyNames) 14)
+words-place c p = rw (status-place p) (choose (statusSet (placeOf c componentNames)) (propertySet (placeOf p propertyNames)) (eqb (placeOf p propertyNames) property.STATUS)
     (of-status c ∙ rw (event-place c, todo-place c, journal-place c))
     (of-property p ∙ rw (calscale-place p, version-place p, class-place p, transp-place p, action-place p)))
 

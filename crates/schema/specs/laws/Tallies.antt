@@ -22,7 +22,7 @@ use Rattle.octets.specs.Reading.{andThen, readOr}
 use Rattle.octets.specs.laws.Reading.{none-some}
 use Rattle.octets.specs.Computing.{octets-compute}
 use Rattle.calendar.specs.Calendar.{Property}
-use Rattle.schema.specs.Components.{Occurrence, AlarmRow, alarmTable, audioprop, dispprop, emailprop, mayStand, isAlarm, alarmOccurrences, occurrencesOf}
+use Rattle.schema.specs.Components.{Occurrence, AlarmRow, standing, alarmTable, audioprop, dispprop, emailprop, mayStand, isAlarm, alarmOccurrences, occurrencesOf}
 use Rattle.schema.specs.Properties.{propertyNames, isKnownProperty}
 use Rattle.schema.specs.Counts.{tally, absent, eachOften, occurrenceIn, isOften, Around, pairsOf, actionOf, listFor, oftenFor, complete}
 
@@ -92,7 +92,7 @@ isAlarmName : List ℕ → Bool
 isAlarmName w = isOneOf w (namesIn (audioprop ⊕ dispprop ⊕ emailprop))
 
 alarm-rows : every (λ r. every isAlarmName (namesIn (r .occurrences))) alarmTable ≡ true
-unfolding octets-compute isAlarmName
+unfolding octets-compute standing isAlarmName
 alarm-rows = refl
 
 alarm-names : (a : Option (List ℕ)) (os : List Occurrence) → andThen a alarmOccurrences ≡ some os → every isAlarmName (namesIn os) ≡ true

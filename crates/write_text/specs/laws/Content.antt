@@ -20,9 +20,13 @@ use Rattle.sink.specs.laws.Sink.{_▷_}
 use Rattle.names.specs.Table.{placeOf}
 use Rattle.names.specs.laws.Table.{one-of-place}
 use Rattle.names.specs.laws.Places.{placed}
-use Rattle.schema.specs.Types.{typeName, sameType}
+use Rattle.schema.specs.Types.{typeName, typePlace, sameType}
 use Rattle.schema.specs.Properties.{propertyNames, defaultType}
 use Rattle.schema.specs.Numbers.{typeAt, propertyName}
+use Rattle.schema.specs.Coded.{rowAt}
+use Rattle.schema.specs.laws.Columns.{number-place, default-place}
+use Rattle.schema.specs.declared.table.Row.{Row}
+use Rattle.schema.specs.Property as property
 use Rattle.values.specs.WriteValue.{writeValues, typeOfAll}
 use Rattle.read_text_line.specs.ContentLine.{RawParameter}
 use Rattle.read_text_line.specs.Write.{writeParamValue, writeParameter, writeContentLine}
@@ -52,7 +56,7 @@ no-name : (w : List ℕ) (kids : Nodes) → isOneOf w propertyNames ≡ false �
 unfolding readValueNodes octets-compute
 no-name w kids h =
     let l : length propertyNames ≤ placeOf w propertyNames = ltb-false (placeOf w propertyNames) (length propertyNames) (sym (one-of-place w propertyNames) ∙ h) in
-    rw (geo-at w refl, status-at w refl, ne-eqb (placeOf w propertyNames) 9 (λ q. omega (arith, l)), ne-eqb (placeOf w propertyNames) 45 (λ q. omega (arith, l)))
+    rw (geo-at w refl, status-at w refl, ne-eqb (placeOf w propertyNames) property.GEO (λ q. omega (arith, l)), ne-eqb (placeOf w propertyNames) property.REQUEST-STATUS (λ q. omega (arith, l)))
 
 values-named : (w : List ℕ) (kids : Nodes) {p : ℕ} → p ≡ placeOf w propertyNames → readValueNodes (propertyName p) kids ≡ readValueNodes w kids
 unfolding pick
@@ -70,25 +74,34 @@ with-value w t ps = go (sameType t (defaultType w))
     go true = sym (append-empty _)
     go false = ap (λ (l : List ℕ). l ⊕ joined (map writeParameter ps)) (value-written t)
 
-module _ (s : List ℕ) {p : ℕ} (inside : ℕ) where
-  pub parameters-put : {d e f : List ℕ} {o a r t q : ℕ} →
-      (typeAt t ≡ typeOfAll (readValueNodes (propertyName p) (nodesAt s inside))) × (t ≤ 14) → ParametersAt p s inside q →
-      Put d e o a (valueAt p t) → Put e f a r (joined (map writeParameter (map rawOf (readParameterNodes (nodesAt s q))))) →
-      (w : List ℕ) → p ≡ placeOf w propertyNames → Put d f o r (parametersText w (nodesAt s inside))
-  unfolding parametersText
-  parameters-put {d} {f = f} {o} {r = r} {t} {q} y i u v w e =
-      subst (Put d f o r)
-      (rw (value-at w t e (y .1), y .0, values-named w (nodesAt s inside) e, ← (i .is w e)) (sym (with-value w (typeOfAll (readValueNodes w (nodesAt s inside))) (map rawOf (readParameterNodes (parametersIn w (nodesAt s inside)))))))
-      (u ▷ v)
+module _ (s : List ℕ) (inside : ℕ) where
+  module _ {p : ℕ} where
+    pub values-put : {d e f : List ℕ} {o a r : ℕ} → Put d e o a (ascii ":") → Put e f a r (writeValues (readValueNodes (propertyName p) (nodesAt s inside))) →
+        (w : List ℕ) → p ≡ placeOf w propertyNames → Put d f o r (58 ∷ writeValues (readValueNodes w (nodesAt s inside)))
+    unfolding _⊕_
+    values-put {e = e} {f} {a = a} {r} u v w q = u ▷ subst (λ (vs : List Value). Put e f a r (writeValues vs)) (values-named w (nodesAt s inside) q) v
 
-  pub values-put : {d e f : List ℕ} {o a r : ℕ} → Put d e o a (ascii ":") → Put e f a r (writeValues (readValueNodes (propertyName p) (nodesAt s inside))) →
-      (w : List ℕ) → p ≡ placeOf w propertyNames → Put d f o r (58 ∷ writeValues (readValueNodes w (nodesAt s inside)))
-  unfolding _⊕_
-  values-put {e = e} {f} {a = a} {r} u v w q = u ▷ subst (λ (vs : List Value). Put e f a r (writeValues vs)) (values-named w (nodesAt s inside) q) v
+  module _ {row : Row} where
+    number-of : (w : List ℕ) → row ≡ rowAt (placeOf w propertyNames) → row .number ≡ placeOf w propertyNames
+    number-of w e = ap (λ (r : Row). r .number) e ∙ number-place w
 
-  pub line-put : {d e f g : List ℕ} {o a b r : ℕ} (m : List ℕ) → p ≡ placeOf (upper m) propertyNames → Put d e o a (upper m) →
-      ((w : List ℕ) → p ≡ placeOf w propertyNames → Put e f a b (parametersText w (nodesAt s inside))) →
-      ((w : List ℕ) → p ≡ placeOf w propertyNames → Put f g b r (58 ∷ writeValues (readValueNodes w (nodesAt s inside)))) →
-      Put d g o r (lineText m (nodesAt s inside))
-  unfolding lineText parametersText writeContentLine contentLineOf
-  line-put m e u v w = u ▷ v (upper m) e ▷ w (upper m) e
+    default-of : (w : List ℕ) → row ≡ rowAt (placeOf w propertyNames) → row .default ≡ typePlace (defaultType w)
+    default-of w e = ap (λ (r : Row). r .default) e ∙ default-place w
+
+    pub parameters-put : {d e f : List ℕ} {o a r t q : ℕ} →
+        (typeAt t ≡ typeOfAll (readValueNodes (propertyName (row .number)) (nodesAt s inside))) × (t ≤ 14) → ParametersAt (row .number) s inside q →
+        Put d e o a (valueAt (row .default) t) → Put e f a r (joined (map writeParameter (map rawOf (readParameterNodes (nodesAt s q))))) →
+        (w : List ℕ) → row ≡ rowAt (placeOf w propertyNames) → Put d f o r (parametersText w (nodesAt s inside))
+    unfolding parametersText
+    parameters-put {d} {f = f} {o} {r = r} {t} {q} y i u v w e =
+        subst (Put d f o r)
+        (rw (value-at w t (default-of w e) (y .1), y .0, values-named w (nodesAt s inside) (number-of w e), ← (i .is w (number-of w e)))
+        (sym (with-value w (typeOfAll (readValueNodes w (nodesAt s inside))) (map rawOf (readParameterNodes (parametersIn w (nodesAt s inside)))))))
+        (u ▷ v)
+
+    pub line-put : {d e f g : List ℕ} {o a b r : ℕ} (m : List ℕ) → row ≡ rowAt (placeOf (upper m) propertyNames) → Put d e o a (upper m) →
+        ((w : List ℕ) → row ≡ rowAt (placeOf w propertyNames) → Put e f a b (parametersText w (nodesAt s inside))) →
+        ((w : List ℕ) → row .number ≡ placeOf w propertyNames → Put f g b r (58 ∷ writeValues (readValueNodes w (nodesAt s inside)))) →
+        Put d g o r (lineText m (nodesAt s inside))
+    unfolding lineText parametersText writeContentLine contentLineOf
+    line-put m e u v w = u ▷ v (upper m) e ▷ w (upper m) (number-of (upper m) e)

@@ -24,6 +24,7 @@ use Rattle.schema.specs.Types.{typeName, valueTypes}
 use Rattle.schema.specs.Properties.{propertyNames, isListedProperty}
 use Rattle.schema.specs.Numbers.{typeWords}
 use Rattle.schema.specs.laws.Numbers.{type-words-are}
+use Rattle.schema.specs.Property as property
 use Rattle.xcal.specs.Layout.{Slot, slotOf}
 use Rattle.xcal.specs.ValueNodes.{typeElements, geoElements, statusElements, must, may, valueSlots}
 use Rattle.xcal.specs.PropertyNodes.{stillBefore, parametersIn}
@@ -73,16 +74,16 @@ by-number false true w = refl
 by-number false false w = refl
 
 module _ (w : List ℕ) {p : ℕ} (e : p ≡ placeOf w propertyNames) where
-  pub geo-at : same w (ascii "GEO") ≡ eqb p 9
+  pub geo-at : same w (ascii "GEO") ≡ eqb p property.GEO
   unfolding octets-compute placeOf
-  geo-at = same-place w (ascii "GEO") propertyNames refl ∙ ap (λ (n : ℕ). eqb n 9) (sym e)
+  geo-at = same-place w (ascii "GEO") propertyNames refl ∙ ap (λ (n : ℕ). eqb n property.GEO) (sym e)
 
-  pub status-at : same w (ascii "REQUEST-STATUS") ≡ eqb p 45
+  pub status-at : same w (ascii "REQUEST-STATUS") ≡ eqb p property.REQUEST-STATUS
   unfolding octets-compute placeOf
-  status-at = same-place w (ascii "REQUEST-STATUS") propertyNames refl ∙ ap (λ (n : ℕ). eqb n 45) (sym e)
+  status-at = same-place w (ascii "REQUEST-STATUS") propertyNames refl ∙ ap (λ (n : ℕ). eqb n property.REQUEST-STATUS) (sym e)
 
   names-at : slotNames (valueSlots w) ≡ valueNames p
-  names-at = rw (geo-at, status-at) (by-number (eqb p 9) (eqb p 45) w)
+  names-at = rw (geo-at, status-at) (by-number (eqb p property.GEO) (eqb p property.REQUEST-STATUS) w)
 
   pub still-before : (m : List ℕ) → stillBefore (slotOf m (valueSlots w) 0) ≡ not (isOneOf m (valueNames p))
   still-before m = before-all m (valueSlots w) 0 ∙ ap (λ (l : List (List ℕ)). not (isOneOf m l)) names-at
@@ -179,17 +180,17 @@ most i = go (ltb i 15) refl
     go false e = e ∙ sym (lt-leb i 14 (omega (arith, ltb-false i 15 e)))
 
 module _ {p : ℕ} (m : List ℕ) where
-  pub geo-found : {r : Bool} → p ≡ 9 → r ≡ isOneOf m geoElements → r ≡ isOneOf m (valueNames p)
+  pub geo-found : {r : Bool} → p ≡ property.GEO → r ≡ isOneOf m geoElements → r ≡ isOneOf m (valueNames p)
   unfolding pick
   geo-found q e = rw q e
 
-  pub status-found : {r : Bool} → (p ≡ 9 → ⊥) → p ≡ 45 → r ≡ isOneOf m statusElements → r ≡ isOneOf m (valueNames p)
+  pub status-found : {r : Bool} → (p ≡ property.GEO → ⊥) → p ≡ property.REQUEST-STATUS → r ≡ isOneOf m statusElements → r ≡ isOneOf m (valueNames p)
   unfolding pick
   status-found n q e = rw q e
 
-  pub type-found : (p ≡ 9 → ⊥) → (p ≡ 45 → ⊥) → {i : ℕ} →
+  pub type-found : (p ≡ property.GEO → ⊥) → (p ≡ property.REQUEST-STATUS → ⊥) → {i : ℕ} →
       i ≡ placeOf m (namesIn (ascii "binary\nboolean\ncal-address\ndate\ndate-time\nduration\nfloat\ninteger\nperiod\nrecur\ntext\ntime\nuri\nutc-offset\nunknown\n")) → leb i 14 ≡ isOneOf m (valueNames p)
   unfolding pick
-  type-found n o {i} e = rw (ne-eqb p 9 n, ne-eqb p 45 o) (sym (type-one m ∙ ap (λ (k : ℕ). ltb k 15) (sym (by-table m type-words-are e)) ∙ most i))
+  type-found n o {i} e = rw (ne-eqb p property.GEO n, ne-eqb p property.REQUEST-STATUS o) (sym (type-one m ∙ ap (λ (k : ℕ). ltb k 15) (sym (by-table m type-words-are e)) ∙ most i))
 
 pub ruleset naming = (geo-first, geo-last, status-first, status-second, status-last, geo-found, status-found, type-found, needs)

@@ -14,11 +14,9 @@ use Rattle.octets.specs.Append.{_⊕_}
 use Rattle.calendar.specs.Calendar.{ValueType, UNKNOWN}
 use Rattle.sink.specs.Sink.{Put}
 use Rattle.sink.specs.laws.Sink.{put-none, put-yes, put-no, _▷_}
-use Rattle.names.specs.Table.{placeOf}
 use Rattle.schema.specs.Types.{typeName, valueTypes, typePlace, sameType}
-use Rattle.schema.specs.Properties.{PropertyRow, propertyNames, defaultType}
-use Rattle.schema.specs.Numbers.{typeAt, propertyAt}
-use Rattle.schema.specs.laws.Numbers.{property-place}
+use Rattle.schema.specs.Properties.{defaultType}
+use Rattle.schema.specs.Numbers.{typeAt}
 use Rattle.schema.specs.laws.Places.{type-back}
 use Rattle.write_text.specs.Typing.{valueAt}
 
@@ -27,12 +25,11 @@ valueOf w t = pick (sameType t (defaultType w)) [] (ascii ";VALUE=" ⊕ typeName
 
 -- ---- by numbers
 
-same-at : (w : List ℕ) {p : ℕ} (t : ℕ) → p ≡ placeOf w propertyNames → t ≤ 14 → eqb t (typePlace (propertyAt p .default)) ≡ sameType (typeAt t) (defaultType w)
+same-at : (w : List ℕ) {d : ℕ} (t : ℕ) → d ≡ typePlace (defaultType w) → t ≤ 14 → eqb t d ≡ sameType (typeAt t) (defaultType w)
 unfolding sameType
-same-at w t e h =
-    ap (λ (r : PropertyRow). eqb t (typePlace (r .default))) (ap propertyAt e ∙ sym (property-place w)) ∙ ap (λ (k : ℕ). eqb k (typePlace (defaultType w))) (sym (type-back t h))
+same-at w t e h = ap (eqb t) e ∙ ap (λ (k : ℕ). eqb k (typePlace (defaultType w))) (sym (type-back t h))
 
-pub value-at : (w : List ℕ) {p : ℕ} (t : ℕ) → p ≡ placeOf w propertyNames → t ≤ 14 → valueAt p t ≡ valueOf w (typeAt t)
+pub value-at : (w : List ℕ) {d : ℕ} (t : ℕ) → d ≡ typePlace (defaultType w) → t ≤ 14 → valueAt d t ≡ valueOf w (typeAt t)
 value-at w t e h = ap (λ (b : Bool). pick b [] (ascii ";VALUE=" ⊕ typeName (typeAt t))) (same-at w t e h)
 
 -- ---- a type that has no name of its own
@@ -42,9 +39,9 @@ type-unnamed {d} {e} {o} {r} t h w = subst (Put d e o r) (ap typeName (sym (List
 
 -- ---- VALUE
 
-module _ {x : List ℕ} (p t : ℕ) {d : ℕ} (q : d ≡ typePlace (propertyAt p .default)) where
-  pub value-default : (o : ℕ) → t ≡ d → length x * 1 < 2 ^ 63 → Put x x o o (valueAt p t)
-  value-default o h l = put-yes _ _ _ (eq-eqb t _ (h ∙ q)) (put-none x o l)
+module _ {x : List ℕ} (d t : ℕ) where
+  pub value-default : (o : ℕ) → t ≡ d → length x * 1 < 2 ^ 63 → Put x x o o (valueAt d t)
+  value-default o h l = put-yes _ _ _ (eq-eqb t _ h) (put-none x o l)
 
-  pub value-other : {y z : List ℕ} {o a r : ℕ} → (t ≡ d → ⊥) → Put x y o a (ascii ";VALUE=") → Put y z a r (typeName (typeAt t)) → Put x z o r (valueAt p t)
-  value-other h u v = put-no _ _ _ (ne-eqb t _ (λ e. h (e ∙ sym q))) (u ▷ v)
+  pub value-other : {y z : List ℕ} {o a r : ℕ} → (t ≡ d → ⊥) → Put x y o a (ascii ";VALUE=") → Put y z a r (typeName (typeAt t)) → Put x z o r (valueAt d t)
+  value-other h u v = put-no _ _ _ (ne-eqb t _ h) (u ▷ v)

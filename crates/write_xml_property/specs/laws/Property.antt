@@ -16,12 +16,15 @@ use Rattle.octets.specs.Scan.{spanLen}
 use Rattle.octets.specs.Reading.{readOr, orNothing}
 use Rattle.octets.specs.laws.Reading.{none-some}
 use Rattle.names.specs.Table.{placeOf}
-use Rattle.calendar.specs.Calendar.{TEXT}
 use Rattle.sink.specs.Sink.{Put}
 use Rattle.source.specs.Source.{rest, cuts}
 use Rattle.source.specs.laws.Facts.{rest-past}
-use Rattle.schema.specs.Properties.{propertyNames}
-use Rattle.schema.specs.Numbers.{typeAt, componentName, propertyName}
+use Rattle.schema.specs.Types.{typePlace}
+use Rattle.schema.specs.Properties.{propertyNames, defaultType}
+use Rattle.schema.specs.Numbers.{typeAt, componentName}
+use Rattle.schema.specs.Coded.{rowAt}
+use Rattle.schema.specs.laws.Columns.{default-place}
+use Rattle.schema.specs.declared.table.Row.{Row}
 use Rattle.read_text_line.specs.ContentLine.{contentLine}
 use Rattle.read_text_line.specs.laws.Params.{name-chars}
 use Rattle.read_text_line.specs.Line.{LineAt}
@@ -30,10 +33,9 @@ use Rattle.read_text_line.specs.declared.LineRead.the-variants.{Line}
 use Rattle.text.specs.Values.{readValues}
 use Rattle.text.specs.Statement.{propertyOf}
 use Rattle.xcal.specs.WriteXml.{valuesXml, propertyXml}
-use Rattle.write_xml_property.specs.laws.Placed.{values-named}
 use Rattle.write_xml_property.specs.Property.{nameIn, statedXml, partsXml}
 use Rattle.read_text_parameters.specs.Stating.{StatedAt}
-use Rattle.read_text_parameters.specs.laws.Stating.{stated-names}
+use Rattle.read_text_parameters.specs.laws.Stating.{stated-names, stated-none}
 use Rattle.read_text_parameters.specs.declared.TypeRead.{TypeRead}
 use Rattle.read_text_parameters.specs.declared.TypeRead.the-variants.{«Type» as Typed, Bad as NoType}
 
@@ -64,18 +66,20 @@ module _ {m : ℕ} {s : List ℕ} {c : ℕ} {l : LineCursors} (y : cuts m ≡ tr
 abbrev cursors : ℕ → ℕ → ℕ → LineCursors
 cursors c e v = record { name = c; parameters = e; value = v }
 
--- the values, by the number of the line's name and by the type that was found
-module _ {d f : List ℕ} {at o : ℕ} (k : ℕ) {p m : ℕ} {s : List ℕ} (c : ℕ) {e : ℕ} (v : ℕ) {r : TypeRead} (h : p ≡ placeOf (upper (nameIn m s (cursors c e v))) propertyNames) (a : StatedAt p m s e r) where
-  pub put-typed : (t : ℕ) → r ≡ Typed t → Put d f at o (valuesXml (readOr [] (readValues (componentName k) (propertyName p) (typeAt t) (rest m s v)))) →
-      Put d f at o (statedXml k m s (cursors c e v))
-  unfolding readOr
-  put-typed t z w =
-      let b : StatedAt p m s e (Typed t) = rw z at a in
-      rw (stated-names b (upper (nameIn m s (cursors c e v))) h, ← (values-named (componentName k) (upper (nameIn m s (cursors c e v))) p (typeAt t) (rest m s v) h)) w
+-- the values from v on, of the property w and the type of the number t
+abbrev valuesOf : ℕ → ℕ → List ℕ → ℕ → List ℕ → ℕ → List ℕ
+valuesOf k m s v w t = valuesXml (readOr [] (readValues (componentName k) w (typeAt t) (rest m s v)))
 
-  pub put-untyped : r ≡ NoType → Put d f at o (valuesXml (readOr [] (readValues (componentName k) (propertyName p) (typeAt 10) (rest m s v)))) →
-      Put d f at o (statedXml k m s (cursors c e v))
+default-of : {row : Row} (w : List ℕ) → row ≡ rowAt (placeOf w propertyNames) → row .default ≡ typePlace (defaultType w)
+default-of w h = ap (λ (x : Row). x .default) h ∙ default-place w
+
+-- the values, by the row of the line's name and by the type that was found
+module _ {d f : List ℕ} {at o : ℕ} (k : ℕ) {row : Row} {m : ℕ} {s : List ℕ} (c : ℕ) {e : ℕ} (v : ℕ) {r : TypeRead}
+    (h : row ≡ rowAt (placeOf (upper (nameIn m s (cursors c e v))) propertyNames)) (a : StatedAt (row .default) m s e r) where
+  pub put-typed : (t : ℕ) → r ≡ Typed t → ((w : List ℕ) → row ≡ rowAt (placeOf w propertyNames) → Put d f at o (valuesOf k m s v w t)) → Put d f at o (statedXml k m s (cursors c e v))
   unfolding readOr
-  put-untyped z w =
-      let b : StatedAt p m s e NoType = rw z at a in
-      rw (stated-names b (upper (nameIn m s (cursors c e v))) h, ← (values-named (componentName k) (upper (nameIn m s (cursors c e v))) p TEXT (rest m s v) h)) w
+  put-typed t z w = let n : List ℕ = upper (nameIn m s (cursors c e v)) in rw (stated-names a n (default-of n h) z .0) (w n h)
+
+  pub put-untyped : r ≡ NoType → ((w : List ℕ) → row ≡ rowAt (placeOf w propertyNames) → Put d f at o (valuesOf k m s v w 10)) → Put d f at o (statedXml k m s (cursors c e v))
+  unfolding readOr
+  put-untyped z w = let n : List ℕ = upper (nameIn m s (cursors c e v)) in rw (stated-none a n (default-of n h) z) (w n h)

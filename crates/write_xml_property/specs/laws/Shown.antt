@@ -22,11 +22,15 @@ use Rattle.calendar.specs.Calendar.{ical, ValueType, TEXT, Value, text}
 use Rattle.sink.specs.Sink.{Put}
 use Rattle.sink.specs.laws.Sink.{put-none}
 use Rattle.source.specs.Source.{rest}
-use Rattle.schema.specs.Types.{typeName, isTypeOf}
+use Rattle.schema.specs.Types.{typeName, typePlace}
 use Rattle.schema.specs.Components.{componentNames}
 use Rattle.schema.specs.Properties.{propertyNames}
-use Rattle.schema.specs.Numbers.{typeAt, propertyAt, componentName, propertyName}
+use Rattle.schema.specs.Numbers.{typeAt, componentName}
+use Rattle.schema.specs.Coded.{rowAt}
+use Rattle.schema.specs.Columns.{permitsType}
+use Rattle.schema.specs.declared.table.Row.{Row}
 use Rattle.schema.specs.Sets.{wordsAt}
+use Rattle.schema.specs.Property as property
 use Rattle.numbers.specs.Geo.{readGeo}
 use Rattle.texts.specs.TextList.{readTexts}
 use Rattle.texts.specs.Elements.{textsXml}
@@ -119,40 +123,40 @@ single-shown (some ws) t l h = go (isOneOf (upper l) ws) h
 
 -- ---- what is written is what is read
 
-own-shown : (k p t : ℕ) (l : List ℕ) → isRead (ownAt k p (typeAt t) l) ≡ true → shownXml k p t l ≡ valuesXml (readOr [] (ownAt k p (typeAt t) l))
+own-shown : (k : ℕ) (row : Row) (t : ℕ) (l : List ℕ) → isRead (ownAt k row (typeAt t) l) ≡ true → shownXml k row t l ≡ valuesXml (readOr [] (ownAt k row (typeAt t) l))
 unfolding pick
-own-shown k p t l = go (eqb p 9) (eqb p 45) (propertyAt p .listed)
+own-shown k row t l = go (eqb (row .number) property.GEO) (eqb (row .number) property.REQUEST-STATUS) (row .listed)
   where
     go : (a b c : Bool) →
-        isRead (pick a (oneValue (readGeo l)) (pick b (oneValue (readRequestStatus l)) (pick c (readListed (typeAt t) l) (oneValue (readChosen (wordsAt k p) (typeAt t) l))))) ≡ true →
-        pick a (orNothing valueXml (readGeo l)) (pick b (orNothing statusXml (readRequestStatus l)) (pick c (listedXml t l) (singleXml k p t l)))
-        ≡ valuesXml (readOr [] (pick a (oneValue (readGeo l)) (pick b (oneValue (readRequestStatus l)) (pick c (readListed (typeAt t) l) (oneValue (readChosen (wordsAt k p) (typeAt t) l))))))
+        isRead (pick a (oneValue (readGeo l)) (pick b (oneValue (readRequestStatus l)) (pick c (readListed (typeAt t) l) (oneValue (readChosen (wordsAt k (row .number)) (typeAt t) l))))) ≡ true →
+        pick a (orNothing valueXml (readGeo l)) (pick b (orNothing statusXml (readRequestStatus l)) (pick c (listedXml t l) (singleXml k row t l)))
+        ≡ valuesXml (readOr [] (pick a (oneValue (readGeo l)) (pick b (oneValue (readRequestStatus l)) (pick c (readListed (typeAt t) l) (oneValue (readChosen (wordsAt k (row .number)) (typeAt t) l))))))
     go true b c h = one-shown (readGeo l)
     go false true c h = status-shown l
     go false false true h = listed-shown t l h
-    go false false false h = single-shown (wordsAt k p) (typeAt t) l h
+    go false false false h = single-shown (wordsAt k (row .number)) (typeAt t) l h
 
-at-shown : (k p t : ℕ) (l : List ℕ) → isRead (valuesAt k p (typeAt t) l) ≡ true → shownXml k p t l ≡ valuesXml (readOr [] (valuesAt k p (typeAt t) l))
+at-shown : (k : ℕ) (row : Row) (t : ℕ) (l : List ℕ) → isRead (valuesAt k row (typeAt t) l) ≡ true → shownXml k row t l ≡ valuesXml (readOr [] (valuesAt k row (typeAt t) l))
 unfolding pick isRead
-at-shown k p t l = go (isTypeOf (typeAt t) (propertyAt p .default ∷ propertyAt p .others))
+at-shown k row t l = go (permitsType row (typePlace (typeAt t)))
   where
-    go : (b : Bool) → isRead (pick b (ownAt k p (typeAt t) l) none) ≡ true → shownXml k p t l ≡ valuesXml (readOr [] (pick b (ownAt k p (typeAt t) l) none))
-    go true h = own-shown k p t l h
+    go : (b : Bool) → isRead (pick b (ownAt k row (typeAt t) l) none) ≡ true → shownXml k row t l ≡ valuesXml (readOr [] (pick b (ownAt k row (typeAt t) l) none))
+    go true h = own-shown k row t l h
     go false h = absurd (false≢true h)
 
 pub values-shown : (c w : List ℕ) (t : ℕ) (l : List ℕ) → isRead (readValues c w (typeAt t) l) ≡ true →
-    shownXml (placeOf c componentNames) (placeOf w propertyNames) t l ≡ valuesXml (readOr [] (readValues c w (typeAt t) l))
+    shownXml (placeOf c componentNames) (rowAt (placeOf w propertyNames)) t l ≡ valuesXml (readOr [] (readValues c w (typeAt t) l))
 values-shown c w t l h =
-    at-shown (placeOf c componentNames) (placeOf w propertyNames) t l (ap isRead (sym (values-at c w (typeAt t) l)) ∙ h)
+    at-shown (placeOf c componentNames) (rowAt (placeOf w propertyNames)) t l (ap isRead (sym (values-at c w (typeAt t) l)) ∙ h)
     ∙ ap (λ (o : Option (List Value)). valuesXml (readOr [] o)) (sym (values-at c w (typeAt t) l))
 
 -- ---- for the code
 
--- the answer r of reading: whether the values of the component and the property of these numbers can be read
-abbrev pub ValuesAsked : ℕ → ℕ → ℕ → ℕ → List ℕ → ℕ → ValuesRead → Type 0
-ValuesAsked k p t m s at r = r ≡ valuesRead t (goodAt k p t (rest m s at))
+-- the answer r of reading: whether the values of the component of this number and the property of this row can be read
+abbrev pub ValuesAsked : ℕ → Row → ℕ → ℕ → List ℕ → ℕ → ValuesRead → Type 0
+ValuesAsked k row t m s at r = r ≡ valuesRead t (goodAt k row t (rest m s at))
 
--- the numbers of the component, the property and the type are a, b, u, and r is what reading answered
+-- the numbers of the component and the type are a, u, and r is what reading answered
 
 good-yes : (t : ℕ) {n : ℕ} (b : Bool) → Good n ≡ valuesRead t b → b ≡ true
 good-yes t true h = refl
@@ -162,24 +166,20 @@ bad-no : (t : ℕ) (b : Bool) → Bad ≡ valuesRead t b → b ≡ false
 bad-no t true h = let z : _≡_ {A = ℕ} 0 1 = cc in absurd (omega arith)
 bad-no t false h = refl
 
-module _ {a b u : ℕ} (k p t m : ℕ) (s : List ℕ) (c : ℕ) {r : ValuesRead} (f : a ≡ placeOf (componentName k) componentNames) (g : b ≡ placeOf (propertyName p) propertyNames)
-    (h : (typeAt u ≡ typeAt t) × (u ≤ 14))
-    (q : ValuesAsked a b u m s c r) where
-  asked : r ≡ valuesRead u (isRead (readValues (componentName k) (propertyName p) (typeAt t) (rest m s c)))
-  asked = values-named a b u (rest m s c) q (componentName k) (propertyName p) f g ∙ ap (λ (x : ValueType). valuesRead u (isRead (readValues (componentName k) (propertyName p) x (rest m s c)))) (h .0)
+module _ {a u : ℕ} (k : ℕ) (row : Row) (t m : ℕ) (s : List ℕ) (c : ℕ) {r : ValuesRead} (f : a ≡ placeOf (componentName k) componentNames) (h : (typeAt u ≡ typeAt t) × (u ≤ 14))
+    (q : ValuesAsked a row u m s c r) (w : List ℕ) (g : row ≡ rowAt (placeOf w propertyNames)) where
+  asked : r ≡ valuesRead u (isRead (readValues (componentName k) w (typeAt t) (rest m s c)))
+  asked = values-named a row u (rest m s c) q (componentName k) w f g (h .1) ∙ ap (λ (x : ValueType). valuesRead u (isRead (readValues (componentName k) w x (rest m s c)))) (h .0)
 
-  pub put-shown : {d e : List ℕ} {at o : ℕ} (n : ℕ) → r ≡ Good n → Put d e at o (shownXml a b u (rest m s c)) →
-      Put d e at o (valuesXml (readOr [] (readValues (componentName k) (propertyName p) (typeAt t) (rest m s c))))
-  put-shown n z w =
-      let y : isRead (readValues (componentName k) (propertyName p) (typeAt t) (rest m s c)) ≡ true = good-yes u (isRead (readValues (componentName k) (propertyName p) (typeAt t) (rest m s c))) (sym z ∙ asked) in
-      let x = values-shown (componentName k) (propertyName p) u (rest m s c) (ap (λ (v : ValueType). isRead (readValues (componentName k) (propertyName p) v (rest m s c))) (h .0) ∙ y) in
-      rw (← (h .0), ← x, ← f, ← g) w
+  pub put-shown : {d e : List ℕ} {at o : ℕ} (n : ℕ) → r ≡ Good n → Put d e at o (shownXml a row u (rest m s c)) → Put d e at o (valuesXml (readOr [] (readValues (componentName k) w (typeAt t) (rest m s c))))
+  put-shown n z x =
+      let y : isRead (readValues (componentName k) w (typeAt t) (rest m s c)) ≡ true = good-yes u (isRead (readValues (componentName k) w (typeAt t) (rest m s c))) (sym z ∙ asked) in
+      let v = values-shown (componentName k) w u (rest m s c) (ap (λ (v : ValueType). isRead (readValues (componentName k) w v (rest m s c))) (h .0) ∙ y) in
+      rw (← (h .0), ← v, ← f, ← g) x
 
-  pub put-no-values : {d : List ℕ} {at : ℕ} → r ≡ Bad → length d * 1 < 2 ^ 63 →
-      Put d d at at (valuesXml (readOr [] (readValues (componentName k) (propertyName p) (typeAt t) (rest m s c))))
+  pub put-no-values : {d : List ℕ} {at : ℕ} → r ≡ Bad → length d * 1 < 2 ^ 63 → Put d d at at (valuesXml (readOr [] (readValues (componentName k) w (typeAt t) (rest m s c))))
   unfolding isRead readOr valuesXml
-  put-no-values {d} {at} z y =
-      go (readValues (componentName k) (propertyName p) (typeAt t) (rest m s c)) (bad-no u (isRead (readValues (componentName k) (propertyName p) (typeAt t) (rest m s c))) (sym z ∙ asked))
+  put-no-values {d} {at} z y = go (readValues (componentName k) w (typeAt t) (rest m s c)) (bad-no u (isRead (readValues (componentName k) w (typeAt t) (rest m s c))) (sym z ∙ asked))
     where
       go : (o : Option (List Value)) → isRead o ≡ false → Put d d at at (valuesXml (readOr [] o))
       go none e = put-none d at y

@@ -8,10 +8,10 @@ use Rattle.read_text_parameters.proofs.stated.stated_type.Statement.{st
 use Rattle.read_text_parameters.proofs.stated.stated_type.Tie as tie
 
 abbrev Inv-loop : tie.InvT-loop
-Inv-loop p mode s e c₀ c = Stating p mode s e c
+Inv-loop default mode s e c₀ c = Stating default mode s e c
 
 abbrev μ-loop : tie.MeasureT-loop
-μ-loop p mode s e c₀ c = 4 * length s - c
+μ-loop default mode s e c₀ c = 4 * length s - c
 
 pub stated-type-spec : {M : Type 1} → statement M
 stated-type-spec = tie.close (tie.spec
@@ -24,8 +24,6 @@ stated-type-spec = tie.close (tie.spec
     (λ c. stated-here (c .before .before .before .before .before .before .before .before .pre) (c .before .before .before .before .before .before .loop .inv) (c .before .before .before .before .before .next-param .ensures) (c .before .before .before .before .if1 .taken) (c .before .before .before .if2 .taken) (c .before .before .is-value-name .ensures) (c .before .if3 .taken) (c .type-in .ensures))  -- returns
     (λ c. param-less (c .before .before .before .before .next-param .ensures) (c .before .before .before .if1 .taken) (c .before .before .if2 .taken))  -- loop-less
     (λ c. stated-more (c .before .before .before .before .before .before .before .pre) (c .before .before .before .before .before .loop .inv) (c .before .before .before .before .next-param .ensures) (c .before .before .before .if1 .taken) (c .before .before .if2 .taken) (c .before .is-value-name .ensures) (c .if3 .left))  -- loop-again
-    (λ c κs. search needs)  -- default-read-requires
-    (λ c. stated-fault (c .before .before .before .before .before .before .pre) (c .before .before .before .before .loop .inv) (c .before .before .before .next-param .ensures) (c .before .before .if1 .taken) (c .before .if2 .left) (c .default-read .ensures))  -- returns-2
-    (λ c κs. search needs)  -- default-read-requires-2
-    (λ c. stated-over (c .before .before .before .before .before .pre) (c .before .before .before .loop .inv) (c .before .before .next-param .ensures) (c .before .if1 .left) (c .default-read2 .ensures))  -- returns-3
+    (λ c. stated-fault (c .before .before .before .before .before .pre) (c .before .before .before .loop .inv) (c .before .before .next-param .ensures) (c .before .if1 .taken) (c .if2 .left))  -- returns-2
+    (λ c. stated-over (c .before .before .before .before .pre) (c .before .before .loop .inv) (c .before .next-param .ensures) (c .if1 .left))  -- returns-3
     )

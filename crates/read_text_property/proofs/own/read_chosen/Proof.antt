@@ -15,8 +15,8 @@ read-chosen-spec = tie.close (tie.spec
     (λ c κs. search needs)  -- read-word-of-requires
     (λ c. search needs)  -- enum-known-i
     (λ c. search needs)  -- enum-told
-    (λ c. values-no (c .before .before .before .before .before .before .args .c .«value_type») (chosen-word _ _ _ (c .before .before .before .before .has-words .ensures) (c .before .before .before .if1 .taken) (word-no (wordsAt (c .before .before .before .before .before .before .args .c .component) (c .before .before .before .before .before .before .args .c .property)) (upper (rest (c .before .before .before .before .before .before .args .mode) (c .before .before .before .before .before .before .args .s .now) (c .before .before .before .before .before .before .args .at))) (c .before .before .read-word-of .ensures) (c .enum-told .given .1))))  -- returns
-    (λ c. values-yes (c .before .before .before .before .before .before .before .args .c .«value_type») (chosen-word _ _ _ (c .before .before .before .before .before .has-words .ensures) (c .before .before .before .before .if1 .taken) (word-yes (wordsAt (c .before .before .before .before .before .before .before .args .c .component) (c .before .before .before .before .before .before .before .args .c .property)) (upper (rest (c .before .before .before .before .before .before .before .args .mode) (c .before .before .before .before .before .before .before .args .s .now) (c .before .before .before .before .before .before .before .args .at))) (c .before .before .before .read-word-of .ensures) (c .before .i .given .1))))  -- returns-2
+    (λ c. values-no (c .before .before .before .before .before .before .args .c .«value_type») (chosen-word _ _ _ (c .before .before .before .before .has-words .ensures) (c .before .before .before .if1 .taken) (word-no (wordsAt (c .before .before .before .before .before .before .args .c .component) (c .before .before .before .before .before .before .args .c .row .number)) (upper (rest (c .before .before .before .before .before .before .args .mode) (c .before .before .before .before .before .before .args .s .now) (c .before .before .before .before .before .before .args .at))) (c .before .before .read-word-of .ensures) (c .enum-told .given .1))))  -- returns
+    (λ c. values-yes (c .before .before .before .before .before .before .before .args .c .«value_type») (chosen-word _ _ _ (c .before .before .before .before .before .has-words .ensures) (c .before .before .before .before .if1 .taken) (word-yes (wordsAt (c .before .before .before .before .before .before .before .args .c .component) (c .before .before .before .before .before .before .before .args .c .row .number)) (upper (rest (c .before .before .before .before .before .before .before .args .mode) (c .before .before .before .before .before .before .before .args .s .now) (c .before .before .before .before .before .before .before .args .at))) (c .before .before .before .read-word-of .ensures) (c .before .i .given .1))))  -- returns-2
     (λ c κs. search needs)  -- read-value-requires
     (λ c. search needs)  -- enum-known-v
     (λ c. search needs)  -- enum-told-2

@@ -5,7 +5,7 @@ use Rattle.read_xml.proofs.properties.property_at.Tie as tie
 
 pub property-at-spec : {M : Type 1} → statement M
 property-at-spec = tie.close (tie.spec
-    (λ c. search propertying)  -- slice-aggregate-property-number
-    (λ c κs. search propertying)  -- property-number-requires
+    (λ c. search propertying)  -- slice-aggregate-row-of
+    (λ c κs. search propertying)  -- row-of-requires
     (λ c. search propertying)  -- returns
     )

@@ -21,11 +21,11 @@ first-type-spec = tie.close (tie.spec
     (λ c. search firsts)  -- loop-holds
     (λ c κs. search firsts)  -- node-head-requires
     (λ c. search firsts)  -- enum-told
-    (λ c. search firsts)  -- returns
+    (λ c. (search firsts, λ h. h))  -- returns
     (λ c. search firsts)  -- enum-told-2
     (λ c κs. search firsts)  -- element-type-requires
     (λ c. search firsts)  -- enum-known-m
-    (λ c. search firsts)  -- returns-2
+    (λ c. (search firsts, λ h. search firsts))  -- returns-2
     (λ c. search firsts)  -- enum-told-3
     (λ c κs. search firsts)  -- node-end-requires
     (λ c. search firsts)  -- loop-less

@@ -1,26 +1,16 @@
 -- `schema::counts::all_often` meets its contract.
-use Prim.Native.Nat.{_-_}
-use Rattle.schema.specs.laws.Completing.{Testing, testing}
+use borrow.Author.Needs.{needs}
+use Rattle.schema.specs.laws.Completing.{halves-go, halves-stop}
 use Rattle.schema.proofs.counts.all_often.Statement.{statement}
 use Rattle.schema.proofs.counts.all_often.Tie as tie
 
-abbrev Inv-loop : tie.InvT-loop
-Inv-loop l t n₀ n = Testing l t n
-
-abbrev μ-loop : tie.MeasureT-loop
-μ-loop l t n₀ n = 46 - n
-
 pub all-often-spec : {M : Type 1} → statement M
 all-often-spec = tie.close (tie.spec
-    Inv-loop
-    μ-loop
-    (λ c. search testing)  -- loop-holds
-    (λ c κs. search testing)  -- sign-at-requires
-    (λ c. search testing)  -- array-read-is-signed
-    (λ c κs. search testing)  -- is-signed-requires
-    (λ c. search testing)  -- add-n
-    (λ c. search testing)  -- loop-less
-    (λ c. search testing)  -- loop-again
-    (λ c. search testing)  -- returns
-    (λ c. search testing)  -- returns-2
+    (λ c κs. search needs)  -- first-half-requires
+    (λ c κs. search needs)  -- half-often-requires
+    (λ c κs. search needs)  -- second-half-requires
+    (λ c κs. search needs)  -- half-often-requires-2
+    (λ c. halves-go _ _ (c .before .before .before .before .first-half .ensures) (c .before .before .before .half-often .ensures) (c .before .before .if1 .taken)
+    (c .before .second-half .ensures) (c .half-often2 .ensures))  -- returns
+    (λ c. halves-stop _ _ (c .before .before .first-half .ensures) (c .before .half-often .ensures) (c .if1 .left))  -- returns-2
     )

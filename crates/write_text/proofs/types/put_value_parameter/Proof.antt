@@ -6,7 +6,6 @@ use Rattle.write_text.proofs.types.put_value_parameter.Tie as tie
 
 pub put-value-parameter-spec : {M : Type 1} → statement M
 put-value-parameter-spec = tie.close (tie.spec
-    (λ c κs. search needs)  -- default-type-requires
     (λ c. search (value-default, needs))  -- returns
     (λ c. search needs)  -- slice-aggregate-put-all
     (λ c κs. search needs)  -- put-all-requires

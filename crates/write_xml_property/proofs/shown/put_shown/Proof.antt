@@ -1,5 +1,4 @@
 -- `write_xml_property::put_shown` meets its contract.
-use Rattle.octets.specs.laws.Pick.{flag-yes, flag-no}
 use Rattle.sink.specs.laws.Sink.{writing}
 use Rattle.write_xml_property.proofs.shown.put_shown.Statement.{statement}
 use Rattle.write_xml_property.proofs.shown.put_shown.Tie as tie
@@ -12,11 +11,10 @@ put-shown-spec = tie.close (tie.spec
     (λ c κs. search writing)  -- put-request-status-xml-requires
     (λ c. search writing)  -- same-length-2
     (λ c. search writing)  -- returns-2
-    (λ c κs. search writing)  -- is-listed-requires
     (λ c κs. search writing)  -- put-list-requires
     (λ c. search writing)  -- same-length-3
-    (λ c. search (flag-yes, flag-no, writing))  -- returns-3
+    (λ c. search writing)  -- returns-3
     (λ c κs. search writing)  -- put-single-requires
     (λ c. search writing)  -- same-length-4
-    (λ c. search (flag-yes, flag-no, writing))  -- returns-4
+    (λ c. search writing)  -- returns-4
     )
