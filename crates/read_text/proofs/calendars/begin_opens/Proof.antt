@@ -1,11 +1,11 @@
--- `read_text::calendars::begin_fault` meets its contract.
+-- `read_text::calendars::begin_opens` meets its contract.
 use borrow.Author.Needs.{needs}
 use Rattle.read_text.specs.laws.Outer.{outer-begins, outer-parameters, outer-other}
-use Rattle.read_text.proofs.calendars.begin_fault.Statement.{statement}
-use Rattle.read_text.proofs.calendars.begin_fault.Tie as tie
+use Rattle.read_text.proofs.calendars.begin_opens.Statement.{statement}
+use Rattle.read_text.proofs.calendars.begin_opens.Tie as tie
 
-pub begin-fault-spec : {M : Type 1} → statement M
-begin-fault-spec = tie.close (tie.spec
+pub begin-opens-spec : {M : Type 1} → statement M
+begin-opens-spec = tie.close (tie.spec
     (λ c κs. search needs)  -- component-number-requires
     (λ c κs. search needs)  -- no-params-requires
     (λ c. outer-begins _ _ (c .before .before .before .component-number .ensures) (c .before .before .if1 .taken) (c .before .no-params .ensures) (c .if2 .taken))  -- returns
