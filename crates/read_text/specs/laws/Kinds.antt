@@ -107,7 +107,7 @@ module _ (m : ℕ) (s : List ℕ) (l : LineCursors) (w : List ℕ) {k n : ℕ} (
       begin-parameters g x = record {
         place = parameterName 0;
         is = pick-yes _ _ _ (begins-at (upper (rest m s (l .value))) k h e ∙ begun) ∙ pick-no _ _ _ (sym p ∙ g);
-        there = x (some-params _ (sym p ∙ g));
+        there = x (some-params (paramsAt m s (l .parameters)) (sym p ∙ g));
       }
 
   -- ---- END
@@ -125,7 +125,7 @@ module _ (m : ℕ) (s : List ℕ) (l : LineCursors) (w : List ℕ) {k n : ℕ} (
 
     pub end-parameters : {c : ℕ} → d ≡ false → (0 < length (paramsAt m s (l .parameters)) → NameAt m s (l .parameters) 0 c) → KindIs (PlaceOf m s l) (endKind (componentName k) (lineFrom w m s l)) (Faulty 7 c)
     unfolding refusalAt
-    end-parameters g x = record { place = parameterName 0; is = pick-yes _ _ _ ended ∙ pick-no _ _ _ (sym p ∙ g); there = x (some-params _ (sym p ∙ g)) }
+    end-parameters g x = record { place = parameterName 0; is = pick-yes _ _ _ ended ∙ pick-no _ _ _ (sym p ∙ g); there = x (some-params (paramsAt m s (l .parameters)) (sym p ∙ g)) }
 
 -- ---- a line
 

@@ -111,7 +111,11 @@ pub outer-loose : {m : ℕ} {s : List ℕ} {at : ℕ} → Ready m s at → at < 
 unfolding refusalAt
 outer-loose {m} {s} {at} q h f = record { ends = q .most; agrees = loose-stops m s at [] q h f }
 
-module _ {m : ℕ} {s : List ℕ} {at e n : ℕ} {r : Opening} (q : Ready m s at) (f : LineEnds m s at e n) (x : OpeningIs (OffsetAt m (take e s) at) (move (rest m (take e s) at) []) r) where
+later : {m : ℕ} {s : List ℕ} {at e n : ℕ} → Ready m s at → LineEnds m s at e n → (t : Step) → Ends m s n t → Ends m s at t
+later q f (Closed next) z = let l = line-low q f in (omega (arith, l, z .0), z .1)
+later q f (Failed i p) z = z
+
+module _ {m : ℕ} {s : List ℕ} {at e n : ℕ} (r : Opening) (q : Ready m s at) (f : LineEnds m s at e n) (x : OpeningIs (OffsetAt m (take e s) at) (move (rest m (take e s) at) []) r) where
   opening-as : (o : Opening) → r ≡ o → OpeningIs (OffsetAt m (take e s) at) (move (rest m (take e s) at) []) o
   opening-as o h = subst (OpeningIs (OffsetAt m (take e s) at) (move (rest m (take e s) at) [])) h x
 
@@ -122,10 +126,6 @@ module _ {m : ℕ} {s : List ℕ} {at e n : ℕ} {r : Opening} (q : Ready m s at
       let p = place-in-text q f (z .there) in
       record { ends = p .most; agrees = line-moves q f [] ∙ rw (z .is) (ap (refuse (refusalAt i)) (sym (p .is))) }
 
-  later : (t : Step) → Ends m s n t → Ends m s at t
-  later (Closed next) z = let l = line-low q f in (omega (arith, l, z .0), z .1)
-  later (Failed i p) z = z
-
   pub outer-body : (t : Step) → r ≡ Begins → Body 0 false m s n t → Outer m s at t
   unfolding onward
-  outer-body t h b = record { ends = later t (b .ends); agrees = line-moves q f [] ∙ rw (opening-as Begins h) (b .agrees [] refl) }
+  outer-body t h b = record { ends = later q f t (b .ends); agrees = line-moves q f [] ∙ rw (opening-as Begins h) (b .agrees [] refl) }
