@@ -2,6 +2,7 @@
 mod calendars;
 mod component;
 mod line;
+mod places;
 
 pub use calendars::check;
 
@@ -32,8 +33,8 @@ pub enum Checked {
     Refused(u8, usize),
 }
 
-// A line where nothing is open begins a calendar; or a refusal and its place.
-pub enum Outer {
+// A line where nothing is open: it begins a calendar; or a refusal of a number, and the cursor of its place.
+pub enum Opening {
     Begins,
     Faulty(u8, usize),
 }

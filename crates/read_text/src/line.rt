@@ -1,5 +1,6 @@
 // What a line is in an open component, by the component's number. A line is cut at its end: it is all that stands from `at` on.
 use crate::Kind;
+use crate::places::parameter_cursor;
 use names::is_word_any_case;
 use read_text_line::LineCursors;
 use read_text_line::LineRead;
@@ -42,6 +43,7 @@ ghost use Rattle.read_text_line.specs.Cursor.{paramsAt};
 ghost use Rattle.read_text_line.specs.Line.{lineFrom, named, Parts};
 ghost use Rattle.text.specs.Nesting.{mayHold};
 ghost use Rattle.text.specs.LineKind.{openAs, beginKind, endKind, propertyKind, kindBy, lineKind};
+ghost use Rattle.read_text.specs.Places.{PlaceOf, OffsetAt};
 ghost use Rattle.read_text.specs.Kinds.{KindIs};
 
 // The line, whose name ends at `e`, has no parameters.
@@ -58,23 +60,12 @@ pub fn no_params(mode: usize, s: &[u8], e: usize) -> bool
     true
 }
 
-// The cursor of the name of the parameter of the number `i`, of those from the cursor `e` on.
-pub fn parameter_place(mode: usize, s: &[u8], e: usize, i: usize) -> usize {
-    let mut c = e;
-    let mut k = 0;
-    while k < i {
-        let a = next_param(mode, s, c);
-        c = a.next;
-        k += 1;
-    }
-    let n = unit(mode, s, c);
-    n.next
-}
-
 // The kind of a BEGIN.
 fn begin_line(k: usize, mode: usize, s: &[u8], l: LineCursors) -> Kind
     requires { ⌜ k < 9 ⌝ }
-    ensures { λ r. ⌜ ((w : List ℕ) → KindIs (beginKind (componentName k) (lineFrom w mode (now (s .entry)) l)) r) ⌝ }
+    ensures { λ r. ⌜
+        ((w : List ℕ) →
+        KindIs (PlaceOf mode (now (s .entry)) l) (beginKind (componentName k) (lineFrom w mode (now (s .entry)) l)) r) ⌝ }
 {
     let n = component_number(mode, s, l.value);
     let may = may_begin(k, n);
@@ -83,7 +74,8 @@ fn begin_line(k: usize, mode: usize, s: &[u8], l: LineCursors) -> Kind
         if bare {
             return Kind::Starts(n);
         }
-        return Kind::Faulty(PARAMETER, parameter_place(mode, s, l.parameters, 0));
+        let c = parameter_cursor(mode, s, l.parameters, 0);
+        return Kind::Faulty(PARAMETER, c);
     }
     Kind::Faulty(FRAME, l.name)
 }
@@ -91,7 +83,9 @@ fn begin_line(k: usize, mode: usize, s: &[u8], l: LineCursors) -> Kind
 // The kind of an END.
 fn end_line(k: usize, mode: usize, s: &[u8], l: LineCursors) -> Kind
     requires { ⌜ k < 9 ⌝ }
-    ensures { λ r. ⌜ ((w : List ℕ) → KindIs (endKind (componentName k) (lineFrom w mode (now (s .entry)) l)) r) ⌝ }
+    ensures { λ r. ⌜
+        ((w : List ℕ) →
+        KindIs (PlaceOf mode (now (s .entry)) l) (endKind (componentName k) (lineFrom w mode (now (s .entry)) l)) r) ⌝ }
 {
     let n = component_number(mode, s, l.value);
     if n == k {
@@ -99,7 +93,8 @@ fn end_line(k: usize, mode: usize, s: &[u8], l: LineCursors) -> Kind
         if bare {
             return Kind::Stops;
         }
-        return Kind::Faulty(PARAMETER, parameter_place(mode, s, l.parameters, 0));
+        let c = parameter_cursor(mode, s, l.parameters, 0);
+        return Kind::Faulty(PARAMETER, c);
     }
     Kind::Faulty(FRAME, l.name)
 }
@@ -149,7 +144,8 @@ fn row_line(k: usize, inner: bool, row: Row, mode: usize, s: &[u8], l: LineCurso
     ensures { λ r. ⌜
         ((w : List ℕ) →
         row ≡ rowAt (placeOf (upper w) propertyNames) →
-        KindIs (propertyKind (componentName k) inner (lineFrom w mode (now (s .entry)) l)) r) ⌝ }
+        KindIs (PlaceOf mode (now (s .entry)) l)
+        (propertyKind (componentName k) inner (lineFrom w mode (now (s .entry)) l)) r) ⌝ }
 {
     let p = row.number;
     let may = may_hold(k, inner, row);
@@ -174,7 +170,9 @@ fn row_line(k: usize, inner: bool, row: Row, mode: usize, s: &[u8], l: LineCurso
 // The kind of a line that is a property.
 fn property_line(k: usize, inner: bool, mode: usize, s: &[u8], l: LineCursors) -> Kind
     requires { ⌜ (k < 9) × (l .name ≤ length (now s)) × Parts mode (now s) l × (cuts mode ≡ true) ⌝ }
-    ensures { λ r. ⌜ KindIs (propertyKind (componentName k) inner (named mode (now (s .entry)) l)) r ⌝ }
+    ensures { λ r. ⌜
+        KindIs (PlaceOf mode (now (s .entry)) l)
+        (propertyKind (componentName k) inner (named mode (now (s .entry)) l)) r ⌝ }
 {
     let e = l.parameters;
     let row = row_of(mode, &s[..e], l.name);
@@ -184,7 +182,8 @@ fn property_line(k: usize, inner: bool, mode: usize, s: &[u8], l: LineCursors) -
 // The kind of a content line.
 fn content_line(k: usize, inner: bool, mode: usize, s: &[u8], l: LineCursors) -> Kind
     requires { ⌜ (k < 9) × (l .name ≤ length (now s)) × Parts mode (now s) l × (cuts mode ≡ true) ⌝ }
-    ensures { λ r. ⌜ KindIs (kindBy (componentName k) inner (named mode (now (s .entry)) l)) r ⌝ }
+    ensures { λ r. ⌜
+        KindIs (PlaceOf mode (now (s .entry)) l) (kindBy (componentName k) inner (named mode (now (s .entry)) l)) r ⌝ }
 {
     let at = l.name;
     let e = l.parameters;
@@ -206,7 +205,8 @@ fn content_line(k: usize, inner: bool, mode: usize, s: &[u8], l: LineCursors) ->
 // The kind of a line in the component of the number `k`, in which a subcomponent has come or not.
 pub fn line_kind(k: usize, inner: bool, mode: usize, s: &[u8], at: usize) -> Kind
     requires { ⌜ (k < 9) × (at ≤ length (now s)) × (cuts mode ≡ true) ⌝ }
-    ensures { λ r. ⌜ KindIs (lineKind (componentName k) inner (rest mode (now (s .entry)) at)) r ⌝ }
+    ensures { λ r. ⌜
+        KindIs (OffsetAt mode (now (s .entry)) at) (lineKind (componentName k) inner (rest mode (now (s .entry)) at)) r ⌝ }
 {
     let LineRead::Line(l) = line_at(mode, s, at) else {
         return Kind::Faulty(LINE, at);

@@ -11,7 +11,7 @@ use Rattle.octets.specs.Reading.{readOr}
 use Rattle.calendar.specs.Refusal.{PARAMETER, VALUE}
 use Rattle.schema.specs.declared.table.Row.{Row}
 use Rattle.read_text_line.specs.ContentLine.{RawParameter}
-use Rattle.text.specs.Faults.{parameterName, valueStart, Fault, _at_, lineFault}
+use Rattle.text.specs.Faults.{parameterName, valueStart, Fault, fault, lineFault}
 use Rattle.read_text_parameters.specs.Stating.{statedAt}
 use Rattle.read_text_parameters.specs.Walking.{faultAs}
 use Rattle.read_text_property.specs.ValuesAt.{goodAt}
@@ -19,9 +19,9 @@ use Rattle.read_text_property.specs.declared.LineFault.{LineFault}
 use Rattle.read_text_property.specs.declared.LineFault.the-variants.{Parameter, Encoding, Value, None}
 
 abbrev pub faultOf : LineFault → Option Fault
-faultOf (Parameter i) = some (PARAMETER at parameterName i)
-faultOf Encoding = some (PARAMETER at valueStart)
-faultOf Value = some (VALUE at valueStart)
+faultOf (Parameter i) = some (fault PARAMETER (parameterName i))
+faultOf Encoding = some (fault PARAMETER valueStart)
+faultOf Value = some (fault VALUE valueStart)
 faultOf None = none
 
 pub record FaultIs (o : Option Fault) (r : LineFault) : Type 0 where

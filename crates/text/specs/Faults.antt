@@ -35,9 +35,8 @@ pub data Where : Type 0 where
   parameterName : ℕ → Where
   valueStart : Where
 
-infix 60 _at_
 pub data Fault : Type 0 where
-  _at_ : Refusal → Where → Fault
+  fault : Refusal → Where → Fault
 
 -- what is left behind a parameter
 abbrev pub leftBy : One RawParameter → List ℕ
@@ -62,7 +61,7 @@ offset s valueStart = length s - length (valueIn (contentLine s))
 
 -- of a line at place p whose bytes are s
 abbrev pub refusedAt : Fault → ℕ → List ℕ → Verdict
-refusedAt (r at w) p s = refuse r (p + offset s w)
+refusedAt (fault r w) p s = refuse r (p + offset s w)
 
 -- ---- parameters: the type of the value is none where VALUE names no type
 
@@ -110,6 +109,6 @@ parametersFault n t rs = placeOfFault (firstFaulty (fits n t) [] rs) (lacksEncod
 
 -- where 7 is, if it is; whether the value is read
 abbrev pub lineFault : Option Where → Bool → Option Fault
-lineFault (some w) read = some (PARAMETER at w)
+lineFault (some w) read = some (fault PARAMETER w)
 lineFault none true = none
-lineFault none false = some (VALUE at valueStart)
+lineFault none false = some (fault VALUE valueStart)

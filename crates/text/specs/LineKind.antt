@@ -16,7 +16,7 @@ use Rattle.calendar.specs.Refusal.{LINE, NAME, FRAME, PARAMETER, COUNT}
 use Rattle.schema.specs.Components.{subcomponentsOf}
 use Rattle.schema.specs.Counts.{Around, complete}
 use Rattle.read_text_line.specs.ContentLine.{ContentLine, contentLine}
-use Rattle.text.specs.Faults.{Fault, _at_, lineStart, parameterName}
+use Rattle.text.specs.Faults.{Fault, fault, lineStart, parameterName}
 use Rattle.text.specs.Statement.{propertyFault, propertyOf}
 use Rattle.text.specs.Nesting.{Open, Move, on, stop, opened, methodIn, mayHold, namesCarried}
 
@@ -33,18 +33,18 @@ openAs k inner = record { name = k; seen = []; inner = inner }
 abbrev pub beginKind : List ℕ → ContentLine → LineKind
 beginKind k l =
     pick (isOneOf (upper (l .value)) (subcomponentsOf k))
-    (pick (isEmpty (l .parameters)) (starts (upper (l .value))) (faulty (PARAMETER at parameterName 0)))
-    (faulty (FRAME at lineStart))
+    (pick (isEmpty (l .parameters)) (starts (upper (l .value))) (faulty (fault PARAMETER (parameterName 0))))
+    (faulty (fault FRAME lineStart))
 
 abbrev pub endKind : List ℕ → ContentLine → LineKind
-endKind k l = pick (same (upper (l .value)) k) (pick (isEmpty (l .parameters)) stops (faulty (PARAMETER at parameterName 0))) (faulty (FRAME at lineStart))
+endKind k l = pick (same (upper (l .value)) k) (pick (isEmpty (l .parameters)) stops (faulty (fault PARAMETER (parameterName 0)))) (faulty (fault FRAME lineStart))
 
 abbrev pub heldBy : Option Fault → Property → LineKind
 heldBy none p = holds p
 heldBy (some r) p = faulty r
 
 abbrev pub propertyKind : List ℕ → Bool → ContentLine → LineKind
-propertyKind k inner l = pick (mayHold (upper (l .name)) (openAs k inner)) (heldBy (propertyFault k l) (propertyOf k l)) (faulty (FRAME at lineStart))
+propertyKind k inner l = pick (mayHold (upper (l .name)) (openAs k inner)) (heldBy (propertyFault k l) (propertyOf k l)) (faulty (fault FRAME lineStart))
 
 unfoldable pub kindBy : List ℕ → Bool → ContentLine → LineKind
 kindBy k inner l =
@@ -52,10 +52,10 @@ kindBy k inner l =
     (pick (same (upper (l .name)) (ascii "BEGIN")) (beginKind k l)
     (pick (same (upper (l .name)) (ascii "END")) (endKind k l)
     (propertyKind k inner l)))
-    (faulty (NAME at lineStart))
+    (faulty (fault NAME lineStart))
 
 unfoldable pub kindOf : List ℕ → Bool → Option ContentLine → LineKind
-kindOf k inner none = faulty (LINE at lineStart)
+kindOf k inner none = faulty (fault LINE lineStart)
 kindOf k inner (some l) = kindBy k inner l
 
 abbrev pub lineKind : List ℕ → Bool → List ℕ → LineKind
@@ -65,6 +65,6 @@ lineKind k inner s = kindOf k inner (contentLine s)
 
 unfoldable pub step : LineKind → Open → List Open → Move
 step (starts n) f st = on (opened n ∷ record { name = f .name; seen = f .seen; inner = true } ∷ st)
-step stops f st = pick (complete (f .name) (f .seen) (record { inner = f .inner; method = methodIn st })) (on st) (stop (COUNT at lineStart))
+step stops f st = pick (complete (f .name) (f .seen) (record { inner = f .inner; method = methodIn st })) (on st) (stop (fault COUNT lineStart))
 step (holds p) f st = on (record { name = f .name; seen = p ∷ f .seen; inner = f .inner } ∷ st)
 step (faulty r) f st = stop r

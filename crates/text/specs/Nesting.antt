@@ -20,7 +20,7 @@ use Rattle.schema.specs.Counts.{Around, methodFor, complete}
 use Rattle.folding.specs.Lines.{Line, whole, loose}
 use Rattle.read_text_line.specs.ContentLine.{RawParameter, ContentLine, contentLine}
 use Rattle.read_text_line.specs.Names.{isCarriedName}
-use Rattle.text.specs.Faults.{Fault, _at_, lineStart, parameterName, refusedAt}
+use Rattle.text.specs.Faults.{Fault, fault, lineStart, parameterName, refusedAt}
 use Rattle.text.specs.Statement.{propertyFault, propertyOf}
 
 -- an open component: its name, its properties up to here (the last first), whether a subcomponent has come
@@ -49,7 +49,7 @@ beginIn k [] = opened k ∷ []
 beginIn k (f ∷ st) = opened k ∷ record { name = f .name; seen = f .seen; inner = true } ∷ st
 
 unfoldable pub begins : List ℕ → List RawParameter → List Open → Move
-begins k ps st = pick (mayBegin k st) (pick (isEmpty ps) (on (beginIn k st)) (stop (PARAMETER at parameterName 0))) (stop (FRAME at lineStart))
+begins k ps st = pick (mayBegin k st) (pick (isEmpty ps) (on (beginIn k st)) (stop (fault PARAMETER (parameterName 0)))) (stop (fault FRAME lineStart))
 
 -- ---- END
 
@@ -59,11 +59,11 @@ methodIn [] = false
 methodIn (f ∷ st) = methodFor (f .name) (f .seen) (methodIn st)
 
 unfoldable pub ends : List ℕ → List RawParameter → List Open → Move
-ends k ps [] = stop (FRAME at lineStart)
+ends k ps [] = stop (fault FRAME lineStart)
 ends k ps (f ∷ st) =
     pick (same k (f .name))
-    (pick (isEmpty ps) (pick (complete (f .name) (f .seen) (record { inner = f .inner; method = methodIn st })) (on st) (stop (COUNT at lineStart))) (stop (PARAMETER at parameterName 0)))
-    (stop (FRAME at lineStart))
+    (pick (isEmpty ps) (pick (complete (f .name) (f .seen) (record { inner = f .inner; method = methodIn st })) (on st) (stop (fault COUNT lineStart))) (stop (fault PARAMETER (parameterName 0))))
+    (stop (fault FRAME lineStart))
 
 -- ---- a property
 
@@ -76,11 +76,11 @@ told none m = m
 told (some r) m = stop r
 
 unfoldable pub states : ContentLine → List Open → Move
-states l [] = stop (FRAME at lineStart)
+states l [] = stop (fault FRAME lineStart)
 states l (f ∷ st) =
     pick (mayHold (upper (l .name)) f)
     (told (propertyFault (f .name) l) (on (record { name = f .name; seen = propertyOf (f .name) l ∷ f .seen; inner = f .inner } ∷ st)))
-    (stop (FRAME at lineStart))
+    (stop (fault FRAME lineStart))
 
 -- ---- a line
 
@@ -93,10 +93,10 @@ moveBy l st =
     (pick (same (upper (l .name)) (ascii "BEGIN")) (begins (upper (l .value)) (l .parameters) st)
     (pick (same (upper (l .name)) (ascii "END")) (ends (upper (l .value)) (l .parameters) st)
     (states l st)))
-    (stop (NAME at lineStart))
+    (stop (fault NAME lineStart))
 
 unfoldable pub moveOf : Option ContentLine → List Open → Move
-moveOf none st = stop (LINE at lineStart)
+moveOf none st = stop (fault LINE lineStart)
 moveOf (some l) st = moveBy l st
 
 abbrev pub move : List ℕ → List Open → Move

@@ -1,5 +1,6 @@
 -- What a content line with no fault states is a property of its component.
 --     parameters-read      parameters that are good are those of a property
+--     both-pass            a line without a fault has parameters without one, and its value is read
 --     property-accepted    what such a line states is a property
 use mathlib.Core.Path.{_≡_, refl, sym, ap, _∙_}
 use mathlib.Core.Bool.{Bool, true, false, not, false≢true}
@@ -27,9 +28,9 @@ use Rattle.values.specs.Valid.{isWordIn, areParameters, isProperty, isBase64Enc
 use Rattle.read_text_line.specs.ContentLine.{ParamValue, RawParameter, ContentLine}
 use Rattle.text.specs.Parameters.{readWord, readParamValue, isSingle, readParameter, isValueParameter, statedType, ownParameters, readParameters, isWord, isRawBase64Encoding}
 use Rattle.text.specs.Values.{readValues}
-use Rattle.text.specs.Faults.{Where, Fault, valueStart, _at_, parametersFault, lineFault}
+use Rattle.text.specs.Faults.{Where, parametersFault, lineFault}
 use Rattle.text.specs.Statement.{valuesOfLine, faultAs, propertyFault, propertyOf}
-use Rattle.text.specs.laws.Faults.{parametersGood, Faultless, faultless-good}
+use Rattle.text.specs.laws.Faults.{parametersGood, faultless-good}
 use Rattle.text.specs.laws.ParameterLaws.{hasValue, parameters-accepted}
 use Rattle.text.specs.laws.AcceptedValues.{values-accepted}
 
@@ -179,7 +180,7 @@ some-none : {A X : Type 0} {a : A} → some a ≡ none → X
 some-none e = none-some (sym e)
 
 -- the two tests that a line passes
-both-pass : (o : Option Where) (r : Bool) → lineFault o r ≡ none → (o ≡ none) × (r ≡ true)
+pub both-pass : (o : Option Where) (r : Bool) → lineFault o r ≡ none → (o ≡ none) × (r ≡ true)
 both-pass none true h = (refl, refl)
 both-pass none false h = some-none h
 both-pass (some w) r h = some-none h

@@ -33,7 +33,7 @@ use Rattle.read_text_line.specs.Write.{writeContentLine}
 use Rattle.read_text_line.specs.laws.Accepted.{content-line-accepted, content-line-write-back}
 use Rattle.validity.specs.ValidCalendar.{isValidParameter, isValidProperty, hasComponents, areValid, atTop}
 use Rattle.validity.specs.laws.ValidCalendar.{component-valid}
-use Rattle.text.specs.Faults.{Fault, _at_, lineStart}
+use Rattle.text.specs.Faults.{Fault, fault, lineStart}
 use Rattle.text.specs.laws.Faults.{fault-not}
 use Rattle.text.specs.Statement.{propertyOf, propertyFault}
 use Rattle.text.specs.Nesting.{Open, Move, on, stop, opened, mayBegin, beginIn, begins, methodIn, ends, mayHold, told, states, namesCarried, moveBy, moveOf, move, onward, ended, nesting}
@@ -206,7 +206,7 @@ unfolding moveOf moveBy entryBy pick
 line-step s st u es g m h = go (contentLine s) refl m
   where
     by : (l : ContentLine) → contentLine s ≡ some l → (c b e : Bool) → namesCarried l ≡ c → same (upper (l .name)) (ascii "BEGIN") ≡ b → same (upper (l .name)) (ascii "END") ≡ e →
-        pick c (pick b (begins (upper (l .value)) (l .parameters) st) (pick e (ends (upper (l .value)) (l .parameters) st) (states l st))) (stop (Refusal.NAME at lineStart)) ≡ on u →
+        pick c (pick b (begins (upper (l .value)) (l .parameters) st) (pick e (ends (upper (l .value)) (l .parameters) st) (states l st))) (stop (fault Refusal.NAME lineStart)) ≡ on u →
         Frames st (pick b (begin (upper (l .value))) (pick e end (property l)) ∷ es) 0
     by l i false b e c₁ b₁ e₁ k = stop-on k
     by l i true true e c₁ b₁ e₁ k = begin-step (upper (l .value)) (l .parameters) st u es k h
@@ -249,7 +249,7 @@ first-begins : (s : List ℕ) (u : List Open) (es : List Entry) → move s [] �
 unfolding moveOf moveBy entryBy pick innerOf ends states
 first-begins s u es m = go (contentLine s) m
   where
-    by : (l : ContentLine) (c b e : Bool) → pick c (pick b (begins (upper (l .value)) (l .parameters) []) (pick e (ends (upper (l .value)) (l .parameters) []) (states l []))) (stop (Refusal.NAME at lineStart)) ≡ on u →
+    by : (l : ContentLine) (c b e : Bool) → pick c (pick b (begins (upper (l .value)) (l .parameters) []) (pick e (ends (upper (l .value)) (l .parameters) []) (states l []))) (stop (fault Refusal.NAME lineStart)) ≡ on u →
         hasComponents (innerOf (pick b (begin (upper (l .value))) (pick e end (property l)) ∷ es) 0) ≡ true
     by l false b e k = stop-on k
     by l true true e k = refl

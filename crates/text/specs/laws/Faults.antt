@@ -3,12 +3,14 @@
 --     good-faultless    parameters that are good, and state the type, have no fault
 --     faultless-good    parameters that have no fault state a type and are good with it
 --     own-every         what all parameters pass, those but VALUE pass
+--     fault-within      a fault of a parameter is one of the line's
 --     fault-not         a line with a fault is refused
 use mathlib.Core.Path.{_≡_, refl, sym, _∙_}
 use mathlib.Core.Bool.{Bool, true, false, not, false≢true}
 use mathlib.Core.List.{List, [], _∷_, map}
 use mathlib.Core.Option.{Option, none, some}
-use Prim.Native.Nat.{ℕ}
+use Prim.Native.Nat.{ℕ, suc, _+_, _<_}
+use native.Mathlib.Omega.{arith}
 use lib.ListN.{length}
 use borrow.Author.Tests.{not-true}
 use Rattle.octets.specs.Ascii.{ascii}
@@ -23,13 +25,14 @@ use Rattle.octets.specs.Reading.{andThen, consRead, isRead, readOr, readEach}
 use Rattle.octets.specs.laws.Reading.{none-some, read-some}
 use Rattle.octets.specs.Computing.{octets-compute}
 use Rattle.calendar.specs.Calendar.{ValueType, BINARY, Parameter}
-use Rattle.calendar.specs.Refusal.{fine}
+use Rattle.calendar.specs.Refusal.{PARAMETER, fine}
 use Rattle.calendar.specs.laws.Refusal.{refused-not}
 use Rattle.schema.specs.Types.{sameType}
 use Rattle.schema.specs.Properties.{permitsParameter}
-use Rattle.read_text_line.specs.ContentLine.{RawParameter}
+use Rattle.read_text_line.specs.ContentLine.{RawParameter, ContentLine}
 use Rattle.text.specs.Parameters.{readParameter, isValueParameter, typeIn, statedType, ownParameters, readParameters, isRawBase64Encoding}
-use Rattle.text.specs.Faults.{Fault, _at_, refusedAt, isEncoding, fits, isSound, isFaulty, firstFaulty, lacksEncoding, placeOfFault, parametersFault}
+use Rattle.text.specs.Faults.{Where, parameterName, Fault, fault, refusedAt, isEncoding, fits, isSound, isFaulty, firstFaulty, lacksEncoding, placeOfFault, parametersFault, lineFault}
+use Rattle.text.specs.Statement.{typeOfLine, valuesOfLine, faultAs, propertyFault}
 
 abbrev nameOf : RawParameter → List ℕ
 nameOf r = upper (r .name)
@@ -45,7 +48,7 @@ parametersGood n t rs =
     and (not (sameType t BINARY) or anyOne isRawBase64Encoding rs)
 
 pub fault-not : {X : Type 0} (f : Fault) (p : ℕ) (s : List ℕ) → refusedAt f p s ≡ fine → X
-fault-not (r at w) p s h = refused-not _ _ h
+fault-not (fault r w) p s h = refused-not _ _ h
 
 -- ---- a parameter, and those behind it
 
@@ -333,3 +336,33 @@ good-faultless n t rs s h =
     lacks : (y : Bool) → (not y or anyOne isRawBase64Encoding rs) ≡ true → (y and not (anyOne isEncoding rs)) ≡ false
     lacks true k = rw (some-encoding rs k)
     lacks false k = refl
+
+-- ---- the faulty parameter is one of the line's
+
+first-within : (fit : RawParameter → Bool) (before : List (List ℕ)) (rs : List RawParameter) (i : ℕ) → firstFaulty fit before rs ≡ some i → i < length before + length rs
+unfolding firstFaulty pick
+first-within fit before [] i h = none-some h
+first-within fit before (r ∷ rs) i h = go (isFaulty fit before r) h (first-within fit (nameOf r ∷ before) rs i)
+  where
+    go : (b : Bool) → pick b (some (length before)) (firstFaulty fit (nameOf r ∷ before) rs) ≡ some i → (firstFaulty fit (nameOf r ∷ before) rs ≡ some i → i < suc (length before) + length rs) → i < length before + suc (length rs)
+    go true k ih = let z : length before ≡ i = cc in omega (arith, z)
+    go false k ih = let l = ih k in omega (arith, l)
+
+placed : (o : Option ℕ) (b : Bool) (i : ℕ) → placeOfFault o b ≡ some (parameterName i) → o ≡ some i
+placed (some j) b i h = let z : j ≡ i = cc in rw z
+placed none true i h = let z : _≡_ {A = ℕ} 0 1 = cc in absurd (omega arith)
+placed none false i h = none-some h
+
+of-parameter : (o : Option Where) (b : Bool) (w : Where) → lineFault o b ≡ some (fault PARAMETER w) → o ≡ some w
+of-parameter (some v) b w h = let z : v ≡ w = cc in rw z
+of-parameter none true w h = none-some h
+of-parameter none false w h = let z : _≡_ {A = ℕ} 0 1 = cc in absurd (omega arith)
+
+pub fault-within : (k : List ℕ) (l : ContentLine) (i : ℕ) → propertyFault k l ≡ some (fault PARAMETER (parameterName i)) → i < length (l .parameters)
+unfolding faultAs parametersFault
+fault-within k l i h =
+    let n = upper (l .name) in
+    let p = of-parameter (parametersFault n (typeOfLine l) (l .parameters)) (isRead (valuesOfLine k (typeOfLine l) l)) (parameterName i) h in
+    let f = placed (firstFaulty (fits n (typeOfLine l)) [] (l .parameters)) (lacksEncoding (typeOfLine l) (l .parameters)) i p in
+    let w = first-within (fits n (typeOfLine l)) [] (l .parameters) i f in
+    omega (arith, w)
