@@ -36,16 +36,24 @@ textTable =
     line (ascii "BEGIN:VEVENT") gives refused 6 at 112 ∷
     line (ascii "END:VCALENDAR") gives refused 6 at 112 ∷
     wholeText (textLines ("BEGIN:VCALENDAR" ∷ [])) gives refused 6 at 17 ∷
-    -- 7 PARAMETER: not permitted; repeated; not quoted; BINARY without ENCODING; a type that is none; on BEGIN
-    line (ascii "SUMMARY;TZID=Lake:a") gives refused 7 at 112 ∷
-    line (ascii "SUMMARY;X-A=1;x-a=2:a") gives refused 7 at 112 ∷
-    line (ascii "SUMMARY;ALTREP=cid:a") gives refused 7 at 112 ∷
-    line (ascii "ATTACH;VALUE=BINARY:TWFs") gives refused 7 at 112 ∷
-    line (ascii "X-A;VALUE=X-B:1") gives refused 7 at 112 ∷
-    line (ascii "BEGIN;X-A=1:VALARM") gives refused 7 at 112 ∷
-    -- 8 VALUE: a type that is not permitted; not of the type
-    line (ascii "SUMMARY;VALUE=URI:cid:a") gives refused 8 at 112 ∷
-    line (ascii "GEO:37") gives refused 8 at 112 ∷
+    -- 7 PARAMETER, at the leftmost faulty parameter's name: not permitted; repeated; not quoted; BINARY without ENCODING, at the value; a type that is none; on BEGIN
+    line (ascii "SUMMARY;TZID=Lake:a") gives refused 7 at 120 ∷
+    line (ascii "SUMMARY;X-A=1;x-a=2:a") gives refused 7 at 126 ∷
+    line (ascii "SUMMARY;ALTREP=cid:a") gives refused 7 at 120 ∷
+    line (ascii "ATTACH;VALUE=BINARY:TWFs") gives refused 7 at 132 ∷
+    line (ascii "X-A;VALUE=X-B:1") gives refused 7 at 116 ∷
+    line (ascii "BEGIN;X-A=1:VALARM") gives refused 7 at 118 ∷
+    -- the leftmost of two, one of them judged by a VALUE behind it; folds before the name and within it; RELATED beside a VALUE that names no type
+    line (ascii "SUMMARY;X-A=1;RSVP=TRUE;TZID=Lake:a") gives refused 7 at 126 ∷
+    line (ascii "SUMMARY;\r\n R\r\n SVP=TRUE:x") gives refused 7 at 123 ∷
+    line (ascii "ATTACH;ENCODING=8BIT;VALUE=BINARY;ENCODING=BASE64:AAAA") gives refused 7 at 119 ∷
+    line (ascii "BEGIN:VALARM\r\nTRIGGER;RELATED=START;VALUE=X-A:PT1H") gives refused 7 at 148 ∷
+    line (ascii "BEGIN:VALARM\r\nTRIGGER;RELATED=START;VALUE=DATE:PT1H") gives refused 7 at 134 ∷
+    -- 8 VALUE, at the value: a type that is not permitted; not of the type; empty, at the line's end; behind a fold
+    line (ascii "SUMMARY;VALUE=URI:cid:a") gives refused 8 at 130 ∷
+    line (ascii "GEO:37") gives refused 8 at 116 ∷
+    line (ascii "URL:\r\n \r\n ") gives refused 8 at 122 ∷
+    line (ascii "SUMMARY:\r\n a,b") gives refused 8 at 123 ∷
     -- 9 COUNT, at the END line: too often; a pair excluded
     line (ascii "SUMMARY:a\r\nSUMMARY:b") gives refused 9 at 134 ∷
     line (ascii "DTEND:20240504T090000\r\nDURATION:PT1H") gives refused 9 at 150 ∷
