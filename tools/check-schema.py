@@ -99,17 +99,18 @@ compare("parameters", ours, theirs)
 # ---- properties
 
 props = source("Properties")
-alias = {a: names(body(props, a)) for a in ("altrepLanguage", "language", "tzid", "attendeeParameters", "organizerParameters")}
-ours = {}
+alias = {a: words(body(props, a)) for a in ("altrepLanguage", "language", "tzid", "attendeeParameters", "organizerParameters")}
+ours, signs = {}, {}
 our_order = []
 for line in body(props, "propertyTable").splitlines():
-    m = re.match(r'\s*(takes\w+) \(ascii "([\w-]+)"\) ([A-Z-]+) (\[\]|\([A-Z∷ \[\]-]+\)) (\[\]|\w+|\(.*?\[\]\)) ∷\s*-- (3\.[\d.]+), lines? ([\d, ]+)', line)
+    m = re.match(r'\s*row "([1?*+.]{11})" "([\w-]+)" (one|several) ([A-Z-]+) (\[\]|\([A-Z∷ \[\]-]+\)) (\[\]|\w+|\(.*?\[\]\)) ∷\s*-- (3\.[\d.]+), lines? ([\d, ]+)', line)
     if m:
-        kind, n, t, ts, ps, sec, lns = m.groups()
-        ps = alias[ps] if ps in alias else names(ps)
+        signs_of, n, kind, t, ts, ps, sec, lns = m.groups()
+        ps = alias[ps] if ps in alias else words(ps)
         ours[n] = (kind, [t] + re.findall(r"[A-Z][A-Z-]*", ts), ps, [int(x) for x in lns.split(",")])
+        signs[n] = signs_of
         our_order.append(n)
-    elif "takes" in line:
+    elif "row" in line:
         faults.append("not read: " + line)
 theirs, their_order = {}, []
 words_by, status_by = {}, {}
@@ -134,9 +135,9 @@ for d in order:
     if n in theirs:
         theirs[n][3].append(ln)
     else:
-        theirs[n] = ("takesMany" if listed else "takesOne", ts, pm, [ln])
+        theirs[n] = ("several" if listed else "one", ts, pm, [ln])
         their_order.append(n)
-compare("order of properties", our_order, their_order)
+compare("properties in order of name", our_order, sorted(their_order))
 for n in their_order:
     compare(f"property {n}", ours.get(n), theirs[n])
 
@@ -152,12 +153,11 @@ compare("STATUS", rows(body(props, "statusTable"), "words"),
 # ---- components
 
 comps = source("Components")
-kinds = {"": "once", "?": "optional", "*": "anyTimes", "+": "some⁺"}
-lists = {}
+SIGNS = {"": "1", "?": "?", "*": "*", "+": "+"}
 
 
 def occurrences(t):
-    """in order; a property inside parentheses is `optional`, once"""
+    """in order; a property inside parentheses stands at most once, ?"""
     got, depth = [], 0
     for m in re.finditer(r"[()]|property-[\w-]+[?*+]?", t):
         s = m.group(0)
@@ -165,14 +165,14 @@ def occurrences(t):
             depth += 1 if s == "(" else -1
             continue
         n = element(s.rstrip("?*+"))
-        o = (n, "optional" if depth else kinds[s[len(s.rstrip("?*+")):]])
+        o = (n, "?" if depth else SIGNS[s[len(s.rstrip("?*+")):]])
         if o not in got:
             got.append(o)
     return got
 
 
 # where RFC 5545 decides: what the schema's list has, and what stands in its place
-BY_RFC_5545 = {"eventprop": (("DTSTART", "once"), ("DTSTART", "optional")), "todoprop": (("DTEND", "optional"), ("DUE", "optional"))}
+BY_RFC_5545 = {"type-eventprop": (("DTSTART", "1"), ("DTSTART", "?")), "type-todoprop": (("DTEND", "?"), ("DUE", "?"))}
 
 
 def mended(name, listed):
@@ -181,14 +181,13 @@ def mended(name, listed):
     return [now if o == was else o for o in listed]
 
 
-for d, ours_name in (("type-calprops", "calprops"), ("type-eventprop", "eventprop"), ("type-todoprop", "todoprop"), ("type-jourprop", "jourprop"), ("type-fbprop", "fbprop"),
-                     ("component-vtimezone", "timezoneprop"), ("type-tzprop", "tzprop"), ("type-audioprop", "audioprop"), ("type-emailprop", "emailprop"), ("type-dispprop", "dispprop")):
-    text = body(comps, ours_name)
-    mine = [(n, k) for k, n in re.findall(r'(once|optional|anyTimes|some⁺) \(ascii "([\w-]+)"\)', strip(text))]
-    compare(ours_name, mine, mended(ours_name, occurrences(defs[d][1])))
-    lists[d] = ours_name
+# the columns of the table: the lists of the components, then VALARM's by ACTION
+COLUMNS = ["type-calprops", "type-eventprop", "type-todoprop", "type-jourprop", "type-fbprop", "component-vtimezone", "type-tzprop", "type-tzprop", "type-audioprop", "type-dispprop", "type-emailprop"]
+for i, d in enumerate(COLUMNS):
+    mine = [(n, s[i]) for n, s in signs.items() if s[i] != "."]
+    compare(f"column {i}, {d}", mine, sorted(mended(d, occurrences(defs[d][1]))))
 
-table = re.findall(r'name = ascii "(\w+)"; subcomponents = ((?:ascii "\w+" ∷ )*\[\]); occurrences = (\w+|\[\])', body(comps, "componentTable"))
+table = re.findall(r'name = ascii "(\w+)"; subcomponents = ((?:ascii "\w+" ∷ )*\[\]); occurrences = (listIn \d+|\[\])', body(comps, "componentTable"))
 ours = [(n, names(s), o) for n, s, o in table]
 theirs = []
 for d in order:
@@ -201,20 +200,22 @@ for d in order:
                 if element(k) not in subs:
                     subs.append(element(k))
         use = re.findall(r"type-\w+prop\w*", t)
-        occ = lists[use[0]] if len(use) == 1 else "timezoneprop" if not use else "[]"
+        column = COLUMNS.index(use[0] if len(use) == 1 else "component-vtimezone") + (element(d) == "DAYLIGHT")
+        occ = f"listIn {column}" if len(use) < 2 else "[]"
         theirs.append((element(d), subs, occ))
 compare("components", ours, theirs)
 used = re.findall(r"type-\w+prop", defs["component-valarm"][1])
-alarm = re.findall(r'action = ascii "(\w+)"; occurrences = (\w+)', body(comps, "alarmTable"))
-compare("alarms", alarm, list(zip(words(defs["property-action"][1]), [lists[u] for u in used])))
+alarm = [(a, body(comps, o).strip()) for a, o in re.findall(r'action = ascii "(\w+)"; occurrences = (\w+)', body(comps, "alarmTable"))]
+compare("alarms", alarm, list(zip(words(defs["property-action"][1]), [f"listIn {COLUMNS.index(u)}" for u in used])))
 
-# ---- quoted lines: `-- .. line N` beside an entry, in the component lists too
-for n, l in re.findall(r'ascii "([\w-]+)"\) ∷\s+-- line (\d+)', comps):
+# ---- quoted lines: `-- .. line N` beside an entry, in the lists of the schema's order too
+listed = source("laws/Lists")
+for n, l in re.findall(r'ascii "([\w-]+)"\) ∷\s+-- line (\d+)', listed):
     at = schema[int(l) - 1]
     near = at + schema[int(l)]
     if not any(element("property-" + p) == n for p in re.findall(r"property-([\w-]+)", near)):
         faults.append(f"line {l} has no {n}: {at}")
-for d, l in re.findall(r"((?:type|component)-\w+), line (\d+)", comps):
+for d, l in re.findall(r"((?:type|component)-\w+), line (\d+)", comps + listed):
     if defs[d][0] != int(l) and not (d == "component-vtimezone" and int(l) == 570):
         faults.append(f"{d} stands in line {defs[d][0]}, not {l}")
 for d, l in re.findall(r'name = ascii "(\w+)";.*-- line (\d+)', comps):

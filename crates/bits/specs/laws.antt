@@ -1,3 +1,3 @@
 -- Laws. Bits of a number.
---     Masks     a set of small numbers as a mask; a run of bits
+--     Masks     a set of small numbers as a mask; runs of bits
 pub mod Masks

@@ -3,7 +3,7 @@ ghost use mathlib.Core.Path.{_≡_};
 ghost use mathlib.Core.Bool.{true, cond};
 ghost use Prim.Native.Nat.{ℕ, _<_};
 ghost use lib.Dec.{eqb};
-ghost use Rattle.bits.specs.Masks.{has, bitsAt};
+ghost use Rattle.bits.specs.Masks.{has, lowBits, highBits};
 
 // How many bits a mask has.
 pub const WIDTH: usize = 32;
@@ -26,18 +26,18 @@ pub fn insert(mask: u32, i: usize) -> u32
     mask | (1 << i)
 }
 
-// `count` bits of `x` from number `from` on.
-pub fn bits_at(x: usize, from: usize, count: usize) -> usize
-    requires { ⌜ (from < 64) × (count < 64) ⌝ }
-    ensures { λ r. ⌜ r ≡ bitsAt x from count ⌝ }
+// The lowest `count` bits of `x`.
+pub fn low_bits(x: usize, count: usize) -> usize
+    requires { ⌜ count < 64 ⌝ }
+    ensures { λ r. ⌜ r ≡ lowBits x count ⌝ }
 {
-    (x >> from) & ((1 << count) - 1)
+    x & ((1 << count) - 1)
 }
 
-// Six bits of `x` from number `from` on: a digit of base64, what a byte of UTF-8 after the first has.
-pub fn six_bits(x: usize, from: usize) -> usize
+// The bits of `x` from number `from` on.
+pub fn high_bits(x: usize, from: usize) -> usize
     requires { ⌜ from < 64 ⌝ }
-    ensures { λ r. ⌜ r ≡ bitsAt x from 6 ⌝ }
+    ensures { λ r. ⌜ r ≡ highBits x from ⌝ }
 {
-    (x >> from) & 63
+    x >> from
 }

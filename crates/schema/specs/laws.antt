@@ -12,6 +12,8 @@
 --     Completing  counts over that array
 --     Property    the numbers of properties by name
 --     Halving     a name found by halving
+--     Lists       the lists that the table was made of
+--     Table       the table answers what they answer
 pub mod Types
 pub mod Rows
 pub mod Closed
@@ -25,3 +27,5 @@ pub mod Arrays
 pub mod Halving
 pub mod Completing
 pub mod Property
+pub mod Lists
+pub mod Table

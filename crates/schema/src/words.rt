@@ -7,6 +7,7 @@ use crate::set;
 use names::find_word;
 use octets::wide;
 ghost use mathlib.Core.Path.{_≡_};
+ghost use Prim.Native.Nat.{_<_, _≤_};
 ghost use Rattle.octets.specs.Reading.{isRead};
 ghost use Rattle.source.specs.Source.{rest};
 ghost use Rattle.names.specs.Case.{cased, caseOf};
@@ -74,8 +75,9 @@ fn set_at(k: usize, p: usize) -> usize
     property_set(p)
 }
 
-// The place of the word in the set `n`.
-fn read_in_set(n: usize, xcal: bool, mode: usize, s: &[u8], at: usize) -> WordRead
+// The place of the word in the set `n` of a property.
+fn read_in_property_set(n: usize, xcal: bool, mode: usize, s: &[u8], at: usize) -> WordRead
+    requires { ⌜ n < 8 ⌝ }
     ensures { λ r. ⌜ r ≡ wordIn (nth wordSets n) (cased (caseOf xcal) (rest mode (now (s .entry)) at)) ⌝ }
 {
     if n <= set::CALSCALE {
@@ -106,9 +108,14 @@ fn read_in_set(n: usize, xcal: bool, mode: usize, s: &[u8], at: usize) -> WordRe
             b"NEEDS-ACTION\nCOMPLETED\nIN-PROCESS\nCANCELLED\n",
         );
     }
-    if n <= set::JOURNAL_STATUS {
-        return read_word_in(3, xcal, mode, s, at, b"DRAFT\nFINAL\nCANCELLED\n");
-    }
+    read_word_in(3, xcal, mode, s, at, b"DRAFT\nFINAL\nCANCELLED\n")
+}
+
+// The place of the word in the set `n` of a parameter; no word where there is no such set.
+fn read_in_parameter_set(n: usize, xcal: bool, mode: usize, s: &[u8], at: usize) -> WordRead
+    requires { ⌜ 8 ≤ n ⌝ }
+    ensures { λ r. ⌜ r ≡ wordIn (nth wordSets n) (cased (caseOf xcal) (rest mode (now (s .entry)) at)) ⌝ }
+{
     if n <= set::CUTYPE {
         return read_word_in(
             5,
@@ -164,6 +171,16 @@ fn read_in_set(n: usize, xcal: bool, mode: usize, s: &[u8], at: usize) -> WordRe
     WordRead::NoWord
 }
 
+// The place of the word in the set `n`.
+fn read_in_set(n: usize, xcal: bool, mode: usize, s: &[u8], at: usize) -> WordRead
+    ensures { λ r. ⌜ r ≡ wordIn (nth wordSets n) (cased (caseOf xcal) (rest mode (now (s .entry)) at)) ⌝ }
+{
+    if n < set::CUTYPE {
+        return read_in_property_set(n, xcal, mode, s, at);
+    }
+    read_in_parameter_set(n, xcal, mode, s, at)
+}
+
 // Whether a property has a closed set in a component.
 pub fn has_words(k: usize, p: usize) -> bool
     ensures { λ r. ⌜ r ≡ isRead (wordsAt k p) ⌝ }
@@ -182,25 +199,25 @@ pub fn read_word_of(k: usize, p: usize, xcal: bool, mode: usize, s: &[u8], at: u
 
 // The number of the set of each parameter.
 const PARAMETER_SETS: [u8; 19] = [
-    16,
-    16,
-    8,
-    16,
-    16,
-    16,
-    9,
-    16,
-    10,
-    16,
-    16,
-    11,
-    12,
-    13,
-    14,
-    15,
-    16,
-    16,
-    16,
+    set::NONE as u8, // ALTREP
+    set::NONE as u8, // CN
+    set::CUTYPE as u8, // CUTYPE
+    set::NONE as u8, // DELEGATED-FROM
+    set::NONE as u8, // DELEGATED-TO
+    set::NONE as u8, // DIR
+    set::ENCODING as u8, // ENCODING
+    set::NONE as u8, // FMTTYPE
+    set::FBTYPE as u8, // FBTYPE
+    set::NONE as u8, // LANGUAGE
+    set::NONE as u8, // MEMBER
+    set::PARTSTAT as u8, // PARTSTAT
+    set::RANGE as u8, // RANGE
+    set::RELATED as u8, // RELATED
+    set::RELTYPE as u8, // RELTYPE
+    set::ROLE as u8, // ROLE
+    set::NONE as u8, // RSVP
+    set::NONE as u8, // SENT-BY
+    set::NONE as u8, // TZID
 ];
 
 fn parameter_set(q: usize) -> usize

@@ -1,5 +1,6 @@
 // BINARY. See specs/Binary.antt.
 use crate::Kept;
+use bits::low_bits;
 use octets::is_alpha;
 use octets::is_capital;
 use octets::is_digit;
@@ -62,7 +63,7 @@ fn worth(u: usize) -> usize
     0
 }
 
-// Whether `=` may stand at a place, after the character `last`.
+// Whether `=` may stand at a place, after the character `last`: the bits that it has over are zero.
 fn pad_fits(n: usize, last: usize) -> bool
     ensures { λ r. ⌜ r ≡ padFits n last ⌝ }
 {
@@ -70,10 +71,10 @@ fn pad_fits(n: usize, last: usize) -> bool
         return true;
     }
     if n == 2 {
-        return worth(last) % 16 == 0;
+        return low_bits(worth(last), 4) == 0;
     }
     if n == 3 {
-        return worth(last) % 4 == 0;
+        return low_bits(worth(last), 2) == 0;
     }
     false
 }

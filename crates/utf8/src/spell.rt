@@ -1,11 +1,13 @@
 // The bytes of a code point, one by one. See specs/Spell.antt.
+use bits::high_bits;
+use bits::low_bits;
 use octets::is_within;
 use octets::unit::LF;
 use octets::unit::TAB;
 ghost use mathlib.Core.Path.{_≡_};
 ghost use Prim.Native.Nat.{_<_};
 ghost use lib.ListN.{length, getD};
-ghost use Rattle.utf8.specs.Spell.{isCharacter, spell};
+ghost use Rattle.utf8.specs.Spell.{isCharacter, spell, tailOf};
 ghost use Rattle.utf8.specs.SpellAt.{twoOf, threeOf, fourOf};
 
 // Whether a reference may name the code point `c`.
@@ -46,15 +48,25 @@ pub fn spelled_length(c: usize) -> usize
     4
 }
 
+// How many bits of a code point a byte after the first has.
+const TAIL_BITS: usize = 6;
+
+// The byte with the lowest six bits of `x`.
+fn tail(x: usize) -> usize
+    ensures { λ r. ⌜ r ≡ tailOf x ⌝ }
+{
+    0x80 + low_bits(x, TAIL_BITS)
+}
+
 // Byte number `k` of the two, three and four bytes of a code point; 0 for any other number.
 fn of_two(c: usize, k: usize) -> usize
     ensures { λ r. ⌜ r ≡ twoOf c k ⌝ }
 {
     if k == 0 {
-        return 0xC0 + c / 64;
+        return 0xC0 + high_bits(c, TAIL_BITS);
     }
     if k == 1 {
-        return 0x80 + c % 64;
+        return tail(c);
     }
     0
 }
@@ -63,13 +75,13 @@ fn of_three(c: usize, k: usize) -> usize
     ensures { λ r. ⌜ r ≡ threeOf c k ⌝ }
 {
     if k == 0 {
-        return 0xE0 + c / 4096;
+        return 0xE0 + high_bits(c, 2 * TAIL_BITS);
     }
     if k == 1 {
-        return 0x80 + c / 64 % 64;
+        return tail(high_bits(c, TAIL_BITS));
     }
     if k == 2 {
-        return 0x80 + c % 64;
+        return tail(c);
     }
     0
 }
@@ -78,16 +90,16 @@ fn of_four(c: usize, k: usize) -> usize
     ensures { λ r. ⌜ r ≡ fourOf c k ⌝ }
 {
     if k == 0 {
-        return 0xF0 + c / 262144;
+        return 0xF0 + high_bits(c, 3 * TAIL_BITS);
     }
     if k == 1 {
-        return 0x80 + c / 4096 % 64;
+        return tail(high_bits(c, 2 * TAIL_BITS));
     }
     if k == 2 {
-        return 0x80 + c / 64 % 64;
+        return tail(high_bits(c, TAIL_BITS));
     }
     if k == 3 {
-        return 0x80 + c % 64;
+        return tail(c);
     }
     0
 }

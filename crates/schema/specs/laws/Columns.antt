@@ -91,7 +91,7 @@ listed-place w = listed-at (placeOf w propertyNames) ∙ ap (λ (r : PropertyRow
 
 -- ---- types
 
-pub even : Bool → Bool → Bool
+unfoldable pub even : Bool → Bool → Bool
 even true b = b
 even false b = not b
 
@@ -190,7 +190,7 @@ outside-row : (c : List ℕ) → isOneOf c componentNames ≡ false → componen
 unfolding componentRow readOr
 outside-row c u = rw (row-none (λ r. r .name) c componentTable u)
 
-stand-outside : (c w : List ℕ) → isOneOf c componentNames ≡ false → mayStand c w ≡ false
+pub stand-outside : (c w : List ℕ) → isOneOf c componentNames ≡ false → mayStand c w ≡ false
 unfolding mayStand isOneOf pick
 stand-outside c w u = go (isAlarm c) (same-swap (ascii "VALARM") c (same-apart (λ v. isOneOf v componentNames) (ascii "VALARM") c alarm-known u)) (componentRow c) (outside-row c u)
   where

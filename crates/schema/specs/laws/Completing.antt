@@ -126,13 +126,13 @@ saturated l (some m) n h =
     let q : l ≤ m = leb-true l m (and-both (leb m 1) (leb l m) h .1) in
     rw (leb-agree l (min 255 n) l n (λ k. omega arith) (λ k. omega arith), leb-agree (min 255 n) m n m (λ k. omega arith) (λ k. omega arith))
 
-evenMost : Option ℕ → Option ℕ → Bool
+unfoldable pub evenMost : Option ℕ → Option ℕ → Bool
 evenMost none none = true
 evenMost none (some n) = false
 evenMost (some m) none = false
 evenMost (some m) (some n) = eqb m n
 
-most-is : (a b : Option ℕ) → evenMost a b ≡ true → a ≡ b
+pub most-is : (a b : Option ℕ) → evenMost a b ≡ true → a ≡ b
 unfolding evenMost
 most-is none none h = refl
 most-is none (some n) h = absurd (false≢true h)
@@ -155,7 +155,7 @@ from-passes p i zero n a h = absurd (not-suc-le-zero h)
 from-passes p i (suc k) zero a h = ap p (omega arith) ∙ and-both _ _ a .0
 from-passes p i (suc k) (suc n) a h = ap p (omega arith) ∙ from-passes p (suc i) k n (and-both _ _ a .1) (le-of-suc-le-suc h)
 
-below-passes : (p : ℕ → Bool) (k n : ℕ) → eachFrom 0 k p ≡ true → n < k → p n ≡ true
+pub below-passes : (p : ℕ → Bool) (k n : ℕ) → eachFrom 0 k p ≡ true → n < k → p n ≡ true
 below-passes p k n a h = let z : n ≡ 0 + n = omega arith in ap p z ∙ from-passes p 0 k n a h
 
 often-same : (e : Entry) (l c least : ℕ) (most : Option ℕ) → leastIn e l ≡ least → mostIn e l ≡ most → plainBy least most ≡ true →

@@ -142,6 +142,10 @@ standing-known l (r ∷ rs) a = go (eqb (getD (r .signs) l 46) 46) (standing-kno
 list-known : (l : ℕ) → everyKnown (listIn l) ≡ true
 list-known l = standing-known l propertyTable table-known
 
+pub list-names-known : (l : ℕ) → every isKnownProperty (map (λ o. o .property) (listIn l)) ≡ true
+unfolding everyKnown
+list-names-known l = list-known l
+
 both-known : (os ps : List Occurrence) → everyKnown os ≡ true → everyKnown ps ≡ true → everyKnown (os ⊕ ps) ≡ true
 unfolding everyKnown every _⊕_ _and_
 both-known [] ps h k = k

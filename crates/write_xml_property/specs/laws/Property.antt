@@ -16,7 +16,6 @@ use Rattle.octets.specs.Scan.{spanLen}
 use Rattle.octets.specs.Reading.{readOr, orNothing}
 use Rattle.octets.specs.laws.Reading.{none-some}
 use Rattle.names.specs.Table.{placeOf}
-use Rattle.calendar.specs.Calendar.{TEXT}
 use Rattle.sink.specs.Sink.{Put}
 use Rattle.source.specs.Source.{rest, cuts}
 use Rattle.source.specs.laws.Facts.{rest-past}

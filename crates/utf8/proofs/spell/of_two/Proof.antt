@@ -5,9 +5,10 @@ use Rattle.utf8.proofs.spell.of_two.Tie as tie
 
 pub of-two-spec : {M : Type 1} → statement M
 of-two-spec = tie.close (tie.spec
+    (λ c κs. search branching)  -- high-bits-requires
     (λ c. search branching)  -- add-result
-    (λ c. search branching)  -- returns
-    (λ c. search branching)  -- add-result-2
+    (λ c. rw (c .high-bits .ensures) (search branching))  -- returns
+    (λ c κs. search branching)  -- tail-requires
     (λ c. search branching)  -- returns-2
     (λ c. search branching)  -- returns-3
     )
