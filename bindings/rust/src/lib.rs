@@ -65,9 +65,9 @@ pub enum Number {
     Name = 5,
     /// Something where it may not stand, or something open or missing at the end.
     Frame = 6,
-    /// A parameter that is not permitted, comes again, or has a bad value.
+    /// A parameter that is not permitted, comes again, or has a bad value. In a text the place is that of the leftmost such parameter's name, of the value where ENCODING is missing.
     Parameter = 7,
-    /// A value that is not of a permitted type.
+    /// A value that is not of a permitted type. In a text the place is that of the value, behind its colon.
     Value = 8,
     /// A property missing or too often, a pair broken, a VTIMEZONE with nothing in it.
     Count = 9,
@@ -80,8 +80,8 @@ pub enum Number {
 pub struct Refusal {
     /// Why.
     pub number: Number,
-    /// Where: the start of the line, tag, reference or character; the input's length if something is open or missing at its end; 0 for [`Number::Length`] and
-    /// [`Number::Work`]. A line starts at the first of its bytes that unfolding keeps.
+    /// Where: the start of the line, parameter, value, tag, reference or character; the input's length if something is open or missing at its end; 0 for [`Number::Length`] and
+    /// [`Number::Work`]. A line, and what is in it, starts at the first of its bytes that unfolding keeps.
     pub place: usize,
 }
 
