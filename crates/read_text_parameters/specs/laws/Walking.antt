@@ -160,6 +160,7 @@ fits-cases row t q vs false false h = rw (permits-any row 5 (readOr 5 t) q h, en
 pub fits-by : (row : Row) (t : Option ℕ) (r : RawParameter) → fitsBy row (typeFor (placeOf (upper (r .name)) parameterNames) t) (placeOf (upper (r .name)) parameterNames) (r .values) ≡ fitsAt row t r
 unfolding fitsAt pick _or_
 fits-by row t r = rw (parameter-read r, encoding-place (upper (r .name))) (fits-cases row t (placeOf (upper (r .name)) parameterNames) (r .values) (eqb (placeOf (upper (r .name)) parameterNames) 13) (eqb (placeOf (upper (r .name)) parameterNames) 6) refl)
+
 -- ---- the walk
 
 pub record Walked (row : Row) (all left : List RawParameter) (n : Noted) : Type 0 where
