@@ -1,7 +1,7 @@
 -- One name that opens every shut definition of this crate and of those that it uses, for examples that compute: `unfolding numbers-compute`.
 use Prim.Native.Nat.{ℕ}
 use Rattle.octets.specs.Computing.{octets-compute}
-use Rattle.numbers.specs.Sign.{hasMinus, unsigned, leadsInDigit}
+use Rattle.numbers.specs.Sign.{hasMinus, afterSign, leadsInDigit}
 use Rattle.numbers.specs.Float.{fraction, pointed, noLeading, kept, noTrailing, orZero, afterPoint, leadsInZero, endsInZero}
 use Rattle.numbers.specs.Worth.{zeros}
 use Rattle.numbers.specs.Geo.{longitude, coordinates}
@@ -13,5 +13,5 @@ use Rattle.numbers.specs.ReadGeo.{bothOf}
 use Rattle.source.specs.Source.{rest, spell}
 
 unfoldable pub numbers-compute : ℕ
-unfolding octets-compute hasMinus unsigned leadsInDigit fraction pointed noLeading kept noTrailing orZero afterPoint leadsInZero endsInZero zeros longitude coordinates worthTo numberIn wholeFrom until front afterDigits moreAfter bothOf rest spell
+unfolding octets-compute hasMinus afterSign leadsInDigit fraction pointed noLeading kept noTrailing orZero afterPoint leadsInZero endsInZero zeros longitude coordinates worthTo numberIn wholeFrom until front afterDigits moreAfter bothOf rest spell
 numbers-compute = 0

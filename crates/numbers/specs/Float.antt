@@ -15,7 +15,7 @@ use Rattle.octets.specs.Class.{isDigit}
 use Rattle.octets.specs.Words.{isEmpty, cutAt}
 use Rattle.octets.specs.Reading.{provided, andThen}
 use Rattle.calendar.specs.Calendar.{Decimal}
-use Rattle.numbers.specs.Sign.{hasMinus, unsigned, signed, isDigits}
+use Rattle.numbers.specs.Sign.{hasMinus, afterSign, minusIf, isDigits}
 
 abbrev pub decimal : Bool → List ℕ → List ℕ → Decimal
 decimal m b a = record { minus = m; before = b; after = a }
@@ -31,7 +31,7 @@ pointed m [] = none
 pointed m (b ∷ ps) = pick (isDigits b) (andThen (fraction ps) (λ a. some (decimal m b a))) none
 
 abbrev pub spelled : List ℕ → Option Decimal
-spelled s = pointed (hasMinus s) (cutAt 46 (unsigned s))
+spelled s = pointed (hasMinus s) (cutAt 46 (afterSign s))
 
 -- ---- the normal form; 48 is 0
 
@@ -65,7 +65,7 @@ afterPoint [] = []
 afterPoint (b ∷ s) = 46 ∷ b ∷ s
 
 abbrev pub writeFloat : Decimal → List ℕ
-writeFloat d = signed (d .minus) (orZero (d .before) ⊕ afterPoint (d .after))
+writeFloat d = minusIf (d .minus) (orZero (d .before) ⊕ afterPoint (d .after))
 
 -- ---- what is in normal form
 

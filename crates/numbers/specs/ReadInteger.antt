@@ -10,7 +10,7 @@ use lib.Dec.{eqb}
 use Rattle.octets.specs.Pick.{pick}
 use Rattle.octets.specs.Decimal.{value, isNumber}
 use Rattle.calendar.specs.Calendar.{Whole}
-use Rattle.numbers.specs.Integer.{whole}
+use Rattle.numbers.specs.Integer.{integerOf}
 use Rattle.numbers.specs.declared.integer.IntegerRead.{IntegerRead}
 use Rattle.numbers.specs.declared.integer.IntegerRead.the-variants.{Value, Bad}
 
@@ -25,4 +25,4 @@ wholeOf (Value m n) = some (wholeIs m n)
 wholeOf Bad = none
 
 unfoldable pub wholeFrom : Bool → ℕ → Option Whole
-wholeFrom m n = pick (eqb n 4294967295) none (some (whole m n))
+wholeFrom m n = pick (eqb n 4294967295) none (some (integerOf m n))

@@ -1,7 +1,7 @@
 -- The sign in front of a number (RFC 5545, sections 3.3.7 and 3.3.8): (["+"] / "-").
 --     hasMinus s     a minus stands at the front of s
---     unsigned s     s without the sign at its front, if it has one
---     signed m s     s with a minus in front if m says so; a plus is not written
+--     afterSign s    s without the sign at its front, if it has one
+--     minusIf m s    s with a minus in front if m says so; a plus is not written
 --     isDigits s     1*DIGIT
 --     leadsInDigit s    s begins with a digit
 use mathlib.Core.Bool.{Bool, false}
@@ -18,12 +18,12 @@ unfoldable pub hasMinus : List ℕ → Bool
 hasMinus [] = false
 hasMinus (b ∷ s) = eqb b 45
 
-unfoldable pub unsigned : List ℕ → List ℕ
-unsigned [] = []
-unsigned (b ∷ s) = pick (eqb b 45 or eqb b 43) s (b ∷ s)
+unfoldable pub afterSign : List ℕ → List ℕ
+afterSign [] = []
+afterSign (b ∷ s) = pick (eqb b 45 or eqb b 43) s (b ∷ s)
 
-abbrev pub signed : Bool → List ℕ → List ℕ
-signed m s = pick m (45 ∷ s) s
+abbrev pub minusIf : Bool → List ℕ → List ℕ
+minusIf m s = pick m (45 ∷ s) s
 
 abbrev pub isDigits : List ℕ → Bool
 isDigits s = ltb 0 (length s) and allOf isDigit s

@@ -12,7 +12,7 @@ ghost use Rattle.octets.specs.Decimal.{digits};
 ghost use Rattle.octets.specs.Reading.{orNothing};
 ghost use Rattle.source.specs.Source.{rest};
 ghost use Rattle.sink.specs.Sink.{Put};
-ghost use Rattle.numbers.specs.Integer.{whole, writeWhole, readInteger, writeInteger};
+ghost use Rattle.numbers.specs.Integer.{integerOf, writeWhole, readInteger, writeInteger};
 ghost use Rattle.numbers.specs.ReadInteger.{numberIn, wholeFrom, wholeOf, wholeIs};
 
 // A number: whether it is negative, and its magnitude.

@@ -8,7 +8,7 @@ use source::Step;
 use source::unit;
 ghost use mathlib.Core.Path.{_≡_};
 ghost use Rattle.octets.specs.Words.{isEmpty};
-ghost use Rattle.numbers.specs.Sign.{hasMinus, unsigned, isDigits};
+ghost use Rattle.numbers.specs.Sign.{hasMinus, afterSign, isDigits};
 ghost use Rattle.numbers.specs.Float.{noLeading, noTrailing};
 ghost use Rattle.numbers.specs.Until.{until, Turns};
 ghost use Rattle.numbers.specs.FloatParts.{afterDigits};
@@ -105,7 +105,7 @@ pub fn has_minus(stop: usize, mode: usize, s: &[u8], at: usize) -> bool
 
 // After the sign, if there is one.
 pub fn sign_end(stop: usize, mode: usize, s: &[u8], at: usize) -> usize
-    ensures { λ r. ⌜ unsigned (until stop mode (now (s .entry)) at) ≡ until stop mode (now (s .entry)) r ⌝ }
+    ensures { λ r. ⌜ afterSign (until stop mode (now (s .entry)) at) ≡ until stop mode (now (s .entry)) r ⌝ }
 {
     let t = unit_to(stop, mode, s, at);
     let u = t.u;

@@ -28,7 +28,7 @@ use Rattle.schema.specs.Columns.{permitsAt}
 use Rattle.schema.specs.declared.table.Row.{Row}
 use Rattle.distinct.specs.Again.{firstAgain}
 use Rattle.read_text_line.specs.ContentLine.{ParamValue, RawParameter}
-use Rattle.text.specs.Parameters.{isWord, isBase64, readParameter, typeIn}
+use Rattle.text.specs.Parameters.{isWord, isRawBase64Encoding, readParameter, typeIn}
 use Rattle.text.specs.Faults.{Where, parameterName, valueStart, isEncoding, firstFaulty, placeOfFault}
 use Rattle.read_text_parameters.specs.Readable.{isReadBy}
 use Rattle.read_text_parameters.specs.Stating.{statedAt}
@@ -74,7 +74,7 @@ unfoldable pub fitsAt : Row → Option ℕ → RawParameter → Bool
 fitsAt row t r =
     permitsAt row (readOr 5 t) (placeOf (upper (r .name)) parameterNames)
     and isRead (readParameter r)
-    and (not (isBinaryAt t and isEncoding r) or isBase64 r)
+    and (not (isBinaryAt t and isEncoding r) or isRawBase64Encoding r)
 
 -- ---- the type behind it: of the values of a parameter of the number q, where the line states the type o, and t is the type so far
 

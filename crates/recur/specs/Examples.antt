@@ -8,7 +8,7 @@ use Rattle.octets.specs.Ascii.{ascii}
 use Rattle.octets.specs.Reading.{isRead}
 use Rattle.calendar.specs.Calendar.{Format, ical, xcal, RulePart, moment, number, word, weekday}
 use Rattle.recur.specs.Parts.{partNames, isListPart, partOrder}
-use Rattle.recur.specs.Item.{whole, readItem, writeItem, isItem}
+use Rattle.recur.specs.Item.{wholeNumber, readItem, writeItem, isItem}
 use Rattle.recur.specs.Rule.{rulePart, readRule, writeRule, isRule}
 use Rattle.recur.specs.Computing.{recur-compute}
 
@@ -19,22 +19,22 @@ words = refl
 
 -- digit counts, signs and ranges
 counts : map (readItem ical (ascii "COUNT")) (ascii "0005" ∷ ascii "+5" ∷ ascii "0" ∷ ascii "2147483647" ∷ ascii "2147483648" ∷ ascii "" ∷ [])
-    ≡ some (number (whole false 5)) ∷ none ∷ none ∷ some (number (whole false 2147483647)) ∷ none ∷ none ∷ []
+    ≡ some (number (wholeNumber false 5)) ∷ none ∷ none ∷ some (number (wholeNumber false 2147483647)) ∷ none ∷ none ∷ []
 unfolding recur-compute
 counts = refl
 
 seconds : map (readItem ical (ascii "BYSECOND")) (ascii "07" ∷ ascii "007" ∷ ascii "60" ∷ ascii "61" ∷ ascii "-1" ∷ [])
-    ≡ some (number (whole false 7)) ∷ none ∷ some (number (whole false 60)) ∷ none ∷ none ∷ []
+    ≡ some (number (wholeNumber false 7)) ∷ none ∷ some (number (wholeNumber false 60)) ∷ none ∷ none ∷ []
 unfolding recur-compute
 seconds = refl
 
 positions : map (readItem xcal (ascii "BYSETPOS")) (ascii "-366" ∷ ascii "+001" ∷ ascii "0" ∷ ascii "-" ∷ ascii "+-1" ∷ [])
-    ≡ some (number (whole true 366)) ∷ some (number (whole false 1)) ∷ none ∷ none ∷ none ∷ []
+    ≡ some (number (wholeNumber true 366)) ∷ some (number (wholeNumber false 1)) ∷ none ∷ none ∷ none ∷ []
 unfolding recur-compute
 positions = refl
 
 days : map (readItem ical (ascii "BYDAY")) (ascii "su" ∷ ascii "+2Mo" ∷ ascii "-1SU" ∷ ascii "54SU" ∷ ascii "+SU" ∷ ascii "1" ∷ ascii "SUMO" ∷ ascii "SU1" ∷ [])
-    ≡ some (weekday none (ascii "SU")) ∷ some (weekday (some (whole false 2)) (ascii "MO")) ∷ some (weekday (some (whole true 1)) (ascii "SU")) ∷ none ∷ none ∷ none ∷ none ∷ none ∷ []
+    ≡ some (weekday none (ascii "SU")) ∷ some (weekday (some (wholeNumber false 2)) (ascii "MO")) ∷ some (weekday (some (wholeNumber true 1)) (ascii "SU")) ∷ none ∷ none ∷ none ∷ none ∷ none ∷ []
 unfolding recur-compute
 days = refl
 
@@ -53,13 +53,13 @@ xml-written : map (writeItem xcal) (moment (ascii "20240504") ∷ moment (ascii 
 unfolding recur-compute
 xml-written = refl
 
-written : map (writeItem ical) (number (whole true 366) ∷ weekday (some (whole true 1)) (ascii "SU") ∷ weekday none (ascii "MO") ∷ word (ascii "DAILY") ∷ [])
+written : map (writeItem ical) (number (wholeNumber true 366) ∷ weekday (some (wholeNumber true 1)) (ascii "SU") ∷ weekday none (ascii "MO") ∷ word (ascii "DAILY") ∷ [])
     ≡ ascii "-366" ∷ ascii "-1SU" ∷ ascii "MO" ∷ ascii "DAILY" ∷ []
 unfolding recur-compute
 written = refl
 
 -- what can be an item of a part
-items : map (isItem (ascii "BYMONTHDAY")) (number (whole true 31) ∷ number (whole false 0) ∷ number (whole false 32) ∷ word (ascii "SU") ∷ []) ≡ true ∷ false ∷ false ∷ false ∷ []
+items : map (isItem (ascii "BYMONTHDAY")) (number (wholeNumber true 31) ∷ number (wholeNumber false 0) ∷ number (wholeNumber false 32) ∷ word (ascii "SU") ∷ []) ≡ true ∷ false ∷ false ∷ false ∷ []
 unfolding recur-compute
 items = refl
 
@@ -67,8 +67,8 @@ items = refl
 rule : readRule (ascii "byday=-1SU,mo;FREQ=monthly;Count=010")
     ≡ some (
     rulePart (ascii "FREQ") (word (ascii "MONTHLY") ∷ [])
-    ∷ rulePart (ascii "COUNT") (number (whole false 10) ∷ [])
-    ∷ rulePart (ascii "BYDAY") (weekday (some (whole true 1)) (ascii "SU") ∷ weekday none (ascii "MO") ∷ [])
+    ∷ rulePart (ascii "COUNT") (number (wholeNumber false 10) ∷ [])
+    ∷ rulePart (ascii "BYDAY") (weekday (some (wholeNumber true 1)) (ascii "SU") ∷ weekday none (ascii "MO") ∷ [])
     ∷ [])
 unfolding recur-compute
 rule = refl
@@ -76,7 +76,7 @@ rule = refl
 rule-written : writeRule (
     rulePart (ascii "FREQ") (word (ascii "YEARLY") ∷ [])
     ∷ rulePart (ascii "UNTIL") (moment (ascii "20240504") ∷ [])
-    ∷ rulePart (ascii "BYMONTH") (number (whole false 1) ∷ number (whole false 12) ∷ [])
+    ∷ rulePart (ascii "BYMONTH") (number (wholeNumber false 1) ∷ number (wholeNumber false 12) ∷ [])
     ∷ [])
     ≡ ascii "FREQ=YEARLY;UNTIL=20240504;BYMONTH=1,12"
 unfolding recur-compute
@@ -86,7 +86,7 @@ freq : RulePart
 freq = rulePart (ascii "FREQ") (word (ascii "DAILY") ∷ [])
 
 count : RulePart
-count = rulePart (ascii "COUNT") (number (whole false 5) ∷ [])
+count = rulePart (ascii "COUNT") (number (wholeNumber false 5) ∷ [])
 
 until : RulePart
 until = rulePart (ascii "UNTIL") (moment (ascii "20240504") ∷ [])

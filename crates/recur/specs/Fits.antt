@@ -10,7 +10,7 @@ use Rattle.octets.specs.Words.{isOneOf, isEmpty}
 use Rattle.octets.specs.Reading.{isRead}
 use Rattle.octets.specs.Front.{upTo, fromOn}
 use Rattle.calendar.specs.Calendar.{Format}
-use Rattle.numbers.specs.Sign.{unsigned as afterSign}
+use Rattle.numbers.specs.Sign.{afterSign}
 use Rattle.recur.specs.Parts.{ItemForm, wordOf, enddate, counting, unsigned, signed, weekdaynum, weekdays}
 use Rattle.recur.specs.Item.{inCapitals, isNumeral, isShort, readEnddate}
 use Rattle.recur.specs.declared.item.ItemRead.{ItemRead}

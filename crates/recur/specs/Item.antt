@@ -19,12 +19,12 @@ use Rattle.octets.specs.Front.{upTo, fromOn}
 use Rattle.calendar.specs.Calendar.{Format, ical, xcal, Whole, RuleItem, moment, number, word, weekday}
 use Rattle.times.specs.Date.{isDate, readDate, writeDate}
 use Rattle.times.specs.DateTime.{isDateTime, readDateTime, writeDateTime}
-use Rattle.numbers.specs.Sign.{hasMinus, unsigned as afterSign}
+use Rattle.numbers.specs.Sign.{hasMinus, afterSign}
 use Rattle.numbers.specs.Integer.{writeWhole}
 use Rattle.recur.specs.Parts.{ItemForm, wordOf, enddate, counting, unsigned, signed, weekdaynum, Part, partOf, weekdays}
 
-abbrev pub whole : Bool → ℕ → Whole
-whole minus n = record { negative = minus; magnitude = n }
+abbrev pub wholeNumber : Bool → ℕ → Whole
+wholeNumber minus n = record { negative = minus; magnitude = n }
 
 -- ---- words: FREQ, WKST and the weekday of BYDAY
 
@@ -46,15 +46,15 @@ isShort d s = leb (length s) d
 
 -- 1*DIGIT, 1 to 2147483647
 abbrev pub readCounting : List ℕ → Option Whole
-readCounting s = provided (isNumeral 1 2147483647 s) (whole false (value 0 s))
+readCounting s = provided (isNumeral 1 2147483647 s) (wholeNumber false (value 0 s))
 
 -- 1*dDIGIT, lo to hi
 abbrev pub readUnsigned : ℕ → ℕ → ℕ → List ℕ → Option Whole
-readUnsigned d lo hi s = provided (isShort d s and isNumeral lo hi s) (whole false (value 0 s))
+readUnsigned d lo hi s = provided (isShort d s and isNumeral lo hi s) (wholeNumber false (value 0 s))
 
 -- [plus / minus] 1*dDIGIT, 1 to hi
 abbrev pub readSigned : ℕ → ℕ → List ℕ → Option Whole
-readSigned d hi s = provided (isShort d (afterSign s) and isNumeral 1 hi (afterSign s)) (whole (hasMinus s) (value 0 (afterSign s)))
+readSigned d hi s = provided (isShort d (afterSign s) and isNumeral 1 hi (afterSign s)) (wholeNumber (hasMinus s) (value 0 (afterSign s)))
 
 -- ---- weekdays: an ordinal, if there are characters before the first letter, and a weekday
 

@@ -10,14 +10,14 @@ use Rattle.octets.specs.Words.{isEmpty}
 use Rattle.octets.specs.Reading.{orNothing}
 use Rattle.octets.specs.Front.{upTo, fromOn}
 use Rattle.calendar.specs.Calendar.{Format}
-use Rattle.numbers.specs.Sign.{hasMinus, unsigned as afterSign}
+use Rattle.numbers.specs.Sign.{hasMinus, afterSign}
 use Rattle.numbers.specs.Integer.{writeWhole}
 use Rattle.recur.specs.Parts.{ItemForm, wordOf, enddate, counting, unsigned, signed, weekdaynum, Part}
-use Rattle.recur.specs.Item.{inCapitals, readEnddate, writeEnddate, whole}
+use Rattle.recur.specs.Item.{inCapitals, readEnddate, writeEnddate, wholeNumber}
 use Rattle.recur.specs.Numeral.{numeralIn}
 
 abbrev pub shownNumber : List ℕ → List ℕ
-shownNumber s = writeWhole (whole (hasMinus s) (numeralIn 0 2147483647 (afterSign s)))
+shownNumber s = writeWhole (wholeNumber (hasMinus s) (numeralIn 0 2147483647 (afterSign s)))
 
 abbrev pub shownOrdinal : List ℕ → List ℕ
 shownOrdinal s = pick (isEmpty s) [] (shownNumber s)

@@ -8,7 +8,7 @@ ghost use mathlib.Core.Path.{_≡_};
 ghost use Prim.Native.Nat.{_≤_, _<_};
 ghost use Rattle.octets.specs.Pick.{_and_};
 ghost use Rattle.source.specs.Source.{rest};
-ghost use Rattle.numbers.specs.Sign.{unsigned};
+ghost use Rattle.numbers.specs.Sign.{afterSign};
 ghost use Rattle.numbers.specs.Numeral.{front};
 ghost use Rattle.recur.specs.Item.{isShort, isNumeral};
 ghost use Rattle.recur.specs.Numeral.{numeralIn};
@@ -82,7 +82,7 @@ pub fn is_unsigned(
 // The cursor after a sign.
 pub fn after_sign(letters: bool, mode: usize, s: &[u8], at: usize) -> usize
     ensures { λ r. ⌜
-        unsigned (front letters (rest mode (now (s .entry)) at)) ≡ front letters (rest mode (now (s .entry)) r) ⌝ }
+        afterSign (front letters (rest mode (now (s .entry)) at)) ≡ front letters (rest mode (now (s .entry)) r) ⌝ }
 {
     let t = front_unit(letters, mode, s, at);
     let u = t.u;
@@ -98,7 +98,7 @@ pub fn after_sign(letters: bool, mode: usize, s: &[u8], at: usize) -> usize
 // A number of 1 to `hi`, of no more than `d` digits, that may have a sign.
 pub fn is_signed(letters: bool, d: usize, hi: usize, mode: usize, s: &[u8], at: usize) -> bool
     requires { ⌜ hi ≤ 2147483647 ⌝ }
-    ensures { λ r. ⌜ r ≡ isNumeralOf d 1 hi (unsigned (front letters (rest mode (now (s .entry)) at))) ⌝ }
+    ensures { λ r. ⌜ r ≡ isNumeralOf d 1 hi (afterSign (front letters (rest mode (now (s .entry)) at))) ⌝ }
 {
     let c = after_sign(letters, mode, s, at);
     is_unsigned(letters, d, 1, hi, mode, s, c)

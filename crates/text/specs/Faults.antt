@@ -25,7 +25,7 @@ use Rattle.calendar.specs.Refusal.{Refusal, PARAMETER, VALUE, Verdict, refuse}
 use Rattle.schema.specs.Types.{sameType}
 use Rattle.schema.specs.Properties.{permitsParameter}
 use Rattle.read_text_line.specs.ContentLine.{RawParameter, ContentLine, nextParam, contentLine}
-use Rattle.text.specs.Parameters.{readParameter, isValueParameter, typeIn, isBase64}
+use Rattle.text.specs.Parameters.{readParameter, isValueParameter, typeIn, isRawBase64Encoding}
 
 -- ---- places in a line
 
@@ -78,7 +78,7 @@ abbrev pub fits : List ℕ → Option ValueType → RawParameter → Bool
 fits n t r =
     permitsParameter n (readOr DURATION t) (upper (r .name))
     and isRead (readParameter r)
-    and (not (isBinary t and isEncoding r) or isBase64 r)
+    and (not (isBinary t and isEncoding r) or isRawBase64Encoding r)
 
 -- VALUE names a type, another fits
 abbrev pub isSound : (RawParameter → Bool) → RawParameter → Bool

@@ -70,5 +70,5 @@ abbrev pub isWord : List ℕ → List ParamValue → Bool
 isWord w [] = false
 isWord w (v ∷ vs) = same (upper (v .chars)) w and isEmpty vs
 
-abbrev pub isBase64 : RawParameter → Bool
-isBase64 r = same (upper (r .name)) (ascii "ENCODING") and isWord (ascii "BASE64") (r .values)
+abbrev pub isRawBase64Encoding : RawParameter → Bool
+isRawBase64Encoding r = same (upper (r .name)) (ascii "ENCODING") and isWord (ascii "BASE64") (r .values)

@@ -16,8 +16,8 @@ use Rattle.calendar.specs.Calendar.{Format, ical, xcal}
 --   binary = *(4b-char) [b-end]
 --   b-end  = (2b-char "==") / (3b-char "=")
 --   b-char = ALPHA / DIGIT / "+" / "/"
-abbrev pub isBase64 : ℕ → Bool
-isBase64 b = isAlpha b or isDigit b or eqb b 43 or eqb b 47
+abbrev pub isBase64Char : ℕ → Bool
+isBase64Char b = isAlpha b or isDigit b or eqb b 43 or eqb b 47
 
 -- A to Z are 0 to 25, a to z 26 to 51, 0 to 9 52 to 61, + is 62, / 63; another byte counts 0, so that the function is total
 abbrev pub base64Value : ℕ → ℕ
@@ -37,7 +37,7 @@ padFits n last = eqb n 4 or (eqb n 2 and eqb (base64Value last % 16) 0) or (eqb 
 
 -- b at a place, after the character `last`; 61 is `=`
 abbrev pub inGroup : ℕ → ℕ → ℕ → Bool
-inGroup n last b = pick (eqb b 61) (padFits n last) (isBase64 b and ltb n 4)
+inGroup n last b = pick (eqb b 61) (padFits n last) (isBase64Char b and ltb n 4)
 
 -- the place after b
 abbrev pub nextPlace : ℕ → ℕ → ℕ

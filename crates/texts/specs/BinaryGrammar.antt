@@ -6,7 +6,7 @@ use Prim.Native.Nat.{ℕ, _%_}
 use lib.Dec.{eqb}
 use Rattle.octets.specs.Pick.{_and_, _or_}
 use Rattle.octets.specs.Words.{isEmpty}
-use Rattle.texts.specs.Binary.{isBase64, base64Value}
+use Rattle.texts.specs.Binary.{isBase64Char, base64Value}
 
 --   binary = *(4b-char) [b-end]
 --   b-end  = (2b-char "==") / (3b-char "=")
@@ -14,15 +14,15 @@ use Rattle.texts.specs.Binary.{isBase64, base64Value}
 
 -- 4b-char
 abbrev pub isGroup : ℕ → ℕ → ℕ → ℕ → Bool
-isGroup a b c d = isBase64 a and isBase64 b and isBase64 c and isBase64 d
+isGroup a b c d = isBase64Char a and isBase64Char b and isBase64Char c and isBase64Char d
 
 -- 2b-char "==", one byte: of the second character the last four bits are over, and zero
 abbrev pub isByte : ℕ → ℕ → ℕ → ℕ → Bool
-isByte a b c d = isBase64 a and isBase64 b and eqb c 61 and eqb d 61 and eqb (base64Value b % 16) 0
+isByte a b c d = isBase64Char a and isBase64Char b and eqb c 61 and eqb d 61 and eqb (base64Value b % 16) 0
 
 -- 3b-char "=", two bytes: of the third character the last two bits are over, and zero
 abbrev pub isPair : ℕ → ℕ → ℕ → ℕ → Bool
-isPair a b c d = isBase64 a and isBase64 b and isBase64 c and eqb d 61 and eqb (base64Value c % 4) 0
+isPair a b c d = isBase64Char a and isBase64Char b and isBase64Char c and eqb d 61 and eqb (base64Value c % 4) 0
 
 -- b-end
 abbrev pub isEnd : ℕ → ℕ → ℕ → ℕ → Bool

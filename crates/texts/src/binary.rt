@@ -21,13 +21,13 @@ ghost use Rattle.octets.specs.Class.{isSpace};
 ghost use Rattle.calendar.specs.Calendar.{formatOf};
 ghost use Rattle.source.specs.Source.{rest};
 ghost use Rattle.texts.specs.Kept.{isKept};
-ghost use Rattle.texts.specs.Binary.{isBase64, base64Value, padFits, inGroup, nextPlace, binaryChars, isBinary};
+ghost use Rattle.texts.specs.Binary.{isBase64Char, base64Value, padFits, inGroup, nextPlace, binaryChars, isBinary};
 
 // What a small letter is above its worth: a is worth 26.
 const SMALL_BASE: usize = LOWER_A - 26;
 
 fn is_base64(u: usize) -> bool
-    ensures { λ r. ⌜ r ≡ isBase64 u ⌝ }
+    ensures { λ r. ⌜ r ≡ isBase64Char u ⌝ }
 {
     if is_alpha(u) {
         return true;

@@ -56,16 +56,16 @@ unfoldable pub dur-week : List ℕ → Bool
 dur-week s = counted 87 isEmpty s
 
 -- "P" (dur-date / dur-time / dur-week)
-unfoldable pub unsigned : List ℕ → Bool
-unsigned s = begins 80 (λ r. dur-date r or dur-time r or dur-week r) s
+unfoldable pub unsignedDuration : List ℕ → Bool
+unsignedDuration s = begins 80 (λ r. dur-date r or dur-time r or dur-week r) s
 
 -- the dur-value without a plus;   45 is -
 unfoldable pub isDuration : List ℕ → Bool
-isDuration s = unsigned s or begins 45 unsigned s
+isDuration s = unsignedDuration s or begins 45 unsignedDuration s
 
 -- a dur-value, and its plus dropped;   43 is +
 unfoldable pub durationOf : List ℕ → Option (List ℕ)
-durationOf s = pick (begins 43 unsigned s) (some (drop 1 s)) (keep isDuration s)
+durationOf s = pick (begins 43 unsignedDuration s) (some (drop 1 s)) (keep isDuration s)
 
 unfoldable pub readDuration : Format → List ℕ → Option (List ℕ)
 readDuration ical s = durationOf (upper s)

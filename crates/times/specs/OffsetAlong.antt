@@ -1,7 +1,7 @@
 -- UTC-OFFSET by its two patterns: +0000 and +000000 in text, +00:00 and +00:00:00 in XML; a + of a pattern stands for either sign.
 --     shiftOf            what a reader's answer says
 --     minutePattern, secondPattern    the patterns in a format
---     whole              the number of digits that were followed to the end
+--     followedToEnd      the number of digits that were followed to the end
 --     offsetBy           the offset of a sign and six digits that are worth n, the last two given or not
 use mathlib.Core.Path.{_≡_}
 use mathlib.Core.Bool.{Bool, true, false}
@@ -33,9 +33,9 @@ secondPattern ical = ascii "+000000"
 secondPattern xcal = ascii "+00:00:00"
 
 -- the number of what was followed to the end
-unfoldable pub whole : Followed → Option ℕ
-whole lost = none
-whole (reached n r) = pick (isEmpty r) (some n) none
+unfoldable pub followedToEnd : Followed → Option ℕ
+followedToEnd lost = none
+followedToEnd (reached n r) = pick (isEmpty r) (some n) none
 
 -- a sign, hour, minute and, if given, second
 unfoldable pub shiftBytes : Bool → ℕ → ℕ → ℕ → Bool → List ℕ
@@ -63,9 +63,9 @@ abbrev pub shiftOf : OffsetRead → Option (List ℕ)
 shiftOf (Shift neg h m s w) = some (shiftBytes neg h m s w)
 shiftOf NoOffset = none
 
-unfoldable pub wholeOf : Walk → Option ℕ
-wholeOf r = pick (r .ok) (some (r .n)) none
+unfoldable pub walkedToEnd : Walk → Option ℕ
+walkedToEnd r = pick (r .ok) (some (r .n)) none
 
 -- a pattern followed to the end
-pub record Whole (p : List ℕ) (m : ℕ) (s : List ℕ) (c : ℕ) (r : Walk) : Type 0 where
-  pub is : whole (along p 0 (rest m s c)) ≡ wholeOf r
+pub record WalksToEnd (p : List ℕ) (m : ℕ) (s : List ℕ) (c : ℕ) (r : Walk) : Type 0 where
+  pub is : followedToEnd (along p 0 (rest m s c)) ≡ walkedToEnd r

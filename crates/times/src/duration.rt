@@ -23,7 +23,7 @@ ghost use Rattle.source.specs.Source.{rest};
 ghost use Rattle.sink.specs.Sink.{Put};
 ghost use Rattle.times.specs.Letters.{cased};
 ghost use Rattle.times.specs.Written.{markBytes};
-ghost use Rattle.times.specs.Duration.{optional, dur-second, dur-minute, dur-hour, dur-time, dur-date, dur-week, unsigned, readDuration, writeDuration};
+ghost use Rattle.times.specs.Duration.{optional, dur-second, dur-minute, dur-hour, dur-time, dur-date, dur-week, unsignedDuration, readDuration, writeDuration};
 ghost use Rattle.times.specs.DurationAt.{Runs, spanIf, spanOf};
 
 // Digits at a cursor: whether there are any, the character after them, and the cursor after that.
@@ -214,7 +214,7 @@ fn after_p(exact: bool, mode: usize, s: &[u8], at: usize) -> bool
 }
 
 fn is_unsigned(exact: bool, mode: usize, s: &[u8], at: usize) -> bool
-    ensures { λ r. ⌜ r ≡ unsigned (cased exact (rest mode (now (s .entry)) at)) ⌝ }
+    ensures { λ r. ⌜ r ≡ unsignedDuration (cased exact (rest mode (now (s .entry)) at)) ⌝ }
 {
     let a = letter(exact, mode, s, at);
     let u = a.u;

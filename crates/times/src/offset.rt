@@ -19,7 +19,7 @@ ghost use Rattle.calendar.specs.Calendar.{formatOf};
 ghost use Rattle.source.specs.Source.{rest};
 ghost use Rattle.sink.specs.Sink.{Put};
 ghost use Rattle.times.specs.UtcOffset.{readUtcOffset, writeUtcOffset};
-ghost use Rattle.times.specs.OffsetAlong.{minutePattern, secondPattern, isMinus, offsetBy, shiftOf, Whole};
+ghost use Rattle.times.specs.OffsetAlong.{minutePattern, secondPattern, isMinus, offsetBy, shiftOf, WalksToEnd};
 ghost use Rattle.times.specs.OffsetWritten.{signOf, lastBytes, offsetBytes};
 
 // Whether it is negative, hour, minute and second, and whether the second was given.
@@ -31,7 +31,7 @@ pub enum OffsetRead {
 // The pattern `p` followed to the end.
 fn follow_whole(p: &[u8], mode: usize, s: &[u8], at: usize) -> Walk
     requires { ⌜ length (now p) ≤ 19 ⌝ }
-    ensures { λ r. ⌜ Whole (now (p .entry)) mode (now (s .entry)) at r ⌝ }
+    ensures { λ r. ⌜ WalksToEnd (now (p .entry)) mode (now (s .entry)) at r ⌝ }
 {
     let w = follow(p, true, mode, s, at);
     let ok = w.ok;
@@ -54,7 +54,7 @@ fn follow_whole(p: &[u8], mode: usize, s: &[u8], at: usize) -> Walk
 }
 
 fn follow_minutes(xcal: bool, mode: usize, s: &[u8], at: usize) -> Walk
-    ensures { λ r. ⌜ Whole (minutePattern (formatOf xcal)) mode (now (s .entry)) at r ⌝ }
+    ensures { λ r. ⌜ WalksToEnd (minutePattern (formatOf xcal)) mode (now (s .entry)) at r ⌝ }
 {
     if xcal {
         return follow_whole(b"+00:00", mode, s, at);
@@ -63,7 +63,7 @@ fn follow_minutes(xcal: bool, mode: usize, s: &[u8], at: usize) -> Walk
 }
 
 fn follow_seconds(xcal: bool, mode: usize, s: &[u8], at: usize) -> Walk
-    ensures { λ r. ⌜ Whole (secondPattern (formatOf xcal)) mode (now (s .entry)) at r ⌝ }
+    ensures { λ r. ⌜ WalksToEnd (secondPattern (formatOf xcal)) mode (now (s .entry)) at r ⌝ }
 {
     if xcal {
         return follow_whole(b"+00:00:00", mode, s, at);

@@ -6,7 +6,7 @@ use Prim.Native.Nat.{ℕ}
 use Rattle.octets.specs.Reading.{orNothing}
 use Rattle.calendar.specs.Calendar.{Value}
 use Rattle.xml.specs.Escape.{escaped}
-use Rattle.values.specs.WriteValue.{characters}
+use Rattle.values.specs.WriteValue.{valueCharacters}
 
 unfoldable pub xmlOf : Option Value → List ℕ
-xmlOf o = orNothing (λ v. escaped (characters v)) o
+xmlOf o = orNothing (λ v. escaped (valueCharacters v)) o

@@ -74,8 +74,8 @@ arePropertyValues k n vs = areValuesOf k n (typeOfAll vs) vs
 -- ---- a property
 
 -- ENCODING=BASE64
-abbrev pub isBase64 : Parameter → Bool
-isBase64 p = same (p .name) (ascii "ENCODING") and every (λ v. isWordIn (ascii "BASE64" ∷ []) (textIn v)) (p .values)
+abbrev pub isBase64Encoding : Parameter → Bool
+isBase64Encoding p = same (p .name) (ascii "ENCODING") and every (λ v. isWordIn (ascii "BASE64" ∷ []) (textIn v)) (p .values)
 
 -- the parameters of a property n whose values have type t
 unfoldable pub areParameters : List ℕ → ValueType → List Parameter → Bool
@@ -83,7 +83,7 @@ areParameters n t ps =
     every isParameter ps
     and distinct (map (λ (p : Parameter). p .name) ps)
     and every (λ (p : Parameter). permitsParameter n t (p .name)) ps
-    and (not (sameType t BINARY) or anyOne isBase64 ps)
+    and (not (sameType t BINARY) or anyOne isBase64Encoding ps)
 
 unfoldable pub isProperty : List ℕ → Property → Bool
 isProperty k p =

@@ -2,7 +2,7 @@
 --     writeValue      a value in iCalendar text
 --     writeValues     the values of a property, with commas between them
 --     typeOfAll       the type of the values of a property, which all have that of the first
---     characters      the character data of a value's XML element, before its characters are escaped; a value that is made of elements has none
+--     valueCharacters the character data of a value's XML element, before its characters are escaped; a value that is made of elements has none
 use mathlib.Core.List.{List, [], _∷_, map}
 use Prim.Native.Nat.{ℕ}
 use Rattle.octets.specs.Words.{joinedBy}
@@ -49,22 +49,22 @@ abbrev pub typeOfAll : List Value → ValueType
 typeOfAll [] = UNKNOWN
 typeOfAll (v ∷ vs) = typeOf v
 
-unfoldable pub characters : Value → List ℕ
-characters (binary s) = s
-characters (boolean b) = writeBoolean xcal b
-characters (calAddress s) = s
-characters (date s) = writeDate xcal s
-characters (dateTime s) = writeDateTime xcal s
-characters (duration s) = writeDuration xcal s
-characters (float d) = writeFloat d
-characters (integer w) = writeInteger w
-characters (periodExplicit s e) = []
-characters (periodStart s d) = []
-characters (recur r) = []
-characters (text s) = s
-characters (time s) = writeTime xcal s
-characters (uri s) = s
-characters (utcOffset s) = writeUtcOffset xcal s
-characters (unknown s) = s
-characters (geo la lo) = []
-characters (requestStatus c d x) = []
+unfoldable pub valueCharacters : Value → List ℕ
+valueCharacters (binary s) = s
+valueCharacters (boolean b) = writeBoolean xcal b
+valueCharacters (calAddress s) = s
+valueCharacters (date s) = writeDate xcal s
+valueCharacters (dateTime s) = writeDateTime xcal s
+valueCharacters (duration s) = writeDuration xcal s
+valueCharacters (float d) = writeFloat d
+valueCharacters (integer w) = writeInteger w
+valueCharacters (periodExplicit s e) = []
+valueCharacters (periodStart s d) = []
+valueCharacters (recur r) = []
+valueCharacters (text s) = s
+valueCharacters (time s) = writeTime xcal s
+valueCharacters (uri s) = s
+valueCharacters (utcOffset s) = writeUtcOffset xcal s
+valueCharacters (unknown s) = s
+valueCharacters (geo la lo) = []
+valueCharacters (requestStatus c d x) = []

@@ -21,7 +21,7 @@ ghost use Rattle.source.specs.Source.{rest};
 ghost use Rattle.schema.specs.Numbers.{typeAt};
 ghost use Rattle.xml.specs.Escape.{escaped};
 ghost use Rattle.values.specs.ReadValue.{readValue};
-ghost use Rattle.values.specs.WriteValue.{characters};
+ghost use Rattle.values.specs.WriteValue.{valueCharacters};
 ghost use Rattle.values.specs.ValueAt.{fromTime, fromInteger, fromDate, fromBinary};
 ghost use Rattle.values.specs.PutValue.{xmlOf};
 
@@ -119,7 +119,7 @@ fn put_from_binary(out: &mut [u8], o: usize, t: usize, mode: usize, s: &[u8], at
 pub fn put_value_xml(out: &mut [u8], o: usize, t: usize, mode: usize, s: &[u8], at: usize) -> usize
     ensures { λ r. ⌜
         Put (now (out .entry)) (now (out .exit)) o r
-        (orNothing (λ v. escaped (characters v)) (readValue ical (typeAt t) (rest mode (now (s .entry)) at))) ⌝ }
+        (orNothing (λ v. escaped (valueCharacters v)) (readValue ical (typeAt t) (rest mode (now (s .entry)) at))) ⌝ }
 {
     put_from_binary(out, o, t, mode, s, at)
 }

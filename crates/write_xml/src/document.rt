@@ -15,7 +15,8 @@ ghost use Rattle.sink.specs.Sink.{Put};
 ghost use Rattle.source.specs.Source.{rest, cuts};
 ghost use Rattle.folding.specs.Lines.{lines};
 ghost use Rattle.text.specs.Tree.{calendarOf};
-ghost use Rattle.xcal.specs.WriteXml.{declaration, rootStart, rootEnd, writeDocument};
+ghost use Rattle.xml.specs.Escape.{rootStart};
+ghost use Rattle.xcal.specs.WriteXml.{declaration, rootEnd, writeDocument};
 ghost use Rattle.write_xml.specs.Fronts.{quotedXml, attributeXml};
 
 // A value between quotation marks.

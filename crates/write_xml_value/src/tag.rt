@@ -55,7 +55,7 @@ fn put_part_name(out: &mut [u8], o: usize, p: usize) -> usize
 }
 
 // The names of the first seven types.
-fn put_type_low(out: &mut [u8], o: usize, t: usize) -> usize
+fn put_label_low(out: &mut [u8], o: usize, t: usize) -> usize
     requires { ⌜ t < 7 ⌝ }
     ensures { λ r. ⌜ Put (now (out .entry)) (now (out .exit)) o r (typeLabel t) ⌝ }
 {
@@ -71,7 +71,7 @@ fn put_type_low(out: &mut [u8], o: usize, t: usize) -> usize
 }
 
 // The names of the others.
-fn put_type_high(out: &mut [u8], o: usize, t: usize) -> usize
+fn put_label_high(out: &mut [u8], o: usize, t: usize) -> usize
     requires { ⌜ 7 ≤ t ⌝ }
     ensures { λ r. ⌜ Put (now (out .entry)) (now (out .exit)) o r (typeLabel t) ⌝ }
 {
@@ -88,13 +88,13 @@ fn put_type_high(out: &mut [u8], o: usize, t: usize) -> usize
 }
 
 // The name of the type of the number `t`, in small letters.
-fn put_type_name(out: &mut [u8], o: usize, t: usize) -> usize
+fn put_type_label(out: &mut [u8], o: usize, t: usize) -> usize
     ensures { λ r. ⌜ Put (now (out .entry)) (now (out .exit)) o r (typeLabel t) ⌝ }
 {
     if t < value_type::INTEGER {
-        return put_type_low(out, o, t);
+        return put_label_low(out, o, t);
     }
-    put_type_high(out, o, t)
+    put_label_high(out, o, t)
 }
 
 pub fn put_part_start(out: &mut [u8], o: usize, p: usize) -> usize
@@ -117,7 +117,7 @@ pub fn put_type_start(out: &mut [u8], o: usize, t: usize) -> usize
     ensures { λ r. ⌜ Put (now (out .entry)) (now (out .exit)) o r (startTag (typeLabel t)) ⌝ }
 {
     let a = put_all(out, o, b"<");
-    let b = put_type_name(out, a, t);
+    let b = put_type_label(out, a, t);
     put_all(out, b, b">")
 }
 
@@ -125,6 +125,6 @@ pub fn put_type_end(out: &mut [u8], o: usize, t: usize) -> usize
     ensures { λ r. ⌜ Put (now (out .entry)) (now (out .exit)) o r (endTag (typeLabel t)) ⌝ }
 {
     let a = put_all(out, o, b"</");
-    let b = put_type_name(out, a, t);
+    let b = put_type_label(out, a, t);
     put_all(out, b, b">")
 }

@@ -23,7 +23,7 @@ ghost use Rattle.schema.specs.Numbers.{typeAt};
 ghost use Rattle.recur.specs.Parts.{partNames};
 ghost use Rattle.recur.specs.Noted.{Standing};
 ghost use Rattle.values.specs.ReadValue.{readValue};
-ghost use Rattle.values.specs.WriteValue.{characters};
+ghost use Rattle.values.specs.WriteValue.{valueCharacters};
 ghost use Rattle.xml.specs.Escape.{escaped, elementOf};
 ghost use Rattle.xcal.specs.WriteXml.{valueXml};
 ghost use Rattle.write_xml_value.specs.Rules.{namedXml};
@@ -65,7 +65,7 @@ fn put_recur_element(out: &mut [u8], o: usize, mode: usize, s: &[u8], at: usize)
 fn put_plain_xml(out: &mut [u8], o: usize, t: usize, mode: usize, s: &[u8], at: usize) -> usize
     ensures { λ r. ⌜
         Put (now (out .entry)) (now (out .exit)) o r (elementOf (typeLabel t)
-        (orNothing (λ v. escaped (characters v)) (readValue ical (typeAt t) (rest mode (now (s .entry)) at)))) ⌝ }
+        (orNothing (λ v. escaped (valueCharacters v)) (readValue ical (typeAt t) (rest mode (now (s .entry)) at)))) ⌝ }
 {
     let p = put_type_start(out, o, t);
     let q = put_value_xml(out, p, t, mode, s, at);

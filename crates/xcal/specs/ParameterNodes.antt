@@ -54,13 +54,13 @@ valuesGood listed (some vs) = asMany listed vs
 
 -- ---- ENCODING
 
-abbrev pub isBase64 : List Value → Bool
-isBase64 [] = true
-isBase64 (v ∷ vs) = same (readOr [] (textIn v)) (ascii "BASE64")
+abbrev pub areBase64 : List Value → Bool
+areBase64 [] = true
+areBase64 (v ∷ vs) = same (readOr [] (textIn v)) (ascii "BASE64")
 
 -- with a value of type BINARY, ENCODING is BASE64; where it has no value at all, that is its fault
 abbrev pub encodes : List ℕ → ValueType → Nodes → Bool
-encodes n t kids = not (same n (ascii "ENCODING") and sameType t BINARY) or isBase64 (readOr [] (readParamNodes n kids))
+encodes n t kids = not (same n (ascii "ENCODING") and sameType t BINARY) or areBase64 (readOr [] (readParamNodes n kids))
 
 -- an element named `encoding` is a child of this `parameters`
 unfoldable pub hasEncoding : Nodes → Bool

@@ -17,8 +17,8 @@ use Rattle.numbers.specs.Float.{writeFloat}
 use Rattle.times.specs.DateTime.{writeDateTime}
 use Rattle.times.specs.Duration.{writeDuration}
 use Rattle.recur.specs.Item.{writeItem}
-use Rattle.values.specs.WriteValue.{characters}
-use Rattle.xml.specs.Escape.{escaped, elementOf}
+use Rattle.values.specs.WriteValue.{valueCharacters}
+use Rattle.xml.specs.Escape.{escaped, elementOf, rootStart}
 
 -- an element of character data
 abbrev pub textElement : List ℕ → List ℕ → List ℕ
@@ -40,7 +40,7 @@ dataXml none = []
 dataXml (some s) = textElement (ascii "data") s
 
 abbrev pub plainXml : Value → List ℕ
-plainXml v = textElement (lower (typeName (typeOf v))) (characters v)
+plainXml v = textElement (lower (typeName (typeOf v))) (valueCharacters v)
 
 unfoldable pub valueXml : Value → List ℕ
 valueXml (binary s) = plainXml (binary s)
@@ -106,9 +106,6 @@ componentsXml (component n ps inner next) =
 
 abbrev pub declaration : List ℕ
 declaration = ascii "<?xml version=\"1.0\" encoding=\"utf-8\"?>"
-
-abbrev pub rootStart : List ℕ
-rootStart = ascii "<icalendar xmlns=\"urn:ietf:params:xml:ns:icalendar-2.0\">"
 
 abbrev pub rootEnd : List ℕ
 rootEnd = ascii "</icalendar>"

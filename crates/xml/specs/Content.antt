@@ -19,24 +19,24 @@ use Rattle.xml.specs.Reads.{isName, isEscaped, characterMarks}
 pub data Content : Type 0 where
   nothing : Content
   child : List ℕ → Content → Content → Content  -- an element's name, its content, what follows it
-  characters : List ℕ → Content → Content  -- character data, unescaped, and what follows it
+  charData : List ℕ → Content → Content  -- character data, unescaped, and what follows it
 
 unfoldable pub written : Content → List ℕ
 written nothing = []
 written (child nm inner next) = elementOf nm (written inner) ⊕ written next
-written (characters s next) = escaped s ⊕ written next
+written (charData s next) = escaped s ⊕ written next
 
 unfoldable pub isWritable : Content → ℕ → Bool
 isWritable nothing d = true
 isWritable (child nm inner next) zero = false
 isWritable (child nm inner next) (suc d) = isName nm and isWritable inner d and isWritable next (suc d)
-isWritable (characters s next) d = not (holds 13 s) and isWritable next d
+isWritable (charData s next) d = not (holds 13 s) and isWritable next d
 
 infixr 45 _beside_
 unfoldable pub _beside_ : Content → Content → Content
 nothing beside c = c
 child nm inner next beside c = child nm inner (next beside c)
-characters s next beside c = characters s (next beside c)
+charData s next beside c = charData s (next beside c)
 
 -- ---- places
 
@@ -59,11 +59,11 @@ characterNodes (b ∷ s) p n =
 unfoldable pub placed : Content → ℕ → Nodes → Nodes
 placed nothing p n = n
 placed (child nm inner next) p n = element p nm (endTagPlace nm inner p) (placed inner (innerPlace nm p) noNodes) (placed next (nextPlace nm inner p) n)
-placed (characters s next) p n = characterNodes s p (placed next (p + length (escaped s)) n)
+placed (charData s next) p n = characterNodes s p (placed next (p + length (escaped s)) n)
 
 -- the marks of written c at the place p
 unfoldable pub contentMarks : Content → ℕ → List Mark
 contentMarks nothing p = []
 contentMarks (child nm inner next) p =
     opens p nm ∷ (contentMarks inner (innerPlace nm p) ⊕ (closes (endTagPlace nm inner p) nm ∷ contentMarks next (nextPlace nm inner p)))
-contentMarks (characters s next) p = characterMarks s p ⊕ contentMarks next (p + length (escaped s))
+contentMarks (charData s next) p = characterMarks s p ⊕ contentMarks next (p + length (escaped s))

@@ -25,11 +25,11 @@ endTag nm = ascii "</" ⊕ nm ⊕ ascii ">"
 abbrev pub elementOf : List ℕ → List ℕ → List ℕ
 elementOf nm content = startTag nm ⊕ content ⊕ endTag nm
 
-abbrev pub declaration : List ℕ
-declaration = ascii "<?xml version=\"1.0\" encoding=\"utf-8\"?>\n"
+abbrev pub declarationLine : List ℕ
+declarationLine = ascii "<?xml version=\"1.0\" encoding=\"utf-8\"?>\n"
 
 abbrev pub rootStart : List ℕ
 rootStart = ascii "<icalendar xmlns=\"urn:ietf:params:xml:ns:icalendar-2.0\">"
 
 abbrev pub documentOf : List ℕ → List ℕ
-documentOf content = declaration ⊕ rootStart ⊕ content ⊕ endTag (ascii "icalendar") ⊕ ascii "\n"
+documentOf content = declarationLine ⊕ rootStart ⊕ content ⊕ endTag (ascii "icalendar") ⊕ ascii "\n"

@@ -8,7 +8,7 @@ use Rattle.calendar.specs.Refusal.{XML, fine, refuse}
 use Rattle.xml.specs.WellFormed.{xmlVerdict}
 use Rattle.xml.specs.Nodes.{Nodes, noNodes, element, literal, referred, documentNodes, charactersOf, hasElement}
 use Rattle.xml.specs.Escape.{escaped, documentOf}
-use Rattle.xml.specs.Content.{nothing, child, characters, written}
+use Rattle.xml.specs.Content.{nothing, child, charData, written}
 use Rattle.xml.specs.Computing.{xml-compute}
 
 -- a document with the root's start tag, which takes 56 bytes, some content, and the root's end tag
@@ -35,7 +35,7 @@ escapes : map escaped (ascii "x" ∷ ascii "a < b & c > d" ∷ []) ≡ (ascii "x
 unfolding xml-compute
 escapes = refl
 
-content-of-two : written (child (ascii "a") (characters (ascii "x<y") nothing) (child (ascii "b") nothing nothing)) ≡ ascii "<a>x&lt;y</a><b></b>"
+content-of-two : written (child (ascii "a") (charData (ascii "x<y") nothing) (child (ascii "b") nothing nothing)) ≡ ascii "<a>x&lt;y</a><b></b>"
 unfolding xml-compute
 content-of-two = refl
 

@@ -23,7 +23,8 @@ use Rattle.read_text_line.specs.ContentLine.{ContentLine, contentLine}
 use Rattle.read_text_line.specs.Write.{writeContentLine}
 use Rattle.read_text_line.specs.laws.Accepted.{content-line-write-back}
 use Rattle.text.specs.Tree.{Entry, begin, end, property, entryBy, entryOf, calendarOf}
-use Rattle.xcal.specs.WriteXml.{componentsXml, declaration, rootStart, rootEnd, writeDocument}
+use Rattle.xml.specs.Escape.{rootStart}
+use Rattle.xcal.specs.WriteXml.{componentsXml, declaration, rootEnd, writeDocument}
 use Rattle.lengths_xml.specs.laws.Elements.{rate}
 use Rattle.lengths_xml.specs.laws.Properties.{line-length}
 use Rattle.lengths_xml.specs.laws.Depths.{cost, costs, nested-length}

@@ -28,8 +28,8 @@ use Rattle.octets.specs.laws.Decimal.{digits-short}
 use Rattle.octets.specs.Reading.{provided, andThen}
 use Rattle.octets.specs.laws.Reading.{provided-some, andThen-some, none-some}
 use Rattle.calendar.specs.Calendar.{ical, xcal, Whole, Decimal, Value, geo}
-use Rattle.numbers.specs.Sign.{unsigned, signed, hasMinus, isDigits}
-use Rattle.numbers.specs.Integer.{most, whole, readInteger, writeInteger}
+use Rattle.numbers.specs.Sign.{afterSign, minusIf, hasMinus, isDigits}
+use Rattle.numbers.specs.Integer.{most, integerOf, readInteger, writeInteger}
 use Rattle.numbers.specs.Boolean.{readBoolean, writeBoolean}
 use Rattle.numbers.specs.Float.{decimal, fraction, pointed, spelled, noLeading, kept, noTrailing, normal, readFloat, orZero, afterPoint, writeFloat}
 use Rattle.numbers.specs.Geo.{longitude, coordinates, readGeo}
@@ -62,28 +62,28 @@ numeral-length most s h =
     let below : value 0 s < 10 ^ length s = rw (← all) (value-below s 0 0 (omega arith)) in
     digits-short 9 (length s) (value 0 s) (number-some most s h) below
 
-pub signed-length : (m : Bool) (s : List ℕ) → length (signed m s) ≤ suc (length s)
+pub signed-length : (m : Bool) (s : List ℕ) → length (minusIf m s) ≤ suc (length s)
 signed-length m s = pick-either (Within (suc (length s))) m (45 ∷ s) s (omega arith) (omega arith)
 
-pub unsigned-length : (s : List ℕ) → length (unsigned s) ≤ length s
-unfolding unsigned
+pub unsigned-length : (s : List ℕ) → length (afterSign s) ≤ length s
+unfolding afterSign
 unsigned-length [] = omega arith
 unsigned-length (b ∷ s) = pick-either (Within (suc (length s))) (eqb b 45 or eqb b 43) s (b ∷ s) (omega arith) (omega arith)
 
 -- a number that was read from digits after a sign
-pub whole-length : (most : ℕ) (m : Bool) (s : List ℕ) → isNumber most (unsigned s) ≡ true → length (signed m (digits 9 (value 0 (unsigned s)))) ≤ length s + 1
-whole-length most m s h = omega (arith, signed-length m (digits 9 (value 0 (unsigned s))), numeral-length most (unsigned s) h, unsigned-length s)
+pub whole-length : (most : ℕ) (m : Bool) (s : List ℕ) → isNumber most (afterSign s) ≡ true → length (minusIf m (digits 9 (value 0 (afterSign s)))) ≤ length s + 1
+whole-length most m s h = omega (arith, signed-length m (digits 9 (value 0 (afterSign s))), numeral-length most (afterSign s) h, unsigned-length s)
 
-pub whole-some : (most : ℕ) (s : List ℕ) → isNumber most (unsigned s) ≡ true → 1 ≤ length s
-whole-some most s h = omega (arith, number-some most (unsigned s) h, unsigned-length s)
+pub whole-some : (most : ℕ) (s : List ℕ) → isNumber most (afterSign s) ≡ true → 1 ≤ length s
+whole-some most s h = omega (arith, number-some most (afterSign s) h, unsigned-length s)
 
 pub integer-length : (s : List ℕ) (w : Whole) → readInteger s ≡ some w → length (writeInteger w) ≤ length s + 1
 integer-length s w h =
-    let q = provided-some (isNumber (most (hasMinus s)) (unsigned s)) (whole (hasMinus s) (value 0 (unsigned s))) w h in
+    let q = provided-some (isNumber (most (hasMinus s)) (afterSign s)) (integerOf (hasMinus s) (value 0 (afterSign s))) w h in
     rw (← (q .1)) (whole-length (most (hasMinus s)) _ s (q .0))
 
 pub integer-some : (s : List ℕ) (w : Whole) → readInteger s ≡ some w → 1 ≤ length s
-integer-some s w h = whole-some (most (hasMinus s)) s (provided-some (isNumber (most (hasMinus s)) (unsigned s)) (whole (hasMinus s) (value 0 (unsigned s))) w h .0)
+integer-some s w h = whole-some (most (hasMinus s)) s (provided-some (isNumber (most (hasMinus s)) (afterSign s)) (integerOf (hasMinus s) (value 0 (afterSign s))) w h .0)
 
 -- ---- truth values
 
@@ -128,8 +128,8 @@ pointed-length m (b ∷ ps) d h = go (isDigits b) refl h
 
 spelled-length : (s : List ℕ) (d : Decimal) → spelled s ≡ some d → Pointed (suc (length s)) d
 spelled-length s d h =
-    let p = pointed-length (hasMinus s) (cutAt 46 (unsigned s)) d h in
-    (p .0, omega (arith, p .1, cut-weight 46 (unsigned s), unsigned-length s))
+    let p = pointed-length (hasMinus s) (cutAt 46 (afterSign s)) d h in
+    (p .0, omega (arith, p .1, cut-weight 46 (afterSign s), unsigned-length s))
 
 leading-length : (s : List ℕ) → length (noLeading s) ≤ length s
 unfolding noLeading

@@ -34,10 +34,10 @@ use Rattle.octets.specs.laws.Letters.{upper-length, lower-length}
 use Rattle.calendar.specs.Calendar.{ical, xcal, Whole, RuleItem, moment, number, word, weekday, RulePart}
 use Rattle.times.specs.Date.{isDate, readDate, writeDate}
 use Rattle.times.specs.DateTime.{readDateTime, writeDateTime}
-use Rattle.numbers.specs.Sign.{hasMinus, unsigned as afterSign}
+use Rattle.numbers.specs.Sign.{hasMinus, afterSign}
 use Rattle.numbers.specs.Integer.{writeWhole}
 use Rattle.recur.specs.Parts.{ItemForm, wordOf, enddate, counting, unsigned, signed, weekdaynum, Part, partTable, partNames, partOf, isListPart, weekdays}
-use Rattle.recur.specs.Item.{whole, isNumeral, isShort, readWord, readCounting, readUnsigned, readSigned, readOrdinal, writeOrdinal, orOther, readEnddate, readForm, writeItem, readItem}
+use Rattle.recur.specs.Item.{wholeNumber, isNumeral, isShort, readWord, readCounting, readUnsigned, readSigned, readOrdinal, writeOrdinal, orOther, readEnddate, readForm, writeItem, readItem}
 use Rattle.recur.specs.Rule.{rulePart, isEquals, itemsOf, readPart, partNamed, withPart, inOrder, ruled, readRule}
 use Rattle.recur.specs.laws.RuleLaws.{names-once}
 use Rattle.xcal.specs.WriteXml.{textElement, itemsXml, partsXml}
@@ -97,22 +97,22 @@ word-length ws s w f h =
 abbrev pub Counted : List ℕ → Whole → Type 0
 Counted s w = (1 ≤ length s) × (length (writeWhole w) ≤ length s + 1)
 
-plain-counted : (most : ℕ) (s : List ℕ) → isNumber most s ≡ true → Counted s (whole false (value 0 s))
+plain-counted : (most : ℕ) (s : List ℕ) → isNumber most s ≡ true → Counted s (wholeNumber false (value 0 s))
 plain-counted most s h = (number-some most s h, omega (arith, signed-length false (digits 9 (value 0 s)), numeral-length most s h))
 
 pub counting-read : (s : List ℕ) (w : Whole) → readCounting s ≡ some w → Counted s w
 counting-read s w h =
-    let q = provided-some (isNumeral 1 2147483647 s) (whole false (value 0 s)) w h in
+    let q = provided-some (isNumeral 1 2147483647 s) (wholeNumber false (value 0 s)) w h in
     rw (← (q .1)) (plain-counted 2147483647 s (and-both _ _ (q .0) .0))
 
 pub unsigned-read : (d lo hi : ℕ) (s : List ℕ) (w : Whole) → readUnsigned d lo hi s ≡ some w → Counted s w
 unsigned-read d lo hi s w h =
-    let q = provided-some (isShort d s and isNumeral lo hi s) (whole false (value 0 s)) w h in
+    let q = provided-some (isShort d s and isNumeral lo hi s) (wholeNumber false (value 0 s)) w h in
     rw (← (q .1)) (plain-counted hi s (and-both _ _ (and-both _ _ (q .0) .1) .0))
 
 pub signed-read : (d hi : ℕ) (s : List ℕ) (w : Whole) → readSigned d hi s ≡ some w → Counted s w
 signed-read d hi s w h =
-    let q = provided-some (isShort d (afterSign s) and isNumeral 1 hi (afterSign s)) (whole (hasMinus s) (value 0 (afterSign s))) w h in
+    let q = provided-some (isShort d (afterSign s) and isNumeral 1 hi (afterSign s)) (wholeNumber (hasMinus s) (value 0 (afterSign s))) w h in
     let n = and-both _ _ (and-both _ _ (q .0) .1) .0 in
     rw (← (q .1)) (whole-some hi s n, whole-length hi (hasMinus s) s n)
 

@@ -22,7 +22,7 @@ use Rattle.times.specs.Time.{isTime, timeMarks, readTime, writeTime}
 use Rattle.times.specs.laws.Time.{time-length as time-least}
 use Rattle.times.specs.DateTime.{isDateTime, dateTimeMarks, readDateTime, writeDateTime}
 use Rattle.times.specs.laws.DateTime.{date-time-accepted, date-time-length as date-time-least}
-use Rattle.times.specs.Duration.{unsigned, isDuration, durationOf, readDuration, writeDuration}
+use Rattle.times.specs.Duration.{unsignedDuration, isDuration, durationOf, readDuration, writeDuration}
 use Rattle.times.specs.laws.Duration.{duration-accepted}
 use Rattle.times.specs.UtcOffset.{isUtcOffset, minuteMarks, secondMarks, readUtcOffset, writeUtcOffset}
 use Rattle.times.specs.laws.UtcOffset.{utc-offset-length}
@@ -70,7 +70,7 @@ time-some s v h = omega (arith, upper-kept s v (keep-is isTime (upper s) v h), t
 
 pub duration-kept : (s v : List ℕ) → durationOf s ≡ some v → length v ≤ length s
 unfolding durationOf pick
-duration-kept s v h = go (begins 43 unsigned s) h
+duration-kept s v h = go (begins 43 unsignedDuration s) h
   where
     go : (t : Bool) → pick t (some (drop 1 s)) (keep isDuration s) ≡ some v → length v ≤ length s
     go true k = let q : drop 1 s ≡ v = cc in rw (← q) (omega (arith, length-drop 1 s))
@@ -81,7 +81,7 @@ unfolding readDuration writeDuration
 duration-length s v h = omega (arith, duration-kept (upper s) v h, upper-length s)
 
 duration-least : (v : List ℕ) → isDuration v ≡ true → 1 ≤ length v
-unfolding isDuration unsigned begins _or_
+unfolding isDuration unsignedDuration begins _or_
 duration-least [] h = absurd (false≢true h)
 duration-least (b ∷ v) h = omega arith
 

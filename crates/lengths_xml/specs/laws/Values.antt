@@ -38,7 +38,7 @@ use Rattle.texts.specs.Unknown.{readUnknown}
 use Rattle.texts.specs.laws.Unknown.{unknown-kept}
 use Rattle.recur.specs.Rule.{readRule}
 use Rattle.values.specs.ReadValue.{readValue}
-use Rattle.values.specs.WriteValue.{characters}
+use Rattle.values.specs.WriteValue.{valueCharacters}
 use Rattle.xcal.specs.WriteXml.{textElement, partsXml, plainXml, valueXml, valuesXml}
 use Rattle.lengths_xml.specs.laws.Elements.{rate, element-length, text-element-length}
 use Rattle.lengths_xml.specs.laws.Pieces.{weight}
@@ -71,11 +71,11 @@ type-length UTC-OFFSET = omega arith
 type-length UNKNOWN = omega arith
 
 -- in an element of its type, with every byte escaped
-plain-length : (s : List ℕ) (v : Value) → 2 * length (typeName (typeOf v)) + 5 + 5 * length (characters v) ≤ rate * suc (length s) → length (plainXml v) ≤ rate * suc (length s)
-plain-length s v h = omega (arith, h, text-element-length (lower (typeName (typeOf v))) (characters v), lower-length (typeName (typeOf v)))
+plain-length : (s : List ℕ) (v : Value) → 2 * length (typeName (typeOf v)) + 5 + 5 * length (valueCharacters v) ≤ rate * suc (length s) → length (plainXml v) ≤ rate * suc (length s)
+plain-length s v h = omega (arith, h, text-element-length (lower (typeName (typeOf v))) (valueCharacters v), lower-length (typeName (typeOf v)))
 
 pub kept-length : (s v : List ℕ) → length v ≤ length s → Short s (text v)
-unfolding valueXml characters
+unfolding valueXml valueCharacters
 kept-length s v h = plain-length s (text v) (omega arith)
 
 -- ---- a period
@@ -140,7 +140,7 @@ uri-some [] v h = absurd (false≢true (provided-some (isUri []) [] v h .0))
 uri-some (b ∷ s) v h = omega arith
 
 pub value-length : (t : ValueType) (s : List ℕ) (v : Value) → readValue ical t s ≡ some v → Short s v
-unfolding readValue valueXml characters
+unfolding readValue valueXml valueCharacters
 value-length BINARY s v = mapped s binary (readBinary ical s) v (λ a e. plain-length s (binary a) (omega (arith, ap length (binary-kept ical s a e))))
 value-length BOOLEAN s v = mapped s boolean (readBoolean ical s) v (λ b e. plain-length s (boolean b) (omega (arith, truth-length b, truth-some s b e)))
 value-length CAL-ADDRESS s v = mapped s calAddress (readUri s) v (λ a e. plain-length s (calAddress a) (omega (arith, ap length (uri-kept s a e), uri-some s a e)))

@@ -26,7 +26,7 @@ use Rattle.octets.specs.laws.Words.{cut-joined, all-without}
 use Rattle.octets.specs.Reading.{andThen}
 use Rattle.octets.specs.laws.Reading.{andThen-some, provided-some, none-some}
 use Rattle.calendar.specs.Calendar.{Decimal}
-use Rattle.numbers.specs.Sign.{hasMinus, unsigned, isDigits, leadsInDigit}
+use Rattle.numbers.specs.Sign.{hasMinus, afterSign, isDigits, leadsInDigit}
 use Rattle.numbers.specs.laws.Sign.{digits-lead, lead-append, signed-minus, signed-rest, signed-all}
 use Rattle.numbers.specs.Float.{decimal, fraction, pointed, spelled, noLeading, kept, noTrailing, normal, readFloat, orZero, afterPoint, writeFloat, leadsInZero, endsInZero, isZero, isNormal}
 
@@ -150,7 +150,7 @@ pointed-digits m (b ∷ ps) d h = go (isDigits b) refl h
         rw (← q) (record { beforeDigits = and-both _ _ e .1; afterDigits = fraction-digits ps (p .0) (p .1) })
 
 pub spelled-digits : (s : List ℕ) (d : Decimal) → spelled s ≡ some d → Digits d
-spelled-digits s d h = pointed-digits (hasMinus s) (cutAt 46 (unsigned s)) d h
+spelled-digits s d h = pointed-digits (hasMinus s) (cutAt 46 (afterSign s)) d h
 
 leading-digits : (s : List ℕ) → allOf isDigit s ≡ true → allOf isDigit (noLeading s) ≡ true
 unfolding noLeading pick

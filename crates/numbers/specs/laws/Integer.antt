@@ -19,9 +19,9 @@ use Rattle.octets.specs.laws.Decimal.{digits-value, digits-all, digits-some, di
 use Rattle.octets.specs.Reading.{provided}
 use Rattle.octets.specs.laws.Reading.{provided-some}
 use Rattle.calendar.specs.Calendar.{Whole}
-use Rattle.numbers.specs.Sign.{hasMinus, unsigned, leadsInDigit}
+use Rattle.numbers.specs.Sign.{hasMinus, afterSign, leadsInDigit}
 use Rattle.numbers.specs.laws.Sign.{digits-lead, signed-minus, signed-rest, signed-all}
-use Rattle.numbers.specs.Integer.{most, whole, writeWhole, readInteger, writeInteger, isInteger}
+use Rattle.numbers.specs.Integer.{most, integerOf, writeWhole, readInteger, writeInteger, isInteger}
 
 lead : (n : ℕ) → leadsInDigit (digits 9 n) ≡ true
 lead n = digits-lead (digits 9 n) (digits-some 9 n) (digits-all 9 n)
@@ -30,7 +30,7 @@ lead n = digits-lead (digits 9 n) (digits-some 9 n) (digits-all 9 n)
 pub whole-minus : (w : Whole) → hasMinus (writeWhole w) ≡ w .negative
 whole-minus w = signed-minus (w .negative) (digits 9 (w .magnitude)) (lead (w .magnitude))
 
-pub whole-rest : (w : Whole) → unsigned (writeWhole w) ≡ digits 9 (w .magnitude)
+pub whole-rest : (w : Whole) → afterSign (writeWhole w) ≡ digits 9 (w .magnitude)
 whole-rest w = signed-rest (w .negative) (digits 9 (w .magnitude)) (lead (w .magnitude))
 
 pub whole-all : (p : ℕ → Bool) → ((b : ℕ) → isDigit b ≡ true → p b ≡ true) → p 45 ≡ true → (w : Whole) → allOf p (writeWhole w) ≡ true
@@ -41,7 +41,7 @@ unfolding pick _and_
 integer-read-back w h = rw (whole-minus w, whole-rest w) (go (w .negative) (w .magnitude) h)
   where
     go : (m : Bool) (n : ℕ) → pick m (within 1 2147483648 n) (leb n 2147483647) ≡ true →
-        provided (isNumber (most m) (digits 9 n)) (whole m (value 0 (digits 9 n))) ≡ some (record { negative = m; magnitude = n })
+        provided (isNumber (most m) (digits 9 n)) (integerOf m (value 0 (digits 9 n))) ≡ some (record { negative = m; magnitude = n })
     go true n k =
         let p = and-both (leb 1 n) (leb n 2147483648) k in
         let l : n ≤ 2147483648 = leb-true n 2147483648 (p .1) in
@@ -52,7 +52,7 @@ integer-read-back w h = rw (whole-minus w, whole-rest w) (go (w .negative) (w .m
         let g : n < 10 ^ 10 = omega arith in
         rw (digits-number 9 n 2147483647 g l, digits-value 9 n g)
 
-whole-integer : (m : Bool) (n : ℕ) → n ≤ most m → isInteger (whole m n) ≡ true
+whole-integer : (m : Bool) (n : ℕ) → n ≤ most m → isInteger (integerOf m n) ≡ true
 unfolding pick _and_
 whole-integer true n l = go (ltb 0 n) refl
   where
@@ -63,9 +63,9 @@ whole-integer false n l = le-leb n 2147483647 l
 
 pub integer-accepted : (s : List ℕ) (w : Whole) → readInteger s ≡ some w → isInteger w ≡ true
 integer-accepted s w h =
-    let p = provided-some (isNumber (most (hasMinus s)) (unsigned s)) (whole (hasMinus s) (value 0 (unsigned s))) w h in
+    let p = provided-some (isNumber (most (hasMinus s)) (afterSign s)) (integerOf (hasMinus s) (value 0 (afterSign s))) w h in
     let q = and-both _ _ (and-both _ _ (p .0) .1) in
-    rw (← (p .1)) (whole-integer (hasMinus s) (value 0 (unsigned s)) (leb-true _ _ (q .1)))
+    rw (← (p .1)) (whole-integer (hasMinus s) (value 0 (afterSign s)) (leb-true _ _ (q .1)))
 
 pub integer-visible : (w : Whole) → allOf isVisible (writeInteger w) ≡ true
 unfolding _and_

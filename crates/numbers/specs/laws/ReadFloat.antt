@@ -10,7 +10,7 @@ use Rattle.octets.specs.Words.{isEmpty}
 use Rattle.octets.specs.Reading.{andThen}
 use Rattle.calendar.specs.Calendar.{Decimal}
 use Rattle.source.specs.Source.{rest}
-use Rattle.numbers.specs.Sign.{hasMinus, unsigned, isDigits, leadsInDigit}
+use Rattle.numbers.specs.Sign.{hasMinus, afterSign, isDigits, leadsInDigit}
 use Rattle.numbers.specs.Float.{decimal, noLeading, noTrailing, readFloat}
 use Rattle.numbers.specs.Until.{until}
 use Rattle.numbers.specs.laws.Until.{until-all}
@@ -57,7 +57,7 @@ module _ (neg : Bool) (x y : List ℕ) where
 
 -- ---- the number
 
-module _ (e m : ℕ) (s : List ℕ) (c : ℕ) {a : ℕ} {h : Shape} (k : unsigned (until e m s c) ≡ until e m s a) (p : Shaped e m s a h) where
+module _ (e m : ℕ) (s : List ℕ) (c : ℕ) {a : ℕ} {h : Shape} (k : afterSign (until e m s c) ≡ until e m s a) (p : Shaped e m s a h) where
   pub float-bad : h .ok ≡ false → readFloat (until e m s c) ≡ none
   unfolding andThen pick
   float-bad f = rw (k, p .is (hasMinus (until e m s c)), f)

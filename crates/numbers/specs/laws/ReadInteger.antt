@@ -15,8 +15,8 @@ use Rattle.octets.specs.Decimal.{value, isNumber}
 use Rattle.octets.specs.Reading.{provided}
 use Rattle.source.specs.Source.{rest, spell, Reads}
 use Rattle.source.specs.declared.Step.{Step}
-use Rattle.numbers.specs.Sign.{hasMinus, unsigned}
-use Rattle.numbers.specs.Integer.{whole, readInteger}
+use Rattle.numbers.specs.Sign.{hasMinus, afterSign}
+use Rattle.numbers.specs.Integer.{integerOf, readInteger}
 use Rattle.numbers.specs.Numeral.{worthTo}
 use Rattle.numbers.specs.ReadInteger.{numberIn, wholeIs, wholeFrom}
 
@@ -46,11 +46,11 @@ unfolding wholeFrom pick _and_
 whole-some true n h k = rw (ne-eqb n 4294967295 h, lt-ltb 0 n (omega arith))
 whole-some false n h k = rw (ne-eqb n 4294967295 h)
 
-number-whole : (neg : Bool) (m : ℕ) (s : List ℕ) → m ≤ 2147483648 → provided (isNumber m s) (whole neg (value 0 s)) ≡ wholeFrom neg (numberIn m s)
+number-whole : (neg : Bool) (m : ℕ) (s : List ℕ) → m ≤ 2147483648 → provided (isNumber m s) (integerOf neg (value 0 s)) ≡ wholeFrom neg (numberIn m s)
 unfolding wholeFrom numberIn pick _and_
 number-whole neg m s h = go (ltb 0 (length s)) (allOf isDigit s) (leb (value 0 s) m) refl
   where
-    go : (a b c : Bool) → leb (value 0 s) m ≡ c → provided (a and b and c) (whole neg (value 0 s)) ≡ wholeFrom neg (pick (a and b and c) (value 0 s) 4294967295)
+    go : (a b c : Bool) → leb (value 0 s) m ≡ c → provided (a and b and c) (integerOf neg (value 0 s)) ≡ wholeFrom neg (pick (a and b and c) (value 0 s) 4294967295)
     go true true true e = rw (ne-eqb (value 0 s) 4294967295 (λ q. omega (arith, leb-true (value 0 s) m e)))
     go true true false e = refl
     go true false c e = refl
@@ -58,16 +58,16 @@ number-whole neg m s h = go (ltb 0 (length s)) (allOf isDigit s) (leb (value 0 s
 
 module _ {s t : List ℕ} {n : ℕ} where
   pub integer-minus : s ≡ 45 ∷ t → numberIn 2147483648 t ≡ n → readInteger s ≡ wholeFrom true n
-  unfolding hasMinus unsigned pick _or_
+  unfolding hasMinus afterSign pick _or_
   integer-minus e h = rw (e, ← h) (number-whole true 2147483648 t (omega arith))
 
   pub integer-plus : s ≡ 43 ∷ t → numberIn 2147483647 t ≡ n → readInteger s ≡ wholeFrom false n
-  unfolding hasMinus unsigned pick _or_
+  unfolding hasMinus afterSign pick _or_
   integer-plus e h = rw (e, ← h) (number-whole false 2147483647 t (omega arith))
 
 pub integer-plain : {m : ℕ} {s : List ℕ} {c : ℕ} {r : Step} {n : ℕ} →
     Reads m s c r → (r .u ≡ 45 → ⊥) → (r .u ≡ 43 → ⊥) → numberIn 2147483647 (rest m s c) ≡ n → readInteger (rest m s c) ≡ wholeFrom false n
-unfolding spell hasMinus unsigned pick _or_
+unfolding spell hasMinus afterSign pick _or_
 integer-plain {m} {s} {c} {r} {n} p h k l = rw (← l, p .is) (go (eqb (r .u) 256))
   where
     go : (t : Bool) → readInteger (pick t [] (r .u ∷ rest m s (r .next))) ≡ wholeFrom false (numberIn 2147483647 (pick t [] (r .u ∷ rest m s (r .next))))

@@ -22,7 +22,7 @@ use Rattle.octets.specs.laws.Append.{append-none}
 use Rattle.octets.specs.Class.{isDigit}
 use Rattle.octets.specs.Words.{isEmpty}
 use Rattle.source.specs.Source.{spell}
-use Rattle.numbers.specs.Sign.{hasMinus, unsigned, isDigits, leadsInDigit}
+use Rattle.numbers.specs.Sign.{hasMinus, afterSign, isDigits, leadsInDigit}
 use Rattle.numbers.specs.Float.{noLeading, kept, noTrailing, orZero, afterPoint}
 use Rattle.numbers.specs.Worth.{zeros}
 use Rattle.numbers.specs.laws.Worth.{only-zeros}
@@ -135,21 +135,21 @@ module _ {s : List ℕ} (u : ℕ) (r : List ℕ) (e : s ≡ spell u r) where
   pub lead-is : {d v : Bool} → d ≡ isDigit u → d ≡ v → leadsInDigit s ≡ v
   lead-is h k = sym lead-at ∙ sym h ∙ k
 
-  pub sign-none : (u ≡ 45 → ⊥) → (u ≡ 43 → ⊥) → unsigned s ≡ s
-  unfolding unsigned spell pick _or_
+  pub sign-none : (u ≡ 45 → ⊥) → (u ≡ 43 → ⊥) → afterSign s ≡ s
+  unfolding afterSign spell pick _or_
   sign-none h k = rw e (go (eqb u 256))
     where
-      go : (v : Bool) → unsigned (pick v [] (u ∷ r)) ≡ pick v [] (u ∷ r)
+      go : (v : Bool) → afterSign (pick v [] (u ∷ r)) ≡ pick v [] (u ∷ r)
       go true = refl
       go false = rw (ne-eqb u 45 h, ne-eqb u 43 k)
 
 module _ {s t : List ℕ} {b : ℕ} (e : s ≡ b ∷ t) where
-  pub sign-minus : b ≡ 45 → unsigned s ≡ t
-  unfolding unsigned pick _or_
+  pub sign-minus : b ≡ 45 → afterSign s ≡ t
+  unfolding afterSign pick _or_
   sign-minus h = rw (e, h)
 
-  pub sign-plus : b ≡ 43 → unsigned s ≡ t
-  unfolding unsigned pick _or_
+  pub sign-plus : b ≡ 43 → afterSign s ≡ t
+  unfolding afterSign pick _or_
   sign-plus h = rw (e, h)
 
 -- ---- what is written: the digits before the point, or 0; a point before the others

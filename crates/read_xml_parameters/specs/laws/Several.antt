@@ -21,7 +21,7 @@ use Rattle.schema.specs.Types.{typeName}
 use Rattle.schema.specs.Parameters.{ParameterRow}
 use Rattle.schema.specs.Numbers.{parameterAt}
 use Rattle.xml.specs.Nodes.{Nodes, noNodes, element, literal, referred, charactersOf, hasElement}
-use Rattle.xcal.specs.ParameterNodes.{readWordIn, asMany, valuesGood, isBase64}
+use Rattle.xcal.specs.ParameterNodes.{readWordIn, asMany, valuesGood, areBase64}
 use Rattle.xml.specs.NodesAt.{nodesAt}
 use Rattle.read_xml_nodes.specs.NodeFound.{NodeAt}
 use Rattle.read_xml_nodes.specs.laws.NodeFound.{node-none, node-literal, node-referred, element-less, literal-less}
@@ -163,7 +163,7 @@ word-read r ws k kids v h = go (hasElement kids or holds 34 (charactersOf kids) 
         (ap (λ (o : Option (List (List ℕ))). readWordIn o (r .type) (charactersOf kids)) (sym k) ∙ e) .1
 
 -- the first of the words that were read
-pub first-is : (r : ParameterRow) (ws : List (List ℕ)) → r .words ≡ some ws → (kids : Nodes) (vs : List Value) → readLeaves r kids ≡ some vs → isBase64 vs ≡ firstIs (ascii "BASE64") kids
+pub first-is : (r : ParameterRow) (ws : List (List ℕ)) → r .words ≡ some ws → (kids : Nodes) (vs : List Value) → readLeaves r kids ≡ some vs → areBase64 vs ≡ firstIs (ascii "BASE64") kids
 unfolding readLeaves firstIs pick readOr
 first-is r ws k noNodes vs h = let z : [] ≡ vs = cc in rw (← z)
 first-is r ws k (literal p b more) vs h = first-is r ws k more vs (literal-read r vs p b more h)

@@ -33,7 +33,7 @@ use Rattle.schema.specs.laws.Places.{type-back}
 use Rattle.read_text_line.specs.Names.{isCarriedName}
 use Rattle.xml.specs.Nodes.{Nodes}
 use Rattle.xcal.specs.Layout.{hasCapital}
-use Rattle.xcal.specs.ParameterNodes.{readParamNodes, valuesGood, encodes, isBase64, badName}
+use Rattle.xcal.specs.ParameterNodes.{readParamNodes, valuesGood, encodes, areBase64, badName}
 use Rattle.read_xml_parameters.specs.laws.Children.{whole}
 use Rattle.read_xml_parameters.specs.Rows.{rowAt, readLeaves}
 use Rattle.read_xml_parameters.specs.laws.Rows.{row-named, leaves-are}
@@ -119,11 +119,11 @@ module _ (n : List ℕ) (kids : Nodes) where
       ∙ good-is (rowAt (placeOf n parameterNames)) kids
 
   module _ (t : ℕ) (k : t ≤ 14) (g : goodBy (rowAt (placeOf n parameterNames)) kids ≡ true) where
-    base64 : placeOf n parameterNames ≡ 6 → firstIs (ascii "BASE64") kids ≡ isBase64 (readOr [] (readParamNodes n kids))
+    base64 : placeOf n parameterNames ≡ 6 → firstIs (ascii "BASE64") kids ≡ areBase64 (readOr [] (readParamNodes n kids))
     unfolding goodBy isRead readOr
     base64 h = rw leaves-at (go (readLeaves (rowAt (placeOf n parameterNames)) kids) refl (all-read _ kids ∙ and-both _ _ g .0))
       where
-        go : (o : Option (List Value)) → readLeaves (rowAt (placeOf n parameterNames)) kids ≡ o → isRead o ≡ true → firstIs (ascii "BASE64") kids ≡ isBase64 (readOr [] o)
+        go : (o : Option (List Value)) → readLeaves (rowAt (placeOf n parameterNames)) kids ≡ o → isRead o ≡ true → firstIs (ascii "BASE64") kids ≡ areBase64 (readOr [] o)
         go none e z = absurd (false≢true z)
         go (some vs) e z = sym (first-is (rowAt (placeOf n parameterNames)) encodings (rw h encoding-words) kids vs e)
 
@@ -131,7 +131,7 @@ module _ (n : List ℕ) (kids : Nodes) where
     unfolding encodedBy sameType _and_ _or_
     encoded-is = rw (same-place n (ascii "ENCODING") parameterNames encoding-known, encoding-place, type-back t k) (go (eqb (placeOf n parameterNames) 6) (eqb t 0) refl)
       where
-        go : (a b : Bool) → eqb (placeOf n parameterNames) 6 ≡ a → (not (a and b) or firstIs (ascii "BASE64") kids) ≡ (not (a and b) or isBase64 (readOr [] (readParamNodes n kids)))
+        go : (a b : Bool) → eqb (placeOf n parameterNames) 6 ≡ a → (not (a and b) or firstIs (ascii "BASE64") kids) ≡ (not (a and b) or areBase64 (readOr [] (readParamNodes n kids)))
         go false b e = refl
         go true false e = refl
         go true true e = base64 (eqb-true _ _ e)

@@ -26,7 +26,7 @@ use Rattle.times.specs.Date.{readDate}
 use Rattle.times.specs.DateTime.{readDateTime}
 use Rattle.names.specs.Table.{placeOf, namesIn}
 use Rattle.names.specs.laws.Table.{one-of-place}
-use Rattle.numbers.specs.Sign.{unsigned as afterSign}
+use Rattle.numbers.specs.Sign.{afterSign}
 use Rattle.recur.specs.Parts.{ItemForm, wordOf, enddate, counting, unsigned, signed, weekdaynum, Part, partOf, partTable, partNames, frequencies, weekdays}
 use Rattle.recur.specs.Item.{inCapitals, isNumeral, readOrdinal, orOther, readEnddate, readWord, readForm, readItem}
 use Rattle.recur.specs.Fits.{isNumeralOf, fitsOrdinal, fitsForm, itemRead}

@@ -19,10 +19,10 @@ use Rattle.octets.specs.Decimal.{value, isNumber, digits}
 use Rattle.octets.specs.laws.Decimal.{digits-value, digits-number, digits-short}
 use Rattle.octets.specs.laws.Reading.{provided-some}
 use Rattle.calendar.specs.Calendar.{Whole}
-use Rattle.numbers.specs.Sign.{hasMinus, unsigned as afterSign}
+use Rattle.numbers.specs.Sign.{hasMinus, afterSign}
 use Rattle.numbers.specs.Integer.{writeWhole}
 use Rattle.numbers.specs.laws.Integer.{whole-minus, whole-rest, whole-all}
-use Rattle.recur.specs.Item.{whole, isNumeral, isShort, readCounting, readUnsigned, readSigned}
+use Rattle.recur.specs.Item.{wholeNumber, isNumeral, isShort, readCounting, readUnsigned, readSigned}
 
 -- ---- a number's digits
 
@@ -83,19 +83,19 @@ module _ (d lo hi : ℕ) (enough : isEnough d hi ≡ true) (w : Whole) where
 
 pub counting-accepted : (s : List ℕ) (w : Whole) → readCounting s ≡ some w → (w .negative ≡ false) × (within 1 2147483647 (w .magnitude) ≡ true)
 counting-accepted s w h =
-    let e = provided-some (isNumeral 1 2147483647 s) (whole false (value 0 s)) w h in
+    let e = provided-some (isNumeral 1 2147483647 s) (wholeNumber false (value 0 s)) w h in
     rw (← (e .1)) (refl, numeral-within 1 2147483647 s (e .0))
 
 module _ (d : ℕ) where
   pub unsigned-accepted : (lo hi : ℕ) (s : List ℕ) (w : Whole) → readUnsigned d lo hi s ≡ some w → (w .negative ≡ false) × (within lo hi (w .magnitude) ≡ true)
   unsigned-accepted lo hi s w h =
-      let e = provided-some (isShort d s and isNumeral lo hi s) (whole false (value 0 s)) w h in
+      let e = provided-some (isShort d s and isNumeral lo hi s) (wholeNumber false (value 0 s)) w h in
       rw (← (e .1)) (refl, numeral-within lo hi s (and-both (isShort d s) (isNumeral lo hi s) (e .0) .1))
 
   pub signed-accepted : (hi : ℕ) (s : List ℕ) (w : Whole) → readSigned d hi s ≡ some w → within 1 hi (w .magnitude) ≡ true
   signed-accepted hi s w h =
       let t = afterSign s in
-      let e = provided-some (isShort d t and isNumeral 1 hi t) (whole (hasMinus s) (value 0 t)) w h in
+      let e = provided-some (isShort d t and isNumeral 1 hi t) (wholeNumber (hasMinus s) (value 0 t)) w h in
       rw (← (e .1)) (numeral-within 1 hi t (and-both (isShort d t) (isNumeral 1 hi t) (e .0) .1))
 
 -- ---- characters

@@ -16,7 +16,7 @@ use Rattle.source.specs.Source.{rest, spell}
 use Rattle.source.specs.declared.Step.{Step}
 use Rattle.numbers.specs.Numeral.{front, Fronts, worthTo}
 use Rattle.numbers.specs.laws.Numeral.{fronts-byte, fronts-end}
-use Rattle.numbers.specs.Sign.{unsigned as afterSign}
+use Rattle.numbers.specs.Sign.{afterSign}
 use Rattle.recur.specs.Item.{isNumeral, isShort}
 use Rattle.recur.specs.Numeral.{numeralIn}
 

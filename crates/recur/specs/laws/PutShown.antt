@@ -31,7 +31,7 @@ use Rattle.times.specs.DateTime.{readDateTime, writeDateTime}
 use Rattle.numbers.specs.Sign as sign
 use Rattle.numbers.specs.Numeral.{front, Fronts}
 use Rattle.numbers.specs.laws.Numeral.{fronts-byte, fronts-end}
-use Rattle.numbers.specs.Sign.{hasMinus, unsigned as afterSign}
+use Rattle.numbers.specs.Sign.{hasMinus, afterSign}
 use Rattle.recur.specs.Parts.{Part, partOf, partTable, partNames}
 use Rattle.recur.specs.Item.{inCapitals, readEnddate, writeEnddate, readItem, writeItem}
 use Rattle.recur.specs.Numeral.{numeralIn}
@@ -75,7 +75,7 @@ module _ {l : Bool} {m : ℕ} {s : List ℕ} {c : ℕ} {r : Step} (p : Fronts l 
       go false e = refl
 
 pub put-number : (t : List ℕ) {d e : List ℕ} {o q : ℕ} (neg : Bool) (n : ℕ) {v : List ℕ} → neg ≡ hasMinus t → afterSign t ≡ v → numeralIn 0 2147483647 v ≡ n →
-    Put d e o q (sign.signed neg (digits 9 n)) → Put d e o q (shownNumber t)
+    Put d e o q (sign.minusIf neg (digits 9 n)) → Put d e o q (shownNumber t)
 put-number t neg n a b c w = rw (← a, b, c) w
 
 -- ---- words and ends, as they are put

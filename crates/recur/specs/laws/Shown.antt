@@ -29,10 +29,10 @@ use Rattle.times.specs.Date.{isDate, readDate, writeDate}
 use Rattle.times.specs.laws.Date.{date-accepted, date-read-back}
 use Rattle.times.specs.DateTime.{isDateTime, readDateTime, writeDateTime}
 use Rattle.times.specs.laws.DateTime.{date-time-accepted, date-time-no-date}
-use Rattle.numbers.specs.Sign.{hasMinus, unsigned as afterSign}
+use Rattle.numbers.specs.Sign.{hasMinus, afterSign}
 use Rattle.numbers.specs.Integer.{writeWhole}
 use Rattle.recur.specs.Parts.{ItemForm, wordOf, enddate, counting, unsigned, signed, weekdaynum, Part, partOf, partTable, weekdays}
-use Rattle.recur.specs.Item.{inCapitals, isNumeral, isShort, orOther, readEnddate, writeEnddate, readForm, readItem, writeItem, whole, readOrdinal, writeOrdinal}
+use Rattle.recur.specs.Item.{inCapitals, isNumeral, isShort, orOther, readEnddate, writeEnddate, readForm, readItem, writeItem, wholeNumber, readOrdinal, writeOrdinal}
 use Rattle.recur.specs.Numeral.{numeralIn}
 use Rattle.recur.specs.Fits.{fitsOrdinal, fitsForm}
 use Rattle.recur.specs.laws.Fits.{form-read}
@@ -64,10 +64,10 @@ plain-number lo hi (b ∷ s) h =
     let g = digit-sign b (all-split isDigit b s (d .0) .0) in
     (g .1, rw (g .0, g .1))
 
-shown-plain : (lo hi : ℕ) (s : List ℕ) → hi ≤ 2147483647 → isNumeral lo hi s ≡ true → writeWhole (whole false (value 0 s)) ≡ shownNumber s
+shown-plain : (lo hi : ℕ) (s : List ℕ) → hi ≤ 2147483647 → isNumeral lo hi s ≡ true → writeWhole (wholeNumber false (value 0 s)) ≡ shownNumber s
 shown-plain lo hi s l h = let p = plain-number lo hi s h in sym (rw (p .0, p .1, numeral-wide lo hi s l h))
 
-shown-signed : (hi : ℕ) (s : List ℕ) → hi ≤ 2147483647 → isNumeral 1 hi (afterSign s) ≡ true → writeWhole (whole (hasMinus s) (value 0 (afterSign s))) ≡ shownNumber s
+shown-signed : (hi : ℕ) (s : List ℕ) → hi ≤ 2147483647 → isNumeral 1 hi (afterSign s) ≡ true → writeWhole (wholeNumber (hasMinus s) (value 0 (afterSign s))) ≡ shownNumber s
 shown-signed hi s l h = sym (rw (numeral-wide 1 hi (afterSign s) l h))
 
 -- ---- ends
@@ -110,7 +110,7 @@ ordinal-shown : (t : List ℕ) → fitsOrdinal t ≡ true → (o : Option Whole)
 unfolding pick _or_ andThen
 ordinal-shown [] h = (none, refl, refl)
 ordinal-shown (b ∷ t) h =
-    (some (whole (hasMinus (b ∷ t)) (value 0 (afterSign (b ∷ t)))), rw h, shown-signed 53 (b ∷ t) (omega arith) (and-both (isShort 2 (afterSign (b ∷ t))) (isNumeral 1 53 (afterSign (b ∷ t))) h .1))
+    (some (wholeNumber (hasMinus (b ∷ t)) (value 0 (afterSign (b ∷ t)))), rw h, shown-signed 53 (b ∷ t) (omega arith) (and-both (isShort 2 (afterSign (b ∷ t))) (isNumeral 1 53 (afterSign (b ∷ t))) h .1))
 
 end-shown : (g f : Format) (s : List ℕ) → orNothing (writeItem g) (readForm f enddate s) ≡ orNothing (writeEnddate g) (readEnddate f s)
 unfolding andThen

@@ -27,7 +27,7 @@ use Rattle.octets.specs.Front.{upTo, fromOn, beginsBy}
 use Rattle.octets.specs.laws.Front.{upTo-front, fromOn-front}
 use Rattle.times.specs.Spelling.{isTimeChar}
 use Rattle.calendar.specs.Calendar.{Format, ical, xcal, Whole, RuleItem, weekday}
-use Rattle.numbers.specs.Sign.{unsigned as afterSign}
+use Rattle.numbers.specs.Sign.{afterSign}
 use Rattle.numbers.specs.Integer.{writeWhole}
 use Rattle.recur.specs.Parts.{weekdays}
 use Rattle.recur.specs.Item.{inCapitals, readWord, readSigned, readOrdinal, writeOrdinal, isOrdinal, readWeekday, isWeekdaynum}

@@ -24,9 +24,9 @@ use Rattle.schema.specs.Types.{sameType}
 use Rattle.schema.specs.Parameters.{parameterRow, parameterType, parameterWords, isListedParameter, isQuotedParameter, encodings}
 use Rattle.schema.specs.Properties.{permitsParameter}
 use Rattle.values.specs.Valid
-use Rattle.values.specs.Valid.{isWordIn, areParameters, isProperty}
+use Rattle.values.specs.Valid.{isWordIn, areParameters, isProperty, isBase64Encoding}
 use Rattle.read_text_line.specs.ContentLine.{ParamValue, RawParameter, ContentLine}
-use Rattle.text.specs.Parameters.{readWord, readParamValue, isSingle, readParameter, isValueParameter, statedType, ownParameters, readParameters, isWord, isBase64}
+use Rattle.text.specs.Parameters.{readWord, readParamValue, isSingle, readParameter, isValueParameter, statedType, ownParameters, readParameters, isWord, isRawBase64Encoding}
 use Rattle.text.specs.Values.{readValues}
 use Rattle.text.specs.Faults.{Where, parametersFault, lineFault}
 use Rattle.text.specs.Statement.{valuesOfLine, faultAs, propertyFault, propertyOf}
@@ -116,7 +116,7 @@ base64-values n (r ∷ rs) vs e w h =
     let l : g .0 ≡ [] = empty-is (g .0) (each-empty (readParamValue n) rs (g .0) (g .1) ∙ c .1) in
     rw (← (g .2), l, ← (encoding-read n r (a .0) e (a .1))) (and-yes _ _ (or-left _ _ (c .0)) refl)
 
-base64-read : (r : RawParameter) (p : Parameter) → Read r p → isBase64 r ≡ true → Valid.isBase64 p ≡ true
+base64-read : (r : RawParameter) (p : Parameter) → Read r p → isRawBase64Encoding r ≡ true → isBase64Encoding p ≡ true
 base64-read r p d h =
     let c = and-both (same (rawName r) (ascii "ENCODING")) _ h in
     and-yes _ _ (rw (d .named) (c .0)) (base64-values (rawName r) (r .values) (p .values) (c .0) (c .1) (d .each))
@@ -125,26 +125,26 @@ encoding-own : same (ascii "ENCODING") (ascii "VALUE") ≡ false
 unfolding octets-compute
 encoding-own = refl
 
-base64-own : (r : RawParameter) → isBase64 r ≡ true → isValueParameter r ≡ false
+base64-own : (r : RawParameter) → isRawBase64Encoding r ≡ true → isValueParameter r ≡ false
 base64-own r h = rw (same-true (rawName r) (ascii "ENCODING") (and-both _ _ h .0)) encoding-own
 
-any-own : (rs : List RawParameter) → anyOne isBase64 rs ≡ true → anyOne isBase64 (ownParameters rs) ≡ true
+any-own : (rs : List RawParameter) → anyOne isRawBase64Encoding rs ≡ true → anyOne isRawBase64Encoding (ownParameters rs) ≡ true
 unfolding anyOne ownParameters pick
 any-own [] h = h
 any-own (r ∷ rs) h = go (isValueParameter r) refl (any-own rs)
   where
-    go : (b : Bool) → isValueParameter r ≡ b → (anyOne isBase64 rs ≡ true → anyOne isBase64 (ownParameters rs) ≡ true) → anyOne isBase64 (pick b (ownParameters rs) (r ∷ ownParameters rs)) ≡ true
-    go true e ih = or-cases (isBase64 r) _ h (λ k. absurd (false≢true (sym (base64-own r k) ∙ e))) ih
-    go false e ih = or-cases (isBase64 r) _ h (λ k. or-left _ _ k) (λ k. or-right _ _ (ih k))
+    go : (b : Bool) → isValueParameter r ≡ b → (anyOne isRawBase64Encoding rs ≡ true → anyOne isRawBase64Encoding (ownParameters rs) ≡ true) → anyOne isRawBase64Encoding (pick b (ownParameters rs) (r ∷ ownParameters rs)) ≡ true
+    go true e ih = or-cases (isRawBase64Encoding r) _ h (λ k. absurd (false≢true (sym (base64-own r k) ∙ e))) ih
+    go false e ih = or-cases (isRawBase64Encoding r) _ h (λ k. or-left _ _ k) (λ k. or-right _ _ (ih k))
 
-any-read : (rs : List RawParameter) (ps : List Parameter) → readEach readParameter rs ≡ some ps → anyOne isBase64 rs ≡ true → anyOne Valid.isBase64 ps ≡ true
+any-read : (rs : List RawParameter) (ps : List Parameter) → readEach readParameter rs ≡ some ps → anyOne isRawBase64Encoding rs ≡ true → anyOne isBase64Encoding ps ≡ true
 unfolding readEach anyOne
 any-read [] ps h b = absurd (false≢true b)
 any-read (r ∷ rs) ps h b =
     let e = andThen-some (readParameter r) (λ p. consRead p (readEach readParameter rs)) ps h in
     let g = consRead-some (e .0) (readEach readParameter rs) ps (e .2) in
     let ih = any-read rs (g .0) (g .1) in
-    rw (← (g .2)) (or-cases (isBase64 r) _ b (λ k. or-left _ _ (base64-read r (e .0) (parameter-read r (e .0) (e .1)) k)) (λ k. or-right _ _ (ih k)))
+    rw (← (g .2)) (or-cases (isRawBase64Encoding r) _ b (λ k. or-left _ _ (base64-read r (e .0) (parameter-read r (e .0) (e .1)) k)) (λ k. or-right _ _ (ih k)))
 
 -- ---- the parameters of a property
 

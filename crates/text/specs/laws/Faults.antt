@@ -30,7 +30,7 @@ use Rattle.calendar.specs.laws.Refusal.{refused-not}
 use Rattle.schema.specs.Types.{sameType}
 use Rattle.schema.specs.Properties.{permitsParameter}
 use Rattle.read_text_line.specs.ContentLine.{RawParameter, ContentLine}
-use Rattle.text.specs.Parameters.{readParameter, isValueParameter, typeIn, statedType, ownParameters, readParameters, isBase64}
+use Rattle.text.specs.Parameters.{readParameter, isValueParameter, typeIn, statedType, ownParameters, readParameters, isRawBase64Encoding}
 use Rattle.text.specs.Faults.{Where, parameterName, Fault, fault, refusedAt, isEncoding, fits, isSound, isFaulty, firstFaulty, lacksEncoding, placeOfFault, parametersFault, lineFault}
 use Rattle.text.specs.Statement.{typeOfLine, valuesOfLine, faultAs, propertyFault}
 
@@ -45,7 +45,7 @@ parametersGood n t rs =
     distinct (map nameOf rs)
     and isRead (readParameters rs)
     and every (permits n t) (ownParameters rs)
-    and (not (sameType t BINARY) or anyOne isBase64 rs)
+    and (not (sameType t BINARY) or anyOne isRawBase64Encoding rs)
 
 pub fault-not : {X : Type 0} (f : Fault) (p : ℕ) (s : List ℕ) → refusedAt f p s ≡ fine → X
 fault-not (fault r w) p s h = refused-not _ _ h
@@ -154,12 +154,12 @@ module _ (n : List ℕ) (t : ValueType) where
   encoding-own = refl
 
   abbrev encodes : RawParameter → Bool
-  encodes r = not (sameType t BINARY and isEncoding r) or isBase64 r
+  encodes r = not (sameType t BINARY and isEncoding r) or isRawBase64Encoding r
 
   encoded : (r : RawParameter) → fits n (some t) r ≡ true → encodes r ≡ true
   encoded r h = and-both _ _ (and-both _ _ h .1) .1
 
-  all-encoded : (rs : List RawParameter) → sameType t BINARY ≡ true → every encodes (ownParameters rs) ≡ true → anyOne isEncoding rs ≡ true → anyOne isBase64 rs ≡ true
+  all-encoded : (rs : List RawParameter) → sameType t BINARY ≡ true → every encodes (ownParameters rs) ≡ true → anyOne isEncoding rs ≡ true → anyOne isRawBase64Encoding rs ≡ true
   unfolding anyOne ownParameters pick every _and_ _or_
   all-encoded [] y h a = a
   all-encoded (r ∷ rs) y h a = go (isValueParameter r) refl h (all-encoded rs y)
@@ -170,12 +170,12 @@ module _ (n : List ℕ) (t : ValueType) where
       last : (a b c : Bool) → a ≡ true → b ≡ true → (not (a and b) or c) ≡ true → c ≡ true
       last a b c i j q = rw (i, j) at q
 
-      go : (b : Bool) → isValueParameter r ≡ b → every encodes (pick b (ownParameters rs) (r ∷ ownParameters rs)) ≡ true → (every encodes (ownParameters rs) ≡ true → anyOne isEncoding rs ≡ true → anyOne isBase64 rs ≡ true) →
-          (isBase64 r or anyOne isBase64 rs) ≡ true
-      go true v k ih = or-cases (isEncoding r) (anyOne isEncoding rs) a (λ z. absurd (false≢true (sym (own z) ∙ v))) (λ z. or-right (isBase64 r) (anyOne isBase64 rs) (ih k z))
+      go : (b : Bool) → isValueParameter r ≡ b → every encodes (pick b (ownParameters rs) (r ∷ ownParameters rs)) ≡ true → (every encodes (ownParameters rs) ≡ true → anyOne isEncoding rs ≡ true → anyOne isRawBase64Encoding rs ≡ true) →
+          (isRawBase64Encoding r or anyOne isRawBase64Encoding rs) ≡ true
+      go true v k ih = or-cases (isEncoding r) (anyOne isEncoding rs) a (λ z. absurd (false≢true (sym (own z) ∙ v))) (λ z. or-right (isRawBase64Encoding r) (anyOne isRawBase64Encoding rs) (ih k z))
       go false v k ih =
           let e = and-both (encodes r) (every encodes (ownParameters rs)) k in
-          or-cases (isEncoding r) (anyOne isEncoding rs) a (λ z. or-left (isBase64 r) (anyOne isBase64 rs) (last (sameType t BINARY) (isEncoding r) (isBase64 r) y z (e .0))) (λ z. or-right (isBase64 r) (anyOne isBase64 rs) (ih (e .1) z))
+          or-cases (isEncoding r) (anyOne isEncoding rs) a (λ z. or-left (isRawBase64Encoding r) (anyOne isRawBase64Encoding rs) (last (sameType t BINARY) (isEncoding r) (isRawBase64Encoding r) y z (e .0))) (λ z. or-right (isRawBase64Encoding r) (anyOne isRawBase64Encoding rs) (ih (e .1) z))
 
 faultless : (o : Option ℕ) (b : Bool) → placeOfFault o b ≡ none → (o ≡ none) × (b ≡ false)
 faultless (some i) b h = some-none h
@@ -195,7 +195,7 @@ faultless-good n rs h =
     let s = read-some (statedType n rs) (stated (fits n (statedType n rs)) n [] rs (e .0)) in
     go (s .0) (s .1) (rw (s .1) at (e .0)) (rw (s .1) at (e .1))
   where
-    base64 : (t : ValueType) → firstFaulty (fits n (some t)) [] rs ≡ none → (b : Bool) → sameType t BINARY ≡ b → (b and not (anyOne isEncoding rs)) ≡ false → (not b or anyOne isBase64 rs) ≡ true
+    base64 : (t : ValueType) → firstFaulty (fits n (some t)) [] rs ≡ none → (b : Bool) → sameType t BINARY ≡ b → (b and not (anyOne isEncoding rs)) ≡ false → (not b or anyOne isRawBase64Encoding rs) ≡ true
     base64 t f true y k = all-encoded n t rs y (all-own (fits n (some t)) (encodes n t) (encoded n t) [] rs f) (not-no _ k)
     base64 t f false y k = refl
 
@@ -268,34 +268,34 @@ module _ (fit : RawParameter → Bool) (n : List ℕ) (t : ValueType) where
 
 -- ---- where each stands once, and one is ENCODING=BASE64, no other is ENCODING
 
-base64-is : (r : RawParameter) → isBase64 r ≡ true → nameOf r ≡ ascii "ENCODING"
+base64-is : (r : RawParameter) → isRawBase64Encoding r ≡ true → nameOf r ≡ ascii "ENCODING"
 base64-is r h = same-true (nameOf r) (ascii "ENCODING") (and-both _ _ h .0)
 
-among : (rs : List RawParameter) → anyOne isBase64 rs ≡ true → isOneOf (ascii "ENCODING") (map nameOf rs) ≡ true
+among : (rs : List RawParameter) → anyOne isRawBase64Encoding rs ≡ true → isOneOf (ascii "ENCODING") (map nameOf rs) ≡ true
 unfolding anyOne isOneOf
 among [] h = h
-among (r ∷ rs) h = or-cases (isBase64 r) _ h (λ k. or-left _ _ (rw (base64-is r k) (same-self (ascii "ENCODING")))) (λ k. or-right _ _ (among rs k))
+among (r ∷ rs) h = or-cases (isRawBase64Encoding r) _ h (λ k. or-left _ _ (rw (base64-is r k) (same-self (ascii "ENCODING")))) (λ k. or-right _ _ (among rs k))
 
-none-else : (rs : List RawParameter) → isOneOf (ascii "ENCODING") (map nameOf rs) ≡ false → every (λ (r : RawParameter). not (isEncoding r) or isBase64 r) rs ≡ true
+none-else : (rs : List RawParameter) → isOneOf (ascii "ENCODING") (map nameOf rs) ≡ false → every (λ (r : RawParameter). not (isEncoding r) or isRawBase64Encoding r) rs ≡ true
 unfolding every isOneOf
 none-else [] h = refl
 none-else (r ∷ rs) h = let e = or-neither _ _ h in and-yes _ _ (or-left _ _ (not-yes _ (same-swap (ascii "ENCODING") (nameOf r) (e .0)))) (none-else rs (e .1))
 
-only : (rs : List RawParameter) → distinct (map nameOf rs) ≡ true → anyOne isBase64 rs ≡ true → every (λ (r : RawParameter). not (isEncoding r) or isBase64 r) rs ≡ true
+only : (rs : List RawParameter) → distinct (map nameOf rs) ≡ true → anyOne isRawBase64Encoding rs ≡ true → every (λ (r : RawParameter). not (isEncoding r) or isRawBase64Encoding r) rs ≡ true
 unfolding distinct anyOne every
 only [] d h = refl
 only (r ∷ rs) d h =
     let e = pick-second _ _ d in
-    or-cases (isBase64 r) _ h (λ k. and-yes _ _ (or-right _ _ k) (none-else rs (rw (base64-is r k) at (e .0)))) (λ k. and-yes _ _ (other k (isEncoding r) refl (e .0)) (only rs (e .1) k))
+    or-cases (isRawBase64Encoding r) _ h (λ k. and-yes _ _ (or-right _ _ k) (none-else rs (rw (base64-is r k) at (e .0)))) (λ k. and-yes _ _ (other k (isEncoding r) refl (e .0)) (only rs (e .1) k))
   where
-    other : anyOne isBase64 rs ≡ true → (b : Bool) → isEncoding r ≡ b → isOneOf (nameOf r) (map nameOf rs) ≡ false → (not (isEncoding r) or isBase64 r) ≡ true
+    other : anyOne isRawBase64Encoding rs ≡ true → (b : Bool) → isEncoding r ≡ b → isOneOf (nameOf r) (map nameOf rs) ≡ false → (not (isEncoding r) or isRawBase64Encoding r) ≡ true
     other k true q z = absurd (false≢true (sym z ∙ rw (same-true (nameOf r) (ascii "ENCODING") q) (among rs k)))
     other k false q z = or-left _ _ (not-yes _ q)
 
-some-encoding : (rs : List RawParameter) → anyOne isBase64 rs ≡ true → anyOne isEncoding rs ≡ true
+some-encoding : (rs : List RawParameter) → anyOne isRawBase64Encoding rs ≡ true → anyOne isEncoding rs ≡ true
 unfolding anyOne
 some-encoding [] h = h
-some-encoding (r ∷ rs) h = or-cases (isBase64 r) _ h (λ k. or-left _ _ (and-both _ _ k .0)) (λ k. or-right _ _ (some-encoding rs k))
+some-encoding (r ∷ rs) h = or-cases (isRawBase64Encoding r) _ h (λ k. or-left _ _ (and-both _ _ k .0)) (λ k. or-right _ _ (some-encoding rs k))
 
 pub own-every : (q : RawParameter → Bool) (rs : List RawParameter) → every q rs ≡ true → every q (ownParameters rs) ≡ true
 unfolding ownParameters every
@@ -305,15 +305,15 @@ own-every q (r ∷ rs) h =
     let ih = own-every q rs (e .1) in
     pick-either (λ (l : List RawParameter). every q l ≡ true) (isValueParameter r) (ownParameters rs) (r ∷ ownParameters rs) ih (and-yes _ _ (e .0) ih)
 
-all-encode : (n : List ℕ) (t : ValueType) (rs : List RawParameter) → distinct (map nameOf rs) ≡ true → (not (sameType t BINARY) or anyOne isBase64 rs) ≡ true → every (encodes n t) rs ≡ true
+all-encode : (n : List ℕ) (t : ValueType) (rs : List RawParameter) → distinct (map nameOf rs) ≡ true → (not (sameType t BINARY) or anyOne isRawBase64Encoding rs) ≡ true → every (encodes n t) rs ≡ true
 unfolding every _and_ _or_
 all-encode n t rs d h = go (sameType t BINARY) h
   where
-    none : (rs : List RawParameter) → every (λ (r : RawParameter). not (false and isEncoding r) or isBase64 r) rs ≡ true
+    none : (rs : List RawParameter) → every (λ (r : RawParameter). not (false and isEncoding r) or isRawBase64Encoding r) rs ≡ true
     none [] = refl
     none (r ∷ rs) = none rs
 
-    go : (b : Bool) → (not b or anyOne isBase64 rs) ≡ true → every (λ (r : RawParameter). not (b and isEncoding r) or isBase64 r) rs ≡ true
+    go : (b : Bool) → (not b or anyOne isRawBase64Encoding rs) ≡ true → every (λ (r : RawParameter). not (b and isEncoding r) or isRawBase64Encoding r) rs ≡ true
     go true k = only rs d k
     go false k = none rs
 
@@ -333,7 +333,7 @@ good-faultless n t rs s h =
     } in
     rw (s, good-none (fits n (some t)) n t [] rs g, lacks (sameType t BINARY) (c .1))
   where
-    lacks : (y : Bool) → (not y or anyOne isBase64 rs) ≡ true → (y and not (anyOne isEncoding rs)) ≡ false
+    lacks : (y : Bool) → (not y or anyOne isRawBase64Encoding rs) ≡ true → (y and not (anyOne isEncoding rs)) ≡ false
     lacks true k = rw (some-encoding rs k)
     lacks false k = refl
 

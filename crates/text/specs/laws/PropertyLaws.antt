@@ -23,10 +23,10 @@ use Rattle.schema.specs.Parameters.{parameterRow, isListedParameter}
 use Rattle.schema.specs.Properties.{permitsParameter, defaultType}
 use Rattle.values.specs.WriteValue.{typeOfAll, writeValue}
 use Rattle.values.specs.Valid
-use Rattle.values.specs.Valid.{isAmount, isWordIn, isParameter, areParameters, areValuesOf, arePropertyValues, isProperty}
+use Rattle.values.specs.Valid.{isAmount, isWordIn, isParameter, areParameters, areValuesOf, arePropertyValues, isProperty, isBase64Encoding}
 use Rattle.values.specs.laws.Valid.{only-one}
 use Rattle.read_text_line.specs.ContentLine.{RawParameter}
-use Rattle.text.specs.Parameters.{isWord, isBase64, readParameters, statedType}
+use Rattle.text.specs.Parameters.{isWord, isRawBase64Encoding, readParameters, statedType}
 use Rattle.text.specs.Statement.{faultAs, propertyFault, propertyOf}
 use Rattle.text.specs.laws.Faults.{parametersGood, good-faultless}
 use Rattle.text.specs.WriteText.{paramValueOf, rawOf, valueParameter, withValue, contentLineOf}
@@ -86,25 +86,25 @@ base64-capitals : upper (ascii "BASE64") ≡ ascii "BASE64"
 unfolding octets-compute
 base64-capitals = refl
 
-base64-written : (p : Parameter) → isParameter p ≡ true → Valid.isBase64 p ≡ true → isBase64 (rawOf p) ≡ true
+base64-written : (p : Parameter) → isParameter p ≡ true → isBase64Encoding p ≡ true → isRawBase64Encoding (rawOf p) ≡ true
 unfolding isParameter
 base64-written p h b =
     let e = and-both (same (p .name) (ascii "ENCODING")) _ b in
     let a = and-both _ _ (and-both _ _ (and-both _ _ h .1) .1) .0 in
     and-yes _ _ (rw (parameter-name p h) (e .0)) (one-word (p .name) (ascii "BASE64") (p .values) base64-capitals (rw (encoding-row (p .name) (e .0)) at a) (e .1))
 
-any-base64 : (ps : List Parameter) → every isParameter ps ≡ true → anyOne Valid.isBase64 ps ≡ true → anyOne isBase64 (map rawOf ps) ≡ true
+any-base64 : (ps : List Parameter) → every isParameter ps ≡ true → anyOne isBase64Encoding ps ≡ true → anyOne isRawBase64Encoding (map rawOf ps) ≡ true
 unfolding anyOne
 any-base64 [] h b = b
 any-base64 (p ∷ ps) h b =
     let e = every-both isParameter p ps h in
     let ih = any-base64 ps (e .1) in
-    or-cases (Valid.isBase64 p) _ b (λ k. or-left _ _ (base64-written p (e .0) k)) (λ k. or-right _ _ (ih k))
+    or-cases (isBase64Encoding p) _ b (λ k. or-left _ _ (base64-written p (e .0) k)) (λ k. or-right _ _ (ih k))
 
 -- VALUE in front changes nothing
-any-with-value : (n : List ℕ) (t : ValueType) (rs : List RawParameter) → anyOne isBase64 rs ≡ true → anyOne isBase64 (withValue n t rs) ≡ true
+any-with-value : (n : List ℕ) (t : ValueType) (rs : List RawParameter) → anyOne isRawBase64Encoding rs ≡ true → anyOne isRawBase64Encoding (withValue n t rs) ≡ true
 unfolding withValue anyOne
-any-with-value n t rs h = pick-either (λ (l : List RawParameter). anyOne isBase64 l ≡ true) (sameType t (defaultType n)) rs (valueParameter t ∷ rs) h (or-right _ _ h)
+any-with-value n t rs h = pick-either (λ (l : List RawParameter). anyOne isRawBase64Encoding l ≡ true) (sameType t (defaultType n)) rs (valueParameter t ∷ rs) h (or-right _ _ h)
 
 -- ---- the parameters of a property
 

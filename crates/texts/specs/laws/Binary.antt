@@ -15,9 +15,9 @@ use Rattle.octets.specs.Class.{isAlpha, isCapital, isSmall, isDigit, isVisible}
 use Rattle.octets.specs.laws.Class.{visible-no-space}
 use Rattle.octets.specs.laws.Reading.{provided-some}
 use Rattle.calendar.specs.Calendar.{Format, ical, xcal}
-use Rattle.texts.specs.Binary.{isBase64, padFits, inGroup, nextPlace, binaryFrom, isBinary, withoutSpace, binaryChars, readBinary}
+use Rattle.texts.specs.Binary.{isBase64Char, padFits, inGroup, nextPlace, binaryFrom, isBinary, withoutSpace, binaryChars, readBinary}
 
-visible-base64 : (b : ℕ) → isBase64 b ≡ true → isVisible b ≡ true
+visible-base64 : (b : ℕ) → isBase64Char b ≡ true → isVisible b ≡ true
 unfolding _and_
 visible-base64 b h =
     or-cases (isAlpha b) _ h
@@ -29,9 +29,9 @@ visible-in : (n last b : ℕ) → inGroup n last b ≡ true → isVisible b ≡ 
 unfolding pick _and_
 visible-in n last b h = go (eqb b 61) refl h
   where
-    go : (t : Bool) → eqb b 61 ≡ t → pick t (padFits n last) (isBase64 b and ltb n 4) ≡ true → isVisible b ≡ true
+    go : (t : Bool) → eqb b 61 ≡ t → pick t (padFits n last) (isBase64Char b and ltb n 4) ≡ true → isVisible b ≡ true
     go true e k = eqb-passes isVisible 61 b refl e
-    go false e k = visible-base64 b (and-both (isBase64 b) _ k .0)
+    go false e k = visible-base64 b (and-both (isBase64Char b) _ k .0)
 
 visible-from : (s : List ℕ) (n last : ℕ) → binaryFrom n last s ≡ true → allOf isVisible s ≡ true
 unfolding binaryFrom allOf

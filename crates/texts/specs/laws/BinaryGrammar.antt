@@ -9,31 +9,31 @@ use borrow.Author.Tests.{eqb-true}
 use Rattle.octets.specs.Pick.{pick, _and_, _or_}
 use Rattle.octets.specs.laws.Pick.{eqb-apart}
 use Rattle.octets.specs.Words.{isEmpty}
-use Rattle.texts.specs.Binary.{isBase64, base64Value, binaryFrom, isBinary}
+use Rattle.texts.specs.Binary.{isBase64Char, base64Value, binaryFrom, isBinary}
 use Rattle.texts.specs.BinaryGrammar.{isBinaryGrammar}
 
 -- ---- a character at each place of a group: b-char, or `=`, or neither
 
 -- `=` is no b-char
-not-pad : (b : ℕ) → isBase64 b ≡ true → eqb b 61 ≡ false
+not-pad : (b : ℕ) → isBase64Char b ≡ true → eqb b 61 ≡ false
 unfolding _and_ _or_
-not-pad b h = eqb-apart isBase64 b 61 h refl
+not-pad b h = eqb-apart isBase64Char b 61 h refl
 
 -- a test of b by cases; `=` is no b-char
-by-char : (P : Bool → Bool → Type 0) (b : ℕ) → P true false → (b ≡ 61 → P false true) → P false false → P (isBase64 b) (eqb b 61)
+by-char : (P : Bool → Bool → Type 0) (b : ℕ) → P true false → (b ≡ 61 → P false true) → P false false → P (isBase64Char b) (eqb b 61)
 unfolding _and_ _or_
-by-char P b char pad other = go (isBase64 b) refl (eqb b 61) refl
+by-char P b char pad other = go (isBase64Char b) refl (eqb b 61) refl
   where
-    go : (t : Bool) → isBase64 b ≡ t → (u : Bool) → eqb b 61 ≡ u → P (isBase64 b) (eqb b 61)
+    go : (t : Bool) → isBase64Char b ≡ t → (u : Bool) → eqb b 61 ≡ u → P (isBase64Char b) (eqb b 61)
     go true e u k = rw (e, not-pad b e) char
     go false e true k = rw (e, k) (pad (eqb-true b 61 k))
     go false e false k = rw (e, k) other
 
-first : (last b : ℕ) (s : List ℕ) → binaryFrom 0 last (b ∷ s) ≡ (isBase64 b and binaryFrom 1 b s)
+first : (last b : ℕ) (s : List ℕ) → binaryFrom 0 last (b ∷ s) ≡ (isBase64Char b and binaryFrom 1 b s)
 unfolding binaryFrom pick _and_ _or_
 first last b s = by-char (λ t u. (pick u false (t and true) and binaryFrom (pick u 5 1) b s) ≡ (t and binaryFrom 1 b s)) b refl (λ e. refl) refl
 
-second : (last b : ℕ) (s : List ℕ) → binaryFrom 1 last (b ∷ s) ≡ (isBase64 b and binaryFrom 2 b s)
+second : (last b : ℕ) (s : List ℕ) → binaryFrom 1 last (b ∷ s) ≡ (isBase64Char b and binaryFrom 2 b s)
 unfolding binaryFrom pick _and_ _or_
 second last b s = by-char (λ t u. (pick u false (t and true) and binaryFrom (pick u 5 2) b s) ≡ (t and binaryFrom 2 b s)) b refl (λ e. refl) refl
 
@@ -43,24 +43,24 @@ or-none true = refl
 or-none false = refl
 
 third : (last b : ℕ) (s : List ℕ) →
-    binaryFrom 2 last (b ∷ s) ≡ ((isBase64 b and binaryFrom 3 b s) or (eqb b 61 and eqb (base64Value last % 16) 0 and binaryFrom 4 b s))
+    binaryFrom 2 last (b ∷ s) ≡ ((isBase64Char b and binaryFrom 3 b s) or (eqb b 61 and eqb (base64Value last % 16) 0 and binaryFrom 4 b s))
 unfolding binaryFrom pick _and_ _or_
 third last b s = go (eqb (base64Value last % 16) 0)
   where
     go : (z : Bool) →
-        (pick (eqb b 61) (z or false) (isBase64 b and true) and binaryFrom (pick (eqb b 61) 4 3) b s)
-        ≡ ((isBase64 b and binaryFrom 3 b s) or (eqb b 61 and z and binaryFrom 4 b s))
+        (pick (eqb b 61) (z or false) (isBase64Char b and true) and binaryFrom (pick (eqb b 61) 4 3) b s)
+        ≡ ((isBase64Char b and binaryFrom 3 b s) or (eqb b 61 and z and binaryFrom 4 b s))
     go true = by-char (λ t u. (pick u true (t and true) and binaryFrom (pick u 4 3) b s) ≡ ((t and binaryFrom 3 b s) or (u and binaryFrom 4 b s))) b (sym (or-none (binaryFrom 3 b s))) (λ e. refl) refl
     go false = by-char (λ t u. (pick u false (t and true) and binaryFrom (pick u 4 3) b s) ≡ ((t and binaryFrom 3 b s) or (u and false))) b (sym (or-none (binaryFrom 3 b s))) (λ e. refl) refl
 
 fourth : (last b : ℕ) (s : List ℕ) →
-    binaryFrom 3 last (b ∷ s) ≡ ((isBase64 b and binaryFrom 0 b s) or (eqb b 61 and eqb (base64Value last % 4) 0 and binaryFrom 5 b s))
+    binaryFrom 3 last (b ∷ s) ≡ ((isBase64Char b and binaryFrom 0 b s) or (eqb b 61 and eqb (base64Value last % 4) 0 and binaryFrom 5 b s))
 unfolding binaryFrom pick _and_ _or_
 fourth last b s = go (eqb (base64Value last % 4) 0)
   where
     go : (z : Bool) →
-        (pick (eqb b 61) z (isBase64 b and true) and binaryFrom (pick (eqb b 61) 5 0) b s)
-        ≡ ((isBase64 b and binaryFrom 0 b s) or (eqb b 61 and z and binaryFrom 5 b s))
+        (pick (eqb b 61) z (isBase64Char b and true) and binaryFrom (pick (eqb b 61) 5 0) b s)
+        ≡ ((isBase64Char b and binaryFrom 0 b s) or (eqb b 61 and z and binaryFrom 5 b s))
     go true = by-char (λ t u. (pick u true (t and true) and binaryFrom (pick u 5 0) b s) ≡ ((t and binaryFrom 0 b s) or (u and binaryFrom 5 b s))) b (sym (or-none (binaryFrom 0 b s))) (λ e. refl) refl
     go false = by-char (λ t u. (pick u false (t and true) and binaryFrom (pick u 5 0) b s) ≡ ((t and binaryFrom 0 b s) or (u and false))) b (sym (or-none (binaryFrom 0 b s))) (λ e. refl) refl
 
@@ -131,14 +131,14 @@ nowhere true true true true true = (refl, refl, refl)
 by-groups : (s : List ℕ) (last : ℕ) → binaryFrom 0 last s ≡ isBinaryGrammar s
 unfolding isBinaryGrammar
 by-groups [] last = ends last .0
-by-groups (a ∷ []) last = rw (first last a [], ends a .1) (nowhere (isBase64 a) false false false false .0)
-by-groups (a ∷ b ∷ []) last = rw (first last a (b ∷ []), second a b [], ends b .2) (nowhere (isBase64 a) (isBase64 b) false false false .1)
+by-groups (a ∷ []) last = rw (first last a [], ends a .1) (nowhere (isBase64Char a) false false false false .0)
+by-groups (a ∷ b ∷ []) last = rw (first last a (b ∷ []), second a b [], ends b .2) (nowhere (isBase64Char a) (isBase64Char b) false false false .1)
 by-groups (a ∷ b ∷ c ∷ []) last =
     rw (first last a (b ∷ c ∷ []), second a b (c ∷ []), third b c [], ends c .3, ends c .4)
-    (nowhere (isBase64 a) (isBase64 b) (isBase64 c) (eqb c 61) (eqb (base64Value b % 16) 0) .2)
+    (nowhere (isBase64Char a) (isBase64Char b) (isBase64Char c) (eqb c 61) (eqb (base64Value b % 16) 0) .2)
 by-groups (a ∷ b ∷ c ∷ d ∷ s) last =
     rw (first last a (b ∷ c ∷ d ∷ s), second a b (c ∷ d ∷ s), third b c (d ∷ s), fourth c d s, pad c d s, over d s, by-groups s d)
-    (group (isBase64 a) (isBase64 b) (isBase64 c) (isBase64 d) (eqb c 61) (eqb d 61) (eqb (base64Value b % 16) 0) (eqb (base64Value c % 4) 0) (isBinaryGrammar s) (isEmpty s))
+    (group (isBase64Char a) (isBase64Char b) (isBase64Char c) (isBase64Char d) (eqb c 61) (eqb d 61) (eqb (base64Value b % 16) 0) (eqb (base64Value c % 4) 0) (isBinaryGrammar s) (isEmpty s))
 
 pub binary-grammar : (s : List ℕ) → isBinary s ≡ isBinaryGrammar s
 binary-grammar s = by-groups s 0

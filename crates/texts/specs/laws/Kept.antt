@@ -19,7 +19,7 @@ use Rattle.source.specs.laws.Facts.{rest-byte, rest-end}
 use Rattle.source.specs.declared.Step.{Step}
 use Rattle.texts.specs.Unknown.{isUnknown}
 use Rattle.texts.specs.Uri.{inUri, uriFrom, isUri}
-use Rattle.texts.specs.Binary.{isBase64, base64Value, padFits, inGroup, nextPlace, binaryFrom, withoutSpace, binaryChars}
+use Rattle.texts.specs.Binary.{isBase64Char, base64Value, padFits, inGroup, nextPlace, binaryFrom, withoutSpace, binaryChars}
 
 -- a value that a reader's loop has yet to test: v is what it is to answer
 module _ {v : Bool} {m : ℕ} {s : List ℕ} {c : ℕ} {r : Step} (p : Reads m s c r) where
@@ -121,11 +121,11 @@ pub place-small : {g : Bool} {n′ : ℕ} (n last u : ℕ) → g ≡ inGroup n l
 unfolding pick
 place-small n last u a b q = rw q (go (eqb u 61) (eqb n 2) (eqb n 3) (sym a ∙ b))
   where
-    go : (t f h : Bool) → pick t (padFits n last) (isBase64 u and ltb n 4) ≡ true → pick t (pick f 4 5) (pick h 0 (n + 1)) ≤ 5
+    go : (t f h : Bool) → pick t (padFits n last) (isBase64Char u and ltb n 4) ≡ true → pick t (pick f 4 5) (pick h 0 (n + 1)) ≤ 5
     go true true h k = omega arith
     go true false h k = omega arith
     go false f true k = omega arith
-    go false f false k = let l : n < 4 = ltb-true n 4 (and-both (isBase64 u) (ltb n 4) k .1) in omega arith
+    go false f false k = let l : n < 4 = ltb-true n 4 (and-both (isBase64Char u) (ltb n 4) k .1) in omega arith
 
 pub ruleset reading-unknown = (unknown-more, unknown-stop, unknown-end, needs)
 

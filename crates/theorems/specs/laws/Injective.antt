@@ -16,7 +16,7 @@ use Rattle.calendar.specs.Calendar.{Calendar}
 use Rattle.validity.specs.ValidCalendar.{atTop, isValid}
 use Rattle.validity.specs.laws.ValidCalendar.{top-kept, valid-parts}
 use Rattle.text.specs.laws.TextBack.{regrouped}
-use Rattle.xml.specs.Escape.{declaration, rootStart, endTag}
+use Rattle.xml.specs.Escape.{declarationLine, rootStart, endTag}
 use Rattle.xml.specs.Marks.{Mark, opens, marks, documentMarks}
 use Rattle.xml.specs.Nodes.{rootBy, rootNode, documentNodes}
 use Rattle.xml.specs.Content.{written}
@@ -33,7 +33,7 @@ use Rattle.xcal.specs.laws.SoundCalendar.{calendar-sound}
 -- ---- a document and what follows it
 
 -- the marks of the root's start tag, and of what follows it
-root-front : (r : List ℕ) → documentMarks (declaration ⊕ rootStart ⊕ r) ≡ opens 39 (ascii "icalendar") ∷ marks 95 r
+root-front : (r : List ℕ) → documentMarks (declarationLine ⊕ rootStart ⊕ r) ≡ opens 39 (ascii "icalendar") ∷ marks 95 r
 unfolding xml-compute
 root-front r = refl
 
@@ -50,7 +50,7 @@ unfolding rootBy readRoot
 document-front c x h =
     let v = valid-parts c h .1 in
     ap (λ (s : List ℕ). readBytes (s ⊕ x)) (document-written c)
-    ∙ ap readBytes (regrouped declaration rootStart (written (calendarContent c)) (endTag (ascii "icalendar")) (ascii "\n") x)
+    ∙ ap readBytes (regrouped declarationLine rootStart (written (calendarContent c)) (endTag (ascii "icalendar")) (ascii "\n") x)
     ∙ marks-root 39 (ascii "icalendar") (written (calendarContent c) ⊕ (endTag (ascii "icalendar") ⊕ (ascii "\n" ⊕ x))) _ (root-front _)
     ∙ ap readComponents (content-nodes (calendarContent c) 15 (ascii "icalendar") (ascii "\n" ⊕ x) 95 (sound-writable (calendarContent c) 15 (calendar-sound c v)) (unfold xml-compute in refl))
     ∙ components-back c atTop false top-kept v 95

@@ -19,7 +19,7 @@ use Rattle.octets.specs.laws.Runs.{run-passes}
 use Rattle.calendar.specs.Calendar.{Format, ical, xcal}
 use Rattle.times.specs.Spelling.{isTimeChar, keep, begins}
 use Rattle.times.specs.laws.Spelling.{Chars, chars-empty, chars-digits, chars-begins, chars-or, chars-visible, chars-upper, chars-no-comma, chars-no-slash, keep-yes, keep-accepted}
-use Rattle.times.specs.Duration.{counted, optional, dur-second, dur-minute, dur-hour, dur-time, dur-date, dur-week, unsigned, isDuration, durationOf, readDuration, writeDuration}
+use Rattle.times.specs.Duration.{counted, optional, dur-second, dur-minute, dur-hour, dur-time, dur-date, dur-week, unsignedDuration, isDuration, durationOf, readDuration, writeDuration}
 
 after-digits : (s : List ℕ) → allOf isTimeChar (drop (spanLen isDigit s) s) ≡ true → allOf isTimeChar s ≡ true
 unfolding runOf
@@ -57,17 +57,17 @@ week-chars : Chars dur-week
 unfolding dur-week isTimeChar _or_ _and_
 week-chars s h = chars-counted 87 isEmpty refl chars-empty s h
 
-unsigned-chars : Chars unsigned
-unfolding unsigned isTimeChar _or_ _and_
+unsigned-chars : Chars unsignedDuration
+unfolding unsignedDuration isTimeChar _or_ _and_
 unsigned-chars s h = chars-begins 80 _ refl (chars-or dur-date (λ r. dur-time r or dur-week r) date-chars (chars-or dur-time dur-week time-chars week-chars)) s h
 
 pub duration-chars : Chars isDuration
 unfolding isDuration isTimeChar _or_ _and_
-duration-chars s h = chars-or unsigned (begins 45 unsigned) unsigned-chars (chars-begins 45 unsigned refl unsigned-chars) s h
+duration-chars s h = chars-or unsignedDuration (begins 45 unsignedDuration) unsigned-chars (chars-begins 45 unsignedDuration refl unsigned-chars) s h
 
 -- a kept duration begins with P or a hyphen
-no-plus : (v : List ℕ) → isDuration v ≡ true → begins 43 unsigned v ≡ false
-unfolding isDuration unsigned begins _and_
+no-plus : (v : List ℕ) → isDuration v ≡ true → begins 43 unsignedDuration v ≡ false
+unfolding isDuration unsignedDuration begins _and_
 no-plus [] h = refl
 no-plus (b ∷ s) h = or-cases _ _ h (λ e. rw (eqb-true b 80 (and-both _ _ e .0))) (λ e. rw (eqb-true b 45 (and-both _ _ e .0)))
 
@@ -78,9 +78,9 @@ kept-is-read v h = rw (no-plus v h) (keep-yes isDuration v h)
 read-is-kept : (s v : List ℕ) → durationOf s ≡ some v → isDuration v ≡ true
 unfolding durationOf pick isDuration begins
 read-is-kept [] v h = keep-accepted isDuration [] v h
-read-is-kept (b ∷ s) v h = go (eqb b 43 and unsigned s) refl h
+read-is-kept (b ∷ s) v h = go (eqb b 43 and unsignedDuration s) refl h
   where
-    go : (t : Bool) → (eqb b 43 and unsigned s) ≡ t → pick t (some s) (keep isDuration (b ∷ s)) ≡ some v → isDuration v ≡ true
+    go : (t : Bool) → (eqb b 43 and unsignedDuration s) ≡ t → pick t (some s) (keep isDuration (b ∷ s)) ≡ some v → isDuration v ≡ true
     go true e k = let q : s ≡ v = cc in rw (← q) (or-left _ _ (and-both _ _ e .1))
     go false e k = keep-accepted isDuration (b ∷ s) v k
 

@@ -27,7 +27,7 @@ use Rattle.times.specs.Spelling.{keep, begins}
 use Rattle.times.specs.Letters.{cased, Spells}
 use Rattle.times.specs.laws.Letters.{cased-empty}
 use Rattle.times.specs.Written.{markBytes}
-use Rattle.times.specs.Duration.{counted, optional, unsigned, isDuration, durationOf, readDuration, writeDuration}
+use Rattle.times.specs.Duration.{counted, optional, unsignedDuration, isDuration, durationOf, readDuration, writeDuration}
 use Rattle.times.specs.DurationAt.{Runs, spanIf, spanOf}
 use Rattle.times.specs.declared.duration.Run.{Run}
 use Rattle.times.specs.declared.duration.DurationRead.{DurationRead}
@@ -143,54 +143,54 @@ of-format true l = refl
 of-format false l = refl
 
 module _ (l : List ℕ) where
-  plus-yes : unsigned l ≡ true → durationOf (43 ∷ l) ≡ some ([] ⊕ l)
+  plus-yes : unsignedDuration l ≡ true → durationOf (43 ∷ l) ≡ some ([] ⊕ l)
   unfolding durationOf begins pick _and_ _⊕_
   plus-yes h = rw h
 
-  plus-no : unsigned l ≡ false → durationOf (43 ∷ l) ≡ none
-  unfolding durationOf isDuration unsigned keep begins pick _and_ _or_
+  plus-no : unsignedDuration l ≡ false → durationOf (43 ∷ l) ≡ none
+  unfolding durationOf isDuration unsignedDuration keep begins pick _and_ _or_
   plus-no h = rw h
 
-  minus-yes : unsigned l ≡ true → durationOf (45 ∷ l) ≡ some ((45 ∷ []) ⊕ l)
-  unfolding durationOf isDuration unsigned keep begins pick _and_ _or_ _⊕_
+  minus-yes : unsignedDuration l ≡ true → durationOf (45 ∷ l) ≡ some ((45 ∷ []) ⊕ l)
+  unfolding durationOf isDuration unsignedDuration keep begins pick _and_ _or_ _⊕_
   minus-yes h = rw h
 
-  minus-no : unsigned l ≡ false → durationOf (45 ∷ l) ≡ none
-  unfolding durationOf isDuration unsigned keep begins pick _and_ _or_
+  minus-no : unsignedDuration l ≡ false → durationOf (45 ∷ l) ≡ none
+  unfolding durationOf isDuration unsignedDuration keep begins pick _and_ _or_
   minus-no h = rw h
 
-  plain-yes : unsigned l ≡ true → begins 43 unsigned l ≡ false → durationOf l ≡ some ([] ⊕ l)
+  plain-yes : unsignedDuration l ≡ true → begins 43 unsignedDuration l ≡ false → durationOf l ≡ some ([] ⊕ l)
   unfolding durationOf isDuration keep pick _or_ _⊕_
   plain-yes h k = rw (k, h)
 
-  plain-no : unsigned l ≡ false → begins 43 unsigned l ≡ false → begins 45 unsigned l ≡ false → durationOf l ≡ none
+  plain-no : unsignedDuration l ≡ false → begins 43 unsignedDuration l ≡ false → begins 45 unsignedDuration l ≡ false → durationOf l ≡ none
   unfolding durationOf isDuration keep pick _or_
   plain-no h k g = rw (k, h, g)
 
 module _ {x : Bool} {m : ℕ} {s : List ℕ} {c : ℕ} {a : Step} {r : DurationRead} {ok : Bool} (p : Spells x m s c a) where
-  pub duration-plus : a .u ≡ 43 → ok ≡ unsigned (cased x (rest m s (a .next))) → r ≡ spanIf ok false (a .next) → readDuration (formatOf x) (rest m s c) ≡ spanOf x m s r
+  pub duration-plus : a .u ≡ 43 → ok ≡ unsignedDuration (cased x (rest m s (a .next))) → r ≡ spanIf ok false (a .next) → readDuration (formatOf x) (rest m s c) ≡ spanOf x m s r
   unfolding pick
   duration-plus h g k = of-format x (rest m s c) ∙ rw (k, p .is, spell-byte (a .u) (cased x (rest m s (a .next))) (omega arith), h) (go ok g)
     where
-      go : (t : Bool) → t ≡ unsigned (cased x (rest m s (a .next))) → durationOf (43 ∷ cased x (rest m s (a .next))) ≡ spanOf x m s (spanIf t false (a .next))
+      go : (t : Bool) → t ≡ unsignedDuration (cased x (rest m s (a .next))) → durationOf (43 ∷ cased x (rest m s (a .next))) ≡ spanOf x m s (spanIf t false (a .next))
       go true e = plus-yes _ (sym e)
       go false e = plus-no _ (sym e)
 
-  pub duration-minus : a .u ≡ 45 → ok ≡ unsigned (cased x (rest m s (a .next))) → r ≡ spanIf ok true (a .next) → readDuration (formatOf x) (rest m s c) ≡ spanOf x m s r
+  pub duration-minus : a .u ≡ 45 → ok ≡ unsignedDuration (cased x (rest m s (a .next))) → r ≡ spanIf ok true (a .next) → readDuration (formatOf x) (rest m s c) ≡ spanOf x m s r
   unfolding pick
   duration-minus h g k = of-format x (rest m s c) ∙ rw (k, p .is, spell-byte (a .u) (cased x (rest m s (a .next))) (omega arith), h) (go ok g)
     where
-      go : (t : Bool) → t ≡ unsigned (cased x (rest m s (a .next))) → durationOf (45 ∷ cased x (rest m s (a .next))) ≡ spanOf x m s (spanIf t true (a .next))
+      go : (t : Bool) → t ≡ unsignedDuration (cased x (rest m s (a .next))) → durationOf (45 ∷ cased x (rest m s (a .next))) ≡ spanOf x m s (spanIf t true (a .next))
       go true e = minus-yes _ (sym e)
       go false e = minus-no _ (sym e)
 
-  pub duration-plain : (a .u ≡ 43 → ⊥) → (a .u ≡ 45 → ⊥) → ok ≡ unsigned (cased x (rest m s c)) → r ≡ spanIf ok false c → readDuration (formatOf x) (rest m s c) ≡ spanOf x m s r
+  pub duration-plain : (a .u ≡ 43 → ⊥) → (a .u ≡ 45 → ⊥) → ok ≡ unsignedDuration (cased x (rest m s c)) → r ≡ spanIf ok false c → readDuration (formatOf x) (rest m s c) ≡ spanOf x m s r
   unfolding pick
   duration-plain h l g k =
       of-format x (rest m s c) ∙ rw k (go ok g
-      (sym (begins-other 43 unsigned p refl h)) (sym (begins-other 45 unsigned p refl l)))
+      (sym (begins-other 43 unsignedDuration p refl h)) (sym (begins-other 45 unsignedDuration p refl l)))
     where
-      go : (t : Bool) → t ≡ unsigned (cased x (rest m s c)) → begins 43 unsigned (cased x (rest m s c)) ≡ false → begins 45 unsigned (cased x (rest m s c)) ≡ false →
+      go : (t : Bool) → t ≡ unsignedDuration (cased x (rest m s c)) → begins 43 unsignedDuration (cased x (rest m s c)) ≡ false → begins 45 unsignedDuration (cased x (rest m s c)) ≡ false →
           durationOf (cased x (rest m s c)) ≡ spanOf x m s (spanIf t false c)
       go true e n o = plain-yes _ (sym e) n
       go false e n o = plain-no _ (sym e) n o

@@ -33,7 +33,7 @@ use Rattle.times.specs.Letters.{cased}
 use Rattle.times.specs.Followed.{walked, Walks}
 use Rattle.times.specs.laws.Digits.{digit-is, digit-small, two-of, drop-longer}
 use Rattle.times.specs.UtcOffset.{isShift, isSomeShift, isUtcOffset, readUtcOffset, minuteMarks, secondMarks}
-use Rattle.times.specs.OffsetAlong.{minutePattern, secondPattern, whole, shiftBytes, offsetBy, isMinus, offsetOf, wholeOf, Whole}
+use Rattle.times.specs.OffsetAlong.{minutePattern, secondPattern, followedToEnd, shiftBytes, offsetBy, isMinus, offsetOf, walkedToEnd, WalksToEnd}
 use Rattle.times.specs.declared.follow.Walk.{Walk}
 
 -- ---- the two lengths, without marks
@@ -93,19 +93,19 @@ module _ (neg : Bool) (a b c d : ℕ) (pa : a < 10) (pb : b < 10) (pc : c < 10) 
       rw (p, q, r, x, y, z, two-of a b pa pb, two-of c d pc pd, two-of e f pe pf)
 
 -- digits of a length, followed to the end
-whole-digits : (k : ℕ) (l : List ℕ) → whole (along (zeros k []) 0 l) ≡ pick (eqb (length l) k and allOf isDigit l) (some (value 0 l)) none
-unfolding along whole digitsAt pick _and_
+whole-digits : (k : ℕ) (l : List ℕ) → followedToEnd (along (zeros k []) 0 l) ≡ pick (eqb (length l) k and allOf isDigit l) (some (value 0 l)) none
+unfolding along followedToEnd digitsAt pick _and_
 whole-digits k l = rw (along-digits k [] 0 l) (go (eqb (length l) k) refl)
   where
-    long : (t : Bool) → digitsAt k l ≡ t → (length l ≡ k → ⊥) → whole (pick t (reached (value 0 (take k l)) (drop k l)) lost) ≡ none
+    long : (t : Bool) → digitsAt k l ≡ t → (length l ≡ k → ⊥) → followedToEnd (pick t (reached (value 0 (take k l)) (drop k l)) lost) ≡ none
     long true e n = rw (drop-longer k l (omega (arith, leb-true k (length l) (and-both _ _ e .0))))
     long false e n = refl
 
-    all : (t : Bool) → whole (pick t (reached (value 0 l) []) lost) ≡ pick t (some (value 0 l)) none
+    all : (t : Bool) → followedToEnd (pick t (reached (value 0 l) []) lost) ≡ pick t (some (value 0 l)) none
     all true = refl
     all false = refl
 
-    go : (t : Bool) → eqb (length l) k ≡ t → whole (pick (digitsAt k l) (reached (value 0 (take k l)) (drop k l)) lost) ≡ pick (t and allOf isDigit l) (some (value 0 l)) none
+    go : (t : Bool) → eqb (length l) k ≡ t → followedToEnd (pick (digitsAt k l) (reached (value 0 (take k l)) (drop k l)) lost) ≡ pick (t and allOf isDigit l) (some (value 0 l)) none
     go true e =
         let m : length l ≡ k = eqb-true _ _ e in
         let b : length l ≤ k = omega arith in
@@ -158,7 +158,7 @@ unfolding shift-kept isShift pick _and_ _or_
 no-shift-length neg l h k = rw (h, k)
 
 -- by its digits
-by-digits : (neg : Bool) (l : List ℕ) → shift-kept neg l ≡ offsetOf neg (whole (along (zeros 4 []) 0 l)) (whole (along (zeros 6 []) 0 l))
+by-digits : (neg : Bool) (l : List ℕ) → shift-kept neg l ≡ offsetOf neg (followedToEnd (along (zeros 4 []) 0 l)) (followedToEnd (along (zeros 6 []) 0 l))
 unfolding offsetOf pick _and_
 by-digits neg l = rw (whole-digits 4 l, whole-digits 6 l) (go (eqb (length l) 4) (eqb (length l) 6) (allOf isDigit l) refl refl refl)
   where
@@ -193,11 +193,11 @@ minus-front : (b : ℕ) (l : List ℕ) → isMinus (b ∷ l) ≡ eqb b 45
 unfolding isMinus begins _and_
 minus-front b l = and-true (eqb b 45)
 
-signed-along : (k : ℕ) (b : ℕ) (l : List ℕ) → whole (along (43 ∷ zeros k []) 0 (b ∷ l)) ≡ pick (eqb b 43 or eqb b 45) (whole (along (zeros k []) 0 l)) none
-unfolding along passes tally whole pick
+signed-along : (k : ℕ) (b : ℕ) (l : List ℕ) → followedToEnd (along (43 ∷ zeros k []) 0 (b ∷ l)) ≡ pick (eqb b 43 or eqb b 45) (followedToEnd (along (zeros k []) 0 l)) none
+unfolding along passes tally followedToEnd pick
 signed-along k b l = go (eqb b 43 or eqb b 45)
   where
-    go : (t : Bool) → whole (pick t (along (zeros k []) 0 l) lost) ≡ pick t (whole (along (zeros k []) 0 l)) none
+    go : (t : Bool) → followedToEnd (pick t (along (zeros k []) 0 l) lost) ≡ pick t (followedToEnd (along (zeros k []) 0 l)) none
     go true = refl
     go false = refl
 
@@ -205,19 +205,19 @@ empty : keep isUtcOffset [] ≡ none
 unfolding keep isUtcOffset begins pick _or_
 empty = refl
 
-offset-kept : (v : List ℕ) → keep isUtcOffset v ≡ offsetOf (isMinus v) (whole (along (43 ∷ zeros 4 []) 0 v)) (whole (along (43 ∷ zeros 6 []) 0 v))
-unfolding offsetOf along whole pick
+offset-kept : (v : List ℕ) → keep isUtcOffset v ≡ offsetOf (isMinus v) (followedToEnd (along (43 ∷ zeros 4 []) 0 v)) (followedToEnd (along (43 ∷ zeros 6 []) 0 v))
+unfolding offsetOf along followedToEnd pick
 offset-kept [] = empty
 offset-kept (b ∷ l) = signed b l ∙ rw (signed-along 4 b l, signed-along 6 b l, minus-front b l) (go (eqb b 43 or eqb b 45))
   where
-    go : (t : Bool) → pick t (shift-kept (eqb b 45) l) none ≡ offsetOf (eqb b 45) (pick t (whole (along (zeros 4 []) 0 l)) none) (pick t (whole (along (zeros 6 []) 0 l)) none)
+    go : (t : Bool) → pick t (shift-kept (eqb b 45) l) none ≡ offsetOf (eqb b 45) (pick t (followedToEnd (along (zeros 4 []) 0 l)) none) (pick t (followedToEnd (along (zeros 6 []) 0 l)) none)
     go true = by-digits (eqb b 45) l
     go false = refl
 
 -- ---- with marks: six characters or nine
 
-not-length : (k : ℕ) (v : List ℕ) → (length v ≡ suc k → ⊥) → whole (along (43 ∷ zeros k []) 0 v) ≡ none
-unfolding along whole pick _and_
+not-length : (k : ℕ) (v : List ℕ) → (length v ≡ suc k → ⊥) → followedToEnd (along (43 ∷ zeros k []) 0 v) ≡ none
+unfolding along followedToEnd pick _and_
 not-length k [] h = refl
 not-length k (b ∷ l) h = signed-along k b l ∙ rw (whole-digits k l, ne-eqb (length l) k (λ e. h (ap suc e))) (go (eqb b 43 or eqb b 45))
   where
@@ -244,32 +244,32 @@ module _ (s : List ℕ) where
   second-length v e = ap length (marks-exact secondMarks s v e) ∙ marks-length secondMarks v
 
   minutes : Option ℕ
-  minutes = whole (followedBy (withoutMarks minuteMarks s) (along (43 ∷ zeros 4 []) 0))
+  minutes = followedToEnd (followedBy (withoutMarks minuteMarks s) (along (43 ∷ zeros 4 []) 0))
 
   seconds : Option ℕ
-  seconds = whole (followedBy (withoutMarks secondMarks s) (along (43 ∷ zeros 6 []) 0))
+  seconds = followedToEnd (followedBy (withoutMarks secondMarks s) (along (43 ∷ zeros 6 []) 0))
 
   no-minutes : (length s ≡ 6 → ⊥) → minutes ≡ none
-  unfolding minutes followedBy whole
+  unfolding minutes followedBy followedToEnd
   no-minutes h = go (withoutMarks minuteMarks s) refl
     where
-      go : (o : Option (List ℕ)) → withoutMarks minuteMarks s ≡ o → whole (followedBy o (along (43 ∷ zeros 4 []) 0)) ≡ none
+      go : (o : Option (List ℕ)) → withoutMarks minuteMarks s ≡ o → followedToEnd (followedBy o (along (43 ∷ zeros 4 []) 0)) ≡ none
       go none e = refl
       go (some v) e = not-length 4 v (λ l. h (omega (arith, minute-length v e)))
 
   no-seconds : (length s ≡ 9 → ⊥) → seconds ≡ none
-  unfolding seconds followedBy whole
+  unfolding seconds followedBy followedToEnd
   no-seconds h = go (withoutMarks secondMarks s) refl
     where
-      go : (o : Option (List ℕ)) → withoutMarks secondMarks s ≡ o → whole (followedBy o (along (43 ∷ zeros 6 []) 0)) ≡ none
+      go : (o : Option (List ℕ)) → withoutMarks secondMarks s ≡ o → followedToEnd (followedBy o (along (43 ∷ zeros 6 []) 0)) ≡ none
       go none e = refl
       go (some v) e = not-length 6 v (λ l. h (omega (arith, second-length v e)))
 
   by-minutes : length s ≡ 6 → andThen (withoutMarks minuteMarks s) (keep isUtcOffset) ≡ offsetOf (isMinus s) minutes none
-  unfolding minutes followedBy whole andThen offsetOf
+  unfolding minutes followedBy followedToEnd andThen offsetOf
   by-minutes h = go (withoutMarks minuteMarks s) refl
     where
-      go : (o : Option (List ℕ)) → withoutMarks minuteMarks s ≡ o → andThen o (keep isUtcOffset) ≡ offsetOf (isMinus s) (whole (followedBy o (along (43 ∷ zeros 4 []) 0))) none
+      go : (o : Option (List ℕ)) → withoutMarks minuteMarks s ≡ o → andThen o (keep isUtcOffset) ≡ offsetOf (isMinus s) (followedToEnd (followedBy o (along (43 ∷ zeros 4 []) 0))) none
       go none e = refl
       go (some v) e =
           let l = minute-length v e in
@@ -277,10 +277,10 @@ module _ (s : List ℕ) where
           offset-kept v ∙ rw (not-length 6 v (omega arith), m)
 
   by-seconds : length s ≡ 9 → andThen (withoutMarks secondMarks s) (keep isUtcOffset) ≡ offsetOf (isMinus s) none seconds
-  unfolding seconds followedBy whole andThen offsetOf
+  unfolding seconds followedBy followedToEnd andThen offsetOf
   by-seconds h = go (withoutMarks secondMarks s) refl
     where
-      go : (o : Option (List ℕ)) → withoutMarks secondMarks s ≡ o → andThen o (keep isUtcOffset) ≡ offsetOf (isMinus s) none (whole (followedBy o (along (43 ∷ zeros 6 []) 0)))
+      go : (o : Option (List ℕ)) → withoutMarks secondMarks s ≡ o → andThen o (keep isUtcOffset) ≡ offsetOf (isMinus s) none (followedToEnd (followedBy o (along (43 ∷ zeros 6 []) 0)))
       go none e = refl
       go (some v) e =
           let l = second-length v e in
@@ -298,7 +298,7 @@ module _ (s : List ℕ) where
       go false false e f = rw (no-minutes (eqb-false _ _ e), no-seconds (eqb-false _ _ f))
 
 pub offset-along : (x : Bool) (s : List ℕ) →
-    readUtcOffset (formatOf x) s ≡ offsetOf (isMinus s) (whole (along (minutePattern (formatOf x)) 0 s)) (whole (along (secondPattern (formatOf x)) 0 s))
+    readUtcOffset (formatOf x) s ≡ offsetOf (isMinus s) (followedToEnd (along (minutePattern (formatOf x)) 0 s)) (followedToEnd (along (secondPattern (formatOf x)) 0 s))
 unfolding readUtcOffset minutes seconds zeros withMarks putMark areMarks isMark fits pick _and_
 offset-along false s = offset-kept s
 offset-along true s =
@@ -307,20 +307,20 @@ offset-along true s =
 -- ---- the ways of a reader
 
 module _ {p : List ℕ} {m : ℕ} {s : List ℕ} {c : ℕ} {w : Walk} (f : Walks p true m s c w) where
-  followed : whole (along p 0 (rest m s c)) ≡ whole (walked true m s w)
+  followed : followedToEnd (along p 0 (rest m s c)) ≡ followedToEnd (walked true m s w)
   unfolding cased
-  followed = ap whole (f .is)
+  followed = ap followedToEnd (f .is)
 
-  pub whole-end : w .ok ≡ true → isEmpty (rest m s (w .next)) ≡ true → Whole p m s c w
-  unfolding walked whole wholeOf cased pick
+  pub whole-end : w .ok ≡ true → isEmpty (rest m s (w .next)) ≡ true → WalksToEnd p m s c w
+  unfolding walked followedToEnd walkedToEnd cased pick
   whole-end h k = record { is = followed ∙ rw (h, k) }
 
-  pub whole-more : {x y : ℕ} → w .ok ≡ true → isEmpty (rest m s (w .next)) ≡ false → Whole p m s c (record { ok = false; n = x; next = y })
-  unfolding walked whole wholeOf cased pick
+  pub whole-more : {x y : ℕ} → w .ok ≡ true → isEmpty (rest m s (w .next)) ≡ false → WalksToEnd p m s c (record { ok = false; n = x; next = y })
+  unfolding walked followedToEnd walkedToEnd cased pick
   whole-more h k = record { is = followed ∙ rw (h, k) }
 
-  pub whole-lost : {x y : ℕ} → w .ok ≡ false → Whole p m s c (record { ok = false; n = x; next = y })
-  unfolding walked whole wholeOf pick
+  pub whole-lost : {x y : ℕ} → w .ok ≡ false → WalksToEnd p m s c (record { ok = false; n = x; next = y })
+  unfolding walked followedToEnd walkedToEnd pick
   whole-lost h = record { is = followed ∙ rw h }
 
 pub ruleset wholly = (whole-end, whole-more, whole-lost, flag-yes, flag-no, needs)
@@ -352,16 +352,16 @@ module _ (neg w : Bool) (n : ℕ) where
   unfolding offsetBy
   offset-wide h = pick-no _ _ _ (and-no-left _ _ h)
 
-module _ (x : Bool) {m : ℕ} {s : List ℕ} {c : ℕ} {w : Walk} {neg : Bool} (f : Whole (minutePattern (formatOf x)) m s c w) (g : neg ≡ isMinus (rest m s c)) where
+module _ (x : Bool) {m : ℕ} {s : List ℕ} {c : ℕ} {w : Walk} {neg : Bool} (f : WalksToEnd (minutePattern (formatOf x)) m s c w) (g : neg ≡ isMinus (rest m s c)) where
   pub offset-minutes : w .ok ≡ true → readUtcOffset (formatOf x) (rest m s c) ≡ offsetBy neg false (w .n % 10000 * 100)
-  unfolding wholeOf offsetOf pick
+  unfolding walkedToEnd offsetOf pick
   offset-minutes h = offset-along x (rest m s c) ∙ rw (f .is, h, ← g)
 
-  module _ {v : Walk} (k : Whole (secondPattern (formatOf x)) m s c v) where
+  module _ {v : Walk} (k : WalksToEnd (secondPattern (formatOf x)) m s c v) where
     pub offset-seconds : w .ok ≡ false → v .ok ≡ true → readUtcOffset (formatOf x) (rest m s c) ≡ offsetBy neg true (v .n)
-    unfolding wholeOf offsetOf pick
+    unfolding walkedToEnd offsetOf pick
     offset-seconds h l = offset-along x (rest m s c) ∙ rw (f .is, k .is, h, l, ← g)
 
     pub offset-lost : w .ok ≡ false → v .ok ≡ false → readUtcOffset (formatOf x) (rest m s c) ≡ none
-    unfolding wholeOf offsetOf pick
+    unfolding walkedToEnd offsetOf pick
     offset-lost h l = offset-along x (rest m s c) ∙ rw (f .is, k .is, h, l)

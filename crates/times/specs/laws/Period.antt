@@ -27,7 +27,7 @@ use Rattle.times.specs.laws.Spelling.{chars-upper, char-visible}
 use Rattle.times.specs.Date.{isDate}
 use Rattle.times.specs.DateTime.{isDateTime, readDateTime, writeDateTime}
 use Rattle.times.specs.laws.DateTime.{date-time-chars, date-time-read-back, date-time-accepted}
-use Rattle.times.specs.Duration.{unsigned, isDuration, readDuration, writeDuration}
+use Rattle.times.specs.Duration.{unsignedDuration, isDuration, readDuration, writeDuration}
 use Rattle.times.specs.laws.Duration.{duration-chars, duration-read-back, duration-accepted}
 use Rattle.times.specs.Period.{isNoSlash, slashAt, periodFrom, readPeriod, writePeriod, isPeriodChar}
 
@@ -61,11 +61,11 @@ unfolding isDateTime isDate
 date-time-first b s h = all-split isDigit b (take 7 s) (and-both _ _ (and-both _ _ (and-both _ _ h .0) .1) .0) .0
 
 duration-first : (b : ℕ) (s : List ℕ) → isDuration (b ∷ s) ≡ true → isDigit b ≡ false
-unfolding isDuration unsigned begins _and_
+unfolding isDuration unsignedDuration begins _and_
 duration-first b s h = or-cases _ _ h (λ e. rw (eqb-true b 80 (and-both _ _ e .0))) (λ e. rw (eqb-true b 45 (and-both _ _ e .0)))
 
 not-both : (v : List ℕ) → isDuration v ≡ true → isDateTime v ≡ false
-unfolding isDuration unsigned begins _or_
+unfolding isDuration unsignedDuration begins _or_
 not-both v h = go v (isDateTime v) refl h
   where
     go : (v : List ℕ) (t : Bool) → isDateTime v ≡ t → isDuration v ≡ true → t ≡ false

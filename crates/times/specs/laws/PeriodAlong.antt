@@ -27,7 +27,7 @@ use Rattle.times.specs.Date.{isDate}
 use Rattle.times.specs.DateTime.{isDateTime, readDateTime}
 use Rattle.times.specs.DateTimeAlong.{dateTimePattern, moment, momentFrom, momentBy, joinTime}
 use Rattle.times.specs.laws.DateTimeAlong.{date-time-along, moment-zone, then-none}
-use Rattle.times.specs.Duration.{unsigned, isDuration, durationOf, readDuration}
+use Rattle.times.specs.Duration.{unsignedDuration, isDuration, durationOf, readDuration}
 use Rattle.times.specs.Period.{isNoSlash, slashAt, periodFrom, readPeriod}
 use Rattle.times.specs.PeriodAlong.{cut, uncut, slashed, afterStart, periodUpper, periodBy, cutPeriod, periodAfter}
 
@@ -170,7 +170,7 @@ start-uncut (b ∷ c ∷ r) h =
     go false = refl
 
 no-end : (start : List ℕ) → periodUpper start [] ≡ none
-unfolding periodUpper durationOf isDateTime isDate isDuration unsigned keep begins andThen pick _or_ _and_
+unfolding periodUpper durationOf isDateTime isDate isDuration unsignedDuration keep begins andThen pick _or_ _and_
 no-end start = refl
 
 nothing-after : (n k : ℕ) → periodBy n k [] ≡ none

@@ -36,7 +36,7 @@ use Rattle.numbers.specs.laws.Integer.{whole-all}
 use Rattle.numbers.specs.Float.{readFloat, writeFloat}
 use Rattle.numbers.specs.laws.FloatLaws.{float-all, float-accepted}
 use Rattle.numbers.specs.Boolean.{writeBoolean}
-use Rattle.texts.specs.Binary.{isBase64, padFits, inGroup, nextPlace, binaryFrom, readBinary}
+use Rattle.texts.specs.Binary.{isBase64Char, padFits, inGroup, nextPlace, binaryFrom, readBinary}
 use Rattle.texts.specs.laws.Binary.{binary-accepted}
 use Rattle.xml.specs.Escape.{escaped}
 
@@ -132,9 +132,9 @@ in-bare : (n last b : ℕ) → inGroup n last b ≡ true → isBare b ≡ true
 unfolding pick _or_ _and_
 in-bare n last b h = go (eqb b 61) refl h
   where
-    go : (t : Bool) → eqb b 61 ≡ t → pick t (padFits n last) (isBase64 b and ltb n 4) ≡ true → isBare b ≡ true
+    go : (t : Bool) → eqb b 61 ≡ t → pick t (padFits n last) (isBase64Char b and ltb n 4) ≡ true → isBare b ≡ true
     go true e k = ap isBare (eqb-true b 61 e)
-    go false e k = bare-of isBase64 refl refl refl b (and-both (isBase64 b) _ k .0)
+    go false e k = bare-of isBase64Char refl refl refl b (and-both (isBase64Char b) _ k .0)
 
 from-bare : (s : List ℕ) (n last : ℕ) → binaryFrom n last s ≡ true → allOf isBare s ≡ true
 unfolding binaryFrom allOf

@@ -36,80 +36,80 @@ use Rattle.texts.specs.Chars.{asIs}
 use Rattle.recur.specs.Rule.{readRule}
 use Rattle.xml.specs.Escape.{escaped}
 use Rattle.values.specs.ReadValue.{readValue}
-use Rattle.values.specs.WriteValue.{characters}
+use Rattle.values.specs.WriteValue.{valueCharacters}
 use Rattle.values.specs.ValueAt.{fromBinary}
 use Rattle.values.specs.laws.ValueAt.{from-binary}
 use Rattle.values.specs.laws.Bare.{date-bare, time-bare, date-time-bare, duration-bare, offset-bare, integer-bare, float-bare, boolean-bare, binary-bare}
 use Rattle.values.specs.PutValue.{xmlOf}
 
-mapped : {A : Type 0} (g : A → Value) (w : A → List ℕ) (o : Option A) → ((a : A) → o ≡ some a → escaped (characters (g a)) ≡ w a) → orNothing w o ≡ xmlOf (Option·map g o)
+mapped : {A : Type 0} (g : A → Value) (w : A → List ℕ) (o : Option A) → ((a : A) → o ≡ some a → escaped (valueCharacters (g a)) ≡ w a) → orNothing w o ≡ xmlOf (Option·map g o)
 unfolding xmlOf
 mapped g w none k = refl
 mapped g w (some a) k = sym (k a refl)
 
-nothing : (o : Option Value) → ((v : Value) → o ≡ some v → escaped (characters v) ≡ []) → [] ≡ xmlOf o
+nothing : (o : Option Value) → ((v : Value) → o ≡ some v → escaped (valueCharacters v) ≡ []) → [] ≡ xmlOf o
 unfolding xmlOf
 nothing none k = refl
 nothing (some v) k = sym (k v refl)
 
 no-rule : (o : Option (List RulePart)) → [] ≡ xmlOf (Option·map recur o)
-unfolding xmlOf characters escaped
+unfolding xmlOf valueCharacters escaped
 no-rule none = refl
 no-rule (some r) = refl
 
 module _ {d e : List ℕ} {o r : ℕ} (l : List ℕ) where
   pub put-date : Put d e o r (orNothing (writeDate xcal) (readDate ical l)) → Put d e o r (xmlOf (readValue ical DATE l))
-  unfolding readValue characters
+  unfolding readValue valueCharacters
   put-date p = subst (Put d e o r) (mapped date (writeDate xcal) (readDate ical l) (date-bare l)) p
 
   pub put-time : Put d e o r (orNothing (writeTime xcal) (readTime ical l)) → Put d e o r (xmlOf (readValue ical TIME l))
-  unfolding readValue characters
+  unfolding readValue valueCharacters
   put-time p = subst (Put d e o r) (mapped time (writeTime xcal) (readTime ical l) (time-bare l)) p
 
   pub put-date-time : Put d e o r (orNothing (writeDateTime xcal) (readDateTime ical l)) → Put d e o r (xmlOf (readValue ical DATE-TIME l))
-  unfolding readValue characters
+  unfolding readValue valueCharacters
   put-date-time p = subst (Put d e o r) (mapped dateTime (writeDateTime xcal) (readDateTime ical l) (date-time-bare l)) p
 
   pub put-duration : Put d e o r (orNothing (writeDuration xcal) (readDuration ical l)) → Put d e o r (xmlOf (readValue ical DURATION l))
-  unfolding readValue characters
+  unfolding readValue valueCharacters
   put-duration p = subst (Put d e o r) (mapped duration (writeDuration xcal) (readDuration ical l) (duration-bare l)) p
 
   pub put-offset : Put d e o r (orNothing (writeUtcOffset xcal) (readUtcOffset ical l)) → Put d e o r (xmlOf (readValue ical UTC-OFFSET l))
-  unfolding readValue characters
+  unfolding readValue valueCharacters
   put-offset p = subst (Put d e o r) (mapped utcOffset (writeUtcOffset xcal) (readUtcOffset ical l) (offset-bare l)) p
 
   pub put-integer : Put d e o r (orNothing writeInteger (readInteger l)) → Put d e o r (xmlOf (readValue ical INTEGER l))
-  unfolding readValue characters
+  unfolding readValue valueCharacters
   put-integer p = subst (Put d e o r) (mapped integer writeInteger (readInteger l) (λ w h. integer-bare w)) p
 
   pub put-float : Put d e o r (orNothing writeFloat (readFloat l)) → Put d e o r (xmlOf (readValue ical FLOAT l))
-  unfolding readValue characters
+  unfolding readValue valueCharacters
   put-float p = subst (Put d e o r) (mapped float writeFloat (readFloat l) (float-bare l)) p
 
   pub put-binary : Put d e o r (orNothing asIs (readBinary ical l)) → Put d e o r (xmlOf (readValue ical BINARY l))
-  unfolding readValue characters
+  unfolding readValue valueCharacters
   put-binary p = subst (Put d e o r) (mapped binary asIs (readBinary ical l) (binary-bare l)) p
 
   pub put-text : Put d e o r (orNothing escaped (readText l)) → Put d e o r (xmlOf (readValue ical TEXT l))
-  unfolding readValue characters
+  unfolding readValue valueCharacters
   put-text p = subst (Put d e o r) (mapped text escaped (readText l) (λ v h. refl)) p
 
   pub put-uri : Put d e o r (orNothing escaped (readUri l)) → Put d e o r (xmlOf (readValue ical URI l))
-  unfolding readValue characters
+  unfolding readValue valueCharacters
   put-uri p = subst (Put d e o r) (mapped uri escaped (readUri l) (λ v h. refl)) p
 
   pub put-address : Put d e o r (orNothing escaped (readUri l)) → Put d e o r (xmlOf (readValue ical CAL-ADDRESS l))
-  unfolding readValue characters
+  unfolding readValue valueCharacters
   put-address p = subst (Put d e o r) (mapped calAddress escaped (readUri l) (λ v h. refl)) p
 
   pub put-unknown : Put d e o r (orNothing escaped (readUnknown l)) → Put d e o r (xmlOf (readValue ical UNKNOWN l))
-  unfolding readValue characters
+  unfolding readValue valueCharacters
   put-unknown p = subst (Put d e o r) (mapped unknown escaped (readUnknown l) (λ v h. refl)) p
 
   -- PERIOD and RECUR are made of elements
   pub put-period : Put d e o r [] → Put d e o r (xmlOf (readValue ical PERIOD l))
-  unfolding readValue characters escaped
-  put-period p = subst (Put d e o r) (nothing (readPeriod l) (λ v h. period-accepted (λ v. escaped (characters v) ≡ []) (λ a z h k. refl) (λ a z h k. refl) l v h)) p
+  unfolding readValue valueCharacters escaped
+  put-period p = subst (Put d e o r) (nothing (readPeriod l) (λ v h. period-accepted (λ v. escaped (valueCharacters v) ≡ []) (λ a z h k. refl) (λ a z h k. refl) l v h)) p
 
   pub put-rule : Put d e o r [] → Put d e o r (xmlOf (readValue ical RECUR l))
   unfolding readValue
@@ -118,7 +118,7 @@ module _ {d e : List ℕ} {o r : ℕ} (l : List ℕ) where
   -- a BOOLEAN that was read
   module _ {b : BooleanRead} (q : readBoolean ical l ≡ truthOf b) where
     pub put-truth : {t : Bool} → b ≡ Truth t → Put d e o r (writeBoolean xcal t) → Put d e o r (xmlOf (readValue ical BOOLEAN l))
-    unfolding readValue xmlOf characters
+    unfolding readValue xmlOf valueCharacters
     put-truth {t} h p = rw (q, h, boolean-bare t) p
 
     pub put-no-truth : b ≡ Bad → Put d e o r [] → Put d e o r (xmlOf (readValue ical BOOLEAN l))
@@ -136,9 +136,9 @@ module _ {d e : List ℕ} {o r : ℕ} (l : List ℕ) where
     unfolding pick
     put-next h p = rw (ne-eqb t k h) p
 
-  pub put-value : (t : ℕ) → Put d e o r (xmlOf (readValue ical (fromBinary t) l)) → Put d e o r (orNothing (λ v. escaped (characters v)) (readValue ical (typeAt t) l))
+  pub put-value : (t : ℕ) → Put d e o r (xmlOf (readValue ical (fromBinary t) l)) → Put d e o r (orNothing (λ v. escaped (valueCharacters v)) (readValue ical (typeAt t) l))
   unfolding xmlOf
-  put-value t p = subst (λ (u : ValueType). Put d e o r (orNothing (λ v. escaped (characters v)) (readValue ical u l))) (from-binary t) p
+  put-value t p = subst (λ (u : ValueType). Put d e o r (orNothing (λ v. escaped (valueCharacters v)) (readValue ical u l))) (from-binary t) p
 
 -- the choice of a type, with the rule of one type beside it
 pub ruleset placing = (put-type, put-next, needs)

@@ -37,7 +37,7 @@ use Rattle.texts.specs.laws.Unknown.{unknown-read-back, unknown-accepted}
 use Rattle.recur.specs.Rule.{readRule}
 use Rattle.recur.specs.laws.RuleLaws.{rule-read-back, rule-accepted}
 use Rattle.values.specs.ReadValue.{readValue, readTextAs}
-use Rattle.values.specs.WriteValue.{writeValue, characters}
+use Rattle.values.specs.WriteValue.{writeValue, valueCharacters}
 use Rattle.values.specs.ReadBack.{isValue, isTyped}
 
 abbrev pub isCharacterData : Value → Bool
@@ -83,8 +83,8 @@ value-read-back (unknown s) t h = rw (unknown-read-back s h)
 value-read-back (geo la lo) t h = absurd (false≢true t)
 value-read-back (requestStatus c d x) t h = absurd (false≢true t)
 
-pub characters-read-back : (v : Value) → isCharacterData v ≡ true → isValue v ≡ true → readValue xcal (typeOf v) (characters v) ≡ some v
-unfolding readValue characters
+pub characters-read-back : (v : Value) → isCharacterData v ≡ true → isValue v ≡ true → readValue xcal (typeOf v) (valueCharacters v) ≡ some v
+unfolding readValue valueCharacters
 characters-read-back (binary s) t h = rw (binary-read-back xcal s h)
 characters-read-back (boolean b) t h = rw (boolean-read-back xcal b)
 characters-read-back (calAddress s) t h = rw (uri-read-back s h)

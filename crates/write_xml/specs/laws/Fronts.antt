@@ -8,8 +8,8 @@ use Rattle.octets.specs.Append.{_⊕_}
 use Rattle.sink.specs.Sink.{Put}
 use Rattle.sink.specs.laws.Sink.{_▷_}
 use Rattle.xml.specs.Token.{namespace}
-use Rattle.xml.specs.Escape.{endTag}
-use Rattle.xcal.specs.WriteXml.{declaration, rootStart, rootEnd}
+use Rattle.xml.specs.Escape.{endTag, rootStart}
+use Rattle.xcal.specs.WriteXml.{declaration, rootEnd}
 use Rattle.write_xml.specs.Fronts.{quotedXml, attributeXml}
 
 declaration-is : ascii "<?xml" ⊕ attributeXml (ascii "version") (ascii "1.0") ⊕ attributeXml (ascii "encoding") (ascii "utf-8") ⊕ ascii "?>" ≡ declaration

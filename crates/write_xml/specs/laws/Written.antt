@@ -11,7 +11,8 @@ use Rattle.source.specs.Source.{rest, Settled}
 use Rattle.folding.specs.Lines.{lines}
 use Rattle.calendar.specs.Calendar.{Components}
 use Rattle.text.specs.Tree.{innerOf, calendarOf}
-use Rattle.xcal.specs.WriteXml.{componentsXml, declaration, rootStart, rootEnd, writeDocument}
+use Rattle.xml.specs.Escape.{rootStart}
+use Rattle.xcal.specs.WriteXml.{componentsXml, declaration, rootEnd, writeDocument}
 use Rattle.write_xml.specs.Entries.{entriesAt}
 use Rattle.write_xml.specs.laws.Entries.{entries-start}
 use Rattle.write_xml.specs.Walks.{innerXml}

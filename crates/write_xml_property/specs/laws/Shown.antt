@@ -39,7 +39,7 @@ use Rattle.texts.specs.laws.RequestStatus.{IsStatus, request-status-accepted}
 use Rattle.texts.specs.StatusXml.{statusXml, dataElement}
 use Rattle.xml.specs.Escape.{escaped, elementOf}
 use Rattle.values.specs.ReadValue.{readValue}
-use Rattle.values.specs.WriteValue.{characters}
+use Rattle.values.specs.WriteValue.{valueCharacters}
 use Rattle.text.specs.Values.{oneValue, readListed, readChosen, readValues}
 use Rattle.xcal.specs.WriteXml.{textElement, dataXml, valueXml, valuesXml}
 use Rattle.write_xml_property.specs.Pieces.{piecesXml, listedXml}
@@ -77,7 +77,7 @@ unfolding octets-compute
 small-text = refl
 
 text-shown : (s : List ℕ) → elementOf (ascii "text") (escaped s) ≡ valueXml (text s)
-unfolding valueXml characters
+unfolding valueXml valueCharacters
 text-shown s = ap (λ (n : List ℕ). elementOf n (escaped s)) (sym small-text)
 
 each-text : (ts : List (List ℕ)) → textsXml ts ≡ valuesXml (map text ts)

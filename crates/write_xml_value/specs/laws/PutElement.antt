@@ -35,7 +35,7 @@ use Rattle.recur.specs.Rule.{readRule}
 use Rattle.recur.specs.Noted.{Parted}
 use Rattle.recur.specs.declared.rule.RuleParts.{RuleParts}
 use Rattle.values.specs.ReadValue.{readValue}
-use Rattle.values.specs.WriteValue.{characters}
+use Rattle.values.specs.WriteValue.{valueCharacters}
 use Rattle.values.specs.laws.ValueAt.{isGood}
 use Rattle.values.specs.declared.ValueRead.{ValueRead}
 use Rattle.values.specs.declared.ValueRead.the-variants as value
@@ -85,12 +85,12 @@ isMade URI = false
 isMade UTC-OFFSET = false
 isMade UNKNOWN = false
 
-mapped : {A : Type 0} (n : List ℕ) (g : A → Value) → ((a : A) → valueXml (g a) ≡ elementOf n (escaped (characters (g a)))) → (u : Option A) (v : Value) → Option·map g u ≡ some v →
-    valueXml v ≡ elementOf n (escaped (characters v))
+mapped : {A : Type 0} (n : List ℕ) (g : A → Value) → ((a : A) → valueXml (g a) ≡ elementOf n (escaped (valueCharacters (g a)))) → (u : Option A) (v : Value) → Option·map g u ≡ some v →
+    valueXml v ≡ elementOf n (escaped (valueCharacters v))
 mapped n g k none v h = none-some h
 mapped n g k (some a) v h = let z : g a ≡ v = cc in rw (← z) (k a)
 
-plain : (u : ValueType) (l : List ℕ) (v : Value) → isMade u ≡ false → readValue ical u l ≡ some v → valueXml v ≡ elementOf (lower (typeName u)) (escaped (characters v))
+plain : (u : ValueType) (l : List ℕ) (v : Value) → isMade u ≡ false → readValue ical u l ≡ some v → valueXml v ≡ elementOf (lower (typeName u)) (escaped (valueCharacters v))
 unfolding readValue valueXml
 plain BINARY l v m h = mapped _ binary (λ a. refl) (readBinary ical l) v h
 plain BOOLEAN l v m h = mapped _ boolean (λ a. refl) (readBoolean ical l) v h
@@ -127,11 +127,11 @@ not-made (suc (suc (suc (suc (suc (suc (suc (suc (suc (suc (suc (suc (suc (suc t
 
 module _ {d e : List ℕ} {o q : ℕ} (t : ℕ) (l : List ℕ) {r : ValueRead} (p : isRead (readValue ical (typeAt t) l) ≡ isGood r) where
   pub put-plain : {k : ℕ} → (t ≡ 8 → ⊥) → (t ≡ 9 → ⊥) → r ≡ value.Good k →
-      Put d e o q (elementOf (typeLabel t) (orNothing (λ v. escaped (characters v)) (readValue ical (typeAt t) l))) → Put d e o q (orNothing valueXml (readValue ical (typeAt t) l))
+      Put d e o q (elementOf (typeLabel t) (orNothing (λ v. escaped (valueCharacters v)) (readValue ical (typeAt t) l))) → Put d e o q (orNothing valueXml (readValue ical (typeAt t) l))
   unfolding isRead
   put-plain a b h w = go (readValue ical (typeAt t) l) refl (p ∙ ap isGood h) w
     where
-      go : (u : Option Value) → readValue ical (typeAt t) l ≡ u → isRead u ≡ true → Put d e o q (elementOf (typeLabel t) (orNothing (λ v. escaped (characters v)) u)) → Put d e o q (orNothing valueXml u)
+      go : (u : Option Value) → readValue ical (typeAt t) l ≡ u → isRead u ≡ true → Put d e o q (elementOf (typeLabel t) (orNothing (λ v. escaped (valueCharacters v)) u)) → Put d e o q (orNothing valueXml u)
       go none k z w = absurd (false≢true z)
       go (some v) k z w = rw (plain (typeAt t) l v (not-made t a b) k) w
 

@@ -14,12 +14,12 @@ use Rattle.sink.specs.laws.Sink.{each}
 use Rattle.names.specs.laws.Case.{cased-small}
 use Rattle.names.specs.declared.Case.the-variants.{Capital}
 use Rattle.source.specs.laws.Copying.{copying}
-use Rattle.values.specs.WriteValue.{characters}
+use Rattle.values.specs.WriteValue.{valueCharacters}
 use Rattle.xml.specs.Escape.{escapedByte, escaped, elementOf}
 use Rattle.xcal.specs.WriteXml.{valueXml}
 
 pub put-text-value : {d e : List ℕ} {o r : ℕ} (s : List ℕ) → Put d e o r (elementOf (ascii "text") (escaped s)) → Put d e o r (valueXml (text s))
-unfolding valueXml characters octets-compute
+unfolding valueXml valueCharacters octets-compute
 put-text-value s p = p
 
 -- ---- capitals

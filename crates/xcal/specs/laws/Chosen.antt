@@ -15,7 +15,7 @@ use Rattle.octets.specs.Reading.{isRead}
 use Rattle.calendar.specs.Calendar.{ValueType, PERIOD, RECUR, TEXT, Value, text, textIn, typeOf}
 use Rattle.schema.specs.Types.{sameType}
 use Rattle.schema.specs.laws.Types.{same-type-true}
-use Rattle.values.specs.WriteValue.{characters as dataOf}
+use Rattle.values.specs.WriteValue.{valueCharacters}
 use Rattle.values.specs.ReadBack.{isValue, isTyped}
 use Rattle.values.specs.laws.ReadBack.{isCharacterData, characters-read-back}
 use Rattle.values.specs.Valid.{isWordIn, isChosen}
@@ -53,12 +53,12 @@ chosen-typed (some words) t v f h =
     let w = word-text words v h in
     rw (w .1) (sym (f words refl), refl, refl)
 
-pub chosen-read : (o : Option (List (List ℕ))) (t : ValueType) (v : Value) → OfText o t → isChosen o t v ≡ true → isCharacterData v ≡ true → readWordIn o t (dataOf v) ≡ some v
-unfolding dataOf
+pub chosen-read : (o : Option (List (List ℕ))) (t : ValueType) (v : Value) → OfText o t → isChosen o t v ≡ true → isCharacterData v ≡ true → readWordIn o t (valueCharacters v) ≡ some v
+unfolding valueCharacters
 chosen-read none t v f h c = let k = chosen-typed none t v f h in rw (← (k .0)) (characters-read-back v c (k .2))
 chosen-read (some words) t v f h c = let w = word-text words v h in rw (w .1) (pick-yes (isOneOf (w .0) words) _ _ (w .2))
 
-pub chosen-word : (o : Option (List (List ℕ))) (t : ValueType) (v : Value) → OfText o t → isChosen o t v ≡ true → isCharacterData v ≡ true → readWordOf o t (dataOf v) ≡ true
-unfolding isRead dataOf
+pub chosen-word : (o : Option (List (List ℕ))) (t : ValueType) (v : Value) → OfText o t → isChosen o t v ≡ true → isCharacterData v ≡ true → readWordOf o t (valueCharacters v) ≡ true
+unfolding isRead valueCharacters
 chosen-word none t v f h c = rw (chosen-read none t v f h c)
 chosen-word (some words) t v f h c = let w = word-text words v h in rw (w .1) (w .2)

@@ -45,7 +45,7 @@ use Rattle.texts.specs.laws.Uri.{uri-visible}
 use Rattle.texts.specs.laws.Binary.{binary-visible}
 use Rattle.recur.specs.Item.{writeItem, isItem}
 use Rattle.recur.specs.laws.ItemLaws.{item-characters}
-use Rattle.values.specs.WriteValue.{characters as dataOf}
+use Rattle.values.specs.WriteValue.{valueCharacters}
 use Rattle.values.specs.ReadBack.{isValue}
 use Rattle.values.specs.Characters.{freeIn, isValueText}
 use Rattle.values.specs.laws.ReadBack.{isCharacterData}
@@ -150,8 +150,8 @@ span-clean s h = visible-clean _ (duration-clean s (chars-visible s (duration-ch
 pub float-clean : (d : _) → isNormal d ≡ true → isClean (writeFloat d) ≡ true
 float-clean d h = visible-clean _ (float-visible d h)
 
-pub data-clean : (v : Value) → isCharacterData v ≡ true → isValue v ≡ true → isCleanValue v ≡ true → isClean (dataOf v) ≡ true
-unfolding dataOf
+pub data-clean : (v : Value) → isCharacterData v ≡ true → isValue v ≡ true → isCleanValue v ≡ true → isClean (valueCharacters v) ≡ true
+unfolding valueCharacters
 data-clean (binary s) c h k = visible-clean s (binary-visible s h)
 data-clean (boolean b) c h k = visible-clean _ (boolean-visible xcal b)
 data-clean (calAddress s) c h k = visible-clean s (uri-visible s h)

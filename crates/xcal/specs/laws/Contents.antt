@@ -16,13 +16,13 @@ use Rattle.numbers.specs.Float.{writeFloat}
 use Rattle.times.specs.DateTime.{writeDateTime}
 use Rattle.times.specs.Duration.{writeDuration}
 use Rattle.recur.specs.Item.{writeItem}
-use Rattle.values.specs.WriteValue.{characters as dataOf}
-use Rattle.xml.specs.Content.{Content, nothing, child, characters}
+use Rattle.values.specs.WriteValue.{valueCharacters}
+use Rattle.xml.specs.Content.{Content, nothing, child, charData}
 use Rattle.xcal.specs.WriteXml.{isNoMore}
 
 -- an element of character data, in front of what follows it
 abbrev pub leafBefore : List ℕ → List ℕ → Content → Content
-leafBefore n s next = child n (characters s nothing) next
+leafBefore n s next = child n (charData s nothing) next
 
 -- ---- values
 
@@ -39,7 +39,7 @@ dataBefore none next = next
 dataBefore (some s) next = leafBefore (ascii "data") s next
 
 abbrev pub plainInside : Value → Content
-plainInside v = characters (dataOf v) nothing
+plainInside v = charData (valueCharacters v) nothing
 
 -- GEO and REQUEST-STATUS have children of their own, and no element of a type
 unfoldable pub inside : Value → Content

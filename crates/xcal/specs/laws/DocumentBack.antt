@@ -18,7 +18,7 @@ use Rattle.utf8.specs.Utf8.{firstBad}
 use Rattle.utf8.specs.laws.Utf8.{good-append}
 use Rattle.validity.specs.ValidCalendar.{hasComponents, areValid, atTop, isValid}
 use Rattle.validity.specs.laws.ValidCalendar.{top-kept, valid-parts}
-use Rattle.xml.specs.Escape.{declaration, rootStart, endTag, documentOf}
+use Rattle.xml.specs.Escape.{declarationLine, rootStart, endTag, documentOf}
 use Rattle.xml.specs.Nodes.{noNodes, element, documentNodes}
 use Rattle.xml.specs.Content.{written, placed}
 use Rattle.xml.specs.laws.DocumentBack.{document-read-back, document-well-formed}
@@ -34,7 +34,7 @@ use Rattle.xcal.specs.laws.SoundCalendar.{calendar-sound}
 
 -- ---- bytes
 
-start-good : firstBad declaration ≡ none
+start-good : firstBad declarationLine ≡ none
 unfolding utf8-compute
 start-good = refl
 
@@ -48,7 +48,7 @@ end-good = refl
 
 document-good : (s : List ℕ) → firstBad s ≡ none → firstBad (documentOf s) ≡ none
 document-good s h =
-    good-append declaration (rootStart ⊕ s ⊕ endTag (ascii "icalendar") ⊕ ascii "\n") start-good
+    good-append declarationLine (rootStart ⊕ s ⊕ endTag (ascii "icalendar") ⊕ ascii "\n") start-good
     (good-append rootStart (s ⊕ endTag (ascii "icalendar") ⊕ ascii "\n") root-good (good-append s (endTag (ascii "icalendar") ⊕ ascii "\n") h end-good))
 
 -- ---- the document

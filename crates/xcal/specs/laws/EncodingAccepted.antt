@@ -20,12 +20,12 @@ use Rattle.calendar.specs.Calendar.{ValueType, BINARY, Value, textIn, Parameter
 use Rattle.schema.specs.Types.{sameType}
 use Rattle.schema.specs.Parameters.{isListedParameter}
 use Rattle.schema.specs.Computing.{schema-compute}
-use Rattle.values.specs.Valid.{isAmount, isWordIn, isParameter, areParameters, isBase64 as saysBase64}
+use Rattle.values.specs.Valid.{isAmount, isWordIn, isParameter, areParameters, isBase64Encoding}
 use Rattle.values.specs.laws.Valid.{only-one}
 use Rattle.validity.specs.ValidCalendar.{isValidParameter}
 use Rattle.validity.specs.laws.ValidCalendar.{valid-parameter}
 use Rattle.xml.specs.Nodes.{Nodes, noNodes, element, literal, referred}
-use Rattle.xcal.specs.ParameterNodes.{isBase64, hasEncoding, readParameterNodes}
+use Rattle.xcal.specs.ParameterNodes.{areBase64, hasEncoding, readParameterNodes}
 use Rattle.xcal.specs.laws.ParametersFine.{nameIn, isEncoded}
 use Rattle.xcal.specs.laws.ParametersAccepted.{Said}
 
@@ -47,7 +47,7 @@ named-encoding (element p m x kids more) h =
     (λ e. or-left _ _ (ap (same (ascii "ENCODING")) (ap upper (same-true m (ascii "encoding") e) ∙ encoding-name) ∙ same-self (ascii "ENCODING")))
     (λ e. or-right _ _ (named-encoding more e))
 
-one-base64 : (v : Value) → isBase64 (v ∷ []) ≡ true → isWordIn (ascii "BASE64" ∷ []) (textIn v) ≡ true
+one-base64 : (v : Value) → areBase64 (v ∷ []) ≡ true → isWordIn (ascii "BASE64" ∷ []) (textIn v) ≡ true
 unfolding octets-compute
 one-base64 v h = go (textIn v) h
   where
@@ -55,11 +55,11 @@ one-base64 v h = go (textIn v) h
     go none k = absurd (false≢true k)
     go (some s) k = or-left (same s (ascii "BASE64")) false k
 
-base64-values : (vs : List Value) → isAmount false vs ≡ true → isBase64 vs ≡ true → every (λ v. isWordIn (ascii "BASE64" ∷ []) (textIn v)) vs ≡ true
+base64-values : (vs : List Value) → isAmount false vs ≡ true → areBase64 vs ≡ true → every (λ v. isWordIn (ascii "BASE64" ∷ []) (textIn v)) vs ≡ true
 unfolding every
-base64-values vs a h = only-one (λ vs. isBase64 vs ≡ true → every (λ v. isWordIn (ascii "BASE64" ∷ []) (textIn v)) vs ≡ true) (λ v k. and-yes _ _ (one-base64 v k) refl) vs a h
+base64-values vs a h = only-one (λ vs. areBase64 vs ≡ true → every (λ v. isWordIn (ascii "BASE64" ∷ []) (textIn v)) vs ≡ true) (λ v k. and-yes _ _ (one-base64 v k) refl) vs a h
 
-base64-says : (t : ValueType) (p : Parameter) → sameType t BINARY ≡ true → isValidParameter p ≡ true → isEncoded t p ≡ true → same (p .name) (ascii "ENCODING") ≡ true → saysBase64 p ≡ true
+base64-says : (t : ValueType) (p : Parameter) → sameType t BINARY ≡ true → isValidParameter p ≡ true → isEncoded t p ≡ true → same (p .name) (ascii "ENCODING") ≡ true → isBase64Encoding p ≡ true
 unfolding _and_ _or_
 base64-says t p b c e n =
     let k = valid-parameter p c in
@@ -67,7 +67,7 @@ base64-says t p b c e n =
     rw n (base64-values (p .values) (ap (λ (l : Bool). isAmount l (p .values)) (sym (ap isListedParameter z ∙ one-encoding)) ∙ k .amount) (rw (n, b) at e))
 
 any-base64 : (t : ValueType) (ps : List Parameter) → sameType t BINARY ≡ true → every isValidParameter ps ≡ true → every (isEncoded t) ps ≡ true → isOneOf (ascii "ENCODING") (map nameIn ps) ≡ true →
-    anyOne saysBase64 ps ≡ true
+    anyOne isBase64Encoding ps ≡ true
 unfolding isOneOf anyOne
 any-base64 t [] b c e o = o
 any-base64 t (p ∷ ps) b c e o =
@@ -83,6 +83,6 @@ are-parameters n t kids s h =
     and-yes _ _ (every-weaker isValidParameter isParameter (λ p h. valid-parameter p h .typed) (readParameterNodes kids) (s .valid))
     (and-yes _ _ (s .once) (and-yes _ _ (s .permitted) (go (sameType t BINARY) refl h)))
   where
-    go : (b : Bool) → sameType t BINARY ≡ b → (b and not (hasEncoding kids)) ≡ false → (not b or anyOne saysBase64 (readParameterNodes kids)) ≡ true
+    go : (b : Bool) → sameType t BINARY ≡ b → (b and not (hasEncoding kids)) ≡ false → (not b or anyOne isBase64Encoding (readParameterNodes kids)) ≡ true
     go false e k = or-left _ _ refl
     go true e k = or-right _ _ (any-base64 t (readParameterNodes kids) e (s .valid) (s .encoded) (named-encoding kids (not-false _ k)))

@@ -12,7 +12,7 @@ use Rattle.calendar.specs.Refusal.{VALUE, fine, refuse, _otherwise_}
 use Rattle.xml.specs.Escape.{escapedByte}
 use Rattle.xml.specs.Reads.{isEscaped}
 use Rattle.xml.specs.Nodes.{Nodes, noNodes, literal, referred, charactersOf, hasElement}
-use Rattle.xml.specs.Content.{nothing, characters, characterNodes, placed}
+use Rattle.xml.specs.Content.{nothing, charData, characterNodes, placed}
 use Rattle.xml.specs.laws.ReadBack.{characters-of, no-element}
 use Rattle.xcal.specs.Layout.{innerElement, leaf}
 
@@ -20,7 +20,7 @@ use Rattle.xcal.specs.Layout.{innerElement, leaf}
 abbrev pub leafNodes : List ℕ → ℕ → Nodes
 leafNodes s q = characterNodes s q noNodes
 
-pub leaf-placed : (s : List ℕ) (q : ℕ) → placed (characters s nothing) q noNodes ≡ leafNodes s q
+pub leaf-placed : (s : List ℕ) (q : ℕ) → placed (charData s nothing) q noNodes ≡ leafNodes s q
 unfolding placed
 leaf-placed s q = refl
 

@@ -24,7 +24,7 @@ use Rattle.schema.specs.laws.Closed.{parameter-words-text}
 use Rattle.schema.specs.Parameters.{parameterTable, parameterRow, unrecognisedParameter, parameterType, parameterWords}
 use Rattle.texts.specs.Uri.{isUri}
 use Rattle.texts.specs.laws.Uri.{uri-visible, uri-unquoted}
-use Rattle.values.specs.WriteValue.{characters as dataOf}
+use Rattle.values.specs.WriteValue.{valueCharacters}
 use Rattle.values.specs.ReadBack.{isValue, isTyped}
 use Rattle.values.specs.Valid.{isAmount, isChosen}
 use Rattle.values.specs.Characters.{isParameterText}
@@ -43,7 +43,7 @@ use Rattle.xcal.specs.laws.Chosen.{plain-value, chosen-typed, chosen-rea
 
 -- 34 is the double quote, 10 LF
 abbrev pub isCarriedValue : Value → Bool
-isCarriedValue v = not (holds 34 (dataOf v)) and not (holds 10 (dataOf v))
+isCarriedValue v = not (holds 34 (valueCharacters v)) and not (holds 10 (valueCharacters v))
 
 -- no parameter is a PERIOD or a RECUR
 parameter-plain : (n : List ℕ) → (not (sameType (parameterType n) PERIOD) and not (sameType (parameterType n) RECUR)) ≡ true
@@ -63,8 +63,8 @@ module _ (n : List ℕ) (v : Value) (h : isChosen (parameterWords n) (parameterT
       let k = param-typed in
       let t = and-both _ _ (parameter-plain n) in
       let p = plain-value v (k .1) (rw (k .0) (not-true _ (t .0))) (rw (k .0) (not-true _ (t .1))) in
-      let d = and-both (not (holds 34 (dataOf v))) (not (holds 10 (dataOf v))) c in
-      rw (p .1, leaf-placed (dataOf v) q, leaf-no-element (dataOf v) q, leaf-characters (dataOf v) q, not-true (holds 34 (dataOf v)) (d .0), not-true (holds 10 (dataOf v)) (d .1))
+      let d = and-both (not (holds 34 (valueCharacters v))) (not (holds 10 (valueCharacters v))) c in
+      rw (p .1, leaf-placed (valueCharacters v) q, leaf-no-element (valueCharacters v) q, leaf-characters (valueCharacters v) q, not-true (holds 34 (valueCharacters v)) (d .0), not-true (holds 10 (valueCharacters v)) (d .1))
       (chosen-read (parameterWords n) (parameterType n) v (of-text n) h (p .0))
 
 -- ---- the values of a parameter
@@ -102,7 +102,7 @@ free-carried s h =
 
 -- where the characters that a value's type leaves free hold no double quote and no LF, its element does not either
 value-carried : (n : List ℕ) (v : Value) → isChosen (parameterWords n) (parameterType n) v ≡ true → isParameterText v ≡ true → isCarriedValue v ≡ true
-unfolding octets-compute dataOf
+unfolding octets-compute valueCharacters
 value-carried n v h f =
     parameter-value (λ v. isParameterText v ≡ true → isCarriedValue v ≡ true) truth (λ s u f. uri-carried s u) (λ s u f. uri-carried s u) free-carried free-carried n v h f
   where

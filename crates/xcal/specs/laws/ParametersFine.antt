@@ -26,14 +26,14 @@ use Rattle.calendar.specs.Refusal.{fine, _otherwise_}
 use Rattle.schema.specs.Types.{sameType}
 use Rattle.schema.specs.Parameters.{isListedParameter}
 use Rattle.schema.specs.Properties.{permitsParameter}
-use Rattle.values.specs.Valid.{isAmount, isWordIn, isParameter, areParameters, isBase64 as saysBase64}
+use Rattle.values.specs.Valid.{isAmount, isWordIn, isParameter, areParameters, isBase64Encoding}
 use Rattle.validity.specs.ValidCalendar.{isKeptName, isValidParameter}
 use Rattle.validity.specs.laws.ValidCalendar.{ValidParameter, valid-parameter}
 use Rattle.xml.specs.Nodes.{noNodes}
 use Rattle.xml.specs.Content.{Content, nothing, endTagPlace, placed}
 use Rattle.xcal.specs.laws.ElementNames.{lower-same, no-capital, kept-upper, kept-back, kept-carried}
 use Rattle.xcal.specs.laws.Contents.{valuesBefore, parametersBefore}
-use Rattle.xcal.specs.ParameterNodes.{readParamNodes, valuesGood, isBase64, encodes, hasEncoding, badName, parameterVerdict, parametersVerdict}
+use Rattle.xcal.specs.ParameterNodes.{readParamNodes, valuesGood, areBase64, encodes, hasEncoding, badName, parameterVerdict, parametersVerdict}
 use Rattle.xcal.specs.laws.ParametersBack.{values-in, has-element}
 
 abbrev pub nameIn : Parameter → List ℕ
@@ -62,9 +62,9 @@ good-amount l (v ∷ vs) h = h
 
 -- with a value of type BINARY, it is BASE64
 abbrev pub isEncoded : ValueType → Parameter → Bool
-isEncoded t p = not (same (p .name) (ascii "ENCODING") and sameType t BINARY) or isBase64 (p .values)
+isEncoded t p = not (same (p .name) (ascii "ENCODING") and sameType t BINARY) or areBase64 (p .values)
 
-base64-values : (vs : List Value) → every (λ v. isWordIn (ascii "BASE64" ∷ []) (textIn v)) vs ≡ true → isBase64 vs ≡ true
+base64-values : (vs : List Value) → every (λ v. isWordIn (ascii "BASE64" ∷ []) (textIn v)) vs ≡ true → areBase64 vs ≡ true
 unfolding isOneOf readOr
 base64-values [] h = refl
 base64-values (v ∷ vs) h = go (textIn v) (every-both _ v vs h .0)
@@ -84,11 +84,11 @@ no-encoding t (p ∷ ps) h =
     let e = or-neither (same (ascii "ENCODING") (p .name)) _ h in
     and-yes _ _ (not-encoding t p (same-swap _ _ (e .0))) (no-encoding t ps (e .1))
 
-any-encoding : (ps : List Parameter) → anyOne saysBase64 ps ≡ true → isOneOf (ascii "ENCODING") (map nameIn ps) ≡ true
+any-encoding : (ps : List Parameter) → anyOne isBase64Encoding ps ≡ true → isOneOf (ascii "ENCODING") (map nameIn ps) ≡ true
 unfolding isOneOf anyOne
 any-encoding [] h = absurd (false≢true h)
 any-encoding (p ∷ ps) h =
-    or-cases (saysBase64 p) (anyOne saysBase64 ps) h
+    or-cases (isBase64Encoding p) (anyOne isBase64Encoding ps) h
     (λ e. or-left _ _ (rw (same-true (p .name) (ascii "ENCODING") (and-both _ _ e .0)) (same-self (ascii "ENCODING"))))
     (λ e. or-right _ _ (any-encoding ps e))
 
@@ -100,12 +100,12 @@ apart-of n ns a b = go (same (ascii "ENCODING") n) refl
     go true e = absurd (false≢true (sym b ∙ ap (λ (x : List ℕ). isOneOf x ns) (sym (same-true _ _ e)) ∙ a))
     go false e = refl
 
-each-encoded : (t : ValueType) (ps : List Parameter) → distinct (map nameIn ps) ≡ true → anyOne saysBase64 ps ≡ true → every (isEncoded t) ps ≡ true
+each-encoded : (t : ValueType) (ps : List Parameter) → distinct (map nameIn ps) ≡ true → anyOne isBase64Encoding ps ≡ true → every (isEncoded t) ps ≡ true
 unfolding distinct anyOne every
 each-encoded t [] d h = refl
 each-encoded t (p ∷ ps) d h =
     let o = pick-second (isOneOf (p .name) (map nameIn ps)) (distinct (map nameIn ps)) d in
-    or-cases (saysBase64 p) (anyOne saysBase64 ps) h
+    or-cases (isBase64Encoding p) (anyOne isBase64Encoding ps) h
     (λ e.
     let w = and-both (same (p .name) (ascii "ENCODING")) _ e in
     let z : p .name ≡ ascii "ENCODING" = same-true _ _ (w .0) in
@@ -117,7 +117,7 @@ unfolding every
 others-encoded t [] h = refl
 others-encoded t (p ∷ ps) h = and-yes _ _ (or-left _ _ (rw (and-no-right (same (p .name) (ascii "ENCODING")) _ h))) (others-encoded t ps h)
 
-all-encoded : (t : ValueType) (ps : List Parameter) → distinct (map nameIn ps) ≡ true → (not (sameType t BINARY) or anyOne saysBase64 ps) ≡ true → every (isEncoded t) ps ≡ true
+all-encoded : (t : ValueType) (ps : List Parameter) → distinct (map nameIn ps) ≡ true → (not (sameType t BINARY) or anyOne isBase64Encoding ps) ≡ true → every (isEncoded t) ps ≡ true
 all-encoded t ps d h = or-cases (not (sameType t BINARY)) _ h (λ e. others-encoded t ps (not-true _ e)) (each-encoded t ps d)
 
 -- ---- the verdict

@@ -25,7 +25,7 @@ use Rattle.utf8.specs.Utf8.{isAscii, more, low, high, highAfter, tails, isSeque
 use Rattle.utf8.specs.laws.Utf8.{well-formed-good, bad-append, good-append, visible-good, low-least}
 use Rattle.xml.specs.Escape.{escaped, startTag, endTag, elementOf}
 use Rattle.xml.specs.Reads.{isName}
-use Rattle.xml.specs.Content.{Content, nothing, child, characters, written, isWritable}
+use Rattle.xml.specs.Content.{Content, nothing, child, charData, written, isWritable}
 
 unfoldable pub isClean : List ℕ → Bool
 isClean s = not (holds 13 s) and wellFormed s
@@ -34,7 +34,7 @@ unfoldable pub isSound : Content → ℕ → Bool
 isSound nothing d = true
 isSound (child nm inner next) zero = false
 isSound (child nm inner next) (suc d) = isName nm and isSound inner d and isSound next (suc d)
-isSound (characters s next) d = isClean s and isSound next d
+isSound (charData s next) d = isClean s and isSound next d
 
 pub sound-writable : (c : Content) (d : ℕ) → isSound c d ≡ true → isWritable c d ≡ true
 unfolding isSound isWritable isClean
@@ -44,7 +44,7 @@ sound-writable (child nm inner next) (suc d) h =
     let a = and-both (isName nm) _ h in
     let b = and-both (isSound inner d) _ (a .1) in
     and-yes _ _ (a .0) (and-yes _ _ (sound-writable inner d (b .0)) (sound-writable next (suc d) (b .1)))
-sound-writable (characters s next) d h =
+sound-writable (charData s next) d h =
     let a = and-both (isClean s) _ h in
     and-yes _ _ (and-both (not (holds 13 s)) _ (a .0) .0) (sound-writable next d (a .1))
 
@@ -57,7 +57,7 @@ sound-deeper (child nm inner next) (suc d) (suc e) l h =
     let a = and-both (isName nm) _ h in
     let b = and-both (isSound inner d) _ (a .1) in
     and-yes _ _ (a .0) (and-yes _ _ (sound-deeper inner d e (omega arith) (b .0)) (sound-deeper next (suc d) (suc e) l (b .1)))
-sound-deeper (characters s next) d e l h = let a = and-both (isClean s) _ h in and-yes _ _ (a .0) (sound-deeper next d e l (a .1))
+sound-deeper (charData s next) d e l h = let a = and-both (isClean s) _ h in and-yes _ _ (a .0) (sound-deeper next d e l (a .1))
 
 -- ---- entities
 
@@ -144,6 +144,6 @@ sound-good (child nm inner next) (suc d) h =
     let a = and-both (isName nm) _ h in
     let b = and-both (isSound inner d) _ (a .1) in
     good-append (elementOf nm (written inner)) (written next) (element-good nm (written inner) (a .0) (sound-good inner d (b .0))) (sound-good next (suc d) (b .1))
-sound-good (characters s next) d h =
+sound-good (charData s next) d h =
     let a = and-both (isClean s) _ h in
     good-append (escaped s) (written next) (escaped-good s (well-formed-good s (and-both (not (holds 13 s)) _ (a .0) .1))) (sound-good next d (a .1))

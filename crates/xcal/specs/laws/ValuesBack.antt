@@ -27,7 +27,7 @@ use Rattle.times.specs.Duration.{isDuration, readDuration, writeDuration}
 use Rattle.times.specs.laws.Duration.{duration-read-back}
 use Rattle.recur.specs.Parts.{partNames}
 use Rattle.recur.specs.Rule.{isOrdered, isComplete}
-use Rattle.values.specs.WriteValue.{characters as dataOf}
+use Rattle.values.specs.WriteValue.{valueCharacters}
 use Rattle.values.specs.ReadBack.{isValue, isTyped}
 use Rattle.values.specs.laws.ReadBack.{isCharacterData, characters-read-back}
 use Rattle.xml.specs.Nodes.{noNodes}
@@ -110,7 +110,7 @@ pub value-back : (v : Value) → isTyped v ≡ true → isValue v ≡ true → (
 unfolding valueOf pick readOr
 value-back v t h q =
     by-spelling (λ v. isValue v ≡ true → valueOf (typeOf v) (placed (inside v) q noNodes) ≡ v)
-    (λ v c e p r h. rw (e, p, r, leaf-placed (dataOf v) q, leaf-characters (dataOf v) q, characters-read-back v c h))
+    (λ v c e p r h. rw (e, p, r, leaf-placed (valueCharacters v) q, leaf-characters (valueCharacters v) q, characters-read-back v c h))
     (λ s e h. explicit-back s e q h) (λ s d h. start-back s d q h) (λ ps h. recur-back ps q h) v t h
 
 -- ---- the verdict
@@ -138,12 +138,12 @@ unfolding inside typedVerdict sameType pick
 recur-fine ps q x h k n p = rule-fine ps q x h
 
 -- where the property has a closed set of words, the value is one of them
-pub typed-fine : (v : Value) → isTyped v ≡ true → isValue v ≡ true → (k n : List ℕ) → (isCharacterData v ≡ true → readWordOf (propertyWords k n) (typeOf v) (dataOf v) ≡ true) →
+pub typed-fine : (v : Value) → isTyped v ≡ true → isValue v ≡ true → (k n : List ℕ) → (isCharacterData v ≡ true → readWordOf (propertyWords k n) (typeOf v) (valueCharacters v) ≡ true) →
     (p x q : ℕ) → typedVerdict k n (typeOf v) p x (placed (inside v) q noNodes) ≡ fine
 unfolding typedVerdict pick
 typed-fine v t h k n w p x q =
-    by-spelling (λ v. isValue v ≡ true → (isCharacterData v ≡ true → readWordOf (propertyWords k n) (typeOf v) (dataOf v) ≡ true) → typedVerdict k n (typeOf v) p x (placed (inside v) q noNodes) ≡ fine)
-    (λ v c e a b h w. rw (e, a, b, leaf-placed (dataOf v) q) (leaf-fine (readWordOf (propertyWords k n) (typeOf v)) p (dataOf v) q (w c)))
+    by-spelling (λ v. isValue v ≡ true → (isCharacterData v ≡ true → readWordOf (propertyWords k n) (typeOf v) (valueCharacters v) ≡ true) → typedVerdict k n (typeOf v) p x (placed (inside v) q noNodes) ≡ fine)
+    (λ v c e a b h w. rw (e, a, b, leaf-placed (valueCharacters v) q) (leaf-fine (readWordOf (propertyWords k n) (typeOf v)) p (valueCharacters v) q (w c)))
     (λ s e h w. period-end-fine s e q x h k n p) (λ s d h w. period-duration-fine s d q x h k n p) (λ ps h w. recur-fine ps q x h k n p) v t h w
 
 -- ---- the elements of values

@@ -20,7 +20,7 @@ use Rattle.numbers.specs.Float.{writeFloat}
 use Rattle.times.specs.DateTime.{writeDateTime}
 use Rattle.times.specs.Duration.{writeDuration}
 use Rattle.recur.specs.Item.{writeItem}
-use Rattle.values.specs.WriteValue.{characters as dataOf}
+use Rattle.values.specs.WriteValue.{valueCharacters}
 use Rattle.xml.specs.Escape.{escaped, elementOf, documentOf}
 use Rattle.xml.specs.Content.{Content, nothing, child, written}
 use Rattle.xcal.specs.WriteXml.{textElement, itemsXml, partsXml, dataXml, plainXml, valueXml, valuesXml, parameterXml, parametersXml, parametersElement, propertyXml, propertiesXml, isNoMore, componentsElement, componentsXml, writeDocument}
@@ -55,7 +55,7 @@ parts-written (p ∷ ps) next =
     ∙ sym (append-regroup (itemsXml (lower (p .part)) (p .items)) (partsXml ps) (written next))
 
 plain-written : (v : Value) (next : Content) → written (child (lower (typeName (typeOf v))) (plainInside v) next) ≡ plainXml v ⊕ written next
-plain-written v next = leaf-written (lower (typeName (typeOf v))) (dataOf v) next
+plain-written v next = leaf-written (lower (typeName (typeOf v))) (valueCharacters v) next
 
 nothing-written : (s : List ℕ) (c : Content) → written c ≡ s ⊕ written nothing → written c ≡ s
 unfolding written

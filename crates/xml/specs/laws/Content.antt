@@ -12,7 +12,7 @@ use Rattle.octets.specs.Words.{holds}
 use Rattle.xml.specs.Nodes.{Nodes, noNodes, element}
 use Rattle.xml.specs.Escape.{escaped, startTag, endTag, elementOf}
 use Rattle.xml.specs.Reads.{isName}
-use Rattle.xml.specs.Content.{Content, nothing, child, characters, written, isWritable, _beside_, innerPlace, endTagPlace, nextPlace, characterNodes, placed}
+use Rattle.xml.specs.Content.{Content, nothing, child, charData, written, isWritable, _beside_, innerPlace, endTagPlace, nextPlace, characterNodes, placed}
 
 -- ---- laws of `beside`
 
@@ -21,7 +21,7 @@ unfolding written _beside_ _⊕_
 written-beside nothing e = refl
 written-beside (child nm inner next) e =
     ap (λ (s : List ℕ). elementOf nm (written inner) ⊕ s) (written-beside next e) ∙ sym (append-regroup (elementOf nm (written inner)) (written next) (written e))
-written-beside (characters s next) e =
+written-beside (charData s next) e =
     ap (λ (t : List ℕ). escaped s ⊕ t) (written-beside next e) ∙ sym (append-regroup (escaped s) (written next) (written e))
 
 pub beside-writable : (c e : Content) (d : ℕ) → isWritable (c beside e) d ≡ (isWritable c d and isWritable e d)
@@ -35,7 +35,7 @@ beside-writable (child nm inner next) e (suc d) = go (isName nm) (isWritable inn
     go true true ih = ih
     go true false ih = refl
     go false t ih = refl
-beside-writable (characters s next) e d = go (not (holds 13 s)) (beside-writable next e d)
+beside-writable (charData s next) e d = go (not (holds 13 s)) (beside-writable next e d)
   where
     go : (t : Bool) → isWritable (next beside e) d ≡ (isWritable next d and isWritable e d) → (t and isWritable (next beside e) d) ≡ ((t and isWritable next d) and isWritable e d)
     go true ih = ih
@@ -49,7 +49,7 @@ placed-beside (child nm inner next) e p n =
     (placed-beside next e (nextPlace nm inner p) n
     ∙ ap (λ (q : ℕ). placed next (nextPlace nm inner p) (placed e q n))
     (omega (arith, length-both (elementOf nm (written inner)) (written next), length-both (startTag nm) (written inner ⊕ endTag nm), length-both (written inner) (endTag nm))))
-placed-beside (characters s next) e p n =
+placed-beside (charData s next) e p n =
     ap (characterNodes s p)
     (placed-beside next e (p + length (escaped s)) n
     ∙ ap (λ (q : ℕ). placed next (p + length (escaped s)) (placed e q n)) (omega (arith, length-both (escaped s) (written next))))

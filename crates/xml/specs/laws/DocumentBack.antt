@@ -22,7 +22,7 @@ use Rattle.xml.specs.Nodes.{noNodes, element, endPlaceBy, endPlace, node
 use Rattle.xml.specs.Escape.{escapedByte, escaped, endTag, documentOf}
 use Rattle.xml.specs.Reads.{isName, isEscaped, characterMarks}
 use Rattle.xml.specs.laws.Reads.{marks-end, follows-end}
-use Rattle.xml.specs.Content.{Content, nothing, child, characters, written, isWritable, innerPlace, endTagPlace, nextPlace, placed, contentMarks}
+use Rattle.xml.specs.Content.{Content, nothing, child, charData, written, isWritable, innerPlace, endTagPlace, nextPlace, placed, contentMarks}
 use Rattle.xml.specs.laws.ReadBack.{content-marks, content-end, content-placed, element-marks, characters-marks, no-marks}
 use Rattle.xml.specs.Computing.{xml-compute}
 
@@ -98,7 +98,7 @@ check-content (child nm inner next) (suc d) p ms e top st h l =
     ∙ check-content inner d (innerPlace nm p) after e nm (top ∷ st) (and-both _ (isWritable next (suc d)) both .0) (omega arith)
     ∙ check-closes (endTagPlace nm inner p) nm _ e (top ∷ st)
     ∙ check-content next (suc d) (nextPlace nm inner p) ms e top st (and-both (isWritable inner d) _ both .1) l
-check-content (characters s next) d p ms e top st h l =
+check-content (charData s next) d p ms e top st h l =
     ap (λ (m : List Mark). check m e true (top ∷ st)) (characters-marks s next p ms)
     ∙ check-characters s p _ e top st
     ∙ check-content next d (p + length (escaped s)) ms e top st (and-both _ (isWritable next d) h .1) l

@@ -20,13 +20,13 @@ use Rattle.xml.specs.Nodes.{Nodes, noNodes, element, literal, referred, 
 use Rattle.xml.specs.Escape.{escapedByte, escaped, startTag, endTag, elementOf}
 use Rattle.xml.specs.Reads.{isName, isEscaped, characterMarks}
 use Rattle.xml.specs.laws.Reads.{Follows, follows-characters, follows-tag, follows-end, marks-start, marks-end, marks-characters, characters-then-end}
-use Rattle.xml.specs.Content.{Content, nothing, child, characters, written, isWritable, innerPlace, endTagPlace, nextPlace, characterNodes, placed, contentMarks}
+use Rattle.xml.specs.Content.{Content, nothing, child, charData, written, isWritable, innerPlace, endTagPlace, nextPlace, characterNodes, placed, contentMarks}
 
 follows-content : (c : Content) (r : List ℕ) → Follows r → Follows (written c ⊕ r)
 unfolding written _⊕_
 follows-content nothing r h = h
 follows-content (child nm inner next) r h = follows-tag _
-follows-content (characters s next) r h = rw (append-assoc (escaped s) (written next) r) (follows-characters s (written next ++ r) (follows-content next r h))
+follows-content (charData s next) r h = rw (append-assoc (escaped s) (written next) r) (follows-characters s (written next ++ r) (follows-content next r h))
 
 -- an element's bytes before what follows, regrouped
 element-front : (nm s t r : List ℕ) → (elementOf nm s ⊕ t) ⊕ r ≡ startTag nm ⊕ (s ⊕ (endTag nm ⊕ (t ⊕ r)))
@@ -56,12 +56,12 @@ content-marks (child nm inner next) (suc d) r p h f =
     ∙ ap (λ (ms : List Mark). closes (endTagPlace nm inner p) nm ∷ ms) (content-marks next (suc d) r (nextPlace nm inner p) (and-both (isWritable inner d) _ both .1) f)))
     ∙ marks-regroup _ _ _ _ _
     ∙ ap (λ (q : ℕ). contentMarks (child nm inner next) p ⊕ marks q r) (element-length nm (written inner) (written next) p)
-content-marks (characters s next) d r p h f =
+content-marks (charData s next) d r p h f =
     ap (marks p) (append-regroup (escaped s) (written next) r)
     ∙ marks-characters s (written next ⊕ r) p (not-true (holds 13 s) (and-both _ (isWritable next d) h .0)) (follows-content next r f)
     ∙ ap (λ (ms : List Mark). characterMarks s p ⊕ ms) (content-marks next d r (p + length (escaped s)) (and-both (not (holds 13 s)) _ h .1) f)
     ∙ sym (append-regroup (characterMarks s p) _ _)
-    ∙ ap (λ (q : ℕ). contentMarks (characters s next) p ⊕ marks q r) (omega (arith, length-both (escaped s) (written next)))
+    ∙ ap (λ (q : ℕ). contentMarks (charData s next) p ⊕ marks q r) (omega (arith, length-both (escaped s) (written next)))
 
 -- ---- nodes
 
@@ -115,7 +115,7 @@ unfolding contentMarks
 element-marks nm inner next p ms =
     sym (marks-regroup (opens p nm) (closes (endTagPlace nm inner p) nm) (contentMarks inner (innerPlace nm p)) (contentMarks next (nextPlace nm inner p)) ms)
 
-pub characters-marks : (s : List ℕ) (next : Content) (p : ℕ) (ms : List Mark) → contentMarks (characters s next) p ⊕ ms ≡ characterMarks s p ⊕ (contentMarks next (p + length (escaped s)) ⊕ ms)
+pub characters-marks : (s : List ℕ) (next : Content) (p : ℕ) (ms : List Mark) → contentMarks (charData s next) p ⊕ ms ≡ characterMarks s p ⊕ (contentMarks next (p + length (escaped s)) ⊕ ms)
 unfolding contentMarks
 characters-marks s next p ms = append-regroup (characterMarks s p) (contentMarks next (p + length (escaped s))) ms
 
@@ -130,7 +130,7 @@ content-end (child nm inner next) p ms d =
     ap (λ (l : List Mark). endPlace l d) (element-marks nm inner next p ms)
     ∙ content-end inner (innerPlace nm p) (closes (endTagPlace nm inner p) nm ∷ (contentMarks next (nextPlace nm inner p) ⊕ ms)) (suc d)
     ∙ content-end next (nextPlace nm inner p) ms d
-content-end (characters s next) p ms d =
+content-end (charData s next) p ms d =
     ap (λ (l : List Mark). endPlace l d) (characters-marks s next p ms)
     ∙ characters-end s p _ d
     ∙ content-end next (p + length (escaped s)) ms d
@@ -142,7 +142,7 @@ content-skip (child nm inner next) p ms d =
     ap (λ (l : List Mark). nodes l (suc d)) (element-marks nm inner next p ms)
     ∙ content-skip inner (innerPlace nm p) (closes (endTagPlace nm inner p) nm ∷ (contentMarks next (nextPlace nm inner p) ⊕ ms)) (suc d)
     ∙ content-skip next (nextPlace nm inner p) ms d
-content-skip (characters s next) p ms d =
+content-skip (charData s next) p ms d =
     ap (λ (l : List Mark). nodes l (suc d)) (characters-marks s next p ms)
     ∙ characters-skip s p _ d
     ∙ content-skip next (p + length (escaped s)) ms d
@@ -160,7 +160,7 @@ content-placed (child nm inner next) p ms =
   where
     after : List Mark
     after = closes (endTagPlace nm inner p) nm ∷ (contentMarks next (nextPlace nm inner p) ⊕ ms)
-content-placed (characters s next) p ms =
+content-placed (charData s next) p ms =
     ap (λ (l : List Mark). nodes l 0) (characters-marks s next p ms)
     ∙ characters-nodes s p _
     ∙ ap (characterNodes s p) (content-placed next (p + length (escaped s)) ms)

@@ -1,15 +1,15 @@
--- `write_xml_value::tag::put_type_low` meets its contract.
+-- `write_xml_value::tag::put_label_low` meets its contract.
 use native.Mathlib.Omega.{arith}
 use Rattle.octets.specs.Computing.{octets-compute}
 use Rattle.sink.specs.laws.Sink.{writing}
 use Rattle.names.specs.laws.Numbered.{at-number, last-one}
 use Rattle.write_xml_value.specs.Tags.{typeLabel}
-use Rattle.write_xml_value.proofs.tag.put_type_low.Statement.{statement}
-use Rattle.write_xml_value.proofs.tag.put_type_low.Tie as tie
+use Rattle.write_xml_value.proofs.tag.put_label_low.Statement.{statement}
+use Rattle.write_xml_value.proofs.tag.put_label_low.Tie as tie
 
-pub put-type-low-spec : {M : Type 1} → statement M
+pub put-label-low-spec : {M : Type 1} → statement M
 unfolding octets-compute
-put-type-low-spec = tie.close (tie.spec
+put-label-low-spec = tie.close (tie.spec
     (λ c. search writing)  -- slice-aggregate-put-all
     (λ c κs. search writing)  -- put-all-requires
     (λ c. search writing)  -- slice-aggregate-put-all-2

@@ -1,16 +1,16 @@
--- `write_xml_value::tag::put_type_high` meets its contract.
+-- `write_xml_value::tag::put_label_high` meets its contract.
 use native.Mathlib.Omega.{arith}
 use Rattle.octets.specs.Computing.{octets-compute}
 use Rattle.sink.specs.laws.Sink.{writing}
 use Rattle.names.specs.laws.Numbered.{at-number, beyond-from}
 use Rattle.write_xml_value.specs.Tags.{typeLabel}
 use Rattle.write_xml_value.specs.laws.Tags.{other-type}
-use Rattle.write_xml_value.proofs.tag.put_type_high.Statement.{statement}
-use Rattle.write_xml_value.proofs.tag.put_type_high.Tie as tie
+use Rattle.write_xml_value.proofs.tag.put_label_high.Statement.{statement}
+use Rattle.write_xml_value.proofs.tag.put_label_high.Tie as tie
 
-pub put-type-high-spec : {M : Type 1} → statement M
+pub put-label-high-spec : {M : Type 1} → statement M
 unfolding octets-compute
-put-type-high-spec = tie.close (tie.spec
+put-label-high-spec = tie.close (tie.spec
     (λ c. search writing)  -- slice-aggregate-put-all
     (λ c κs. search writing)  -- put-all-requires
     (λ c. search writing)  -- slice-aggregate-put-all-2
