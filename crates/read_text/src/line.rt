@@ -65,7 +65,8 @@ fn begin_line(k: usize, mode: usize, s: &[u8], l: LineCursors) -> Kind
     requires { ⌜ k < 9 ⌝ }
     ensures { λ r. ⌜
         ((w : List ℕ) →
-        KindIs (PlaceOf mode (now (s .entry)) l) (beginKind (componentName k) (lineFrom w mode (now (s .entry)) l)) r) ⌝ }
+        KindIs (PlaceOf mode (now (s .entry)) l)
+        (beginKind (componentName k) (lineFrom w mode (now (s .entry)) l)) r) ⌝ }
 {
     let n = component_number(mode, s, l.value);
     let may = may_begin(k, n);
@@ -85,7 +86,8 @@ fn end_line(k: usize, mode: usize, s: &[u8], l: LineCursors) -> Kind
     requires { ⌜ k < 9 ⌝ }
     ensures { λ r. ⌜
         ((w : List ℕ) →
-        KindIs (PlaceOf mode (now (s .entry)) l) (endKind (componentName k) (lineFrom w mode (now (s .entry)) l)) r) ⌝ }
+        KindIs (PlaceOf mode (now (s .entry)) l)
+        (endKind (componentName k) (lineFrom w mode (now (s .entry)) l)) r) ⌝ }
 {
     let n = component_number(mode, s, l.value);
     if n == k {
@@ -206,7 +208,8 @@ fn content_line(k: usize, inner: bool, mode: usize, s: &[u8], l: LineCursors) ->
 pub fn line_kind(k: usize, inner: bool, mode: usize, s: &[u8], at: usize) -> Kind
     requires { ⌜ (k < 9) × (at ≤ length (now s)) × (cuts mode ≡ true) ⌝ }
     ensures { λ r. ⌜
-        KindIs (OffsetAt mode (now (s .entry)) at) (lineKind (componentName k) inner (rest mode (now (s .entry)) at)) r ⌝ }
+        KindIs (OffsetAt mode (now (s .entry)) at)
+        (lineKind (componentName k) inner (rest mode (now (s .entry)) at)) r ⌝ }
 {
     let LineRead::Line(l) = line_at(mode, s, at) else {
         return Kind::Faulty(LINE, at);

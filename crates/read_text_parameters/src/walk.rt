@@ -28,7 +28,8 @@ ghost use Rattle.read_text_parameters.specs.Cutting.{nameCut};
 ghost use Rattle.read_text_parameters.specs.Comparing.{namesOf};
 ghost use Rattle.read_text_parameters.specs.Stating.{NumberOf};
 ghost use Rattle.read_text_parameters.specs.Walking.{numberOf, otherAgain, comesAgain, soughtBy, typeFor};
-ghost use Rattle.read_text_parameters.specs.Walking.{encodesBy, fitsBy, behindAt, statedBy, Notes, endedBy, ParametersAt};
+ghost use Rattle.read_text_parameters.specs.Walking.{encodesBy, fitsBy, behindAt, statedBy, Notes, endedBy};
+ghost use Rattle.read_text_parameters.specs.Walking.{ParametersAt};
 
 // The number of VALUE, which is none of the table's.
 const VALUE: usize = 20;

@@ -25,7 +25,7 @@ use Rattle.calendar.specs.Refusal.{Refusal, PARAMETER, VALUE, Verdict, refuse}
 use Rattle.schema.specs.Types.{sameType}
 use Rattle.schema.specs.Properties.{permitsParameter}
 use Rattle.read_text_line.specs.ContentLine.{RawParameter, ContentLine, nextParam, contentLine}
-use Rattle.text.specs.Parameters.{readParameter, isValueParameter, typeIn, statedType, isRawBase64Encoding}
+use Rattle.text.specs.Parameters.{readParameter, isValueParameter, typeIn, isRawBase64Encoding}
 
 -- ---- places in a line
 

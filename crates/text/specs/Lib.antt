@@ -9,6 +9,7 @@
 --     ReadText            the answer for a text
 --     WriteText           the canonical text of a calendar
 --     Computing           opens all of these, for examples that compute
+--     Examples            places of faults, by computation
 --     laws                laws of these, and what proofs need
 pub mod Parameters
 pub mod Values
@@ -20,4 +21,5 @@ pub mod Tree
 pub mod ReadText
 pub mod WriteText
 pub mod Computing
+pub mod Examples
 pub mod laws

@@ -4,12 +4,11 @@
 use mathlib.Core.Path.{_≡_, refl, sym, ap, _∙_}
 use mathlib.Core.Bool.{Bool, true, false, false≢true}
 use mathlib.Core.List.{List, [], _∷_}
-use Prim.Native.Nat.{ℕ, zero, suc, _+_, _-_, _/_, _<_, _≤_}
+use Prim.Native.Nat.{ℕ, zero, suc, _+_, _-_, _<_, _≤_}
 use native.Mathlib.Omega.{arith}
 use native.Mathlib.Nat.{zero-add, suc-add}
 use native.Mathlib.Numerals.{add-one}
 use lib.Dec.{eqb}
-use borrow.Author.Needs.{needs}
 use borrow.Author.Tests.{eqb-true, eqb-false}
 use Rattle.octets.specs.Pick.{pick, _or_}
 use Rattle.octets.specs.laws.Pick.{or-cases, or-neither}
@@ -17,7 +16,7 @@ use Rattle.octets.specs.Words.{same, isOneOf}
 use Rattle.octets.specs.laws.Words.{same-either}
 use Rattle.octets.specs.Lists.{distinct}
 use Rattle.distinct.specs.Listed.{listed}
-use Rattle.distinct.specs.laws.Listed.{listed-next, pair-again, all-apart}
+use Rattle.distinct.specs.laws.Listed.{pair-again, all-apart}
 use Rattle.distinct.specs.Again.{firstAgain}
 
 module _ (w : ℕ → List ℕ) where

@@ -4,7 +4,7 @@
 use mathlib.Core.Path.{_≡_, refl, sym, ap, subst, _∙_}
 use mathlib.Core.Bool.{Bool, true, false}
 use mathlib.Core.List.{List, [], _∷_}
-use Prim.Native.Nat.{ℕ, zero, suc, _+_, _-_, _≤_, _<_}
+use Prim.Native.Nat.{ℕ, zero, suc, _-_, _≤_, _<_}
 use native.Mathlib.Omega.{arith}
 use lib.ListN.{length, take}
 use Rattle.octets.specs.Append.{_⊕_}
@@ -90,7 +90,7 @@ module _ {m : ℕ} {s : List ℕ} {c : ℕ} {n : Step} (q : Reads m s c n) (ys :
   some-byte : n .u ≡ 256 → ⊥
   some-byte h = let z : length (59 ∷ ys) ≡ 0 = ap length (sym e ∙ rest-end q h) in omega arith
 
-  pub behind-semicolon : rest m s c ≡ 59 ∷ rest m s (n .next)
+  behind-semicolon : rest m s c ≡ 59 ∷ rest m s (n .next)
   behind-semicolon = let b = sym e ∙ rest-byte q some-byte in let u : 59 ≡ n .u = cc in rest-byte q some-byte ∙ rw u
 
 pub passing-end : {m : ℕ} {s : List ℕ} {e i c left : ℕ} {n : Step} → Passing m s e i c left → left ≤ 0 → Reads m s c n → NameAt m s e i (n .next)

@@ -1,7 +1,7 @@
 -- Laws of what specs/Walking.antt defines.
 --     number-..        the number of a name
 --     Walked           the invariant of the walk: what is noted of the parameters before `rest`
---     walked-start, walked-again, walked-bad, walked-more, walked-end      its laws
+--     Stepping         the same through a cursor;   step-start, step-again, step-bad, step-more, step-over ..: its laws
 use mathlib.Core.Path.{_≡_, refl, sym, ap, subst, _∙_}
 use mathlib.Core.Bool.{Bool, true, false, not, cond, false≢true}
 use mathlib.Core.List.{List, [], _∷_}
@@ -10,7 +10,7 @@ use Prim.Native.Nat.{ℕ, suc, _+_, _^_, _≤_, _<_}
 use native.Mathlib.Omega.{arith}
 use lib.Dec.{eqb, ltb}
 use lib.ListN.{length, take}
-use borrow.Author.Tests.{eq-eqb, ne-eqb, eqb-true, eqb-false, lt-ltb, le-ltb, ltb-false}
+use borrow.Author.Tests.{eq-eqb, ne-eqb, eqb-false, lt-ltb, le-ltb, ltb-false}
 use Rattle.bits.specs.Masks.{has}
 use Rattle.bits.specs.laws.Masks.{has-none}
 use Rattle.octets.specs.Ascii.{ascii}
@@ -50,7 +50,7 @@ use Rattle.read_text_parameters.specs.Stating.{numberRead, NumberOf, sta
 use Rattle.read_text_parameters.specs.declared.TypeRead.{TypeRead}
 use Rattle.read_text_parameters.specs.declared.TypeRead.the-variants.{«Type» as Known, Bad}
 use Rattle.read_text_parameters.specs.laws.Before.{onto, before-one}
-use Rattle.read_text_parameters.specs.Walking.{numberOf, comesAgain, soughtBy, typeFor, encodesBy, fitsBy, isBinaryAt, fitsAt, behindAt, statedBy, lacksAt, Notes, endedBy, whereOf, faultAs, ParametersAt}
+use Rattle.read_text_parameters.specs.Walking.{numberOf, comesAgain, soughtBy, typeFor, fitsBy, isBinaryAt, fitsAt, behindAt, statedBy, Notes, endedBy, whereOf, faultAs, ParametersAt}
 use Rattle.read_text_parameters.specs.declared.walk.Noted.{Noted}
 use Rattle.read_text_parameters.specs.declared.ParametersRead.{ParametersRead}
 use Rattle.read_text_parameters.specs.declared.ParametersRead.the-variants.{Good, Faulty, Unencoded}
@@ -87,7 +87,7 @@ module _ {q : ℕ} (w : List ℕ) (e : q ≡ placeOf w parameterNames) where
 pub number-named : (w : List ℕ) {b : Bool} → b ≡ same w (ascii "VALUE") → b ≡ true → 20 ≡ numberOf w
 number-named w f h = sym (number-value w (sym f ∙ h))
 
-pub number-most : (w : List ℕ) → numberOf w ≤ 20
+number-most : (w : List ℕ) → numberOf w ≤ 20
 number-most w = go (same w (ascii "VALUE")) refl
   where
     go : (b : Bool) → same w (ascii "VALUE") ≡ b → numberOf w ≤ 20
@@ -157,9 +157,10 @@ fits-cases row t q vs true false h = rw (encodes-none (eqb (readOr 5 t) 0) (isWo
 fits-cases row t q vs false true h = rw (binary-at t, encodes-at true (isBinaryAt t) (isWord (ascii "BASE64") vs))
 fits-cases row t q vs false false h = rw (permits-any row 5 (readOr 5 t) q h, encodes-none (eqb 5 0) (isWord (ascii "BASE64") vs) (isBinaryAt t))
 
-pub fits-by : (row : Row) (t : Option ℕ) (r : RawParameter) → fitsBy row (typeFor (placeOf (upper (r .name)) parameterNames) t) (placeOf (upper (r .name)) parameterNames) (r .values) ≡ fitsAt row t r
+fits-by : (row : Row) (t : Option ℕ) (r : RawParameter) → fitsBy row (typeFor (placeOf (upper (r .name)) parameterNames) t) (placeOf (upper (r .name)) parameterNames) (r .values) ≡ fitsAt row t r
 unfolding fitsAt pick _or_
 fits-by row t r = rw (parameter-read r, encoding-place (upper (r .name))) (fits-cases row t (placeOf (upper (r .name)) parameterNames) (r .values) (eqb (placeOf (upper (r .name)) parameterNames) 13) (eqb (placeOf (upper (r .name)) parameterNames) 6) refl)
+
 -- ---- the walk
 
 pub record Walked (row : Row) (all left : List RawParameter) (n : Noted) : Type 0 where
@@ -173,7 +174,7 @@ pub record Walked (row : Row) (all left : List RawParameter) (n : Noted) : Type 
   pub encoded : anyOne isEncoding all ≡ (isOneOf (ascii "ENCODING") before or anyOne isEncoding left)
   pub sought : 16 < n .count → n .again ≡ firstAgain [] (namesOf all)
 
-pub walked-start : (row : Row) (all : List RawParameter) → Walked row all all (record { count = 0; seen = 0; again = 0; «value_type» = row .default })
+walked-start : (row : Row) (all : List RawParameter) → Walked row all all (record { count = 0; seen = 0; again = 0; «value_type» = row .default })
 unfolding onto isOneOf pick _or_
 walked-start row all = record {
   before = [];
@@ -239,11 +240,11 @@ module _ {row : Row} {all left : List RawParameter} {x : RawParameter} {n : Note
   unfolding faultAs firstFaulty isFaulty pick
   faulty-here h = record { fault = rw (i .first, h, i .count); typed = λ t e. let z : _≡_ {A = ℕ} 0 1 = cc in absurd (omega arith) }
 
-  pub walked-again : {b : Bool} → b ≡ comesAgain (soughtBy n (namesOf all)) (numberOf (upper (x .name))) (upper (x .name)) (namesOf all) → b ≡ true → ParametersAt row all (Faulty (n .count))
+  walked-again : {b : Bool} → b ≡ comesAgain (soughtBy n (namesOf all)) (numberOf (upper (x .name))) (upper (x .name)) (namesOf all) → b ≡ true → ParametersAt row all (Faulty (n .count))
   unfolding _or_
   walked-again e h = faulty-here (rw (sym (again-is e) ∙ h))
 
-  pub walked-bad : none ≡ behindAt row (statedBy n left) (n .«value_type») (numberOf (upper (x .name))) (x .values) → ParametersAt row all (Faulty (n .count))
+  walked-bad : none ≡ behindAt row (statedBy n left) (n .«value_type») (numberOf (upper (x .name))) (x .values) → ParametersAt row all (Faulty (n .count))
   unfolding isRead _or_
   walked-bad e = faulty-here (rw (sym (sound-is (isValueParameter x) refl) ∙ ap isRead (sym e)) (either (isOneOf (upper (x .name)) (i .before))))
     where
@@ -305,7 +306,7 @@ module _ {row : Row} {all left : List RawParameter} {x : RawParameter} {n : Note
     more-sought : 16 < r .count → r .again ≡ firstAgain [] (namesOf all)
     more-sought h = g .again ∙ sought-is (eqb (n .count) 16) (le-ltb (n .count) 16 (let k = g .count in omega (arith, h, k))) refl
 
-    pub walked-more : Walked row all left r
+    walked-more : Walked row all left r
     unfolding onto
     walked-more = record {
       before = upper (x .name) ∷ i .before;
@@ -334,7 +335,7 @@ module _ {row : Row} {all : List RawParameter} {n : Noted} (i : Walked row all [
   unfolding anyOne
   all-encoded = i .encoded ∙ or-false (isOneOf (ascii "ENCODING") (i .before)) ∙ sym (i .noted (ascii "ENCODING") (ap (λ (j : ℕ). eqb j 19) encoding-number)) ∙ ap (has (n .seen)) encoding-number
 
-  pub walked-end : {r : ParametersRead} → r ≡ endedBy n → ParametersAt row all r
+  walked-end : {r : ParametersRead} → r ≡ endedBy n → ParametersAt row all r
   unfolding faultAs firstFaulty pick _and_
   walked-end e = rw e (record {
     fault = rw (i .first, all-typed, all-encoded) (place (eqb (n .«value_type») 0) (has (n .seen) 6));

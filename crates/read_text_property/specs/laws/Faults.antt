@@ -7,7 +7,7 @@ use mathlib.Core.List.{List}
 use mathlib.Core.Option.{Option, none, some, Option·map}
 use Prim.Native.Nat.{ℕ}
 use Rattle.octets.specs.Class.{upper}
-use Rattle.octets.specs.Reading.{isRead, readOr}
+use Rattle.octets.specs.Reading.{readOr}
 use Rattle.calendar.specs.Calendar.{ValueType, TEXT}
 use Rattle.names.specs.Table.{placeOf}
 use Rattle.schema.specs.Types.{typePlace}
@@ -16,7 +16,6 @@ use Rattle.schema.specs.Properties.{propertyNames}
 use Rattle.schema.specs.Coded.{rowAt}
 use Rattle.schema.specs.declared.table.Row.{Row}
 use Rattle.read_text_line.specs.ContentLine.{ContentLine, RawParameter}
-use Rattle.text.specs.Values.{readValues}
 use Rattle.text.specs.Faults.{lineFault}
 use Rattle.text.specs.Statement as statement
 use Rattle.text.specs.Statement.{typeOfLine, propertyFault}

@@ -8,14 +8,14 @@ use mathlib.Core.Option.{Option, none, some, Option·map}
 use Prim.Native.Nat.{ℕ}
 use borrow.Author.Tests.{not-true}
 use Rattle.octets.specs.Pick.{pick, _and_, _or_}
-use Rattle.octets.specs.laws.Pick.{pick-either, pick-second, and-yes, and-both}
+use Rattle.octets.specs.laws.Pick.{pick-second, and-yes, and-both}
 use Rattle.octets.specs.Scan.{allOf}
 use Rattle.octets.specs.Class.{upper}
 use Rattle.octets.specs.Ascii.{ascii}
 use Rattle.octets.specs.Words.{same, isOneOf, holds, cutAt, noneHolds}
 use Rattle.octets.specs.laws.Words.{none-split, all-without}
 use Rattle.octets.specs.Lists.{every}
-use Rattle.octets.specs.laws.Lists.{every-both, every-weaker}
+use Rattle.octets.specs.laws.Lists.{every-weaker}
 use Rattle.octets.specs.Reading.{readOr, readEach}
 use Rattle.octets.specs.laws.Reading.{none-some, provided-some, andThen-some, each-accepted-of}
 use Rattle.texts.specs.Text.{splitText, alone, readText}

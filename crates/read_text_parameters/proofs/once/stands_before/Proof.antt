@@ -1,7 +1,6 @@
 -- `read_text_parameters::stands_before` meets its contract.
 use mathlib.Core.Path.{_≡_, refl, sym, _∙_}
 use mathlib.Core.List.{List}
-use native.Mathlib.Omega.{arith}
 use lib.ListN.{take}
 use Rattle.octets.specs.Words.{isOneOf}
 use Rattle.read_text_line.specs.ContentLine.{RawParameter}

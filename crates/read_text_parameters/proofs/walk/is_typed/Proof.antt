@@ -1,6 +1,5 @@
 -- `read_text_parameters::is_typed` meets its contract.
 use Rattle.octets.specs.laws.Pick.{branching}
-use borrow.Author.Needs.{needs}
 use Rattle.read_text_parameters.proofs.walk.is_typed.Statement.{statement}
 use Rattle.read_text_parameters.proofs.walk.is_typed.Tie as tie
 
