@@ -4,13 +4,13 @@
 use mathlib.Core.Path.{_≡_, refl, sym, ap, subst, _∙_}
 use mathlib.Core.Bool.{Bool, true, false}
 use mathlib.Core.List.{List, [], _∷_}
-use Prim.Native.Nat.{ℕ, _-_, _≤_, _<_}
+use Prim.Native.Nat.{ℕ, _+_, _-_, _≤_, _<_}
 use native.Mathlib.Omega.{arith}
 use lib.Dec.{eqb}
 use lib.ListN.{length, replicate}
 use Rattle.octets.specs.Pick.{pick}
 use Rattle.calendar.specs.Calendar.{Property}
-use Rattle.calendar.specs.Refusal.{COUNT, refusalAt}
+use Rattle.calendar.specs.Refusal.{COUNT, refuse, refusalAt}
 use Rattle.schema.specs.Numbers.{componentName}
 use Rattle.schema.specs.Counts.{actionOf, Around, methodFor, complete}
 use Rattle.schema.specs.Arrays.{bumped, tallies}
@@ -25,11 +25,13 @@ use Rattle.read_text_line.specs.LineEnd.{index, linesAt}
 use Rattle.source.specs.laws.Facts.{rest-past}
 use Rattle.read_text_line.specs.Ready.{Ready}
 use Rattle.read_text_line.specs.laws.Ready.{ready-start, lines-start, lines-past, index-end}
+use Rattle.text.specs.Faults.{fault, lineStart, offset}
 use Rattle.text.specs.Nesting.{Open, on, stop, opened, methodIn, onward, ended, nesting}
 use Rattle.text.specs.LineKind.{LineKind, step}
 use Rattle.text.specs.ReadText.{linesVerdict}
 use Rattle.read_text.specs.Answers.{Checks}
 use Rattle.read_text.specs.laws.Action.{action-seen}
+use Rattle.read_text.specs.Places.{PlaceAt}
 use Rattle.read_text.specs.Kinds.{Held, KindIs}
 use Rattle.read_text.specs.Turns.{onFrom, openIn, Turned, Body}
 use Rattle.read_text.specs.Outer.{Outer}
@@ -62,15 +64,17 @@ module _ {k : ℕ} {method : Bool} {m : ℕ} {s : List ℕ} {from at : ℕ} {cou
 
   module _ {t : Turn} (d : Turned k inner m s at t) where
     -- the check up to a line, and what that line does
-    moves : (st : List Open) → methodIn st ≡ method → onFrom m s from (opened (componentName k) ∷ st) ≡ onward (step (d .line) (openIn k (r .seen) inner) st) (index m s at) (onFrom m s (t .next))
+    moves : (st : List Open) → methodIn st ≡ method → onFrom m s from (opened (componentName k) ∷ st) ≡ onward (step (d .line) (openIn k (r .seen) inner) st) (index m s at) (d .bytes) (onFrom m s (t .next))
     moves st i = r .agrees st i ∙ d .does (r .seen) st
 
-    said-as : (x : Kind) → t .kind ≡ x → KindIs (d .line) x
-    said-as x e = subst (KindIs (d .line)) e (d .said)
+    said-as : (x : Kind) → t .kind ≡ x → KindIs (PlaceAt m s at (d .bytes)) (d .line) x
+    said-as x e = subst (KindIs (PlaceAt m s at (d .bytes)) (d .line)) e (d .said)
 
-    pub body-faulty : {n : ℕ} → t .kind ≡ Faulty n → Body k method m s from (Failed n at)
+    pub body-faulty : {n c : ℕ} → t .kind ≡ Faulty n c → Body k method m s from (Failed n c)
     unfolding step onward
-    body-faulty {n} e = record { ends = r .high .most; agrees = λ st i. moves st i ∙ rw (said-as (Faulty n) e) }
+    body-faulty {n} {c} e =
+        let f = said-as (Faulty n c) e in
+        record { ends = f .there .most; agrees = λ st i. moves st i ∙ rw (f .is) (ap (refuse (refusalAt n)) (sym (f .there .is))) }
 
     -- a property
     pub reached-held : {p a action' : ℕ} {counts' : List ℕ} → t .kind ≡ Holds p a → counts' ≡ bumped p counts → action' ≡ pick (eqb p property.ACTION) a action →
@@ -82,7 +86,7 @@ module _ {k : ℕ} {method : Bool} {m : ℕ} {s : List ℕ} {from at : ℕ} {cou
       seen = h .property ∷ r .seen;
       tallied = f ∙ ap (bumped p) (r .tallied) ∙ ap (λ (n : ℕ). bumped n (tallies (r .seen))) (h .number);
       acted = g ∙ action-seen (h .property) (r .seen) (h .number) (h .action) (r .acted);
-      agrees = λ st i. moves st i ∙ ap (λ (x : LineKind). onward (step x (openIn k (r .seen) inner) st) (index m s at) (onFrom m s (t .next))) (h .is);
+      agrees = λ st i. moves st i ∙ ap (λ (x : LineKind). onward (step x (openIn k (r .seen) inner) st) (index m s at) (d .bytes) (onFrom m s (t .next))) (h .is);
     }
 
     -- a subcomponent
@@ -117,7 +121,7 @@ module _ {k : ℕ} {method : Bool} {m : ℕ} {s : List ℕ} {from at : ℕ} {cou
       counted : complete (componentName k) (r .seen) (record { inner = inner; method = method }) ≡ b
       counted = sym (complete-tallies (componentName k) (r .seen) (record { inner = inner; method = method })) ∙ rw (component-at k l, ← (r .tallied), ← (r .acted)) (sym q)
 
-      stopped : (st : List Open) → methodIn st ≡ method → onFrom m s from (opened (componentName k) ∷ st) ≡ onward (pick b (on st) (stop COUNT)) (index m s at) (onFrom m s (t .next))
+      stopped : (st : List Open) → methodIn st ≡ method → onFrom m s from (opened (componentName k) ∷ st) ≡ onward (pick b (on st) (stop (fault COUNT lineStart))) (index m s at) (d .bytes) (onFrom m s (t .next))
       unfolding step
       stopped st i = moves st i ∙ rw (said-as Stops e, i, counted)
 
@@ -126,8 +130,8 @@ module _ {k : ℕ} {method : Bool} {m : ℕ} {s : List ℕ} {from at : ℕ} {cou
       body-closed f = record { ends = (omega (arith, r .low, d .low), d .high); agrees = λ st i. stopped st i ∙ rw f }
 
       pub body-short : b ≡ false → Body k method m s from (Failed 9 at)
-      unfolding onward pick refusalAt
-      body-short f = record { ends = r .high .most; agrees = λ st i. stopped st i ∙ rw f }
+      unfolding onward pick refusalAt offset
+      body-short f = record { ends = r .high .most; agrees = λ st i. let z : index m s at + 0 ≡ index m s at = omega arith in stopped st i ∙ rw f (ap (refuse COUNT) z) }
 
 -- ---- between calendars
 

@@ -1,5 +1,5 @@
 -- The kind of a line in an open component, by numbers.
---     KindIs              what the code's answer says of a kind;   Held: of a property
+--     KindIs P            what the code's answer says of a kind, where P says that a place in the line has a cursor;   Held: of a property;   Faulted: of a fault
 use mathlib.Core.Path.{_≡_}
 use Prim.Native.Nat.{ℕ, _<_}
 use Rattle.names.specs.Table.{placeOf}
@@ -10,6 +10,7 @@ use Rattle.schema.specs.Numbers.{componentName}
 use Rattle.schema.specs.Counts.{firstText}
 use Rattle.schema.specs.Completing.{actionNumber}
 use Rattle.schema.specs.Property.{ACTION}
+use Rattle.text.specs.Faults.{Where, fault}
 use Rattle.text.specs.LineKind.{LineKind, starts, stops, holds, faulty}
 use Rattle.read_text.specs.declared.Kind.{Kind}
 use Rattle.read_text.specs.declared.Kind.the-variants.{Starts, Stops, Holds, Faulty}
@@ -21,8 +22,13 @@ pub record Held (x : LineKind) (p a : ℕ) : Type 0 where
   pub number : p ≡ placeOf (property .name) propertyNames
   pub action : p ≡ ACTION → a ≡ actionNumber (firstText (property .values))
 
-abbrev pub KindIs : LineKind → Kind → Type 0
-KindIs x (Starts n) = (x ≡ starts (componentName n)) × (n < 9)
-KindIs x Stops = x ≡ stops
-KindIs x (Holds p a) = Held x p a
-KindIs x (Faulty n) = x ≡ faulty (refusalAt n)
+pub record Faulted (P : Where → ℕ → Type 0) (x : LineKind) (n c : ℕ) : Type 0 where
+  pub place : Where
+  pub is : x ≡ faulty (fault (refusalAt n) place)
+  pub there : P place c
+
+abbrev pub KindIs : (Where → ℕ → Type 0) → LineKind → Kind → Type 0
+KindIs P x (Starts n) = (x ≡ starts (componentName n)) × (n < 9)
+KindIs P x Stops = x ≡ stops
+KindIs P x (Holds p a) = Held x p a
+KindIs P x (Faulty n c) = Faulted P x n c

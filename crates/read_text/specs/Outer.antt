@@ -1,23 +1,30 @@
 -- A line where nothing is open: it begins a VCALENDAR, or is refused. A calendar from its BEGIN on.
---     outward        what a line without a fault does there, and one with the fault of a number
+--     OpeningIs P    what the code's answer says of what a line does there, where P says that a place in the line has a cursor
 --     Outer          the contract of a calendar
 use mathlib.Core.Path.{_≡_}
 use mathlib.Core.List.{List, [], _∷_}
 use Prim.Native.Nat.{ℕ}
-use lib.Dec.{eqb}
-use Rattle.octets.specs.Pick.{pick}
 use Rattle.octets.specs.Class.{upper}
 use Rattle.calendar.specs.Refusal.{refusalAt}
 use Rattle.source.specs.Source.{rest}
 use Rattle.schema.specs.Numbers.{componentName}
 use Rattle.read_text_line.specs.Cursor.{paramsAt}
 use Rattle.read_text_line.specs.declared.LineCursors.{LineCursors}
-use Rattle.text.specs.Nesting.{Move, on, stop, opened, begins, ends}
+use Rattle.text.specs.Faults.{Where, fault}
+use Rattle.text.specs.Nesting.{Move, on, stop, opened, begins}
 use Rattle.read_text.specs.Turns.{onFrom, resumed, Ends}
 use Rattle.read_text.specs.declared.Step.{Step}
+use Rattle.read_text.specs.declared.Opening.{Opening}
+use Rattle.read_text.specs.declared.Opening.the-variants.{Begins, Faulty}
 
-abbrev pub outward : ℕ → Move
-outward f = pick (eqb f 0) (on (opened (componentName 0) ∷ [])) (stop (refusalAt f))
+pub record Stopped (P : Where → ℕ → Type 0) (x : Move) (n c : ℕ) : Type 0 where
+  pub place : Where
+  pub is : x ≡ stop (fault (refusalAt n) place)
+  pub there : P place c
+
+abbrev pub OpeningIs : (Where → ℕ → Type 0) → Move → Opening → Type 0
+OpeningIs P x Begins = x ≡ on (opened (componentName 0) ∷ [])
+OpeningIs P x (Faulty n c) = Stopped P x n c
 
 -- a BEGIN, by its parts
 abbrev pub beginsOuter : ℕ → List ℕ → LineCursors → Move

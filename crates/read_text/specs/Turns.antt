@@ -15,6 +15,7 @@ use Rattle.read_text_line.specs.LineEnd.{index, linesAt}
 use Rattle.read_text_line.specs.Ready.{Ready}
 use Rattle.text.specs.Nesting.{Open, opened, methodIn, onward, nesting}
 use Rattle.text.specs.LineKind.{LineKind, step}
+use Rattle.read_text.specs.Places.{PlaceAt}
 use Rattle.read_text.specs.Kinds.{KindIs}
 use Rattle.read_text.specs.declared.Turn.{Turn}
 use Rattle.read_text.specs.declared.Step.{Step}
@@ -29,11 +30,12 @@ openIn k seen inner = record { name = componentName k; seen = seen; inner = inne
 -- ---- a line
 
 pub record Turned (k : ℕ) (inner : Bool) (m : ℕ) (s : List ℕ) (at : ℕ) (t : Turn) : Type 0 where
+  pub bytes : List ℕ
   pub line : LineKind
-  pub said : KindIs line (t .kind)
+  pub said : KindIs (PlaceAt m s at bytes) line (t .kind)
   pub low : at < t .next
   pub high : Ready m s (t .next)
-  pub does : (seen : List Property) (st : List Open) → onFrom m s at (openIn k seen inner ∷ st) ≡ onward (step line (openIn k seen inner) st) (index m s at) (onFrom m s (t .next))
+  pub does : (seen : List Property) (st : List Open) → onFrom m s at (openIn k seen inner ∷ st) ≡ onward (step line (openIn k seen inner) st) (index m s at) bytes (onFrom m s (t .next))
 
 -- ---- a component
 

@@ -1,8 +1,10 @@
 // The calendars of a text, one after another, and nothing between them.
 use crate::Checked;
+use crate::Opening;
 use crate::Step;
 use crate::component::body;
 use crate::line::no_params;
+use crate::places::parameter_cursor;
 use names::is_word_any_case;
 use read_text_line::Ending;
 use read_text_line::LineCursors;
@@ -13,7 +15,6 @@ use read_text_line::names_carried;
 use refusals::FRAME;
 use refusals::LINE;
 use refusals::NAME;
-use refusals::NO_FAULT;
 use refusals::PARAMETER;
 use schema::component;
 use schema::component_number;
@@ -27,28 +28,30 @@ ghost use Rattle.source.specs.Source.{rest, cuts};
 ghost use Rattle.read_text_line.specs.Line.{named, Parts};
 ghost use Rattle.text.specs.Nesting.{moveBy, move};
 ghost use Rattle.read_text_line.specs.Ready.{Ready};
-ghost use Rattle.read_text.specs.Outer.{outward, beginsOuter, Outer};
+ghost use Rattle.read_text.specs.Places.{PlaceOf, OffsetAt};
+ghost use Rattle.read_text.specs.Outer.{OpeningIs, beginsOuter, Outer};
 ghost use Rattle.read_text.specs.Answers.{Checks};
 
-// The fault of a BEGIN where nothing is open, NO_FAULT where it has none: it begins a VCALENDAR.
-fn begin_fault(mode: usize, s: &[u8], l: LineCursors) -> u8
-    ensures { λ r. ⌜ beginsOuter mode (now (s .entry)) l ≡ outward r ⌝ }
+// A BEGIN where nothing is open.
+fn begin_opens(mode: usize, s: &[u8], l: LineCursors) -> Opening
+    ensures { λ r. ⌜ OpeningIs (PlaceOf mode (now (s .entry)) l) (beginsOuter mode (now (s .entry)) l) r ⌝ }
 {
     let n = component_number(mode, s, l.value);
     if n == component::VCALENDAR {
         let bare = no_params(mode, s, l.parameters);
         if bare {
-            return NO_FAULT;
+            return Opening::Begins;
         }
-        return PARAMETER;
+        let c = parameter_cursor(mode, s, l.parameters, 0);
+        return Opening::Faulty(PARAMETER, c);
     }
-    FRAME
+    Opening::Faulty(FRAME, l.name)
 }
 
-// The fault of a content line where nothing is open.
-fn content_fault(mode: usize, s: &[u8], l: LineCursors) -> u8
+// A content line where nothing is open.
+fn content_opens(mode: usize, s: &[u8], l: LineCursors) -> Opening
     requires { ⌜ (l .name ≤ length (now s)) × Parts mode (now s) l × (cuts mode ≡ true) ⌝ }
-    ensures { λ r. ⌜ moveBy (named mode (now (s .entry)) l) [] ≡ outward r ⌝ }
+    ensures { λ r. ⌜ OpeningIs (PlaceOf mode (now (s .entry)) l) (moveBy (named mode (now (s .entry)) l) []) r ⌝ }
 {
     let at = l.name;
     let e = l.parameters;
@@ -56,22 +59,22 @@ fn content_fault(mode: usize, s: &[u8], l: LineCursors) -> u8
     if good {
         let begin = is_word_any_case(mode, &s[..e], at, b"BEGIN");
         if begin {
-            return begin_fault(mode, s, l);
+            return begin_opens(mode, s, l);
         }
-        return FRAME;
+        return Opening::Faulty(FRAME, l.name);
     }
-    NAME
+    Opening::Faulty(NAME, l.name)
 }
 
-// The fault of a line where nothing is open, NO_FAULT where it begins a VCALENDAR.
-fn outer_fault(mode: usize, s: &[u8], at: usize) -> u8
+// A line where nothing is open.
+fn line_opens(mode: usize, s: &[u8], at: usize) -> Opening
     requires { ⌜ (at ≤ length (now s)) × (cuts mode ≡ true) ⌝ }
-    ensures { λ r. ⌜ move (rest mode (now (s .entry)) at) [] ≡ outward r ⌝ }
+    ensures { λ r. ⌜ OpeningIs (OffsetAt mode (now (s .entry)) at) (move (rest mode (now (s .entry)) at) []) r ⌝ }
 {
     let LineRead::Line(l) = line_at(mode, s, at) else {
-        return LINE;
+        return Opening::Faulty(LINE, at);
     };
-    content_fault(mode, s, l)
+    content_opens(mode, s, l)
 }
 
 // A calendar, from its BEGIN on.
@@ -82,11 +85,10 @@ fn calendar(mode: usize, s: &[u8], at: usize) -> Step
     let Ending::Whole(e, next) = line_end(mode, s, at) else {
         return Step::Failed(LINE, at);
     };
-    let fault = outer_fault(mode, &s[..e], at);
-    if fault == NO_FAULT {
-        return body(mode, s, next, component::VCALENDAR, false);
+    match line_opens(mode, &s[..e], at) {
+        Opening::Begins => body(mode, s, next, component::VCALENDAR, false),
+        Opening::Faulty(r, p) => Step::Failed(r, p),
     }
-    Step::Failed(fault, at)
 }
 
 // The check of an unfolded text.

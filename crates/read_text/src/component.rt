@@ -29,7 +29,7 @@ fn next_line(k: usize, inner: bool, mode: usize, s: &[u8], at: usize) -> Turn
 {
     let Ending::Whole(e, next) = line_end(mode, s, at) else {
         return Turn {
-            kind: Kind::Faulty(LINE),
+            kind: Kind::Faulty(LINE, at),
             next: s.len(),
         };
     };
@@ -84,7 +84,7 @@ pub fn body(mode: usize, s: &[u8], from: usize, k: usize, method: bool) -> Step
                 action = action_after(p, a, action);
                 at = l.next;
             }
-            Kind::Faulty(r) => return Step::Failed(r, at),
+            Kind::Faulty(r, p) => return Step::Failed(r, p),
         }
     }
     Step::Failed(FRAME, s.len())

@@ -2,16 +2,17 @@
 mod calendars;
 mod component;
 mod line;
+mod places;
 
 pub use calendars::check;
 
 // What a line is in an open component: the beginning of the component of a number; the component's end; a property of a number, with the number of
-// ACTION's word where it is ACTION; or a refusal of a number.
+// ACTION's word where it is ACTION; or a refusal of a number, and the cursor of its place.
 pub enum Kind {
     Starts(usize),
     Stops,
     Holds(usize, usize),
-    Faulty(u8),
+    Faulty(u8, usize),
 }
 
 // A line's kind, and the place behind the line.
@@ -30,4 +31,10 @@ pub enum Step {
 pub enum Checked {
     Fine,
     Refused(u8, usize),
+}
+
+// A line where nothing is open: it begins a calendar; or a refusal of a number, and the cursor of its place.
+pub enum Opening {
+    Begins,
+    Faulty(u8, usize),
 }

@@ -1,17 +1,19 @@
 // What a line is in an open component, by the component's number. A line is cut at its end: it is all that stands from `at` on.
 use crate::Kind;
+use crate::places::parameter_cursor;
 use names::is_word_any_case;
 use read_text_line::LineCursors;
 use read_text_line::LineRead;
 use read_text_line::line_at;
 use read_text_line::names_carried;
 use read_text_line::next_param;
+use read_text_property::LineFault;
 use read_text_property::property_fault;
 use refusals::FRAME;
 use refusals::LINE;
 use refusals::NAME;
-use refusals::NO_FAULT;
 use refusals::PARAMETER;
+use refusals::VALUE;
 use schema::Row;
 use schema::action;
 use schema::action_number;
@@ -41,6 +43,7 @@ ghost use Rattle.read_text_line.specs.Cursor.{paramsAt};
 ghost use Rattle.read_text_line.specs.Line.{lineFrom, named, Parts};
 ghost use Rattle.text.specs.Nesting.{mayHold};
 ghost use Rattle.text.specs.LineKind.{openAs, beginKind, endKind, propertyKind, kindBy, lineKind};
+ghost use Rattle.read_text.specs.Places.{PlaceOf, OffsetAt};
 ghost use Rattle.read_text.specs.Kinds.{KindIs};
 
 // The line, whose name ends at `e`, has no parameters.
@@ -60,7 +63,10 @@ pub fn no_params(mode: usize, s: &[u8], e: usize) -> bool
 // The kind of a BEGIN.
 fn begin_line(k: usize, mode: usize, s: &[u8], l: LineCursors) -> Kind
     requires { ⌜ k < 9 ⌝ }
-    ensures { λ r. ⌜ ((w : List ℕ) → KindIs (beginKind (componentName k) (lineFrom w mode (now (s .entry)) l)) r) ⌝ }
+    ensures { λ r. ⌜
+        ((w : List ℕ) →
+        KindIs (PlaceOf mode (now (s .entry)) l)
+        (beginKind (componentName k) (lineFrom w mode (now (s .entry)) l)) r) ⌝ }
 {
     let n = component_number(mode, s, l.value);
     let may = may_begin(k, n);
@@ -69,15 +75,19 @@ fn begin_line(k: usize, mode: usize, s: &[u8], l: LineCursors) -> Kind
         if bare {
             return Kind::Starts(n);
         }
-        return Kind::Faulty(PARAMETER);
+        let c = parameter_cursor(mode, s, l.parameters, 0);
+        return Kind::Faulty(PARAMETER, c);
     }
-    Kind::Faulty(FRAME)
+    Kind::Faulty(FRAME, l.name)
 }
 
 // The kind of an END.
 fn end_line(k: usize, mode: usize, s: &[u8], l: LineCursors) -> Kind
     requires { ⌜ k < 9 ⌝ }
-    ensures { λ r. ⌜ ((w : List ℕ) → KindIs (endKind (componentName k) (lineFrom w mode (now (s .entry)) l)) r) ⌝ }
+    ensures { λ r. ⌜
+        ((w : List ℕ) →
+        KindIs (PlaceOf mode (now (s .entry)) l)
+        (endKind (componentName k) (lineFrom w mode (now (s .entry)) l)) r) ⌝ }
 {
     let n = component_number(mode, s, l.value);
     if n == k {
@@ -85,9 +95,10 @@ fn end_line(k: usize, mode: usize, s: &[u8], l: LineCursors) -> Kind
         if bare {
             return Kind::Stops;
         }
-        return Kind::Faulty(PARAMETER);
+        let c = parameter_cursor(mode, s, l.parameters, 0);
+        return Kind::Faulty(PARAMETER, c);
     }
-    Kind::Faulty(FRAME)
+    Kind::Faulty(FRAME, l.name)
 }
 
 // Properties stand before subcomponents, except in VTIMEZONE.
@@ -135,25 +146,35 @@ fn row_line(k: usize, inner: bool, row: Row, mode: usize, s: &[u8], l: LineCurso
     ensures { λ r. ⌜
         ((w : List ℕ) →
         row ≡ rowAt (placeOf (upper w) propertyNames) →
-        KindIs (propertyKind (componentName k) inner (lineFrom w mode (now (s .entry)) l)) r) ⌝ }
+        KindIs (PlaceOf mode (now (s .entry)) l)
+        (propertyKind (componentName k) inner (lineFrom w mode (now (s .entry)) l)) r) ⌝ }
 {
     let p = row.number;
     let may = may_hold(k, inner, row);
     if may {
         let f = property_fault(k, row, mode, s, l);
-        if f == NO_FAULT {
-            let a = action_of(p, mode, s, l.value);
-            return Kind::Holds(p, a);
+        match f {
+            LineFault::Parameter(i) => {
+                let c = parameter_cursor(mode, s, l.parameters, i);
+                return Kind::Faulty(PARAMETER, c);
+            }
+            LineFault::Encoding => return Kind::Faulty(PARAMETER, l.value),
+            LineFault::Value => return Kind::Faulty(VALUE, l.value),
+            LineFault::None => {
+                let a = action_of(p, mode, s, l.value);
+                return Kind::Holds(p, a);
+            }
         }
-        return Kind::Faulty(f);
     }
-    Kind::Faulty(FRAME)
+    Kind::Faulty(FRAME, l.name)
 }
 
 // The kind of a line that is a property.
 fn property_line(k: usize, inner: bool, mode: usize, s: &[u8], l: LineCursors) -> Kind
     requires { ⌜ (k < 9) × (l .name ≤ length (now s)) × Parts mode (now s) l × (cuts mode ≡ true) ⌝ }
-    ensures { λ r. ⌜ KindIs (propertyKind (componentName k) inner (named mode (now (s .entry)) l)) r ⌝ }
+    ensures { λ r. ⌜
+        KindIs (PlaceOf mode (now (s .entry)) l)
+        (propertyKind (componentName k) inner (named mode (now (s .entry)) l)) r ⌝ }
 {
     let e = l.parameters;
     let row = row_of(mode, &s[..e], l.name);
@@ -163,7 +184,8 @@ fn property_line(k: usize, inner: bool, mode: usize, s: &[u8], l: LineCursors) -
 // The kind of a content line.
 fn content_line(k: usize, inner: bool, mode: usize, s: &[u8], l: LineCursors) -> Kind
     requires { ⌜ (k < 9) × (l .name ≤ length (now s)) × Parts mode (now s) l × (cuts mode ≡ true) ⌝ }
-    ensures { λ r. ⌜ KindIs (kindBy (componentName k) inner (named mode (now (s .entry)) l)) r ⌝ }
+    ensures { λ r. ⌜
+        KindIs (PlaceOf mode (now (s .entry)) l) (kindBy (componentName k) inner (named mode (now (s .entry)) l)) r ⌝ }
 {
     let at = l.name;
     let e = l.parameters;
@@ -179,16 +201,18 @@ fn content_line(k: usize, inner: bool, mode: usize, s: &[u8], l: LineCursors) ->
         }
         return property_line(k, inner, mode, s, l);
     }
-    Kind::Faulty(NAME)
+    Kind::Faulty(NAME, l.name)
 }
 
 // The kind of a line in the component of the number `k`, in which a subcomponent has come or not.
 pub fn line_kind(k: usize, inner: bool, mode: usize, s: &[u8], at: usize) -> Kind
     requires { ⌜ (k < 9) × (at ≤ length (now s)) × (cuts mode ≡ true) ⌝ }
-    ensures { λ r. ⌜ KindIs (lineKind (componentName k) inner (rest mode (now (s .entry)) at)) r ⌝ }
+    ensures { λ r. ⌜
+        KindIs (OffsetAt mode (now (s .entry)) at)
+        (lineKind (componentName k) inner (rest mode (now (s .entry)) at)) r ⌝ }
 {
     let LineRead::Line(l) = line_at(mode, s, at) else {
-        return Kind::Faulty(LINE);
+        return Kind::Faulty(LINE, at);
     };
     content_line(k, inner, mode, s, l)
 }

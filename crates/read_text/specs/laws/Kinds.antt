@@ -4,9 +4,10 @@
 --     kind-begin ..       a line, by its name
 use mathlib.Core.Path.{_≡_, refl, sym, ap, subst, _∙_}
 use mathlib.Core.Bool.{Bool, true, false, false≢true}
-use mathlib.Core.List.{List}
+use mathlib.Core.List.{List, [], _∷_}
 use mathlib.Core.Option.{Option}
 use Prim.Native.Nat.{ℕ, _≤_, _<_}
+use native.Mathlib.Omega.{arith}
 use lib.Dec.{ltb}
 use lib.ListN.{length, take}
 use lib.Seq.{length-take-le}
@@ -33,25 +34,29 @@ use Rattle.read_text_line.specs.Names.{isCarriedName}
 use Rattle.read_text_line.specs.Cursor.{paramsAt}
 use Rattle.read_text_line.specs.Params.{ParamOf}
 use Rattle.read_text_line.specs.laws.Params.{name-chars, param-more, param-over, param-fault}
-use Rattle.read_text_line.specs.Line.{named, Parts, LineAt}
+use Rattle.read_text_line.specs.Line.{lineFrom, named, Parts, LineAt}
 use Rattle.read_text_line.specs.Carried.{carriesName}
 use Rattle.read_text_line.specs.declared.ParamRead.{ParamRead}
 use Rattle.read_text_line.specs.declared.LineCursors.{LineCursors}
 use Rattle.read_text_line.specs.declared.LineRead.the-variants.{Line, Bad}
+use Rattle.text.specs.Faults.{Where, lineStart, parameterName}
 use Rattle.text.specs.Nesting.{namesCarried}
 use Rattle.text.specs.LineKind.{LineKind, starts, beginKind, endKind, propertyKind, kindBy, kindOf, lineKind}
 use Rattle.read_text.specs.laws.Components.{named-component, same-component, begins-at}
+use Rattle.read_text.specs.Places.{NameAt, PlaceOf, OffsetAt}
+use Rattle.read_text.specs.laws.Places.{offset-start, place-offset}
 use Rattle.read_text.specs.Kinds.{KindIs}
 use Rattle.read_text.specs.declared.Kind.{Kind}
-use Rattle.read_text.specs.declared.Kind.the-variants.{Starts, Stops, Faulty}
+use Rattle.read_text.specs.declared.Kind.the-variants.{Starts, Stops, Holds, Faulty}
 
 -- ---- what an answer says
 
-kind-yes : (r : Kind) (t : Bool) (a b : LineKind) → t ≡ true → KindIs a r → KindIs (pick t a b) r
-kind-yes r t a b h k = subst (λ (x : LineKind). KindIs x r) (sym (pick-yes t a b h)) k
+module _ (P : Where → ℕ → Type 0) (r : Kind) (t : Bool) (a b : LineKind) where
+  kind-yes : t ≡ true → KindIs P a r → KindIs P (pick t a b) r
+  kind-yes h k = subst (λ (x : LineKind). KindIs P x r) (sym (pick-yes t a b h)) k
 
-kind-no : (r : Kind) (t : Bool) (a b : LineKind) → t ≡ false → KindIs b r → KindIs (pick t a b) r
-kind-no r t a b h k = subst (λ (x : LineKind). KindIs x r) (sym (pick-no t a b h)) k
+  kind-no : t ≡ false → KindIs P b r → KindIs P (pick t a b) r
+  kind-no h k = subst (λ (x : LineKind). KindIs P x r) (sym (pick-no t a b h)) k
 
 -- ---- no parameters
 
@@ -67,13 +72,18 @@ module _ {m : ℕ} {s : List ℕ} {e : ℕ} {r : ParamRead} (a : ParamOf nextPar
 
 -- ---- BEGIN
 
-module _ (l : ContentLine) {k n : ℕ} (h : k < 9) (e : n ≡ placeOf (upper (l .value)) componentNames) where
-  module _ {m : Bool} (q : m ≡ mayBegin k n) where
-    pub begin-not : m ≡ false → KindIs (beginKind (componentName k) l) (Faulty 6)
-    unfolding refusalAt
-    begin-not f = pick-no _ _ _ (begins-at (upper (l .value)) k h e ∙ sym q ∙ f)
+-- some parameter stands there
+pub some-params : {A : Type 0} (rs : List A) → isEmpty rs ≡ false → 0 < length rs
+some-params [] h = absurd (false≢true (sym h))
+some-params (r ∷ rs) h = omega arith
 
-    module _ {b : Bool} (f : m ≡ true) (p : b ≡ isEmpty (l .parameters)) where
+module _ (m : ℕ) (s : List ℕ) (l : LineCursors) (w : List ℕ) {k n : ℕ} (h : k < 9) (e : n ≡ placeOf (upper (rest m s (l .value))) componentNames) where
+  module _ {b : Bool} (q : b ≡ mayBegin k n) where
+    pub begin-not : b ≡ false → KindIs (PlaceOf m s l) (beginKind (componentName k) (lineFrom w m s l)) (Faulty 6 (l .name))
+    unfolding refusalAt
+    begin-not f = record { place = lineStart; is = pick-no _ _ _ (begins-at (upper (rest m s (l .value))) k h e ∙ sym q ∙ f); there = refl }
+
+    module _ {d : Bool} (f : b ≡ true) (p : d ≡ isEmpty (paramsAt m s (l .parameters))) where
       begun : mayBegin k n ≡ true
       begun = sym q ∙ f
 
@@ -84,31 +94,38 @@ module _ (l : ContentLine) {k n : ℕ} (h : k < 9) (e : n ≡ placeOf (upper (l 
           go true z = refl
           go false z = absurd (false≢true (begin-none k n (ltb-false n 9 z) ∙ begun))
 
-      pub begin-starts : b ≡ true → KindIs (beginKind (componentName k) l) (Starts n)
+      pub begin-starts : d ≡ true → KindIs (PlaceOf m s l) (beginKind (componentName k) (lineFrom w m s l)) (Starts n)
       begin-starts g = (
-        pick-yes _ _ _ (begins-at (upper (l .value)) k h e ∙ begun)
+        pick-yes _ _ _ (begins-at (upper (rest m s (l .value))) k h e ∙ begun)
             ∙ pick-yes _ _ _ (sym p ∙ g)
-            ∙ ap starts (named-component (upper (l .value)) e below),
+            ∙ ap starts (named-component (upper (rest m s (l .value))) e below),
         below,
       )
 
-      pub begin-parameters : b ≡ false → KindIs (beginKind (componentName k) l) (Faulty 7)
+      pub begin-parameters : {c : ℕ} → d ≡ false → (0 < length (paramsAt m s (l .parameters)) → NameAt m s (l .parameters) 0 c) → KindIs (PlaceOf m s l) (beginKind (componentName k) (lineFrom w m s l)) (Faulty 7 c)
       unfolding refusalAt
-      begin-parameters g = pick-yes _ _ _ (begins-at (upper (l .value)) k h e ∙ begun) ∙ pick-no _ _ _ (sym p ∙ g)
+      begin-parameters g x = record {
+        place = parameterName 0;
+        is = pick-yes _ _ _ (begins-at (upper (rest m s (l .value))) k h e ∙ begun) ∙ pick-no _ _ _ (sym p ∙ g);
+        there = x (some-params (paramsAt m s (l .parameters)) (sym p ∙ g));
+      }
 
   -- ---- END
 
-  pub end-other : (n ≡ k → ⊥) → KindIs (endKind (componentName k) l) (Faulty 6)
+  pub end-other : (n ≡ k → ⊥) → KindIs (PlaceOf m s l) (endKind (componentName k) (lineFrom w m s l)) (Faulty 6 (l .name))
   unfolding refusalAt
-  end-other f = pick-no _ _ _ (same-component (upper (l .value)) k h e ∙ ne-eqb n k f)
+  end-other f = record { place = lineStart; is = pick-no _ _ _ (same-component (upper (rest m s (l .value))) k h e ∙ ne-eqb n k f); there = refl }
 
-  module _ {b : Bool} (f : n ≡ k) (p : b ≡ isEmpty (l .parameters)) where
-    pub end-stops : b ≡ true → KindIs (endKind (componentName k) l) Stops
-    end-stops g = pick-yes _ _ _ (same-component (upper (l .value)) k h e ∙ eq-eqb n k f) ∙ pick-yes _ _ _ (sym p ∙ g)
+  module _ {d : Bool} (f : n ≡ k) (p : d ≡ isEmpty (paramsAt m s (l .parameters))) where
+    ended : same (upper (rest m s (l .value))) (componentName k) ≡ true
+    ended = same-component (upper (rest m s (l .value))) k h e ∙ eq-eqb n k f
 
-    pub end-parameters : b ≡ false → KindIs (endKind (componentName k) l) (Faulty 7)
+    pub end-stops : d ≡ true → KindIs (PlaceOf m s l) (endKind (componentName k) (lineFrom w m s l)) Stops
+    end-stops g = pick-yes _ _ _ ended ∙ pick-yes _ _ _ (sym p ∙ g)
+
+    pub end-parameters : {c : ℕ} → d ≡ false → (0 < length (paramsAt m s (l .parameters)) → NameAt m s (l .parameters) 0 c) → KindIs (PlaceOf m s l) (endKind (componentName k) (lineFrom w m s l)) (Faulty 7 c)
     unfolding refusalAt
-    end-parameters g = pick-yes _ _ _ (same-component (upper (l .value)) k h e ∙ eq-eqb n k f) ∙ pick-no _ _ _ (sym p ∙ g)
+    end-parameters g x = record { place = parameterName 0; is = pick-yes _ _ _ ended ∙ pick-no _ _ _ (sym p ∙ g); there = x (some-params (paramsAt m s (l .parameters)) (sym p ∙ g)) }
 
 -- ---- a line
 
@@ -129,33 +146,40 @@ module _ {m : ℕ} {s : List ℕ} {l : LineCursors} (y : cuts m ≡ true) (p : P
   name-row q = q ∙ ap (λ (n : List ℕ). rowAt (placeOf (upper n) propertyNames)) name-cut
 
   module _ (k : ℕ) (inner : Bool) {c : Bool} (q : c ≡ (isCarriedName (runOf isNameChar (rest m s (l .name))) and every carriesName (paramsAt m s (l .parameters)))) where
-    pub kind-uncarried : c ≡ false → KindIs (kindBy (componentName k) inner (named m s l)) (Faulty 5)
+    pub kind-uncarried : c ≡ false → KindIs (PlaceOf m s l) (kindBy (componentName k) inner (named m s l)) (Faulty 5 (l .name))
     unfolding kindBy namesCarried refusalAt
-    kind-uncarried f = pick-no _ _ _ (sym q ∙ f)
+    kind-uncarried f = record { place = lineStart; is = pick-no _ _ _ (sym q ∙ f); there = refl }
 
     module _ (r : Kind) {b : Bool} (f : c ≡ true) (i : b ≡ same (upper (rest m (take (l .parameters) s) (l .name))) (ascii "BEGIN")) where
-      pub kind-begin : b ≡ true → KindIs (beginKind (componentName k) (named m s l)) r → KindIs (kindBy (componentName k) inner (named m s l)) r
+      pub kind-begin : b ≡ true → KindIs (PlaceOf m s l) (beginKind (componentName k) (named m s l)) r → KindIs (PlaceOf m s l) (kindBy (componentName k) inner (named m s l)) r
       unfolding kindBy namesCarried
-      kind-begin g x = kind-yes r _ _ _ (sym q ∙ f) (kind-yes r _ _ _ (sym (name-is (ascii "BEGIN") i) ∙ g) x)
+      kind-begin g x = kind-yes _ r _ _ _ (sym q ∙ f) (kind-yes _ r _ _ _ (sym (name-is (ascii "BEGIN") i) ∙ g) x)
 
       module _ {d : Bool} (g : b ≡ false) (j : d ≡ same (upper (rest m (take (l .parameters) s) (l .name))) (ascii "END")) where
-        pub kind-end : d ≡ true → KindIs (endKind (componentName k) (named m s l)) r → KindIs (kindBy (componentName k) inner (named m s l)) r
+        pub kind-end : d ≡ true → KindIs (PlaceOf m s l) (endKind (componentName k) (named m s l)) r → KindIs (PlaceOf m s l) (kindBy (componentName k) inner (named m s l)) r
         unfolding kindBy namesCarried
-        kind-end z x = kind-yes r _ _ _ (sym q ∙ f) (kind-no r _ _ _ (sym (name-is (ascii "BEGIN") i) ∙ g) (kind-yes r _ _ _ (sym (name-is (ascii "END") j) ∙ z) x))
+        kind-end z x = kind-yes _ r _ _ _ (sym q ∙ f) (kind-no _ r _ _ _ (sym (name-is (ascii "BEGIN") i) ∙ g) (kind-yes _ r _ _ _ (sym (name-is (ascii "END") j) ∙ z) x))
 
-        pub kind-property : d ≡ false → KindIs (propertyKind (componentName k) inner (named m s l)) r → KindIs (kindBy (componentName k) inner (named m s l)) r
+        pub kind-property : d ≡ false → KindIs (PlaceOf m s l) (propertyKind (componentName k) inner (named m s l)) r → KindIs (PlaceOf m s l) (kindBy (componentName k) inner (named m s l)) r
         unfolding kindBy namesCarried
-        kind-property z x = kind-yes r _ _ _ (sym q ∙ f) (kind-no r _ _ _ (sym (name-is (ascii "BEGIN") i) ∙ g) (kind-no r _ _ _ (sym (name-is (ascii "END") j) ∙ z) x))
+        kind-property z x = kind-yes _ r _ _ _ (sym q ∙ f) (kind-no _ r _ _ _ (sym (name-is (ascii "BEGIN") i) ∙ g) (kind-no _ r _ _ _ (sym (name-is (ascii "END") j) ∙ z) x))
 
 -- where its name stands
 pub name-within : {m : ℕ} {s : List ℕ} {at : ℕ} {l : LineCursors} → LineAt m s at (Line l) → at ≤ length s → l .name ≤ length s
 name-within {s = s} a h = subst (λ (n : ℕ). n ≤ length s) (sym (a .parts .0)) h
 
 module _ (k : ℕ) (inner : Bool) (m : ℕ) (s : List ℕ) (at : ℕ) where
-  pub kind-bad : LineAt m s at Bad → KindIs (lineKind (componentName k) inner (rest m s at)) (Faulty 4)
+  pub kind-bad : LineAt m s at Bad → KindIs (OffsetAt m s at) (lineKind (componentName k) inner (rest m s at)) (Faulty 4 at)
   unfolding kindOf refusalAt
-  kind-bad a = rw (a .is)
+  kind-bad a = record { place = lineStart; is = rw (a .is); there = offset-start m s at }
 
-  pub kind-line : (l : LineCursors) (r : Kind) → LineAt m s at (Line l) → KindIs (kindBy (componentName k) inner (named m s l)) r → KindIs (lineKind (componentName k) inner (rest m s at)) r
+  pub kind-line : (l : LineCursors) (r : Kind) → cuts m ≡ true → LineAt m s at (Line l) → KindIs (PlaceOf m s l) (kindBy (componentName k) inner (named m s l)) r →
+      KindIs (OffsetAt m s at) (lineKind (componentName k) inner (rest m s at)) r
   unfolding kindOf
-  kind-line l r a x = subst (λ (o : Option ContentLine). KindIs (kindOf (componentName k) inner o) r) (sym (a .is)) x
+  kind-line l r y a x = subst (λ (o : Option ContentLine). KindIs (OffsetAt m s at) (kindOf (componentName k) inner o) r) (sym (a .is)) (moved r x)
+    where
+      moved : (r : Kind) → KindIs (PlaceOf m s l) (kindBy (componentName k) inner (named m s l)) r → KindIs (OffsetAt m s at) (kindBy (componentName k) inner (named m s l)) r
+      moved (Starts n) x = x
+      moved Stops x = x
+      moved (Holds p a) x = x
+      moved (Faulty n c) x = record { place = x .place; is = x .is; there = place-offset y a (x .place) (x .there) }
