@@ -8,6 +8,7 @@ use crate::packed::TO_XML;
 use calls::Answer;
 use calls::number_of;
 use calls::value_of;
+use edition::RFC_5545;
 use mallettriton::mallettriton_to_text;
 use mallettriton::mallettriton_to_xml;
 use std::num::wrapping_add_usize;
@@ -141,17 +142,17 @@ fn code(number: u64, value: u64) -> u64 {
 // The answer of the call.
 fn answer(way: u8, input: &[u8], work: &mut [u8], out: &mut [u8]) -> Answer {
     if way == TO_XML {
-        return to_xml(input, work, out);
+        return to_xml(input, work, out, RFC_5545);
     }
-    to_text(input, out)
+    to_text(input, out, RFC_5545)
 }
 
 // The answer of the call for C.
 fn answer_for_c(way: u8, input: &[u8], work: &mut [u8], out: &mut [u8]) -> u64 {
     if way == TO_XML {
-        return mallettriton_to_xml(input, work, out);
+        return mallettriton_to_xml(input, work, out, RFC_5545);
     }
-    mallettriton_to_text(input, out)
+    mallettriton_to_text(input, out, RFC_5545)
 }
 
 // The answer of either, as one number.
