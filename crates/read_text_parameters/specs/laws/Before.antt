@@ -80,13 +80,13 @@ module _ (w : List ℕ) where
 
 -- ---- one word, in the encoding u of a value
 
-module _ {ed : Edition} {m : ℕ} (y : cuts m ≡ true) (w : List ℕ) {s : List ℕ} {c : ℕ} {r : ParamAt} (v : ValueAt paramValue m s c r) where
+module _ (ed : Edition) {m : ℕ} (y : cuts m ≡ true) (w : List ℕ) {s : List ℕ} {c : ℕ} {r : ParamAt} (v : ValueAt paramValue m s c r) where
   module _ {u : ℕ} (d : Decodes ed m u) {b : Bool} (h : r .ok ≡ true) (e : b ≡ same (nameCut u s (r .from) (r .to)) w) where
     stands : b ≡ same (upper (decode ed (rest m (take (r .to) s) (r .from)))) w
     stands = e ∙ ap (λ (l : List ℕ). same (upper l) w) (d .is (take (r .to) s) (r .from))
 
     pub word-one : {a : Bool} → b ≡ true → a ≡ isEmpty (items nextValue (rest m s (r .next))) → a ≡ isWord w (valuesIn ed m s c)
-    word-one k f = and-go _ _ _ (sym stands ∙ k) (f ∙ sym (map-empty (decodedValue ed) _)) ∙ sym (ap (λ (l : List ParamValue). isWord w (map (decodedValue ed) l)) (values-first y v h))
+    word-one k f = and-go _ _ _ (sym stands ∙ k) (f ∙ sym (map-empty (decodedValue ed) (items nextValue (rest m s (r .next))))) ∙ sym (ap (λ (l : List ParamValue). isWord w (map (decodedValue ed) l)) (values-first y v h))
 
     pub word-other : b ≡ false → false ≡ isWord w (valuesIn ed m s c)
     word-other k = and-stop _ _ (sym stands ∙ k) ∙ sym (ap (λ (l : List ParamValue). isWord w (map (decodedValue ed) l)) (values-first y v h))

@@ -41,7 +41,7 @@ module _ {m : ℕ} (y : cuts m ≡ true) {A : Type 0} (F : List RawParameter →
   params-fault h k = e ∙ ap F (param-fault a h k)
 
 -- the same as an edition reads them
-module _ {m : ℕ} {ed : Edition} (y : cuts m ≡ true) {A : Type 0} (F : List RawParameter → A) {v : A} {s : List ℕ} {c : ℕ} {r : ParamRead} (e : v ≡ F (paramsIn ed m s c)) (a : ParamOf nextParam m s c r) where
+module _ (ed : Edition) {m : ℕ} (y : cuts m ≡ true) {A : Type 0} (F : List RawParameter → A) {v : A} {s : List ℕ} {c : ℕ} {r : ParamRead} (e : v ≡ F (paramsIn ed m s c)) (a : ParamOf nextParam m s c r) where
   pub read-step : r .there ≡ true → r .ok ≡ true → v ≡ F (paramRead ed m s (r .name) (r .end) (r .first) ∷ paramsIn ed m s (r .next))
   read-step h k = params-step y (λ (l : List RawParameter). F (map (decodedParameter ed) l)) e a h k
 

@@ -63,7 +63,7 @@ module _ (w : List ℕ) {t : ℕ} (e : t ≡ placeOf w typeNames) where
 
 -- ---- VALUE's one value, in the encoding u of a value
 
-module _ {ed : Edition} {m : ℕ} {s : List ℕ} {c : ℕ} {r : ParamAt} (y : cuts m ≡ true) (v : ValueAt paramValue m s c r) where
+module _ (ed : Edition) {m : ℕ} {s : List ℕ} {c : ℕ} {r : ParamAt} (y : cuts m ≡ true) (v : ValueAt paramValue m s c r) where
   module _ {b : Bool} (h : r .ok ≡ true) (e : b ≡ isEmpty (items nextValue (rest m s (r .next)))) where
     several : isEmpty (map (decodedValue ed) (items nextValue (rest m s (r .next)))) ≡ b
     several = map-empty (decodedValue ed) (items nextValue (rest m s (r .next))) ∙ sym e
@@ -118,18 +118,18 @@ module _ {ed : Edition} {d m : ℕ} {s : List ℕ} {e c : ℕ} {r : ParamRead} (
   module _ {b : Bool} (h : r .there ≡ true) (k : r .ok ≡ true) (q : b ≡ same (upper (rest m (take (r .end) s) (r .name))) (ascii "VALUE")) where
     pub stated-more : b ≡ false → Stating ed d m s e (r .next)
     unfolding statedAt pick
-    stated-more z = record { is = read-step y (statedAt d) (i .is) a h k ∙ rw (← q, z) }
+    stated-more z = record { is = read-step ed y (statedAt d) (i .is) a h k ∙ rw (← q, z) }
 
     pub stated-here : {t : TypeRead} → b ≡ true → TypeOf (typeIn (valuesIn ed m s (r .first))) t → StatedAt ed d m s e t
     unfolding statedAt pick
-    stated-here z o = record { is = read-step y (statedAt d) (i .is) a h k ∙ rw (← q, z) (o .is) }
+    stated-here z o = record { is = read-step ed y (statedAt d) (i .is) a h k ∙ rw (← q, z) (o .is) }
 
   ended : statedAt d (paramsIn ed m s e) ≡ statedAt d [] → StatedAt ed d m s e (Known d)
   unfolding statedAt
   ended f = record { is = f }
 
   pub stated-over : r .there ≡ false → StatedAt ed d m s e (Known d)
-  stated-over h = ended (read-over y (statedAt d) (i .is) a h)
+  stated-over h = ended (read-over ed y (statedAt d) (i .is) a h)
 
   pub stated-fault : r .there ≡ true → r .ok ≡ false → StatedAt ed d m s e (Known d)
-  stated-fault h k = ended (read-fault y (statedAt d) (i .is) a h k)
+  stated-fault h k = ended (read-fault ed y (statedAt d) (i .is) a h k)

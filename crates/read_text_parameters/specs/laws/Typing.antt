@@ -53,8 +53,8 @@ typed-there q {t} m l e p =
     let h : eqb (typePlace (typeAt t)) 9 ≡ false = rw (e, place-type (parameterAt q .type)) (not-true _ (row-plain q)) in
     p ∙ ap (valueRead t) (sym (at-plain false m (typeAt t) l h refl))
 
-pub no-rule : {q t m : ℕ} → t ≡ typePlace (parameterAt q .type) → t ≡ 9 → cuts m ≡ true
-no-rule {q} e h = absurd (false≢true (sym (not-true _ (row-plain q)) ∙ eq-eqb (typePlace (parameterAt q .type)) 9 (sym e ∙ h)))
+pub no-rule : (q m : ℕ) {t : ℕ} → t ≡ typePlace (parameterAt q .type) → t ≡ 9 → cuts m ≡ true
+no-rule q m e h = absurd (false≢true (sym (not-true _ (row-plain q)) ∙ eq-eqb (typePlace (parameterAt q .type)) 9 (sym e ∙ h)))
 
 -- 10 is TEXT
 module _ (t : ValueType) (l : List ℕ) {n : ℕ} (e : n ≡ typePlace t) where

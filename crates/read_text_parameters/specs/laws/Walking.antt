@@ -373,10 +373,10 @@ module _ {ed : Edition} {row : Row} {m : ℕ} {s : List ℕ} {e c : ℕ} {n : No
   step-none h = subst (λ (l : List RawParameter). Walked row (paramsIn ed m s e) l n) h (i .walked)
 
   pub step-over : {p : ParametersRead} → r .there ≡ false → p ≡ endedBy n → ParametersAt row (paramsIn ed m s e) p
-  step-over h = walked-end (step-none (read-over y (λ (rs : List RawParameter). rs) refl a h))
+  step-over h = walked-end (step-none (read-over ed y (λ (rs : List RawParameter). rs) refl a h))
 
   pub step-fault : {p : ParametersRead} → r .there ≡ true → r .ok ≡ false → p ≡ endedBy n → ParametersAt row (paramsIn ed m s e) p
-  step-fault h k = walked-end (step-none (read-fault y (λ (rs : List RawParameter). rs) refl a h k))
+  step-fault h k = walked-end (step-none (read-fault ed y (λ (rs : List RawParameter). rs) refl a h k))
 
   module _ {q : ℕ} {v : Noted} {b : Bool} (h : r .there ≡ true) (k : r .ok ≡ true) (f : q ≡ numberOf (nameCut m s (r .name) (r .end))) (g₀ : v ≡ soughtBy n (namesOf (paramsAt m s e)))
       (x₀ : b ≡ comesAgain v q (nameCut m s (r .name) (r .end)) (namesOf (paramsAt m s e))) where
@@ -387,7 +387,7 @@ module _ {ed : Edition} {row : Row} {m : ℕ} {s : List ℕ} {e c : ℕ} {n : No
     x = x₀ ∙ ap (comesAgain v q (nameCut m s (r .name) (r .end))) (sym (names-read ed (paramsAt m s e)))
 
     here : Walked row (paramsIn ed m s e) (paramRead ed m s (r .name) (r .end) (r .first) ∷ paramsIn ed m s (r .next)) n
-    here = subst (λ (l : List RawParameter). Walked row (paramsIn ed m s e) l n) (read-step y (λ (rs : List RawParameter). rs) refl a h k) (i .walked)
+    here = subst (λ (l : List RawParameter). Walked row (paramsIn ed m s e) l n) (read-step ed y (λ (rs : List RawParameter). rs) refl a h k) (i .walked)
 
     comes : b ≡ comesAgain (soughtBy n (namesOf (paramsIn ed m s e))) (numberOf (nameCut m s (r .name) (r .end))) (nameCut m s (r .name) (r .end)) (namesOf (paramsIn ed m s e))
     comes = subst (λ (u : Noted). b ≡ comesAgain u (numberOf (nameCut m s (r .name) (r .end))) (nameCut m s (r .name) (r .end)) (namesOf (paramsIn ed m s e))) g

@@ -29,8 +29,8 @@ are-read-spec = tie.close (tie.spec
     (λ c κs. search needs)  -- next-param-requires
     (λ c κs. search needs)  -- is-readable-requires
     (λ c. param-less (c .before .before .before .before .next-param .ensures) (c .before .before .before .if1 .taken) (c .before .before .if2 .taken))  -- loop-less
-    (λ c. read-step (c .before .before .before .before .before .before .before .pre) (every isReadable) (c .before .before .before .before .before .loop .inv) (c .before .before .before .before .next-param .ensures) (c .before .before .before .if1 .taken) (c .before .before .if2 .taken) ∙ every-go isReadable _ _ (c .before .is-readable .ensures) (c .if3 .taken))  -- loop-again
-    (λ c. sym (read-step (c .before .before .before .before .before .before .before .pre) (every isReadable) (c .before .before .before .before .before .loop .inv) (c .before .before .before .before .next-param .ensures) (c .before .before .before .if1 .taken) (c .before .before .if2 .taken) ∙ every-halt isReadable _ _ (c .before .is-readable .ensures) (c .if3 .left)))  -- returns
-    (λ c. sym (read-fault (c .before .before .before .before .before .pre) (every isReadable) (c .before .before .before .loop .inv) (c .before .before .next-param .ensures) (c .before .if1 .taken) (c .if2 .left) ∙ every-nil isReadable))  -- returns-2
-    (λ c. sym (read-over (c .before .before .before .before .pre) (every isReadable) (c .before .before .loop .inv) (c .before .next-param .ensures) (c .if1 .left) ∙ every-nil isReadable))  -- returns-3
+    (λ c. read-step _ (c .before .before .before .before .before .before .before .pre) (every isReadable) (c .before .before .before .before .before .loop .inv) (c .before .before .before .before .next-param .ensures) (c .before .before .before .if1 .taken) (c .before .before .if2 .taken) ∙ every-go isReadable _ _ (c .before .is-readable .ensures) (c .if3 .taken))  -- loop-again
+    (λ c. sym (read-step _ (c .before .before .before .before .before .before .before .pre) (every isReadable) (c .before .before .before .before .before .loop .inv) (c .before .before .before .before .next-param .ensures) (c .before .before .before .if1 .taken) (c .before .before .if2 .taken) ∙ every-halt isReadable _ _ (c .before .is-readable .ensures) (c .if3 .left)))  -- returns
+    (λ c. sym (read-fault _ (c .before .before .before .before .before .pre) (every isReadable) (c .before .before .before .loop .inv) (c .before .before .next-param .ensures) (c .before .if1 .taken) (c .if2 .left) ∙ every-nil isReadable))  -- returns-2
+    (λ c. sym (read-over _ (c .before .before .before .before .pre) (every isReadable) (c .before .before .loop .inv) (c .before .next-param .ensures) (c .if1 .left) ∙ every-nil isReadable))  -- returns-3
     )
