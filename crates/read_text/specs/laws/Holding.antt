@@ -7,6 +7,7 @@ use mathlib.Core.Bool.{Bool, true, false, not}
 use mathlib.Core.List.{List}
 use mathlib.Core.Option.{Option}
 use Prim.Native.Nat.{ℕ, _≤_, _<_}
+use native.Mathlib.Omega.{arith}
 use lib.Dec.{eqb, ltb}
 use lib.ListN.{length, length-map}
 use borrow.Author.Tests.{eq-eqb, lt-ltb, le-ltb}
@@ -81,7 +82,7 @@ module _ {k : ℕ} {row : Row} (inner : Bool) (w : List ℕ) (h : k < 9) (e : ro
   unfolding _and_ _or_
   hold-other f u = u ∙ sym (hold-at ∙ rw (le-ltb (row .number) property.KNOWN f))
 
-module _ {ed : Edition} where
+module _ (ed : Edition) where
   -- ---- its line
 
   module _ (m : ℕ) (s : List ℕ) (c : LineCursors) (w : List ℕ) (k : ℕ) {row : Row} (inner : Bool) {b : Bool} (e : row ≡ rowAt (placeOf (upper w) propertyNames)) (q : b ≡ mayHold (upper w) (openAs (componentName k) inner)) where

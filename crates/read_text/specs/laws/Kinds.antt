@@ -85,10 +85,27 @@ some-params (r ∷ rs) h = omega arith
 pub name-within : {m : ℕ} {s : List ℕ} {at : ℕ} {l : LineCursors} → LineAt m s at (Line l) → at ≤ length s → l .name ≤ length s
 name-within {s = s} a h = subst (λ (n : ℕ). n ≤ length s) (sym (a .parts .0)) h
 
-module _ {ed : Edition} where
+-- its name
+module _ {m : ℕ} {s : List ℕ} {l : LineCursors} (y : cuts m ≡ true) (p : Parts m s l) where
+  -- cut out
+  pub name-cut : rest m (take (l .parameters) s) (l .name) ≡ runOf isNameChar (rest m s (l .name))
+  name-cut = name-chars y (p .name)
+
+  pub name-count : l .name ≤ length s → l .parameters ≡ length (take (l .parameters) s)
+  name-count h = sym (length-take-le (l .parameters) s (p .name .plain y h))
+
+  -- compared
+  pub name-is : (w : List ℕ) {t : Bool} → t ≡ same (upper (rest m (take (l .parameters) s) (l .name))) w → t ≡ same (upper (runOf isNameChar (rest m s (l .name)))) w
+  name-is w q = q ∙ ap (λ (n : List ℕ). same (upper n) w) name-cut
+
+  -- and looked up
+  pub name-row : {row : Row} → row ≡ rowAt (placeOf (upper (rest m (take (l .parameters) s) (l .name))) propertyNames) → row ≡ rowAt (placeOf (upper (runOf isNameChar (rest m s (l .name)))) propertyNames)
+  name-row q = q ∙ ap (λ (n : List ℕ). rowAt (placeOf (upper n) propertyNames)) name-cut
+
+module _ (ed : Edition) where
   -- ---- decoding keeps the names and the count of the parameters
 
-  module _ {m : ℕ} {s : List ℕ} {e : ℕ} {b : Bool} where
+  module _ (m : ℕ) (s : List ℕ) (e : ℕ) {b : Bool} where
     pub bare-in : isEmpty (paramsAt m s e) ≡ b → isEmpty (paramsIn ed m s e) ≡ b
     bare-in h = map-empty (decodedParameter ed) (paramsAt m s e) ∙ h
 
@@ -115,7 +132,7 @@ module _ {ed : Edition} where
         pub begin-starts : d ≡ true → KindIs (PlaceOf m s l) (beginKind (componentName k) (decodedLine ed (lineFrom w m s l))) (Starts n)
         begin-starts g = (
           pick-yes _ _ _ (begins-at (upper (rest m s (l .value))) k h e ∙ begun)
-              ∙ pick-yes _ _ _ (bare-in (sym p ∙ g))
+              ∙ pick-yes _ _ _ (bare-in m s (l .parameters) (sym p ∙ g))
               ∙ ap starts (named-component (upper (rest m s (l .value))) e below),
           below,
         )
@@ -124,7 +141,7 @@ module _ {ed : Edition} where
         unfolding refusalAt
         begin-parameters g x = record {
           place = parameterName 0;
-          is = pick-yes _ _ _ (begins-at (upper (rest m s (l .value))) k h e ∙ begun) ∙ pick-no _ _ _ (bare-in (sym p ∙ g));
+          is = pick-yes _ _ _ (begins-at (upper (rest m s (l .value))) k h e ∙ begun) ∙ pick-no _ _ _ (bare-in m s (l .parameters) (sym p ∙ g));
           there = x (some-params (paramsAt m s (l .parameters)) (sym p ∙ g));
         }
 
@@ -139,48 +156,33 @@ module _ {ed : Edition} where
       ended = same-component (upper (rest m s (l .value))) k h e ∙ eq-eqb n k f
 
       pub end-stops : d ≡ true → KindIs (PlaceOf m s l) (endKind (componentName k) (decodedLine ed (lineFrom w m s l))) Stops
-      end-stops g = pick-yes _ _ _ ended ∙ pick-yes _ _ _ (bare-in (sym p ∙ g))
+      end-stops g = pick-yes _ _ _ ended ∙ pick-yes _ _ _ (bare-in m s (l .parameters) (sym p ∙ g))
 
       pub end-parameters : {c : ℕ} → d ≡ false → (0 < length (paramsAt m s (l .parameters)) → NameAt m s (l .parameters) 0 c) → KindIs (PlaceOf m s l) (endKind (componentName k) (decodedLine ed (lineFrom w m s l))) (Faulty 7 c)
       unfolding refusalAt
-      end-parameters g x = record { place = parameterName 0; is = pick-yes _ _ _ ended ∙ pick-no _ _ _ (bare-in (sym p ∙ g)); there = x (some-params (paramsAt m s (l .parameters)) (sym p ∙ g)) }
+      end-parameters g x = record { place = parameterName 0; is = pick-yes _ _ _ ended ∙ pick-no _ _ _ (bare-in m s (l .parameters) (sym p ∙ g)); there = x (some-params (paramsAt m s (l .parameters)) (sym p ∙ g)) }
 
   -- ---- a line
 
   module _ {m : ℕ} {s : List ℕ} {l : LineCursors} (y : cuts m ≡ true) (p : Parts m s l) where
-    -- its name, cut out
-    pub name-cut : rest m (take (l .parameters) s) (l .name) ≡ runOf isNameChar (rest m s (l .name))
-    name-cut = name-chars y (p .name)
-
-    pub name-count : l .name ≤ length s → l .parameters ≡ length (take (l .parameters) s)
-    name-count h = sym (length-take-le (l .parameters) s (p .name .plain y h))
-
-    -- its name compared
-    pub name-is : (w : List ℕ) {t : Bool} → t ≡ same (upper (rest m (take (l .parameters) s) (l .name))) w → t ≡ same (upper (runOf isNameChar (rest m s (l .name)))) w
-    name-is w q = q ∙ ap (λ (n : List ℕ). same (upper n) w) name-cut
-
-    -- and looked up
-    pub name-row : {row : Row} → row ≡ rowAt (placeOf (upper (rest m (take (l .parameters) s) (l .name))) propertyNames) → row ≡ rowAt (placeOf (upper (runOf isNameChar (rest m s (l .name)))) propertyNames)
-    name-row q = q ∙ ap (λ (n : List ℕ). rowAt (placeOf (upper n) propertyNames)) name-cut
-
     module _ (k : ℕ) (inner : Bool) {c : Bool} (q : c ≡ (isCarriedName (runOf isNameChar (rest m s (l .name))) and every carriesName (paramsAt m s (l .parameters)))) where
       pub kind-uncarried : c ≡ false → KindIs (PlaceOf m s l) (kindBy (componentName k) inner (decodedLine ed (named m s l))) (Faulty 5 (l .name))
       unfolding kindBy namesCarried refusalAt
-      kind-uncarried f = record { place = lineStart; is = pick-no _ _ _ (sym (carried-in _ q) ∙ f); there = refl }
+      kind-uncarried f = record { place = lineStart; is = pick-no _ _ _ (sym (carried-in m s (l .parameters) _ q) ∙ f); there = refl }
 
       module _ (r : Kind) {b : Bool} (f : c ≡ true) (i : b ≡ same (upper (rest m (take (l .parameters) s) (l .name))) (ascii "BEGIN")) where
         pub kind-begin : b ≡ true → KindIs (PlaceOf m s l) (beginKind (componentName k) (decodedLine ed (named m s l))) r → KindIs (PlaceOf m s l) (kindBy (componentName k) inner (decodedLine ed (named m s l))) r
         unfolding kindBy namesCarried
-        kind-begin g x = kind-yes _ r _ _ _ (sym (carried-in _ q) ∙ f) (kind-yes _ r _ _ _ (sym (name-is (ascii "BEGIN") i) ∙ g) x)
+        kind-begin g x = kind-yes _ r _ _ _ (sym (carried-in m s (l .parameters) _ q) ∙ f) (kind-yes _ r _ _ _ (sym (name-is y p (ascii "BEGIN") i) ∙ g) x)
 
         module _ {d : Bool} (g : b ≡ false) (j : d ≡ same (upper (rest m (take (l .parameters) s) (l .name))) (ascii "END")) where
           pub kind-end : d ≡ true → KindIs (PlaceOf m s l) (endKind (componentName k) (decodedLine ed (named m s l))) r → KindIs (PlaceOf m s l) (kindBy (componentName k) inner (decodedLine ed (named m s l))) r
           unfolding kindBy namesCarried
-          kind-end z x = kind-yes _ r _ _ _ (sym (carried-in _ q) ∙ f) (kind-no _ r _ _ _ (sym (name-is (ascii "BEGIN") i) ∙ g) (kind-yes _ r _ _ _ (sym (name-is (ascii "END") j) ∙ z) x))
+          kind-end z x = kind-yes _ r _ _ _ (sym (carried-in m s (l .parameters) _ q) ∙ f) (kind-no _ r _ _ _ (sym (name-is y p (ascii "BEGIN") i) ∙ g) (kind-yes _ r _ _ _ (sym (name-is y p (ascii "END") j) ∙ z) x))
 
           pub kind-property : d ≡ false → KindIs (PlaceOf m s l) (propertyKind (componentName k) inner (decodedLine ed (named m s l))) r → KindIs (PlaceOf m s l) (kindBy (componentName k) inner (decodedLine ed (named m s l))) r
           unfolding kindBy namesCarried
-          kind-property z x = kind-yes _ r _ _ _ (sym (carried-in _ q) ∙ f) (kind-no _ r _ _ _ (sym (name-is (ascii "BEGIN") i) ∙ g) (kind-no _ r _ _ _ (sym (name-is (ascii "END") j) ∙ z) x))
+          kind-property z x = kind-yes _ r _ _ _ (sym (carried-in m s (l .parameters) _ q) ∙ f) (kind-no _ r _ _ _ (sym (name-is y p (ascii "BEGIN") i) ∙ g) (kind-no _ r _ _ _ (sym (name-is y p (ascii "END") j) ∙ z) x))
 
   module _ (k : ℕ) (inner : Bool) (m : ℕ) (s : List ℕ) (at : ℕ) where
     pub kind-bad : LineAt m s at Bad → KindIs (OffsetAt m s at) (lineKind ed (componentName k) inner (rest m s at)) (Faulty 4 at)

@@ -50,7 +50,7 @@ later : {m : ℕ} {s : List ℕ} {at e n : ℕ} → Ready m s at → LineEnds m 
 later q f (Closed next) z = let l = line-low q f in (omega (arith, l, z .0), z .1)
 later q f (Failed i p) z = z
 
-module _ {ed : Edition} where
+module _ (ed : Edition) where
   -- ---- BEGIN
 
   module _ (m : ℕ) (s : List ℕ) (l : LineCursors) {n : ℕ} (e : n ≡ placeOf (upper (rest m s (l .value))) componentNames) where
@@ -63,32 +63,32 @@ module _ {ed : Edition} where
       unfolding begins pick refusalAt
       outer-parameters g x = record {
         place = parameterName 0;
-        is = rw (same-component (upper (rest m s (l .value))) 0 (omega arith) e, eq-eqb n 0 h, bare-in {ed} (sym p), g);
+        is = rw (same-component (upper (rest m s (l .value))) 0 (omega arith) e, eq-eqb n 0 h, bare-in ed m s (l .parameters) (sym p), g);
         there = x (some-params (paramsAt m s (l .parameters)) (sym p ∙ g));
       }
 
       pub outer-begins : b ≡ true → OpeningIs (PlaceOf m s l) (beginsOuter ed m s l) Begins
       unfolding begins pick
-      outer-begins g = rw (same-component (upper (rest m s (l .value))) 0 (omega arith) e, eq-eqb n 0 h, bare-in {ed} (sym p), g) (ap (λ (x : List ℕ). on (opened x ∷ [])) (named-component (upper (rest m s (l .value))) e (omega arith) ∙ ap componentName h))
+      outer-begins g = rw (same-component (upper (rest m s (l .value))) 0 (omega arith) e, eq-eqb n 0 h, bare-in ed m s (l .parameters) (sym p), g) (ap (λ (x : List ℕ). on (opened x ∷ [])) (named-component (upper (rest m s (l .value))) e (omega arith) ∙ ap componentName h))
 
   -- ---- a line
 
   module _ {m : ℕ} {s : List ℕ} {l : LineCursors} (y : cuts m ≡ true) (p : Parts m s l) {c : Bool} (q : c ≡ (isCarriedName (runOf isNameChar (rest m s (l .name))) and every carriesName (paramsAt m s (l .parameters)))) where
     pub outer-uncarried : c ≡ false → OpeningIs (PlaceOf m s l) (moveBy (decodedLine ed (named m s l)) []) (Faulty 5 (l .name))
     unfolding moveBy namesCarried pick refusalAt
-    outer-uncarried f = record { place = lineStart; is = rw (sym (carried-in {ed} _ q) ∙ f); there = refl }
+    outer-uncarried f = record { place = lineStart; is = rw (sym (carried-in ed m s (l .parameters) _ q) ∙ f); there = refl }
 
     module _ {b : Bool} (f : c ≡ true) (i : b ≡ same (upper (rest m (take (l .parameters) s) (l .name))) (ascii "BEGIN")) where
       pub outer-begin : (r : Opening) → b ≡ true → OpeningIs (PlaceOf m s l) (beginsOuter ed m s l) r → OpeningIs (PlaceOf m s l) (moveBy (decodedLine ed (named m s l)) []) r
       unfolding moveBy namesCarried
-      outer-begin r g x = subst (λ (z : Move). OpeningIs (PlaceOf m s l) z r) (sym (pick-yes _ _ _ (sym (carried-in _ q) ∙ f) ∙ pick-yes _ _ _ (sym (name-is y p (ascii "BEGIN") i) ∙ g))) x
+      outer-begin r g x = subst (λ (z : Move). OpeningIs (PlaceOf m s l) z r) (sym (pick-yes _ _ _ (sym (carried-in ed m s (l .parameters) _ q) ∙ f) ∙ pick-yes _ _ _ (sym (name-is y p (ascii "BEGIN") i) ∙ g))) x
 
       pub outer-stray : b ≡ false → OpeningIs (PlaceOf m s l) (moveBy (decodedLine ed (named m s l)) []) (Faulty 6 (l .name))
       unfolding moveBy namesCarried
       outer-stray g = record {
         place = lineStart;
         is =
-            pick-yes _ _ _ (sym (carried-in _ q) ∙ f) ∙ pick-no _ _ _ (sym (name-is y p (ascii "BEGIN") i) ∙ g)
+            pick-yes _ _ _ (sym (carried-in ed m s (l .parameters) _ q) ∙ f) ∙ pick-no _ _ _ (sym (name-is y p (ascii "BEGIN") i) ∙ g)
             ∙ pick-either (λ (x : Move). x ≡ stop (fault (refusalAt 6) lineStart)) _ _ _ stray-end stray-property;
         there = refl;
       }
@@ -116,7 +116,7 @@ module _ {ed : Edition} where
 
   pub outer-loose : {m : ℕ} {s : List ℕ} {at : ℕ} → Ready m s at → at < length s → EndsLine m s at Loose → Outer ed m s at (Failed 4 at)
   unfolding refusalAt
-  outer-loose {m} {s} {at} q h f = record { ends = q .most; agrees = loose-stops m s at [] q h f }
+  outer-loose {m} {s} {at} q h f = record { ends = q .most; agrees = loose-stops ed m s at [] q h f }
 
   module _ {m : ℕ} {s : List ℕ} {at e n : ℕ} (r : Opening) (q : Ready m s at) (f : LineEnds m s at e n) (x : OpeningIs (OffsetAt m (take e s) at) (move ed (rest m (take e s) at) []) r) where
     opening-as : (o : Opening) → r ≡ o → OpeningIs (OffsetAt m (take e s) at) (move ed (rest m (take e s) at) []) o
@@ -127,8 +127,8 @@ module _ {ed : Edition} where
     outer-fault {i} {c} h =
         let z = opening-as (Faulty i c) h in
         let p = place-in-text q f (z .there) in
-        record { ends = p .most; agrees = line-moves q f [] ∙ rw (z .is) (ap (refuse (refusalAt i)) (sym (p .is))) }
+        record { ends = p .most; agrees = line-moves ed q f [] ∙ rw (z .is) (ap (refuse (refusalAt i)) (sym (p .is))) }
 
     pub outer-body : (t : Step) → r ≡ Begins → Body ed 0 false m s n t → Outer ed m s at t
     unfolding onward
-    outer-body t h b = record { ends = later q f t (b .ends); agrees = line-moves q f [] ∙ rw (opening-as Begins h) (b .agrees [] refl) }
+    outer-body t h b = record { ends = later q f t (b .ends); agrees = line-moves ed q f [] ∙ rw (opening-as Begins h) (b .agrees [] refl) }
