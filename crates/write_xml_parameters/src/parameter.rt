@@ -28,8 +28,10 @@ fn put_parameter(
     requires { ⌜ cuts mode ≡ true ⌝ }
     ensures { λ r. ⌜
         Put (now (out .entry)) (now (out .exit)) o r
-        (shown (record { name = rest mode (now (n .entry)) at
-        ; values = valuesIn edition mode (now (s .entry)) first })) ⌝ }
+        (shown (record {
+          name = rest mode (now (n .entry)) at;
+          values = valuesIn edition mode (now (s .entry)) first;
+        })) ⌝ }
 {
     let q = parameter_number(mode, n, at);
     let a = put_small_start(out, o, mode, n, at);
@@ -51,8 +53,10 @@ fn put_own(
     requires { ⌜ cuts mode ≡ true ⌝ }
     ensures { λ r. ⌜
         Put (now (out .entry)) (now (out .exit)) o r
-        (ownShown (record { name = rest mode (now (n .entry)) at
-        ; values = valuesIn edition mode (now (s .entry)) first })) ⌝ }
+        (ownShown (record {
+          name = rest mode (now (n .entry)) at;
+          values = valuesIn edition mode (now (s .entry)) first;
+        })) ⌝ }
 {
     let value = is_word_any_case(mode, n, at, b"VALUE");
     if value {
