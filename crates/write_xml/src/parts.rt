@@ -72,8 +72,8 @@ pub fn put_head(
     requires { ⌜ (e ≤ length (now s)) × Ready mode (now s) from ⌝ }
     ensures { λ r. ⌜
         PropertiesPut edition (now (out .entry)) (now (out .exit)) o
-        (headXml (upper (rest mode (take e (now (s .entry))) v)) (r .bare) (entriesAt edition mode (now (s .entry)) from)) mode
-        (now (s .entry)) from r ⌝ }
+        (headXml (upper (rest mode (take e (now (s .entry))) v)) (r .bare)
+        (entriesAt edition mode (now (s .entry)) from)) mode (now (s .entry)) from r ⌝ }
 {
     let k = component_number(mode, &s[..e], v);
     let a = put_small_start(out, o, mode, &s[..e], v);
