@@ -29,6 +29,7 @@ use Rattle.text.specs.Faults.{fault, lineStart, offset}
 use Rattle.text.specs.Nesting.{Open, on, stop, opened, methodIn, onward, ended, nesting}
 use Rattle.text.specs.LineKind.{LineKind, step}
 use Rattle.text.specs.ReadText.{linesVerdict}
+use Rattle.edition.specs.declared.Edition.{Edition}
 use Rattle.read_text.specs.Answers.{Checks}
 use Rattle.read_text.specs.laws.Action.{action-seen}
 use Rattle.read_text.specs.Places.{PlaceAt}
@@ -41,133 +42,135 @@ use Rattle.read_text.specs.declared.Turn.{Turn}
 use Rattle.read_text.specs.declared.Step.the-variants.{Closed, Failed}
 use Rattle.read_text.specs.declared.Checked.the-variants.{Fine, Refused}
 
--- ---- in a component
+module _ (ed : Edition) where
+  -- ---- in a component
 
--- from the line behind the BEGIN of the component k to a place, with these tallies, the number of ACTION's word, and whether a subcomponent has come;
--- method says whether the calendar round the component has METHOD
-pub record Reached (k : ℕ) (method : Bool) (m : ℕ) (s : List ℕ) (from at : ℕ) (counts : List ℕ) (action : ℕ) (inner : Bool) : Type 0 where
-  pub low : from ≤ at
-  pub high : Ready m s at
-  pub seen : List Property
-  pub tallied : counts ≡ tallies seen
-  pub acted : action ≡ actionNumber (actionOf seen)
-  pub agrees : (st : List Open) → methodIn st ≡ method → onFrom m s from (opened (componentName k) ∷ st) ≡ onFrom m s at (openIn k seen inner ∷ st)
+  -- from the line behind the BEGIN of the component k to a place, with these tallies, the number of ACTION's word, and whether a subcomponent has come;
+  -- method says whether the calendar round the component has METHOD
+  pub record Reached (k : ℕ) (method : Bool) (m : ℕ) (s : List ℕ) (from at : ℕ) (counts : List ℕ) (action : ℕ) (inner : Bool) : Type 0 where
+    pub low : from ≤ at
+    pub high : Ready m s at
+    pub seen : List Property
+    pub tallied : counts ≡ tallies seen
+    pub acted : action ≡ actionNumber (actionOf seen)
+    pub agrees : (st : List Open) → methodIn st ≡ method → onFrom ed m s from (opened (componentName k) ∷ st) ≡ onFrom ed m s at (openIn k seen inner ∷ st)
 
-pub reached-none : (k : ℕ) (method : Bool) (m : ℕ) (s : List ℕ) (from : ℕ) → Ready m s from → Reached k method m s from from (replicate property.KNOWN 0) 3 false
-unfolding tallies actionOf
-reached-none k method m s from h = record { low = omega arith; high = h; seen = []; tallied = refl; acted = refl; agrees = λ st i. refl }
+  -- ---- between calendars
 
-module _ {k : ℕ} {method : Bool} {m : ℕ} {s : List ℕ} {from at : ℕ} {counts : List ℕ} {action : ℕ} {inner : Bool} (r : Reached k method m s from at counts action inner) where
-  pub body-open : length s ≤ at → Body k method m s from (Failed 6 (length s))
-  unfolding nesting ended refusalAt
-  body-open h = record { ends = omega arith; agrees = λ st i. r .agrees st i ∙ rw (lines-past m s at (r .high .cut) h, index-end m s (length s) (r .high .cut) (omega arith)) }
+  -- from the first line of a text to a place where nothing is open
+  pub record Between (m : ℕ) (s : List ℕ) (at : ℕ) : Type 0 where
+    pub high : Ready m s at
+    pub agrees : linesVerdict ed (length (rest m s 0)) (lines (rest m s 0)) ≡ onFrom ed m s at []
 
-  module _ {t : Turn} (d : Turned k inner m s at t) where
-    -- the check up to a line, and what that line does
-    moves : (st : List Open) → methodIn st ≡ method → onFrom m s from (opened (componentName k) ∷ st) ≡ onward (step (d .line) (openIn k (r .seen) inner) st) (index m s at) (d .bytes) (onFrom m s (t .next))
-    moves st i = r .agrees st i ∙ d .does (r .seen) st
-
-    said-as : (x : Kind) → t .kind ≡ x → KindIs (PlaceAt m s at (d .bytes)) (d .line) x
-    said-as x e = subst (KindIs (PlaceAt m s at (d .bytes)) (d .line)) e (d .said)
-
-    pub body-faulty : {n c : ℕ} → t .kind ≡ Faulty n c → Body k method m s from (Failed n c)
-    unfolding step onward
-    body-faulty {n} {c} e =
-        let f = said-as (Faulty n c) e in
-        record { ends = f .there .most; agrees = λ st i. moves st i ∙ rw (f .is) (ap (refuse (refusalAt n)) (sym (f .there .is))) }
-
-    -- a property
-    pub reached-held : {p a action' : ℕ} {counts' : List ℕ} → t .kind ≡ Holds p a → counts' ≡ bumped p counts → action' ≡ pick (eqb p property.ACTION) a action →
-        Reached k method m s from (t .next) counts' action' inner
-    unfolding step onward tallies
-    reached-held {p} {a} e f g = let h : Held (d .line) p a = said-as (Holds p a) e in record {
-      low = omega (arith, r .low, d .low);
-      high = d .high;
-      seen = h .property ∷ r .seen;
-      tallied = f ∙ ap (bumped p) (r .tallied) ∙ ap (λ (n : ℕ). bumped n (tallies (r .seen))) (h .number);
-      acted = g ∙ action-seen (h .property) (r .seen) (h .number) (h .action) (r .acted);
-      agrees = λ st i. moves st i ∙ ap (λ (x : LineKind). onward (step x (openIn k (r .seen) inner) st) (index m s at) (d .bytes) (onFrom m s (t .next))) (h .is);
-    }
-
-    -- a subcomponent
-    module _ {n : ℕ} (e : t .kind ≡ Starts n) where
-      pub starts-known : n < 9
-      starts-known = said-as (Starts n) e .1
-
-      begins-inner : (st : List Open) → methodIn st ≡ method → onFrom m s from (opened (componentName k) ∷ st) ≡ onFrom m s (t .next) (opened (componentName n) ∷ openIn k (r .seen) true ∷ st)
-      unfolding step onward
-      begins-inner st i = moves st i ∙ rw (said-as (Starts n) e .0)
-
-      module _ {inside : Bool} (l : k < 9) (q : inside ≡ methodAt k counts method) where
-        method-inside : (st : List Open) → methodIn st ≡ method → methodFor (componentName k) (r .seen) (methodIn st) ≡ inside
-        method-inside st i =
-            ap (λ (b : Bool). methodFor (componentName k) (r .seen) b) i ∙ sym (method-tallies (componentName k) (r .seen) method) ∙ rw (component-at k l, ← (r .tallied)) (sym q)
-
-        pub reached-inner : {next : ℕ} → Body n inside m s (t .next) (Closed next) → Reached k method m s from next counts action true
-        reached-inner b = record {
-          low = omega (arith, r .low, d .low, b .ends .0);
-          high = b .ends .1;
-          seen = r .seen;
-          tallied = r .tallied;
-          acted = r .acted;
-          agrees = λ st i. begins-inner st i ∙ b .agrees (openIn k (r .seen) true ∷ st) (method-inside st i);
-        }
-
-        pub body-inner : {i p : ℕ} → Body n inside m s (t .next) (Failed i p) → Body k method m s from (Failed i p)
-        body-inner b = record { ends = b .ends; agrees = λ st i. begins-inner st i ∙ b .agrees (openIn k (r .seen) true ∷ st) (method-inside st i) }
-
-    -- the end
-    module _ {b : Bool} (e : t .kind ≡ Stops) (l : k < 9) (q : b ≡ completeAt k counts action (record { inner = inner; method = method })) where
-      counted : complete (componentName k) (r .seen) (record { inner = inner; method = method }) ≡ b
-      counted = sym (complete-tallies (componentName k) (r .seen) (record { inner = inner; method = method })) ∙ rw (component-at k l, ← (r .tallied), ← (r .acted)) (sym q)
-
-      stopped : (st : List Open) → methodIn st ≡ method → onFrom m s from (opened (componentName k) ∷ st) ≡ onward (pick b (on st) (stop (fault COUNT lineStart))) (index m s at) (d .bytes) (onFrom m s (t .next))
-      unfolding step
-      stopped st i = moves st i ∙ rw (said-as Stops e, i, counted)
-
-      pub body-closed : b ≡ true → Body k method m s from (Closed (t .next))
-      unfolding onward pick
-      body-closed f = record { ends = (omega (arith, r .low, d .low), d .high); agrees = λ st i. stopped st i ∙ rw f }
-
-      pub body-short : b ≡ false → Body k method m s from (Failed 9 at)
-      unfolding onward pick refusalAt offset
-      body-short f = record { ends = r .high .most; agrees = λ st i. let z : index m s at + 0 ≡ index m s at = omega arith in stopped st i ∙ rw f (ap (refuse COUNT) z) }
-
--- ---- between calendars
-
--- from the first line of a text to a place where nothing is open
-pub record Between (m : ℕ) (s : List ℕ) (at : ℕ) : Type 0 where
-  pub high : Ready m s at
-  pub agrees : linesVerdict (length (rest m s 0)) (lines (rest m s 0)) ≡ onFrom m s at []
-
-lines-verdict : (e : ℕ) (ls : List Line) → 0 < length ls → linesVerdict e ls ≡ nesting e ls []
+lines-verdict : (ed : Edition) (e : ℕ) (ls : List Line) → 0 < length ls → linesVerdict ed e ls ≡ nesting ed e ls []
 unfolding linesVerdict
-lines-verdict e [] h = absurd (omega arith)
-lines-verdict e (l ∷ ls) h = refl
+lines-verdict ed e [] h = absurd (omega arith)
+lines-verdict ed e (l ∷ ls) h = refl
 
--- the first line begins behind folds
-pub between-none : {m : ℕ} {s : List ℕ} {c : ℕ} → cuts m ≡ true → Settled m s 0 c → c < length s → Between m s c
-between-none {m} {s} {c} y p h = record {
-  high = ready-start y p;
-  agrees = some (rest m s 0) (λ e. let k = p .some-byte y (sym (p .is) ∙ e) in omega arith) ∙ rw (lines-start p);
-}
-  where
-    some : (l : List ℕ) → (l ≡ [] → ⊥) → linesVerdict (length l) (lines l) ≡ nesting (length l) (lines l) []
-    some [] h = absurd (h refl)
-    some (a ∷ l) h = lines-verdict (length (a ∷ l)) (lines (a ∷ l)) (lines-some a l 0)
+module _ {ed : Edition} where
+  pub reached-none : (k : ℕ) (method : Bool) (m : ℕ) (s : List ℕ) (from : ℕ) → Ready m s from → Reached ed k method m s from from (replicate property.KNOWN 0) 3 false
+  unfolding tallies actionOf
+  reached-none k method m s from h = record { low = omega arith; high = h; seen = []; tallied = refl; acted = refl; agrees = λ st i. refl }
 
-module _ {m : ℕ} {s : List ℕ} {at : ℕ} (r : Between m s at) where
-  pub between-more : {next : ℕ} → Outer m s at (Closed next) → Between m s next
-  between-more o = record { high = o .ends .1; agrees = r .agrees ∙ o .agrees }
+  module _ {k : ℕ} {method : Bool} {m : ℕ} {s : List ℕ} {from at : ℕ} {counts : List ℕ} {action : ℕ} {inner : Bool} (r : Reached ed k method m s from at counts action inner) where
+    pub body-open : length s ≤ at → Body ed k method m s from (Failed 6 (length s))
+    unfolding nesting ended refusalAt
+    body-open h = record { ends = omega arith; agrees = λ st i. r .agrees st i ∙ rw (lines-past m s at (r .high .cut) h, index-end m s (length s) (r .high .cut) (omega arith)) }
 
-  pub checked-refused : {n p : ℕ} → Outer m s at (Failed n p) → Checks m s (Refused n p)
-  checked-refused o = record { is = r .agrees ∙ o .agrees; place = o .ends }
+    module _ {t : Turn} (d : Turned ed k inner m s at t) where
+      -- the check up to a line, and what that line does
+      moves : (st : List Open) → methodIn st ≡ method → onFrom ed m s from (opened (componentName k) ∷ st) ≡ onward (step (d .line) (openIn k (r .seen) inner) st) (index m s at) (d .bytes) (onFrom ed m s (t .next))
+      moves st i = r .agrees st i ∙ d .does (r .seen) st
 
-  pub checked-fine : length s ≤ at → Checks m s Fine
-  unfolding nesting ended
-  checked-fine h = record { is = r .agrees ∙ rw (lines-past m s at (r .high .cut) h); place = tt }
+      said-as : (x : Kind) → t .kind ≡ x → KindIs (PlaceAt m s at (d .bytes)) (d .line) x
+      said-as x e = subst (KindIs (PlaceAt m s at (d .bytes)) (d .line)) e (d .said)
 
--- nothing but folds
-pub checked-empty : {m : ℕ} {s : List ℕ} {c : ℕ} → cuts m ≡ true → Settled m s 0 c → length s ≤ c → Checks m s (Refused 6 0)
-unfolding linesVerdict linesAfter refusalAt index
-checked-empty {m} {s} {c} y p h = let e : rest m s 0 ≡ [] = p .is ∙ rest-past m s c y h in record { is = rw e; place = omega arith }
+      pub body-faulty : {n c : ℕ} → t .kind ≡ Faulty n c → Body ed k method m s from (Failed n c)
+      unfolding step onward
+      body-faulty {n} {c} e =
+          let f = said-as (Faulty n c) e in
+          record { ends = f .there .most; agrees = λ st i. moves st i ∙ rw (f .is) (ap (refuse (refusalAt n)) (sym (f .there .is))) }
+
+      -- a property
+      pub reached-held : {p a action' : ℕ} {counts' : List ℕ} → t .kind ≡ Holds p a → counts' ≡ bumped p counts → action' ≡ pick (eqb p property.ACTION) a action →
+          Reached ed k method m s from (t .next) counts' action' inner
+      unfolding step onward tallies
+      reached-held {p} {a} e f g = let h : Held (d .line) p a = said-as (Holds p a) e in record {
+        low = omega (arith, r .low, d .low);
+        high = d .high;
+        seen = h .property ∷ r .seen;
+        tallied = f ∙ ap (bumped p) (r .tallied) ∙ ap (λ (n : ℕ). bumped n (tallies (r .seen))) (h .number);
+        acted = g ∙ action-seen (h .property) (r .seen) (h .number) (h .action) (r .acted);
+        agrees = λ st i. moves st i ∙ ap (λ (x : LineKind). onward (step x (openIn k (r .seen) inner) st) (index m s at) (d .bytes) (onFrom ed m s (t .next))) (h .is);
+      }
+
+      -- a subcomponent
+      module _ {n : ℕ} (e : t .kind ≡ Starts n) where
+        pub starts-known : n < 9
+        starts-known = said-as (Starts n) e .1
+
+        begins-inner : (st : List Open) → methodIn st ≡ method → onFrom ed m s from (opened (componentName k) ∷ st) ≡ onFrom ed m s (t .next) (opened (componentName n) ∷ openIn k (r .seen) true ∷ st)
+        unfolding step onward
+        begins-inner st i = moves st i ∙ rw (said-as (Starts n) e .0)
+
+        module _ {inside : Bool} (l : k < 9) (q : inside ≡ methodAt k counts method) where
+          method-inside : (st : List Open) → methodIn st ≡ method → methodFor (componentName k) (r .seen) (methodIn st) ≡ inside
+          method-inside st i =
+              ap (λ (b : Bool). methodFor (componentName k) (r .seen) b) i ∙ sym (method-tallies (componentName k) (r .seen) method) ∙ rw (component-at k l, ← (r .tallied)) (sym q)
+
+          pub reached-inner : {next : ℕ} → Body ed n inside m s (t .next) (Closed next) → Reached ed k method m s from next counts action true
+          reached-inner b = record {
+            low = omega (arith, r .low, d .low, b .ends .0);
+            high = b .ends .1;
+            seen = r .seen;
+            tallied = r .tallied;
+            acted = r .acted;
+            agrees = λ st i. begins-inner st i ∙ b .agrees (openIn k (r .seen) true ∷ st) (method-inside st i);
+          }
+
+          pub body-inner : {i p : ℕ} → Body ed n inside m s (t .next) (Failed i p) → Body ed k method m s from (Failed i p)
+          body-inner b = record { ends = b .ends; agrees = λ st i. begins-inner st i ∙ b .agrees (openIn k (r .seen) true ∷ st) (method-inside st i) }
+
+      -- the end
+      module _ {b : Bool} (e : t .kind ≡ Stops) (l : k < 9) (q : b ≡ completeAt k counts action (record { inner = inner; method = method })) where
+        counted : complete (componentName k) (r .seen) (record { inner = inner; method = method }) ≡ b
+        counted = sym (complete-tallies (componentName k) (r .seen) (record { inner = inner; method = method })) ∙ rw (component-at k l, ← (r .tallied), ← (r .acted)) (sym q)
+
+        stopped : (st : List Open) → methodIn st ≡ method → onFrom ed m s from (opened (componentName k) ∷ st) ≡ onward (pick b (on st) (stop (fault COUNT lineStart))) (index m s at) (d .bytes) (onFrom ed m s (t .next))
+        unfolding step
+        stopped st i = moves st i ∙ rw (said-as Stops e, i, counted)
+
+        pub body-closed : b ≡ true → Body ed k method m s from (Closed (t .next))
+        unfolding onward pick
+        body-closed f = record { ends = (omega (arith, r .low, d .low), d .high); agrees = λ st i. stopped st i ∙ rw f }
+
+        pub body-short : b ≡ false → Body ed k method m s from (Failed 9 at)
+        unfolding onward pick refusalAt offset
+        body-short f = record { ends = r .high .most; agrees = λ st i. let z : index m s at + 0 ≡ index m s at = omega arith in stopped st i ∙ rw f (ap (refuse COUNT) z) }
+
+  -- the first line begins behind folds
+  pub between-none : {m : ℕ} {s : List ℕ} {c : ℕ} → cuts m ≡ true → Settled m s 0 c → c < length s → Between ed m s c
+  between-none {m} {s} {c} y p h = record {
+    high = ready-start y p;
+    agrees = some (rest m s 0) (λ e. let k = p .some-byte y (sym (p .is) ∙ e) in omega arith) ∙ rw (lines-start p);
+  }
+    where
+      some : (l : List ℕ) → (l ≡ [] → ⊥) → linesVerdict ed (length l) (lines l) ≡ nesting ed (length l) (lines l) []
+      some [] h = absurd (h refl)
+      some (a ∷ l) h = lines-verdict ed (length (a ∷ l)) (lines (a ∷ l)) (lines-some a l 0)
+
+  module _ {m : ℕ} {s : List ℕ} {at : ℕ} (r : Between ed m s at) where
+    pub between-more : {next : ℕ} → Outer ed m s at (Closed next) → Between ed m s next
+    between-more o = record { high = o .ends .1; agrees = r .agrees ∙ o .agrees }
+
+    pub checked-refused : {n p : ℕ} → Outer ed m s at (Failed n p) → Checks ed m s (Refused n p)
+    checked-refused o = record { is = r .agrees ∙ o .agrees; place = o .ends }
+
+    pub checked-fine : length s ≤ at → Checks ed m s Fine
+    unfolding nesting ended
+    checked-fine h = record { is = r .agrees ∙ rw (lines-past m s at (r .high .cut) h); place = tt }
+
+  -- nothing but folds
+  pub checked-empty : {m : ℕ} {s : List ℕ} {c : ℕ} → cuts m ≡ true → Settled m s 0 c → length s ≤ c → Checks ed m s (Refused 6 0)
+  unfolding linesVerdict linesAfter refusalAt index
+  checked-empty {m} {s} {c} y p h = let e : rest m s 0 ≡ [] = p .is ∙ rest-past m s c y h in record { is = rw e; place = omega arith }

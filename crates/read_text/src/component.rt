@@ -3,6 +3,7 @@ use crate::Kind;
 use crate::Step;
 use crate::Turn;
 use crate::line::line_kind;
+use edition::Edition;
 use read_text_line::Ending;
 use read_text_line::line_end;
 use refusals::COUNT;
@@ -23,9 +24,9 @@ ghost use Rattle.read_text_line.specs.Ready.{Ready};
 ghost use Rattle.read_text.specs.Turns.{Turned, Body};
 
 // The line at a place in the component of the number `k`, in which a subcomponent has come or not.
-fn next_line(k: usize, inner: bool, mode: usize, s: &[u8], at: usize) -> Turn
+fn next_line(edition: Edition, k: usize, inner: bool, mode: usize, s: &[u8], at: usize) -> Turn
     requires { ⌜ (k < 9) × Ready mode (now s) at × (at < length (now s)) ⌝ }
-    ensures { λ r. ⌜ Turned k inner mode (now (s .entry)) at r ⌝ }
+    ensures { λ r. ⌜ Turned edition k inner mode (now (s .entry)) at r ⌝ }
 {
     let Ending::Whole(e, next) = line_end(mode, s, at) else {
         return Turn {
@@ -33,7 +34,7 @@ fn next_line(k: usize, inner: bool, mode: usize, s: &[u8], at: usize) -> Turn
             next: s.len(),
         };
     };
-    let kind = line_kind(k, inner, mode, &s[..e], at);
+    let kind = line_kind(edition, k, inner, mode, &s[..e], at);
     Turn { kind, next }
 }
 
@@ -48,9 +49,9 @@ fn action_after(p: usize, a: usize, last: usize) -> usize
 }
 
 // The component of the number `k`, from the line behind its BEGIN on; `method`, whether the calendar round it has METHOD.
-pub fn body(mode: usize, s: &[u8], from: usize, k: usize, method: bool) -> Step
+pub fn body(edition: Edition, mode: usize, s: &[u8], from: usize, k: usize, method: bool) -> Step
     requires { ⌜ Ready mode (now s) from × (k < 9) ⌝ }
-    ensures { λ r. ⌜ Body k method mode (now (s .entry)) from r ⌝ }
+    ensures { λ r. ⌜ Body edition k method mode (now (s .entry)) from r ⌝ }
 {
     let mut at = from;
     // One for each known property.
@@ -58,12 +59,12 @@ pub fn body(mode: usize, s: &[u8], from: usize, k: usize, method: bool) -> Step
     let mut action = action::NONE;
     let mut inner = false;
     while at < s.len() {
-        let l = next_line(k, inner, mode, s, at);
+        let l = next_line(edition, k, inner, mode, s, at);
         let kind = l.kind;
         match kind {
             Kind::Starts(n) => {
                 let inside = method_for(k, counts, method);
-                match body(mode, s, l.next, n, inside) {
+                match body(edition, mode, s, l.next, n, inside) {
                     Step::Closed(next) => {
                         inner = true;
                         at = next;

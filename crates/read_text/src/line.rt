@@ -1,6 +1,7 @@
 // What a line is in an open component, by the component's number. A line is cut at its end: it is all that stands from `at` on.
 use crate::Kind;
 use crate::places::parameter_cursor;
+use edition::Edition;
 use names::is_word_any_case;
 use read_text_line::LineCursors;
 use read_text_line::LineRead;
@@ -40,6 +41,7 @@ ghost use Rattle.schema.specs.Property.{ACTION};
 ghost use Rattle.schema.specs.Properties.{propertyNames};
 ghost use Rattle.schema.specs.Completing.{actionNames};
 ghost use Rattle.read_text_line.specs.Cursor.{paramsAt};
+ghost use Rattle.read_text_line.specs.Decoded.{decodedLine};
 ghost use Rattle.read_text_line.specs.Line.{lineFrom, named, Parts};
 ghost use Rattle.text.specs.Nesting.{mayHold};
 ghost use Rattle.text.specs.LineKind.{openAs, beginKind, endKind, propertyKind, kindBy, lineKind};
@@ -61,12 +63,12 @@ pub fn no_params(mode: usize, s: &[u8], e: usize) -> bool
 }
 
 // The kind of a BEGIN.
-fn begin_line(k: usize, mode: usize, s: &[u8], l: LineCursors) -> Kind
+fn begin_line(edition: Edition, k: usize, mode: usize, s: &[u8], l: LineCursors) -> Kind
     requires { ⌜ k < 9 ⌝ }
     ensures { λ r. ⌜
         ((w : List ℕ) →
         KindIs (PlaceOf mode (now (s .entry)) l)
-        (beginKind (componentName k) (lineFrom w mode (now (s .entry)) l)) r) ⌝ }
+        (beginKind (componentName k) (decodedLine edition (lineFrom w mode (now (s .entry)) l))) r) ⌝ }
 {
     let n = component_number(mode, s, l.value);
     let may = may_begin(k, n);
@@ -82,12 +84,12 @@ fn begin_line(k: usize, mode: usize, s: &[u8], l: LineCursors) -> Kind
 }
 
 // The kind of an END.
-fn end_line(k: usize, mode: usize, s: &[u8], l: LineCursors) -> Kind
+fn end_line(edition: Edition, k: usize, mode: usize, s: &[u8], l: LineCursors) -> Kind
     requires { ⌜ k < 9 ⌝ }
     ensures { λ r. ⌜
         ((w : List ℕ) →
         KindIs (PlaceOf mode (now (s .entry)) l)
-        (endKind (componentName k) (lineFrom w mode (now (s .entry)) l)) r) ⌝ }
+        (endKind (componentName k) (decodedLine edition (lineFrom w mode (now (s .entry)) l))) r) ⌝ }
 {
     let n = component_number(mode, s, l.value);
     if n == k {
@@ -141,18 +143,26 @@ fn action_of(p: usize, mode: usize, s: &[u8], v: usize) -> usize
 }
 
 // The kind of a line that is a property of the row.
-fn row_line(k: usize, inner: bool, row: Row, mode: usize, s: &[u8], l: LineCursors) -> Kind
+fn row_line(
+    edition: Edition,
+    k: usize,
+    inner: bool,
+    row: Row,
+    mode: usize,
+    s: &[u8],
+    l: LineCursors,
+) -> Kind
     requires { ⌜ (k < 9) × (cuts mode ≡ true) ⌝ }
     ensures { λ r. ⌜
         ((w : List ℕ) →
         row ≡ rowAt (placeOf (upper w) propertyNames) →
         KindIs (PlaceOf mode (now (s .entry)) l)
-        (propertyKind (componentName k) inner (lineFrom w mode (now (s .entry)) l)) r) ⌝ }
+        (propertyKind (componentName k) inner (decodedLine edition (lineFrom w mode (now (s .entry)) l))) r) ⌝ }
 {
     let p = row.number;
     let may = may_hold(k, inner, row);
     if may {
-        let f = property_fault(k, row, mode, s, l);
+        let f = property_fault(edition, k, row, mode, s, l);
         match f {
             LineFault::Parameter(i) => {
                 let c = parameter_cursor(mode, s, l.parameters, i);
@@ -170,22 +180,36 @@ fn row_line(k: usize, inner: bool, row: Row, mode: usize, s: &[u8], l: LineCurso
 }
 
 // The kind of a line that is a property.
-fn property_line(k: usize, inner: bool, mode: usize, s: &[u8], l: LineCursors) -> Kind
+fn property_line(
+    edition: Edition,
+    k: usize,
+    inner: bool,
+    mode: usize,
+    s: &[u8],
+    l: LineCursors,
+) -> Kind
     requires { ⌜ (k < 9) × (l .name ≤ length (now s)) × Parts mode (now s) l × (cuts mode ≡ true) ⌝ }
     ensures { λ r. ⌜
         KindIs (PlaceOf mode (now (s .entry)) l)
-        (propertyKind (componentName k) inner (named mode (now (s .entry)) l)) r ⌝ }
+        (propertyKind (componentName k) inner (decodedLine edition (named mode (now (s .entry)) l))) r ⌝ }
 {
     let e = l.parameters;
     let row = row_of(mode, &s[..e], l.name);
-    row_line(k, inner, row, mode, s, l)
+    row_line(edition, k, inner, row, mode, s, l)
 }
 
 // The kind of a content line.
-fn content_line(k: usize, inner: bool, mode: usize, s: &[u8], l: LineCursors) -> Kind
+fn content_line(
+    edition: Edition,
+    k: usize,
+    inner: bool,
+    mode: usize,
+    s: &[u8],
+    l: LineCursors,
+) -> Kind
     requires { ⌜ (k < 9) × (l .name ≤ length (now s)) × Parts mode (now s) l × (cuts mode ≡ true) ⌝ }
     ensures { λ r. ⌜
-        KindIs (PlaceOf mode (now (s .entry)) l) (kindBy (componentName k) inner (named mode (now (s .entry)) l)) r ⌝ }
+        KindIs (PlaceOf mode (now (s .entry)) l) (kindBy (componentName k) inner (decodedLine edition (named mode (now (s .entry)) l))) r ⌝ }
 {
     let at = l.name;
     let e = l.parameters;
@@ -193,26 +217,26 @@ fn content_line(k: usize, inner: bool, mode: usize, s: &[u8], l: LineCursors) ->
     if good {
         let begin = is_word_any_case(mode, &s[..e], at, b"BEGIN");
         if begin {
-            return begin_line(k, mode, s, l);
+            return begin_line(edition, k, mode, s, l);
         }
         let end = is_word_any_case(mode, &s[..e], at, b"END");
         if end {
-            return end_line(k, mode, s, l);
+            return end_line(edition, k, mode, s, l);
         }
-        return property_line(k, inner, mode, s, l);
+        return property_line(edition, k, inner, mode, s, l);
     }
     Kind::Faulty(NAME, l.name)
 }
 
 // The kind of a line in the component of the number `k`, in which a subcomponent has come or not.
-pub fn line_kind(k: usize, inner: bool, mode: usize, s: &[u8], at: usize) -> Kind
+pub fn line_kind(edition: Edition, k: usize, inner: bool, mode: usize, s: &[u8], at: usize) -> Kind
     requires { ⌜ (k < 9) × (at ≤ length (now s)) × (cuts mode ≡ true) ⌝ }
     ensures { λ r. ⌜
         KindIs (OffsetAt mode (now (s .entry)) at)
-        (lineKind (componentName k) inner (rest mode (now (s .entry)) at)) r ⌝ }
+        (lineKind edition (componentName k) inner (rest mode (now (s .entry)) at)) r ⌝ }
 {
     let LineRead::Line(l) = line_at(mode, s, at) else {
         return Kind::Faulty(LINE, at);
     };
-    content_line(k, inner, mode, s, l)
+    content_line(edition, k, inner, mode, s, l)
 }

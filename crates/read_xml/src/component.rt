@@ -6,6 +6,7 @@ use crate::Part;
 use crate::Which;
 use crate::counting::none_counted;
 use crate::properties::properties_verdict;
+use edition::Edition;
 use markup::element;
 use names::is_word;
 use octets::is_space;
@@ -167,9 +168,9 @@ fn child_at(k: usize, had: bool, s: &[u8], at: usize) -> Met
 }
 
 // The component of the number `k`, up to its `components`, or to its end tag at `e`.
-pub fn head(k: usize, method: bool, s: &[u8], inside: usize, e: usize) -> Begun
+pub fn head(edition: Edition, k: usize, method: bool, s: &[u8], inside: usize, e: usize) -> Begun
     requires { ⌜ length (now s) ≤ 65535 ⌝ }
-    ensures { λ r. ⌜ HeadAt k method (now (s .entry)) inside e r ⌝ }
+    ensures { λ r. ⌜ HeadAt edition k method (now (s .entry)) inside e r ⌝ }
 {
     let mut at = inside;
     let mut had = false;
@@ -186,7 +187,7 @@ pub fn head(k: usize, method: bool, s: &[u8], inside: usize, e: usize) -> Begun
                 at = d;
             }
             Met::Properties(q, d) => {
-                let l = properties_verdict(k, s, q);
+                let l = properties_verdict(edition, k, s, q);
                 let j = l.judged;
                 match j {
                     Judged::Fine => {

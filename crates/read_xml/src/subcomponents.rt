@@ -7,6 +7,7 @@ use crate::Sub;
 use crate::component::behind;
 use crate::component::end_components;
 use crate::component::head;
+use edition::Edition;
 use octets::is_space;
 use read_xml_nodes::Judged;
 use read_xml_nodes::NodeKind;
@@ -88,18 +89,25 @@ fn method_inside(k: usize, kept: Kept, had: bool, method: bool) -> bool
 }
 
 // The component of the number `k` whose content begins at `inside`, and whose end tag is at `e`; `method`, whether the calendar round it has METHOD.
-pub fn component_verdict(s: &[u8], inside: usize, k: usize, method: bool, e: usize) -> Judged
+pub fn component_verdict(
+    edition: Edition,
+    s: &[u8],
+    inside: usize,
+    k: usize,
+    method: bool,
+    e: usize,
+) -> Judged
     requires { ⌜ length (now s) ≤ 65535 ⌝ }
-    ensures { λ r. ⌜ ComponentAt k method (now (s .entry)) inside e r ⌝ }
+    ensures { λ r. ⌜ ComponentAt edition k method (now (s .entry)) inside e r ⌝ }
 {
-    let h = head(k, method, s, inside, e);
+    let h = head(edition, k, method, s, inside, e);
     let part = h.part;
     match part {
         Part::Ends(j) => j,
         Part::Opens(q, x, after, had) => {
             let kept = h.kept;
             let m = method_inside(k, kept, had, method);
-            let r = components_verdict(s, q, k, m, x);
+            let r = components_verdict(edition, s, q, k, m, x);
             match r {
                 Held::Holds(inner) => behind(k, kept, had, inner, method, s, after, e),
                 Held::Fails(f, y) => Judged::Refused(f, y),
@@ -109,9 +117,16 @@ pub fn component_verdict(s: &[u8], inside: usize, k: usize, method: bool, e: usi
 }
 
 // The children of the `components` of a component of the number `k`, whose content begins at `inside`, and whose end tag is at `e`; `method`, whether their calendar has METHOD.
-fn components_verdict(s: &[u8], inside: usize, k: usize, method: bool, e: usize) -> Held
+fn components_verdict(
+    edition: Edition,
+    s: &[u8],
+    inside: usize,
+    k: usize,
+    method: bool,
+    e: usize,
+) -> Held
     requires { ⌜ length (now s) ≤ 65535 ⌝ }
-    ensures { λ r. ⌜ CompsAt k method (now (s .entry)) inside e r ⌝ }
+    ensures { λ r. ⌜ CompsAt edition k method (now (s .entry)) inside e r ⌝ }
 {
     let mut at = inside;
     let mut any = false;
@@ -125,7 +140,7 @@ fn components_verdict(s: &[u8], inside: usize, k: usize, method: bool, e: usize)
             Sub::Past(d) => {
                 at = d;
             }
-            Sub::Begins(n, q, z, d) => match component_verdict(s, q, n, method, z) {
+            Sub::Begins(n, q, z, d) => match component_verdict(edition, s, q, n, method, z) {
                 Judged::Fine => {
                     any = true;
                     at = d;

@@ -2,13 +2,12 @@
 use markup::table;
 use names::find_word;
 use octets::unit::END;
-use octets::unit::LF;
-use octets::unit::QUOTE;
 use read_xml_nodes::has_element;
 use schema::WordRead;
 use schema::parameter_has_words;
 use schema::parameter_type;
 use schema::read_word_of_parameter;
+use schema::value_type;
 use source::xml_unit;
 use values::ValueRead;
 use values::read_value;
@@ -50,7 +49,7 @@ pub fn has_byte(b: usize, s: &[u8], at: usize) -> bool
     }
 }
 
-// A word of the closed set of the parameter of the number `q`, or a value of its type.
+// A word of the closed set of the parameter of the number `q`, or a value of its type: any characters where that is UNKNOWN.
 fn is_chosen(q: usize, s: &[u8], at: usize) -> bool
     ensures { λ r. ⌜ r ≡ isRead (readWordIn (rowAt q .words) (rowAt q .type) (rest 1 (now (s .entry)) at)) ⌝ }
 {
@@ -62,6 +61,9 @@ fn is_chosen(q: usize, s: &[u8], at: usize) -> bool
         return true;
     }
     let t = parameter_type(q);
+    if t == value_type::UNKNOWN {
+        return true;
+    }
     let ValueRead::Good(v) = read_value(true, t, 1, s, at) else {
         return false;
     };
@@ -78,14 +80,6 @@ fn is_leaf(q: usize, s: &[u8], inside: usize) -> bool
         return false;
     }
     let c = cursor_of(s, inside);
-    let quote = has_byte(QUOTE, s, c);
-    if quote {
-        return false;
-    }
-    let feed = has_byte(LF, s, c);
-    if feed {
-        return false;
-    }
     is_chosen(q, s, c)
 }
 

@@ -15,7 +15,9 @@ use Rattle.calendar.specs.Calendar.{Property}
 use Rattle.calendar.specs.Refusal.{LINE, NAME, FRAME, PARAMETER, COUNT}
 use Rattle.schema.specs.Components.{subcomponentsOf}
 use Rattle.schema.specs.Counts.{Around, complete}
-use Rattle.read_text_line.specs.ContentLine.{ContentLine, contentLine}
+use Rattle.edition.specs.declared.Edition.{Edition}
+use Rattle.read_text_line.specs.ContentLine.{ContentLine}
+use Rattle.read_text_line.specs.Decoded.{readLine}
 use Rattle.text.specs.Faults.{Fault, fault, lineStart, parameterName}
 use Rattle.text.specs.Statement.{propertyFault, propertyOf}
 use Rattle.text.specs.Nesting.{Open, Move, on, stop, opened, methodIn, mayHold, namesCarried}
@@ -58,8 +60,8 @@ unfoldable pub kindOf : List ℕ → Bool → Option ContentLine → LineKind
 kindOf k inner none = faulty (fault LINE lineStart)
 kindOf k inner (some l) = kindBy k inner l
 
-abbrev pub lineKind : List ℕ → Bool → List ℕ → LineKind
-lineKind k inner s = kindOf k inner (contentLine s)
+abbrev pub lineKind : Edition → List ℕ → Bool → List ℕ → LineKind
+lineKind ed k inner s = kindOf k inner (readLine ed s)
 
 -- ---- what it does
 

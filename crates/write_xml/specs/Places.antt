@@ -13,34 +13,36 @@ use Rattle.read_text_line.specs.Ready.{Ready}
 use Rattle.schema.specs.Numbers.{componentName}
 use Rattle.text.specs.Tree.{innerOf}
 use Rattle.xcal.specs.WriteXml.{isNoMore}
+use Rattle.edition.specs.declared.Edition.{Edition}
 use Rattle.write_xml.specs.declared.components.Reached.{Reached}
 use Rattle.write_xml.specs.declared.properties.Walked.{Walked}
 use Rattle.write_xml.specs.Entries.{entriesAt}
 use Rattle.write_xml.specs.Walks.{ownXml, innerXml, behind}
 
-pub record Passed (mode : ℕ) (s : List ℕ) (from r : ℕ) : Type 0 where
-  pub onward : from ≤ r
-  pub ready : Ready mode s r
-  pub rest : entriesAt mode s r ≡ behind (entriesAt mode s from) 0
+module _ (ed : Edition) where
+  pub record Passed (mode : ℕ) (s : List ℕ) (from r : ℕ) : Type 0 where
+    pub onward : from ≤ r
+    pub ready : Ready mode s r
+    pub rest : entriesAt ed mode s r ≡ behind (entriesAt ed mode s from) 0
 
-pub record ComponentsPut (d e : List ℕ) (o mode : ℕ) (s : List ℕ) (from : ℕ) (r : Reached) : Type 0 where
-  pub put : Put d e o (r .to) (innerXml (entriesAt mode s from))
-  pub passed : Passed mode s from (r .next)
+  pub record ComponentsPut (d e : List ℕ) (o mode : ℕ) (s : List ℕ) (from : ℕ) (r : Reached) : Type 0 where
+    pub put : Put d e o (r .to) (innerXml (entriesAt ed mode s from))
+    pub passed : Passed mode s from (r .next)
 
-pub record Ahead (mode : ℕ) (s : List ℕ) (from inner : ℕ) (bare : Bool) (next : ℕ) : Type 0 where
-  pub onward : from ≤ inner
-  pub forth : from ≤ next
-  pub ready : Ready mode s inner
-  pub components : innerOf (entriesAt mode s inner) 0 ≡ innerOf (entriesAt mode s from) 0
-  pub rest : behind (entriesAt mode s inner) 0 ≡ behind (entriesAt mode s from) 0
-  pub empty : bare ≡ isNoMore (innerOf (entriesAt mode s from) 0)
-  pub passed : bare ≡ true → Passed mode s from next
+  pub record Ahead (mode : ℕ) (s : List ℕ) (from inner : ℕ) (bare : Bool) (next : ℕ) : Type 0 where
+    pub onward : from ≤ inner
+    pub forth : from ≤ next
+    pub ready : Ready mode s inner
+    pub components : innerOf (entriesAt ed mode s inner) 0 ≡ innerOf (entriesAt ed mode s from) 0
+    pub rest : behind (entriesAt ed mode s inner) 0 ≡ behind (entriesAt ed mode s from) 0
+    pub empty : bare ≡ isNoMore (innerOf (entriesAt ed mode s from) 0)
+    pub passed : bare ≡ true → Passed mode s from next
 
-pub record PropertiesPut (d e : List ℕ) (o : ℕ) (bs : List ℕ) (mode : ℕ) (s : List ℕ) (from : ℕ) (r : Walked) : Type 0 where
-  pub put : Put d e o (r .to) bs
-  pub ahead : Ahead mode s from (r .inner) (r .bare) (r .next)
+  pub record PropertiesPut (d e : List ℕ) (o : ℕ) (bs : List ℕ) (mode : ℕ) (s : List ℕ) (from : ℕ) (r : Walked) : Type 0 where
+    pub put : Put d e o (r .to) bs
+    pub ahead : Ahead mode s from (r .inner) (r .bare) (r .next)
 
-pub record LeadingPut (d e : List ℕ) (o k mode : ℕ) (s : List ℕ) (from : ℕ) (r : Walked) : Type 0 where
-  pub todo : Todo d o (ownXml (componentName k) (entriesAt mode s from)) e (r .to) (ownXml (componentName k) (entriesAt mode s (r .inner)))
-  pub all : r .bare ≡ true → ownXml (componentName k) (entriesAt mode s (r .inner)) ≡ []
-  pub ahead : Ahead mode s from (r .inner) (r .bare) (r .next)
+  pub record LeadingPut (d e : List ℕ) (o k mode : ℕ) (s : List ℕ) (from : ℕ) (r : Walked) : Type 0 where
+    pub todo : Todo d o (ownXml (componentName k) (entriesAt ed mode s from)) e (r .to) (ownXml (componentName k) (entriesAt ed mode s (r .inner)))
+    pub all : r .bare ≡ true → ownXml (componentName k) (entriesAt ed mode s (r .inner)) ≡ []
+    pub ahead : Ahead mode s from (r .inner) (r .bare) (r .next)

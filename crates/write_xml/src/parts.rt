@@ -2,6 +2,7 @@
 // stands there from `v` on, and its other lines begin at `from`.
 use crate::properties::Walked;
 use crate::properties::put_properties_element;
+use edition::Edition;
 use markup::element;
 use names::is_word_any_case;
 use schema::component_number;
@@ -61,6 +62,7 @@ fn put_components_end(out: &mut [u8], o: usize, there: bool) -> usize
 pub fn put_head(
     out: &mut [u8],
     o: usize,
+    edition: Edition,
     mode: usize,
     s: &[u8],
     v: usize,
@@ -69,13 +71,13 @@ pub fn put_head(
 ) -> Walked
     requires { ⌜ (e ≤ length (now s)) × Ready mode (now s) from ⌝ }
     ensures { λ r. ⌜
-        PropertiesPut (now (out .entry)) (now (out .exit)) o
-        (headXml (upper (rest mode (take e (now (s .entry))) v)) (r .bare) (entriesAt mode (now (s .entry)) from)) mode
-        (now (s .entry)) from r ⌝ }
+        PropertiesPut edition (now (out .entry)) (now (out .exit)) o
+        (headXml (upper (rest mode (take e (now (s .entry))) v)) (r .bare)
+        (entriesAt edition mode (now (s .entry)) from)) mode (now (s .entry)) from r ⌝ }
 {
     let k = component_number(mode, &s[..e], v);
     let a = put_small_start(out, o, mode, &s[..e], v);
-    let b = put_properties_element(out, a, k, mode, s, from);
+    let b = put_properties_element(out, a, edition, k, mode, s, from);
     let there = has_components(mode, &s[..e], v, b.bare);
     let c = put_components_start(out, b.to, there);
     Walked {

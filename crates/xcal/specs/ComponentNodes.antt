@@ -13,6 +13,7 @@ use Rattle.calendar.specs.Calendar.{Components, noMore, component}
 use Rattle.calendar.specs.Refusal.{FRAME, COUNT, Verdict, fine, refuse, _otherwise_}
 use Rattle.schema.specs.Components.{subcomponentsOf}
 use Rattle.schema.specs.Counts.{Around, methodFor, complete}
+use Rattle.edition.specs.declared.Edition.{Edition}
 use Rattle.xml.specs.Nodes.{Nodes, noNodes, element, literal, referred, hasElement}
 use Rattle.xcal.specs.Layout.{hasCapital, unexpected}
 use Rattle.xcal.specs.PropertyNodes.{propertiesVerdict, readProperties}
@@ -50,44 +51,44 @@ endOfComponents k any e = pick (any or same k (ascii "VCALENDAR") or same k (asc
 
 unfoldable mutual
   -- the children of a component k: counts says whether its properties and subcomponents are as often as they must; e is its end tag
-  pub componentVerdict : Nodes → List ℕ → Bool → Come → ℕ → Verdict
-  componentVerdict noNodes k counts c e = endOfComponent k counts c e
-  componentVerdict (literal p b more) k counts c e = pick (isSpace b) (componentVerdict more k counts c e) (refuse FRAME p)
-  componentVerdict (referred p bs more) k counts c e = refuse FRAME p
-  componentVerdict (element p m x kids more) k counts c e =
+  pub componentVerdict : Edition → Nodes → List ℕ → Bool → Come → ℕ → Verdict
+  componentVerdict ed noNodes k counts c e = endOfComponent k counts c e
+  componentVerdict ed (literal p b more) k counts c e = pick (isSpace b) (componentVerdict ed more k counts c e) (refuse FRAME p)
+  componentVerdict ed (referred p bs more) k counts c e = refuse FRAME p
+  componentVerdict ed (element p m x kids more) k counts c e =
       pick (same m (ascii "properties") and not (c .properties) and not (c .components))
-      (propertiesVerdict k kids otherwise componentVerdict more k counts (record { properties = true; components = false; method = methodFor k (readProperties kids) (c .method) }) e)
+      (propertiesVerdict ed k kids otherwise componentVerdict ed more k counts (record { properties = true; components = false; method = methodFor k (readProperties kids) (c .method) }) e)
       (pick (same m (ascii "components") and not (c .components) and not (isEmpty (subcomponentsOf k)))
-      (componentsVerdict kids k (c .method) false x otherwise componentVerdict more k counts (record { properties = c .properties; components = true; method = c .method }) e)
+      (componentsVerdict ed kids k (c .method) false x otherwise componentVerdict ed more k counts (record { properties = c .properties; components = true; method = c .method }) e)
       (unexpected p m))
 
   -- the children of `components` in a component k; method says whether the calendar has METHOD; any, whether one has come; e is the end tag of `components`
-  pub componentsVerdict : Nodes → List ℕ → Bool → Bool → ℕ → Verdict
-  componentsVerdict noNodes k method any e = endOfComponents k any e
-  componentsVerdict (literal p b more) k method any e = pick (isSpace b) (componentsVerdict more k method any e) (refuse FRAME p)
-  componentsVerdict (referred p bs more) k method any e = refuse FRAME p
-  componentsVerdict (element p m x kids more) k method any e =
+  pub componentsVerdict : Edition → Nodes → List ℕ → Bool → Bool → ℕ → Verdict
+  componentsVerdict ed noNodes k method any e = endOfComponents k any e
+  componentsVerdict ed (literal p b more) k method any e = pick (isSpace b) (componentsVerdict ed more k method any e) (refuse FRAME p)
+  componentsVerdict ed (referred p bs more) k method any e = refuse FRAME p
+  componentsVerdict ed (element p m x kids more) k method any e =
       pick (not (hasCapital m) and isOneOf (upper m) (subcomponentsOf k))
-      (componentVerdict kids (upper m) (isComplete (upper m) method kids) (nothingCome method) x otherwise componentsVerdict more k method true e)
+      (componentVerdict ed kids (upper m) (isComplete (upper m) method kids) (nothingCome method) x otherwise componentsVerdict ed more k method true e)
       (unexpected p m)
 
 -- ---- the root
 
 -- the children of `icalendar`: one or more `vcalendar`
-unfoldable pub streamVerdict : Nodes → Bool → ℕ → Verdict
-streamVerdict noNodes any e = pick any fine (refuse FRAME e)
-streamVerdict (literal p b more) any e = pick (isSpace b) (streamVerdict more any e) (refuse FRAME p)
-streamVerdict (referred p bs more) any e = refuse FRAME p
-streamVerdict (element p m x kids more) any e =
+unfoldable pub streamVerdict : Edition → Nodes → Bool → ℕ → Verdict
+streamVerdict ed noNodes any e = pick any fine (refuse FRAME e)
+streamVerdict ed (literal p b more) any e = pick (isSpace b) (streamVerdict ed more any e) (refuse FRAME p)
+streamVerdict ed (referred p bs more) any e = refuse FRAME p
+streamVerdict ed (element p m x kids more) any e =
     pick (same m (ascii "vcalendar"))
-    (componentVerdict kids (ascii "VCALENDAR") (isComplete (ascii "VCALENDAR") false kids) (nothingCome false) x otherwise streamVerdict more true e)
+    (componentVerdict ed kids (ascii "VCALENDAR") (isComplete (ascii "VCALENDAR") false kids) (nothingCome false) x otherwise streamVerdict ed more true e)
     (unexpected p m)
 
-unfoldable pub rootVerdict : Nodes → Verdict
-rootVerdict noNodes = fine
-rootVerdict (literal p b more) = fine
-rootVerdict (referred p bs more) = fine
-rootVerdict (element p m x kids more) = pick (same m (ascii "icalendar")) (streamVerdict kids false x) (unexpected p m)
+unfoldable pub rootVerdict : Edition → Nodes → Verdict
+rootVerdict ed noNodes = fine
+rootVerdict ed (literal p b more) = fine
+rootVerdict ed (referred p bs more) = fine
+rootVerdict ed (element p m x kids more) = pick (same m (ascii "icalendar")) (streamVerdict ed kids false x) (unexpected p m)
 
 -- ---- what they state
 

@@ -35,6 +35,7 @@ use Rattle.read_xml_nodes.specs.declared.Node.{Node}
 use Rattle.read_xml_nodes.specs.declared.NodeKind.the-variants.{None, Element, Literal, Referred}
 use Rattle.read_xml_nodes.specs.declared.Judged.{Judged}
 use Rattle.read_xml_nodes.specs.declared.Judged.the-variants.{Fine, Refused}
+use Rattle.edition.specs.declared.Edition.{Edition}
 use Rattle.read_xml.specs.laws.Turning.{name-inside}
 use Rattle.read_xml.specs.Children.{nameOf}
 use Rattle.read_xml.specs.laws.Properties.{not-fine}
@@ -68,8 +69,6 @@ module _ (k : ℕ) (m : List ℕ) {b : Bool} (e : b ≡ hasCapital m) where
     unfolding _and_
     number-not z = record { is = λ c o. rw (← e, h, begin-place c (upper m), ← o, ← f, ← g, z); number = tt }
 
-pub ruleset numbering = (number-capital, number-may, number-not, length-take-le, needs)
-
 -- ---- a component
 
 -- the METHOD that is handed down is that of the calendar
@@ -87,37 +86,6 @@ pub method-bare : (k : ℕ) (t : Kept) {had method : Bool} → had ≡ false →
 unfolding pick
 method-bare k t h = rw h
 
-pub ruleset handing = (method-had, method-bare, needs)
-
-module _ {k : ℕ} {method : Bool} {s : List ℕ} {from e : ℕ} {b : Begun} (h : HeadAt k method s from e b) where
-  pub whole-ends : {j : Judged} → b .part ≡ Ends j → ComponentAt k method s from e j
-  whole-ends z = record { is = λ c o. h .is c o ∙ rw z }
-
-  module _ {q x after : ℕ} {had : Bool} (z : b .part ≡ Opens q x after had) where
-    opened : PartFits s from (b .kept) (Opens q x after had)
-    opened = subst (PartFits s from (b .kept)) z (h .fits)
-
-    pub whole-falls : length s - q < length s - from
-    whole-falls = opened .0
-
-    module _ {m : Bool} (u : m ≡ methodKept k (b .kept) had method) {r : Held} (d : CompsAt k m s q x r) where
-      given : (c : List ℕ) → k ≡ placeOf c componentNames → methodInside c method had (nodesAt s from) ≡ m
-      given c o = handed c o method had (nodesAt s from) (b .kept) (opened .2) ∙ sym u
-
-      pub whole-fails : {f y : ℕ} → r ≡ Fails f y → ComponentAt k method s from e (Refused f y)
-      unfolding _otherwise_
-      whole-fails g = record { is = λ c o. h .is c o ∙ rw (z, given c o, d .is c o, g) }
-
-      pub whole-behind : {inner : Bool} {v : Judged} → r ≡ Holds inner → BehindAt k (b .kept) had inner method s after e v → ComponentAt k method s from e v
-      unfolding _otherwise_
-      whole-behind g w = record {
-        is = λ c o. h .is c o ∙ rw (z, given c o, d .is c o, g)
-            (w .is c o (isComplete c method (nodesAt s from))
-            (λ l. complete-is c o method (nodesAt s from) (opened .2 l) (subst (HeldIs (hasElement (nodesAt s q))) g (d .held) ∙ sym (ap hasElement (opened .1)))) m);
-      }
-
-pub ruleset wholes = (whole-ends, whole-fails, whole-behind, needs)
-
 -- ---- a node of `components`
 
 -- an element that has no place is refused
@@ -129,53 +97,6 @@ not-unexpected p m {j} u h = go (hasCapital m) (rw h at u)
     go true v = let z : _≡_ {A = Bool} false true = cc in absurd (false≢true z)
     go false v = let z : _≡_ {A = Bool} false true = cc in absurd (false≢true z)
 
-module _ (k : ℕ) {s : List ℕ} (e : ℕ) {at : ℕ} (any : Bool) {r : Node} (n : NodeAt s at r) where
-  with-nodes : (c : List ℕ) (m : Bool) {x : Nodes} → nodesAt s at ≡ x → componentsVerdict (nodesAt s at) c m any e ≡ componentsVerdict x c m any e
-  with-nodes c m h = ap (λ (y : Nodes). componentsVerdict y c m any e) h
-
-  pub sub-none : {j : Judged} → r .kind ≡ None → EndsAt k any e j → SubAt k s e at any (Done j)
-  unfolding componentsVerdict hasElement
-  sub-none q d = record { inner = []; is = λ c o m. with-nodes c m (node-none n q) ∙ d .is c o; fits = λ h. ap hasElement (node-none n q) }
-
-  pub sub-referred : r .kind ≡ Referred → SubAt k s e at any (Done (Refused 6 at))
-  unfolding componentsVerdict
-  sub-referred q = record { inner = []; is = λ c o m. with-nodes c m (node-referred n q) ∙ sym (is-frame at); fits = λ h. absurd (not-fine h) }
-
-  module _ (q : r .kind ≡ Literal) {b : Bool} (f : b ≡ isSpace (r .unit)) where
-    pub sub-space : b ≡ true → SubAt k s e at any (Past (r .next))
-    unfolding componentsVerdict hasElement pick
-    sub-space h = record { inner = []; is = λ c o m. with-nodes c m (node-literal n q) ∙ rw (← f, h); fits = (literal-less n q, ap hasElement (node-literal n q)) }
-
-    pub sub-text : b ≡ false → SubAt k s e at any (Done (Refused 6 at))
-    unfolding componentsVerdict pick
-    sub-text h = record { inner = []; is = λ c o m. with-nodes c m (node-literal n q) ∙ rw (← f, h) (sym (is-frame at)); fits = λ h. absurd (not-fine h) }
-
-  module _ (q : r .kind ≡ Element) {t : Numbered} (d : NumberedAt k (nameOf s r) t) where
-    pub sub-other : {j : Judged} → t ≡ Other → unexpected at (nameOf s r) ≡ judgedAs j → SubAt k s e at any (Done j)
-    unfolding componentsVerdict pick
-    sub-other z u = record { inner = []; is = λ c o m. with-nodes c m (node-element n q) ∙ rw (d .is c o, z) u; fits = λ h. absurd (not-unexpected at (nameOf s r) u h) }
-
-    pub sub-begins : {i : ℕ} → t ≡ Number i → SubAt k s e at any (Begins i (r .inside) (r .end) (r .next))
-    unfolding componentsVerdict hasElement pick
-    sub-begins z = record {
-      inner = upper (nameOf s r);
-      is = λ c o m. with-nodes c m (node-element n q) ∙ rw (d .is c o, z);
-      fits = (subst (NumberedAt k (nameOf s r)) z d .number, inside-less n q, element-less n q, ap hasElement (node-element n q));
-    }
-
-pub ruleset subs = (sub-none, sub-referred, sub-space, sub-text, sub-other, sub-begins, name-inside, needs)
-
--- ---- the walk
-
-pub record Among (k : ℕ) (method : Bool) (s : List ℕ) (from e at : ℕ) (any : Bool) : Type 0 where
-  pub is : (c : List ℕ) → k ≡ placeOf c componentNames → componentsVerdict (nodesAt s from) c method false e ≡ componentsVerdict (nodesAt s at) c method any e
-  pub low : length s - at ≤ length s - from
-  pub held : hasElement (nodesAt s from) ≡ (any or hasElement (nodesAt s at))
-
-pub among-start : (k : ℕ) (method : Bool) (s : List ℕ) (from e : ℕ) → Among k method s from e from false
-unfolding _or_
-among-start k method s from e = record { is = λ c o. refl; low = omega arith; held = refl }
-
 or-false : (a : Bool) → (a or false) ≡ a
 unfolding _or_
 or-false true = refl
@@ -186,55 +107,137 @@ unfolding _or_
 or-true true b = refl
 or-true false b = refl
 
-module _ {k : ℕ} {method : Bool} {s : List ℕ} {from e at : ℕ} {any : Bool} (m : Among k method s from e at any) {t : Sub} (u : SubAt k s e at any t) where
-  module _ {j : Judged} (y : t ≡ Done j) where
-    done : SubAt k s e at any (Done j)
-    done = subst (SubAt k s e at any) y u
-
-    pub among-fine : j ≡ Fine → CompsAt k method s from e (Holds any)
-    among-fine h = record { is = λ c o. m .is c o ∙ done .is c o method ∙ rw h; held = sym (m .held ∙ ap (λ (b : Bool). any or b) (done .fits h) ∙ or-false any) }
-
-    pub among-refused : {f p : ℕ} → j ≡ Refused f p → CompsAt k method s from e (Fails f p)
-    among-refused h = record { is = λ c o. m .is c o ∙ done .is c o method ∙ rw h; held = tt }
-
-  module _ {d : ℕ} (y : t ≡ Past d) where
-    past : SubAt k s e at any (Past d)
-    past = subst (SubAt k s e at any) y u
-
-    pub among-past : Among k method s from e d any
-    among-past = record { is = λ c o. m .is c o ∙ past .is c o method; low = omega (arith, m .low, past .fits .0); held = m .held ∙ ap (λ (b : Bool). any or b) (past .fits .1) }
-
-    pub past-less : length s - d < length s - at
-    past-less = past .fits .0
-
-  module _ {n q z d : ℕ} (y : t ≡ Begins n q z d) where
-    begun : SubAt k s e at any (Begins n q z d)
-    begun = subst (SubAt k s e at any) y u
-
-    pub begun-falls : length s - q < length s - from
-    begun-falls = omega (arith, m .low, begun .fits .1)
-
-    pub begun-less : length s - d < length s - at
-    begun-less = begun .fits .2
-
-    module _ {v : Judged} (w : ComponentAt n method s q z v) where
-      pub among-bad : {f p : ℕ} → v ≡ Refused f p → CompsAt k method s from e (Fails f p)
-      unfolding _otherwise_
-      among-bad l = record { is = λ c o. m .is c o ∙ begun .is c o method ∙ rw (w .is (begun .inner) (begun .fits .0), l); held = tt }
-
-      pub among-good : v ≡ Fine → Among k method s from e d true
-      unfolding _otherwise_
-      among-good l = record {
-        is = λ c o. m .is c o ∙ begun .is c o method ∙ rw (w .is (begun .inner) (begun .fits .0), l);
-        low = omega (arith, m .low, begun .fits .2);
-        held = m .held ∙ ap (λ (b : Bool). any or b) (begun .fits .3) ∙ or-true any (hasElement (nodesAt s d));
-      }
-
 -- a measure that is known
 pub falls-under : {a b t : ℕ} → a < b → t ≡ b → a < t
 falls-under l e = omega arith
 
 pub falls-below : {a b t : ℕ} → a < b → b ≡ t → a < t
 falls-below l e = omega arith
+
+module _ (ed : Edition) where
+  -- ---- the walk
+
+  pub record Among (k : ℕ) (method : Bool) (s : List ℕ) (from e at : ℕ) (any : Bool) : Type 0 where
+    pub is : (c : List ℕ) → k ≡ placeOf c componentNames → componentsVerdict ed (nodesAt s from) c method false e ≡ componentsVerdict ed (nodesAt s at) c method any e
+    pub low : length s - at ≤ length s - from
+    pub held : hasElement (nodesAt s from) ≡ (any or hasElement (nodesAt s at))
+
+module _ (k : ℕ) {s : List ℕ} (e : ℕ) {at : ℕ} (any : Bool) {r : Node} (n : NodeAt s at r) where
+  with-nodes : (ed : Edition) (c : List ℕ) (m : Bool) {x : Nodes} → nodesAt s at ≡ x → componentsVerdict ed (nodesAt s at) c m any e ≡ componentsVerdict ed x c m any e
+  with-nodes ed c m h = ap (λ (y : Nodes). componentsVerdict ed y c m any e) h
+
+  pub sub-none : {j : Judged} → r .kind ≡ None → EndsAt k any e j → SubAt k s e at any (Done j)
+  unfolding componentsVerdict hasElement
+  sub-none q d = record { inner = []; is = λ ed c o m. with-nodes ed c m (node-none n q) ∙ d .is c o; fits = λ h. ap hasElement (node-none n q) }
+
+  pub sub-referred : r .kind ≡ Referred → SubAt k s e at any (Done (Refused 6 at))
+  unfolding componentsVerdict
+  sub-referred q = record { inner = []; is = λ ed c o m. with-nodes ed c m (node-referred n q) ∙ sym (is-frame at); fits = λ h. absurd (not-fine h) }
+
+  module _ (q : r .kind ≡ Literal) {b : Bool} (f : b ≡ isSpace (r .unit)) where
+    pub sub-space : b ≡ true → SubAt k s e at any (Past (r .next))
+    unfolding componentsVerdict hasElement pick
+    sub-space h = record { inner = []; is = λ ed c o m. with-nodes ed c m (node-literal n q) ∙ rw (← f, h); fits = (literal-less n q, ap hasElement (node-literal n q)) }
+
+    pub sub-text : b ≡ false → SubAt k s e at any (Done (Refused 6 at))
+    unfolding componentsVerdict pick
+    sub-text h = record { inner = []; is = λ ed c o m. with-nodes ed c m (node-literal n q) ∙ rw (← f, h) (sym (is-frame at)); fits = λ h. absurd (not-fine h) }
+
+  module _ (q : r .kind ≡ Element) {t : Numbered} (d : NumberedAt k (nameOf s r) t) where
+    pub sub-other : {j : Judged} → t ≡ Other → unexpected at (nameOf s r) ≡ judgedAs j → SubAt k s e at any (Done j)
+    unfolding componentsVerdict pick
+    sub-other z u = record { inner = []; is = λ ed c o m. with-nodes ed c m (node-element n q) ∙ rw (d .is c o, z) u; fits = λ h. absurd (not-unexpected at (nameOf s r) u h) }
+
+    pub sub-begins : {i : ℕ} → t ≡ Number i → SubAt k s e at any (Begins i (r .inside) (r .end) (r .next))
+    unfolding componentsVerdict hasElement pick
+    sub-begins z = record {
+      inner = upper (nameOf s r);
+      is = λ ed c o m. with-nodes ed c m (node-element n q) ∙ rw (d .is c o, z);
+      fits = (subst (NumberedAt k (nameOf s r)) z d .number, inside-less n q, element-less n q, ap hasElement (node-element n q));
+    }
+
+module _ (ed : Edition) where
+  module _ {k : ℕ} {method : Bool} {s : List ℕ} {from e : ℕ} {b : Begun} (h : HeadAt ed k method s from e b) where
+    pub whole-ends : {j : Judged} → b .part ≡ Ends j → ComponentAt ed k method s from e j
+    whole-ends z = record { is = λ c o. h .is c o ∙ rw z }
+
+    module _ {q x after : ℕ} {had : Bool} (z : b .part ≡ Opens q x after had) where
+      opened : PartFits s from (b .kept) (Opens q x after had)
+      opened = subst (PartFits s from (b .kept)) z (h .fits)
+
+      pub whole-falls : length s - q < length s - from
+      whole-falls = opened .0
+
+      module _ {m : Bool} (u : m ≡ methodKept k (b .kept) had method) {r : Held} (d : CompsAt ed k m s q x r) where
+        given : (c : List ℕ) → k ≡ placeOf c componentNames → methodInside c method had (nodesAt s from) ≡ m
+        given c o = handed c o method had (nodesAt s from) (b .kept) (opened .2) ∙ sym u
+
+        pub whole-fails : {f y : ℕ} → r ≡ Fails f y → ComponentAt ed k method s from e (Refused f y)
+        unfolding _otherwise_
+        whole-fails g = record { is = λ c o. h .is c o ∙ rw (z, given c o, d .is c o, g) }
+
+        pub whole-behind : {inner : Bool} {v : Judged} → r ≡ Holds inner → BehindAt k (b .kept) had inner method s after e v → ComponentAt ed k method s from e v
+        unfolding _otherwise_
+        whole-behind g w = record {
+          is = λ c o. h .is c o ∙ rw (z, given c o, d .is c o, g)
+              (w .is ed c o (isComplete c method (nodesAt s from))
+              (λ l. complete-is c o method (nodesAt s from) (opened .2 l) (subst (HeldIs (hasElement (nodesAt s q))) g (d .held) ∙ sym (ap hasElement (opened .1)))) m);
+        }
+
+  pub among-start : (k : ℕ) (method : Bool) (s : List ℕ) (from e : ℕ) → Among ed k method s from e from false
+  unfolding _or_
+  among-start k method s from e = record { is = λ c o. refl; low = omega arith; held = refl }
+
+  module _ {k : ℕ} {method : Bool} {s : List ℕ} {from e at : ℕ} {any : Bool} (m : Among ed k method s from e at any) {t : Sub} (u : SubAt k s e at any t) where
+    module _ {j : Judged} (y : t ≡ Done j) where
+      done : SubAt k s e at any (Done j)
+      done = subst (SubAt k s e at any) y u
+
+      pub among-fine : j ≡ Fine → CompsAt ed k method s from e (Holds any)
+      among-fine h = record { is = λ c o. m .is c o ∙ done .is ed c o method ∙ rw h; held = sym (m .held ∙ ap (λ (b : Bool). any or b) (done .fits h) ∙ or-false any) }
+
+      pub among-refused : {f p : ℕ} → j ≡ Refused f p → CompsAt ed k method s from e (Fails f p)
+      among-refused h = record { is = λ c o. m .is c o ∙ done .is ed c o method ∙ rw h; held = tt }
+
+    module _ {d : ℕ} (y : t ≡ Past d) where
+      past : SubAt k s e at any (Past d)
+      past = subst (SubAt k s e at any) y u
+
+      pub among-past : Among ed k method s from e d any
+      among-past = record { is = λ c o. m .is c o ∙ past .is ed c o method; low = omega (arith, m .low, past .fits .0); held = m .held ∙ ap (λ (b : Bool). any or b) (past .fits .1) }
+
+      pub past-less : length s - d < length s - at
+      past-less = past .fits .0
+
+    module _ {n q z d : ℕ} (y : t ≡ Begins n q z d) where
+      begun : SubAt k s e at any (Begins n q z d)
+      begun = subst (SubAt k s e at any) y u
+
+      pub begun-falls : length s - q < length s - from
+      begun-falls = omega (arith, m .low, begun .fits .1)
+
+      pub begun-less : length s - d < length s - at
+      begun-less = begun .fits .2
+
+      module _ {v : Judged} (w : ComponentAt ed n method s q z v) where
+        pub among-bad : {f p : ℕ} → v ≡ Refused f p → CompsAt ed k method s from e (Fails f p)
+        unfolding _otherwise_
+        among-bad l = record { is = λ c o. m .is c o ∙ begun .is ed c o method ∙ rw (w .is (begun .inner) (begun .fits .0), l); held = tt }
+
+        pub among-good : v ≡ Fine → Among ed k method s from e d true
+        unfolding _otherwise_
+        among-good l = record {
+          is = λ c o. m .is c o ∙ begun .is ed c o method ∙ rw (w .is (begun .inner) (begun .fits .0), l);
+          low = omega (arith, m .low, begun .fits .2);
+          held = m .held ∙ ap (λ (b : Bool). any or b) (begun .fits .3) ∙ or-true any (hasElement (nodesAt s d));
+        }
+
+pub ruleset numbering = (number-capital, number-may, number-not, length-take-le, needs)
+
+pub ruleset handing = (method-had, method-bare, needs)
+
+pub ruleset wholes = (whole-ends, whole-fails, whole-behind, needs)
+
+pub ruleset subs = (sub-none, sub-referred, sub-space, sub-text, sub-other, sub-begins, name-inside, needs)
 
 pub ruleset among = (among-start, among-fine, among-refused, among-past, past-less, begun-less, among-bad, among-good, needs)

@@ -7,10 +7,6 @@ pub unit-spec : {M : Type 1} → statement M
 unit-spec = tie.close (tie.spec
     (λ c κs. search stepping)  -- plain-unit-requires
     (λ c. search stepping)  -- returns
-    (λ c κs. search stepping)  -- xml-unit-requires
+    (λ c κs. search stepping)  -- other-unit-requires
     (λ c. search stepping)  -- returns-2
-    (λ c κs. search stepping)  -- folded-unit-requires
-    (λ c. search stepping)  -- returns-3
-    (λ c κs. search stepping)  -- no-unit-requires
-    (λ c. search stepping)  -- returns-4
     )

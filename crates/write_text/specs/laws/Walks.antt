@@ -24,43 +24,12 @@ use Rattle.read_xml_nodes.specs.NodeFound.{NodeAt}
 use Rattle.read_xml_nodes.specs.laws.NodeFound.{node-none, node-element, node-literal, node-referred, element-less, inside-less, literal-less, referred-less}
 use Rattle.read_xml_nodes.specs.declared.Node.{Node}
 use Rattle.read_xml_nodes.specs.declared.NodeKind.the-variants.{None, Element, Literal, Referred}
+use Rattle.edition.specs.declared.Edition.{Edition}
 use Rattle.write_text.specs.Children.{InsideAt, nameIn}
 use Rattle.write_text.specs.Content.{lineText}
 use Rattle.write_text.specs.laws.Fitting.{line-fits}
 use Rattle.write_text.specs.Filled.{propertiesRoom, calendarRoom, headRoom, PutBy}
 use Rattle.write_text.specs.Walks.{headText}
-
-unfoldable pub propertiesText : Nodes → List ℕ
-propertiesText ns = propertyLines (readProperties ns)
-
-unfoldable pub calendarText : Nodes → List ℕ
-calendarText ns = writeCalendar (readComponents ns)
-
--- ---- the components inside
-
--- a component's lines, in three parts, and those of the next ones
-component-parts : (p : ℕ) (m : List ℕ) (x : ℕ) (kids more : Nodes) →
-    calendarText (element p m x kids more)
-    ≡ (headText m kids ⊕ calendarText (insideOf (ascii "components") kids) ⊕ endLine (upper m)) ⊕ calendarText more
-unfolding calendarText headText readComponents writeCalendar
-component-parts p m x kids more = rw (inner-components kids) (sym (regroup (beginLine (upper m)) _ _ (endLine (upper m)) (writeCalendar (readComponents more))))
-  where
-    regroup : (a b c d f : List ℕ) → ((a ⊕ b) ⊕ c ⊕ d) ⊕ f ≡ a ⊕ b ⊕ c ⊕ d ⊕ f
-    regroup a b c d f = rw (append-regroup (a ⊕ b) (c ⊕ d) f, append-regroup a b ((c ⊕ d) ⊕ f), append-regroup c d f)
-
-property-parts : (p : ℕ) (m : List ℕ) (x : ℕ) (kids more : Nodes) → propertiesText (element p m x kids more) ≡ foldedLine (lineText m kids) ⊕ propertiesText more
-unfolding propertiesText readProperties propertyLines lineText
-property-parts p m x kids more = refl
-
--- what was put before the components inside
-pub head-put : {s : List ℕ} {i from : ℕ} {d e f h l : List ℕ} {o a r : ℕ} (k m : List ℕ) → InsideAt (ascii "properties") s i from →
-    PutBy d e o a (foldedLine (ascii "BEGIN:" ⊕ upper m)) h (overwrite k 0 (ascii "BEGIN:" ⊕ upper m)) →
-    PutBy e f a r (propertyLines (readProperties (nodesAt s from))) l (propertiesRoom (readProperties (nodesAt s from)) h) → PutBy d f o r (headText m (nodesAt s i)) l (headRoom m (nodesAt s i) k)
-unfolding headText headRoom
-head-put {e = e} {f} {a = a} {r} k m i u v = record {
-  put = u .put ▷ subst (λ (ns : Nodes). Put e f a r (propertyLines (readProperties ns))) (sym (i .is)) (v .put);
-  room = v .room ∙ rw (u .room, i .is);
-}
 
 -- ---- a walk that writes
 
@@ -68,143 +37,177 @@ pub data Walk : Type 0 where
   own : Walk
   inner : Walk
 
-abbrev pub textOf : Walk → Nodes → List ℕ
-textOf own ns = propertiesText ns
-textOf inner ns = calendarText ns
+module _ (ed : Edition) where
+  unfoldable pub propertiesText : Nodes → List ℕ
+  propertiesText ns = propertyLines ed (readProperties ns)
 
--- what the room becomes
-unfoldable pub roomOf : Walk → Nodes → List ℕ → List ℕ
-roomOf own ns k = propertiesRoom (readProperties ns) k
-roomOf inner ns k = calendarRoom (readComponents ns) k
+  unfoldable pub calendarText : Nodes → List ℕ
+  calendarText ns = writeCalendar ed (readComponents ns)
 
--- it began at the node at `from` with d, o and the room k, and has come with e, p and the room l to the node at `at`
-pub record Walking (w : Walk) (s : List ℕ) (from : ℕ) (d : List ℕ) (o : ℕ) (k : List ℕ) (e : List ℕ) (p : ℕ) (l : List ℕ) (at : ℕ) : Type 0 where
-  pub onward : length s - at ≤ length s - from
-  pub todo : Todo d o (textOf w (nodesAt s from)) e p (textOf w (nodesAt s at))
-  pub kept : length e ≡ length d
-  pub room : length l ≡ length k
-  pub left : roomOf w (nodesAt s from) k ≡ roomOf w (nodesAt s at) l
+  abbrev pub textOf : Walk → Nodes → List ℕ
+  textOf own ns = propertiesText ns
+  textOf inner ns = calendarText ns
 
-pub walk-start : (w : Walk) (s : List ℕ) (from : ℕ) (d : List ℕ) (o : ℕ) (k : List ℕ) → length d * 1 < 2 ^ 63 → Walking w s from d o k d o k from
-walk-start w s from d o k h = record { onward = omega arith; todo = todo-all d o (textOf w (nodesAt s from)) h; kept = refl; room = refl; left = refl }
+  -- what the room becomes
+  unfoldable pub roomOf : Walk → Nodes → List ℕ → List ℕ
+  roomOf own ns k = propertiesRoom ed (readProperties ns) k
+  roomOf inner ns k = calendarRoom ed (readComponents ns) k
 
-text-none : (w : Walk) → textOf w noNodes ≡ []
-unfolding propertiesText readProperties propertyLines calendarText readComponents writeCalendar
-text-none own = refl
-text-none inner = refl
+  -- it began at the node at `from` with d, o and the room k, and has come with e, p and the room l to the node at `at`
+  pub record Walking (w : Walk) (s : List ℕ) (from : ℕ) (d : List ℕ) (o : ℕ) (k : List ℕ) (e : List ℕ) (p : ℕ) (l : List ℕ) (at : ℕ) : Type 0 where
+    pub onward : length s - at ≤ length s - from
+    pub todo : Todo d o (textOf w (nodesAt s from)) e p (textOf w (nodesAt s at))
+    pub kept : length e ≡ length d
+    pub room : length l ≡ length k
+    pub left : roomOf w (nodesAt s from) k ≡ roomOf w (nodesAt s at) l
 
-text-literal : (w : Walk) (p b : ℕ) (more : Nodes) → textOf w (literal p b more) ≡ textOf w more
-unfolding propertiesText readProperties calendarText readComponents
-text-literal own p b more = refl
-text-literal inner p b more = refl
+module _ (ed : Edition) where
+  -- ---- the components inside
 
-text-referred : (w : Walk) (p : ℕ) (bs : List ℕ) (more : Nodes) → textOf w (referred p bs more) ≡ textOf w more
-unfolding propertiesText readProperties calendarText readComponents
-text-referred own p bs more = refl
-text-referred inner p bs more = refl
+  -- a component's lines, in three parts, and those of the next ones
+  component-parts : (p : ℕ) (m : List ℕ) (x : ℕ) (kids more : Nodes) →
+      calendarText ed (element p m x kids more)
+      ≡ (headText ed m kids ⊕ calendarText ed (insideOf (ascii "components") kids) ⊕ endLine (upper m)) ⊕ calendarText ed more
+  unfolding calendarText headText readComponents writeCalendar
+  component-parts p m x kids more = rw (inner-components kids) (sym (regroup (beginLine (upper m)) _ _ (endLine (upper m)) (writeCalendar ed (readComponents more))))
+    where
+      regroup : (a b c d f : List ℕ) → ((a ⊕ b) ⊕ c ⊕ d) ⊕ f ≡ a ⊕ b ⊕ c ⊕ d ⊕ f
+      regroup a b c d f = rw (append-regroup (a ⊕ b) (c ⊕ d) f, append-regroup a b ((c ⊕ d) ⊕ f), append-regroup c d f)
 
-room-none : (w : Walk) (k : List ℕ) → roomOf w noNodes k ≡ k
-unfolding roomOf propertiesRoom calendarRoom readProperties readComponents
-room-none own k = refl
-room-none inner k = refl
+  property-parts : (p : ℕ) (m : List ℕ) (x : ℕ) (kids more : Nodes) → propertiesText ed (element p m x kids more) ≡ foldedLine (lineText ed m kids) ⊕ propertiesText ed more
+  unfolding propertiesText readProperties propertyLines lineText
+  property-parts p m x kids more = refl
 
-room-literal : (w : Walk) (p b : ℕ) (more : Nodes) (k : List ℕ) → roomOf w (literal p b more) k ≡ roomOf w more k
-unfolding roomOf readProperties readComponents
-room-literal own p b more k = refl
-room-literal inner p b more k = refl
+  -- what was put before the components inside
+  pub head-put : {s : List ℕ} {i from : ℕ} {d e f h l : List ℕ} {o a r : ℕ} (k m : List ℕ) → InsideAt (ascii "properties") s i from →
+      PutBy d e o a (foldedLine (ascii "BEGIN:" ⊕ upper m)) h (overwrite k 0 (ascii "BEGIN:" ⊕ upper m)) →
+      PutBy e f a r (propertyLines ed (readProperties (nodesAt s from))) l (propertiesRoom ed (readProperties (nodesAt s from)) h) → PutBy d f o r (headText ed m (nodesAt s i)) l (headRoom ed m (nodesAt s i) k)
+  unfolding headText headRoom
+  head-put {e = e} {f} {a = a} {r} k m i u v = record {
+    put = u .put ▷ subst (λ (ns : Nodes). Put e f a r (propertyLines ed (readProperties ns))) (sym (i .is)) (v .put);
+    room = v .room ∙ rw (u .room, i .is);
+  }
 
-room-referred : (w : Walk) (p : ℕ) (bs : List ℕ) (more : Nodes) (k : List ℕ) → roomOf w (referred p bs more) k ≡ roomOf w more k
-unfolding roomOf readProperties readComponents
-room-referred own p bs more k = refl
-room-referred inner p bs more k = refl
+  pub walk-start : (w : Walk) (s : List ℕ) (from : ℕ) (d : List ℕ) (o : ℕ) (k : List ℕ) → length d * 1 < 2 ^ 63 → Walking ed w s from d o k d o k from
+  walk-start w s from d o k h = record { onward = omega arith; todo = todo-all d o (textOf ed w (nodesAt s from)) h; kept = refl; room = refl; left = refl }
 
-own-room : (p : ℕ) (m : List ℕ) (x : ℕ) (kids more : Nodes) (k : List ℕ) → roomOf own (element p m x kids more) k ≡ roomOf own more (overwrite k 0 (lineText m kids))
-unfolding roomOf propertiesRoom readProperties lineText
-own-room p m x kids more k = refl
+  text-none : (w : Walk) → textOf ed w noNodes ≡ []
+  unfolding propertiesText readProperties propertyLines calendarText readComponents writeCalendar
+  text-none own = refl
+  text-none inner = refl
 
-inner-room : (p : ℕ) (m : List ℕ) (x : ℕ) (kids more : Nodes) (k : List ℕ) → roomOf inner (element p m x kids more) k ≡
-    roomOf inner more (overwrite (calendarRoom (readComponents (insideOf (ascii "components") kids)) (headRoom m kids k)) 0 (ascii "END:" ⊕ upper m))
-unfolding roomOf calendarRoom readComponents headRoom
-inner-room p m x kids more k = rw (inner-components kids)
+  text-literal : (w : Walk) (p b : ℕ) (more : Nodes) → textOf ed w (literal p b more) ≡ textOf ed w more
+  unfolding propertiesText readProperties calendarText readComponents
+  text-literal own p b more = refl
+  text-literal inner p b more = refl
 
-module _ {w : Walk} {s : List ℕ} {from : ℕ} {d : List ℕ} {o : ℕ} {k e : List ℕ} {p : ℕ} {l : List ℕ} {at : ℕ} (m : Walking w s from d o k e p l at) where
-  pub walk-length : length e ≡ length d
-  walk-length = m .kept
+  text-referred : (w : Walk) (p : ℕ) (bs : List ℕ) (more : Nodes) → textOf ed w (referred p bs more) ≡ textOf ed w more
+  unfolding propertiesText readProperties calendarText readComponents
+  text-referred own p bs more = refl
+  text-referred inner p bs more = refl
 
-  pub walk-room : length l ≡ length k
-  walk-room = m .room
+  room-none : (w : Walk) (k : List ℕ) → roomOf ed w noNodes k ≡ k
+  unfolding roomOf propertiesRoom calendarRoom readProperties readComponents
+  room-none own k = refl
+  room-none inner k = refl
 
-  module _ {r : Node} (n : NodeAt s at r) where
-    skip : (ns : Nodes) (next : ℕ) → length s - next < length s - at → nodesAt s at ≡ ns → textOf w ns ≡ textOf w (nodesAt s next) → roomOf w ns l ≡ roomOf w (nodesAt s next) l → Walking w s from d o k e p l next
-    skip ns next h i q z = record {
-      onward = omega (arith, m .onward);
-      todo = subst (λ (bs : List ℕ). Todo d o (textOf w (nodesAt s from)) e p bs) (ap (textOf w) i ∙ q) (m .todo);
-      kept = m .kept;
-      room = m .room;
-      left = m .left ∙ ap (λ (x : Nodes). roomOf w x l) i ∙ z;
-    }
+  room-literal : (w : Walk) (p b : ℕ) (more : Nodes) (k : List ℕ) → roomOf ed w (literal p b more) k ≡ roomOf ed w more k
+  unfolding roomOf readProperties readComponents
+  room-literal own p b more k = refl
+  room-literal inner p b more k = refl
 
-    pub walk-literal : r .kind ≡ Literal → Walking w s from d o k e p l (r .next)
-    walk-literal q = skip _ (r .next) (literal-less n q) (node-literal n q) (text-literal w _ _ _) (room-literal w _ _ _ l)
+  room-referred : (w : Walk) (p : ℕ) (bs : List ℕ) (more : Nodes) (k : List ℕ) → roomOf ed w (referred p bs more) k ≡ roomOf ed w more k
+  unfolding roomOf readProperties readComponents
+  room-referred own p bs more k = refl
+  room-referred inner p bs more k = refl
 
-    pub walk-referred : r .kind ≡ Referred → Walking w s from d o k e p l (r .next)
-    walk-referred q = skip _ (r .next) (referred-less n q) (node-referred n q) (text-referred w _ _ _) (room-referred w _ _ _ l)
+  own-room : (p : ℕ) (m : List ℕ) (x : ℕ) (kids more : Nodes) (k : List ℕ) → roomOf ed own (element p m x kids more) k ≡ roomOf ed own more (overwrite k 0 (lineText ed m kids))
+  unfolding roomOf propertiesRoom readProperties lineText
+  own-room p m x kids more k = refl
 
-    -- the element at hand gives the bytes bs, which were put
-    walk-put : (ns : Nodes) (bs : List ℕ) {f : List ℕ} {a : ℕ} {j : List ℕ} → r .kind ≡ Element → nodesAt s at ≡ ns → textOf w ns ≡ bs ⊕ textOf w (nodesAt s (r .next)) →
-        Put e f p a bs → length j ≡ length l → roomOf w ns l ≡ roomOf w (nodesAt s (r .next)) j → Walking w s from d o k f a j (r .next)
-    walk-put ns bs q i g b c z = record {
-      onward = omega (arith, m .onward, element-less n q);
-      todo = todo-step (m .todo) b (ap (textOf w) i ∙ g ∙ append-is bs _);
-      kept = put-length b ∙ m .kept;
-      room = c ∙ m .room;
-      left = m .left ∙ ap (λ (x : Nodes). roomOf w x l) i ∙ z;
-    }
+  inner-room : (p : ℕ) (m : List ℕ) (x : ℕ) (kids more : Nodes) (k : List ℕ) → roomOf ed inner (element p m x kids more) k ≡
+      roomOf ed inner more (overwrite (calendarRoom ed (readComponents (insideOf (ascii "components") kids)) (headRoom ed m kids k)) 0 (ascii "END:" ⊕ upper m))
+  unfolding roomOf calendarRoom readComponents headRoom
+  inner-room p m x kids more k = rw (inner-components kids)
 
-    walk-end : r .kind ≡ None → PutBy d e o p (textOf w (nodesAt s from)) l (roomOf w (nodesAt s from) k)
-    walk-end q = record {
-      put = todo-done (m .todo) (ap (textOf w) (node-none n q) ∙ text-none w);
-      room = sym (m .left ∙ ap (λ (x : Nodes). roomOf w x l) (node-none n q) ∙ room-none w l);
-    }
+  module _ {w : Walk} {s : List ℕ} {from : ℕ} {d : List ℕ} {o : ℕ} {k e : List ℕ} {p : ℕ} {l : List ℕ} {at : ℕ} (m : Walking ed w s from d o k e p l at) where
+    pub walk-length : length e ≡ length d
+    walk-length = m .kept
 
--- ---- the properties
+    pub walk-room : length l ≡ length k
+    walk-room = m .room
 
-module _ {s : List ℕ} {from : ℕ} {d : List ℕ} {o : ℕ} {k e : List ℕ} {p : ℕ} {l : List ℕ} {at : ℕ} (m : Walking own s from d o k e p l at) {r : Node} (n : NodeAt s at r) where
-  pub own-end : r .kind ≡ None → PutBy d e o p (propertyLines (readProperties (nodesAt s from))) l (propertiesRoom (readProperties (nodesAt s from)) k)
-  unfolding propertiesText roomOf
-  own-end q = walk-end m n q
+    module _ {r : Node} (n : NodeAt s at r) where
+      skip : (ns : Nodes) (next : ℕ) → length s - next < length s - at → nodesAt s at ≡ ns → textOf ed w ns ≡ textOf ed w (nodesAt s next) → roomOf ed w ns l ≡ roomOf ed w (nodesAt s next) l → Walking ed w s from d o k e p l next
+      skip ns next h i q z = record {
+        onward = omega (arith, m .onward);
+        todo = subst (λ (bs : List ℕ). Todo d o (textOf ed w (nodesAt s from)) e p bs) (ap (textOf ed w) i ∙ q) (m .todo);
+        kept = m .kept;
+        room = m .room;
+        left = m .left ∙ ap (λ (x : Nodes). (roomOf ed) w x l) i ∙ z;
+      }
 
-  pub own-fits : r .kind ≡ Element → length s ≤ 65535 → length k ≡ 262144 →
-      length (lineText (nameIn s (r .name) (r .«name_end»)) (nodesAt s (r .inside))) ≤ length l
-  own-fits q h z = omega (arith, line-fits n q h, m .room)
+      pub walk-literal : r .kind ≡ Literal → Walking ed w s from d o k e p l (r .next)
+      walk-literal q = skip _ (r .next) (literal-less n q) (node-literal n q) (text-literal w _ _ _) (room-literal w _ _ _ l)
 
-  pub own-put : {f : List ℕ} {a : ℕ} {j : List ℕ} → r .kind ≡ Element →
-      PutBy e f p a (foldedLine (lineText (nameIn s (r .name) (r .«name_end»)) (nodesAt s (r .inside)))) j (overwrite l 0 (lineText (nameIn s (r .name) (r .«name_end»)) (nodesAt s (r .inside)))) →
-      length j ≡ length l → Walking own s from d o k f a j (r .next)
-  own-put q b c = walk-put m n _ _ q (node-element n q) (property-parts _ _ _ _ _) (b .put) c (own-room _ _ _ _ _ l ∙ ap (roomOf own (nodesAt s (r .next))) (sym (b .room)))
+      pub walk-referred : r .kind ≡ Referred → Walking ed w s from d o k e p l (r .next)
+      walk-referred q = skip _ (r .next) (referred-less n q) (node-referred n q) (text-referred w _ _ _) (room-referred w _ _ _ l)
+
+      -- the element at hand gives the bytes bs, which were put
+      walk-put : (ns : Nodes) (bs : List ℕ) {f : List ℕ} {a : ℕ} {j : List ℕ} → r .kind ≡ Element → nodesAt s at ≡ ns → textOf ed w ns ≡ bs ⊕ textOf ed w (nodesAt s (r .next)) →
+          Put e f p a bs → length j ≡ length l → roomOf ed w ns l ≡ roomOf ed w (nodesAt s (r .next)) j → Walking ed w s from d o k f a j (r .next)
+      walk-put ns bs q i g b c z = record {
+        onward = omega (arith, m .onward, element-less n q);
+        todo = todo-step (m .todo) b (ap (textOf ed w) i ∙ g ∙ append-is bs _);
+        kept = put-length b ∙ m .kept;
+        room = c ∙ m .room;
+        left = m .left ∙ ap (λ (x : Nodes). (roomOf ed) w x l) i ∙ z;
+      }
+
+      walk-end : r .kind ≡ None → PutBy d e o p (textOf ed w (nodesAt s from)) l (roomOf ed w (nodesAt s from) k)
+      walk-end q = record {
+        put = todo-done (m .todo) (ap (textOf ed w) (node-none n q) ∙ text-none w);
+        room = sym (m .left ∙ ap (λ (x : Nodes). (roomOf ed) w x l) (node-none n q) ∙ room-none w l);
+      }
+
+  -- ---- the properties
+
+  module _ {s : List ℕ} {from : ℕ} {d : List ℕ} {o : ℕ} {k e : List ℕ} {p : ℕ} {l : List ℕ} {at : ℕ} (m : Walking ed own s from d o k e p l at) {r : Node} (n : NodeAt s at r) where
+    pub own-end : r .kind ≡ None → PutBy d e o p (propertyLines ed (readProperties (nodesAt s from))) l (propertiesRoom ed (readProperties (nodesAt s from)) k)
+    unfolding propertiesText roomOf
+    own-end q = walk-end m n q
+
+    pub own-fits : r .kind ≡ Element → length s ≤ 65535 → length k ≡ 262144 →
+        length (lineText ed (nameIn s (r .name) (r .«name_end»)) (nodesAt s (r .inside))) ≤ length l
+    own-fits q h z = omega (arith, line-fits ed n q h, m .room)
+
+    pub own-put : {f : List ℕ} {a : ℕ} {j : List ℕ} → r .kind ≡ Element →
+        PutBy e f p a (foldedLine (lineText ed (nameIn s (r .name) (r .«name_end»)) (nodesAt s (r .inside)))) j (overwrite l 0 (lineText ed (nameIn s (r .name) (r .«name_end»)) (nodesAt s (r .inside)))) →
+        length j ≡ length l → Walking ed own s from d o k f a j (r .next)
+    own-put q b c = walk-put m n _ _ q (node-element n q) (property-parts _ _ _ _ _) (b .put) c (own-room _ _ _ _ _ l ∙ ap (roomOf ed own (nodesAt s (r .next))) (sym (b .room)))
+
+  -- ---- the components
+
+  module _ {s : List ℕ} {from : ℕ} {d : List ℕ} {o : ℕ} {k e : List ℕ} {p : ℕ} {l : List ℕ} {at : ℕ} (m : Walking ed inner s from d o k e p l at) {r : Node} (n : NodeAt s at r) where
+    pub inner-end : r .kind ≡ None → PutBy d e o p (writeCalendar ed (readComponents (nodesAt s from))) l (calendarRoom ed (readComponents (nodesAt s from)) k)
+    unfolding calendarText roomOf
+    inner-end q = walk-end m n q
+
+    -- the components inside stand further on
+    pub inner-less : {i : ℕ} {v : List ℕ} → r .kind ≡ Element → InsideAt v s (r .inside) i → length s - i < length s - from
+    inner-less q i = omega (arith, m .onward, inside-less n q, i .onward)
+
+    -- a component whose three parts were put
+    pub inner-put : {f g h : List ℕ} {a b c i : ℕ} {j₁ j₂ j : List ℕ} → r .kind ≡ Element → InsideAt (ascii "components") s (r .inside) i →
+        PutBy e f p a (headText ed (nameIn s (r .name) (r .«name_end»)) (nodesAt s (r .inside))) j₁ (headRoom ed (nameIn s (r .name) (r .«name_end»)) (nodesAt s (r .inside)) l) →
+        PutBy f g a b (writeCalendar ed (readComponents (nodesAt s i))) j₂ (calendarRoom ed (readComponents (nodesAt s i)) j₁) →
+        PutBy g h b c (endLine (upper (nameIn s (r .name) (r .«name_end»)))) j (overwrite j₂ 0 (ascii "END:" ⊕ upper (nameIn s (r .name) (r .«name_end»)))) →
+        length j ≡ length l → Walking ed inner s from d o k h c j (r .next)
+    unfolding calendarText
+    inner-put {f} {g} {h} {a} {b} {c} {i} q y u v t z =
+        walk-put m n _ _ q (node-element n q) (component-parts _ _ _ _ _) (u .put ▷ subst (λ (ns : Nodes). Put f g a b (writeCalendar ed (readComponents ns))) (sym (y .is)) (v .put) ▷ t .put) z
+        (inner-room _ _ _ _ _ l ∙ ap (roomOf ed inner (nodesAt s (r .next))) (sym (t .room ∙ rw (v .room, u .room, y .is))))
 
 pub ruleset owns = (walk-start, walk-length, walk-room, walk-literal, walk-referred, own-end, own-fits, own-put, element-less, literal-less, referred-less, needs)
-
--- ---- the components
-
-module _ {s : List ℕ} {from : ℕ} {d : List ℕ} {o : ℕ} {k e : List ℕ} {p : ℕ} {l : List ℕ} {at : ℕ} (m : Walking inner s from d o k e p l at) {r : Node} (n : NodeAt s at r) where
-  pub inner-end : r .kind ≡ None → PutBy d e o p (writeCalendar (readComponents (nodesAt s from))) l (calendarRoom (readComponents (nodesAt s from)) k)
-  unfolding calendarText roomOf
-  inner-end q = walk-end m n q
-
-  -- the components inside stand further on
-  pub inner-less : {i : ℕ} {v : List ℕ} → r .kind ≡ Element → InsideAt v s (r .inside) i → length s - i < length s - from
-  inner-less q i = omega (arith, m .onward, inside-less n q, i .onward)
-
-  -- a component whose three parts were put
-  pub inner-put : {f g h : List ℕ} {a b c i : ℕ} {j₁ j₂ j : List ℕ} → r .kind ≡ Element → InsideAt (ascii "components") s (r .inside) i →
-      PutBy e f p a (headText (nameIn s (r .name) (r .«name_end»)) (nodesAt s (r .inside))) j₁ (headRoom (nameIn s (r .name) (r .«name_end»)) (nodesAt s (r .inside)) l) →
-      PutBy f g a b (writeCalendar (readComponents (nodesAt s i))) j₂ (calendarRoom (readComponents (nodesAt s i)) j₁) →
-      PutBy g h b c (endLine (upper (nameIn s (r .name) (r .«name_end»)))) j (overwrite j₂ 0 (ascii "END:" ⊕ upper (nameIn s (r .name) (r .«name_end»)))) →
-      length j ≡ length l → Walking inner s from d o k h c j (r .next)
-  unfolding calendarText
-  inner-put {f} {g} {h} {a} {b} {c} {i} q y u v t z =
-      walk-put m n _ _ q (node-element n q) (component-parts _ _ _ _ _) (u .put ▷ subst (λ (ns : Nodes). Put f g a b (writeCalendar (readComponents ns))) (sym (y .is)) (v .put) ▷ t .put) z
-      (inner-room _ _ _ _ _ l ∙ ap (roomOf inner (nodesAt s (r .next))) (sym (t .room ∙ rw (v .room, u .room, y .is))))
 
 pub ruleset inners = (walk-start, walk-length, walk-room, walk-literal, walk-referred, inner-end, inner-less, inner-put, element-less, literal-less, referred-less, needs)

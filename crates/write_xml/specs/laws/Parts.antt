@@ -21,6 +21,7 @@ use Rattle.calendar.specs.Calendar.{Components, noMore, component}
 use Rattle.xml.specs.Escape.{startTag, endTag, elementOf}
 use Rattle.text.specs.Tree.{Entry, begin, innerOf}
 use Rattle.xcal.specs.WriteXml.{isNoMore, propertiesXml, componentsElement, componentsXml}
+use Rattle.edition.specs.declared.Edition.{Edition}
 use Rattle.write_xml.specs.declared.properties.Walked.{Walked}
 use Rattle.write_xml.specs.Entries.{entriesAt}
 use Rattle.write_xml.specs.Walks.{ownXml, innerXml, behind}
@@ -47,18 +48,19 @@ pub component-parts : (n : List ℕ) (es : List Entry) → innerXml (begin n ∷
 unfolding innerOf componentsXml
 component-parts n es = rw (element-parts n (innerOf es 0), inner-deeper es 0) (regroup (startTag (lower n)) (elementOf (ascii "properties") (ownXml n es)) _ _ _ _ _)
 
--- ---- for code
-
--- n is the name as it stands
-pub head-put : (n : List ℕ) (mode : ℕ) (s : List ℕ) {from : ℕ} {w : Walked} {there : Bool} {d e f g : List ℕ} {o a r : ℕ} (k : ℕ) → k ≡ placeOf (upper n) componentNames → Put d e o a (startTag (lower n)) →
-    PropertiesPut e f a (elementOf (ascii "properties") (ownXml (componentName k) (entriesAt mode s from))) mode s from w → there ≡ hasComponents (upper n) (w .bare) →
-    Put f g (w .to) r (pick there (startTag (ascii "components")) []) →
-    PropertiesPut d g o (headXml (upper n) (w .bare) (entriesAt mode s from)) mode s from (record { to = r; inner = w .inner; bare = w .bare; next = w .next })
-head-put n mode s {from} {d = d} {e = e} {o = o} {a = a} k q u v h z =
-    let es : List Entry = entriesAt mode s from in
-    let q′ : ownXml (componentName k) es ≡ ownXml (upper n) es = ap (λ (k : ℕ). ownXml (componentName k) es) q ∙ ap propertiesXml (own-place (upper n) es 0) in
-    record { put = subst (λ (m : List ℕ). Put d e o a (startTag m)) (sym (lower-any-case n)) u ▷ (rw q′ at v .put) ▷ (rw h at z); ahead = v .ahead }
-
 pub tail-put : (n : List ℕ) (empty : Bool) {there : Bool} {d e f : List ℕ} {o a r : ℕ} → there ≡ hasComponents (upper n) empty →
     Put d e o a (pick there (endTag (ascii "components")) []) → Put e f a r (endTag (lower n)) → Put d f o r (tailXml (upper n) empty)
 tail-put n empty {e = e} {f = f} {a = a} {r = r} h u v = (rw h at u) ▷ subst (λ (m : List ℕ). Put e f a r (endTag m)) (sym (lower-any-case n)) v
+
+module _ {ed : Edition} where
+  -- ---- for code
+
+  -- n is the name as it stands
+  pub head-put : (n : List ℕ) (mode : ℕ) (s : List ℕ) {from : ℕ} {w : Walked} {there : Bool} {d e f g : List ℕ} {o a r : ℕ} (k : ℕ) → k ≡ placeOf (upper n) componentNames → Put d e o a (startTag (lower n)) →
+      PropertiesPut ed e f a (elementOf (ascii "properties") (ownXml (componentName k) (entriesAt ed mode s from))) mode s from w → there ≡ hasComponents (upper n) (w .bare) →
+      Put f g (w .to) r (pick there (startTag (ascii "components")) []) →
+      PropertiesPut ed d g o (headXml (upper n) (w .bare) (entriesAt ed mode s from)) mode s from (record { to = r; inner = w .inner; bare = w .bare; next = w .next })
+  head-put n mode s {from} {d = d} {e = e} {o = o} {a = a} k q u v h z =
+      let es : List Entry = entriesAt ed mode s from in
+      let q′ : ownXml (componentName k) es ≡ ownXml (upper n) es = ap (λ (k : ℕ). ownXml (componentName k) es) q ∙ ap propertiesXml (own-place (upper n) es 0) in
+      record { put = subst (λ (m : List ℕ). Put d e o a (startTag m)) (sym (lower-any-case n)) u ▷ (rw q′ at v .put) ▷ (rw h at z); ahead = v .ahead }

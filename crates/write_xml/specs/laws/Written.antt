@@ -13,6 +13,7 @@ use Rattle.calendar.specs.Calendar.{Components}
 use Rattle.text.specs.Tree.{innerOf, calendarOf}
 use Rattle.xml.specs.Escape.{rootStart}
 use Rattle.xcal.specs.WriteXml.{componentsXml, declaration, rootEnd, writeDocument}
+use Rattle.edition.specs.declared.Edition.{Edition}
 use Rattle.write_xml.specs.Entries.{entriesAt}
 use Rattle.write_xml.specs.laws.Entries.{entries-start}
 use Rattle.write_xml.specs.Walks.{innerXml}
@@ -24,7 +25,7 @@ written-is : (c : Components) → (declaration ⊕ (10 ∷ []) ⊕ rootStart) �
 unfolding writeDocument
 written-is c = regroup declaration (10 ∷ []) rootStart (componentsXml c ⊕ rootEnd ⊕ (10 ∷ []))
 
-pub document-put : {mode : ℕ} {s : List ℕ} {from : ℕ} → Settled mode s 0 from → {d e f g : List ℕ} {o a b r : ℕ} → Put d e o a (declaration ⊕ (10 ∷ []) ⊕ rootStart) →
-    Put e f a b (innerXml (entriesAt mode s from)) → Put f g b r (rootEnd ⊕ (10 ∷ [])) → Put d g o r (writeDocument (calendarOf (lines (rest mode s 0))))
-document-put {mode} {s} {from} p {d} {g = g} {o} {r = r} u v w =
-    subst (Put d g o r) (written-is (innerOf (entriesAt mode s from) 0) ∙ ap writeDocument (entries-start p)) (u ▷ v ▷ w)
+pub document-put : (ed : Edition) {mode : ℕ} {s : List ℕ} {from : ℕ} → Settled mode s 0 from → {d e f g : List ℕ} {o a b r : ℕ} → Put d e o a (declaration ⊕ (10 ∷ []) ⊕ rootStart) →
+    Put e f a b (innerXml (entriesAt ed mode s from)) → Put f g b r (rootEnd ⊕ (10 ∷ [])) → Put d g o r (writeDocument (calendarOf ed (lines (rest mode s 0))))
+document-put ed {mode} {s} {from} p {d} {g = g} {o} {r = r} u v w =
+    subst (Put d g o r) (written-is (innerOf (entriesAt ed mode s from) 0) ∙ ap writeDocument (entries-start ed p)) (u ▷ v ▷ w)

@@ -18,6 +18,7 @@ use Rattle.validity.specs.ValidCalendar.{isKeptName, hasComponents, areValid}
 use Rattle.validity.specs.laws.ValidCalendar.{inside-kept, valid-component}
 use Rattle.xml.specs.Nodes.{noNodes, hasElement}
 use Rattle.xml.specs.Content.{Content, nothing, child, placed}
+use Rattle.edition.specs.declared.Edition.{Edition}
 use Rattle.xcal.specs.WriteXml.{isNoMore}
 use Rattle.xcal.specs.laws.Contents.{componentsPart, componentInside, calendarContent}
 use Rattle.xcal.specs.ComponentNodes.{insideOf, readComponents, readInner}
@@ -58,14 +59,15 @@ inner-back n ps inner ih q =
     by-part (λ d. (r : ℕ) → readInner (placed d r noNodes) ≡ inner) n (isNoMore inner) (calendarContent inner)
     (λ h r. ih _) (λ h e r. sym (no-more inner e)) _
 
-pub components-back : (c : Components) (ks : List (List ℕ)) (m : Bool) → every isKeptName ks ≡ true → areValid ks m c ≡ true → (q : ℕ) → readComponents (placed (calendarContent c) q noNodes) ≡ c
-unfolding octets-compute calendarContent placed readComponents readInner insideOf
-components-back noMore ks m a h q = refl
-components-back (component n ps inner next) ks m a h q =
-    let v = valid-component ks m n ps inner next h in
-    rw (
-      kept-back n (word-passes isKeptName ks n a (v .named)),
-      properties-back n ps (v .properties),
-      inner-back n ps inner (components-back inner (subcomponentsOf n) (methodFor n ps m) (inside-kept n) (v .inside)),
-      components-back next ks m a (v .after),
-    )
+module _ (ed : Edition) where
+  pub components-back : (c : Components) (ks : List (List ℕ)) (m : Bool) → every isKeptName ks ≡ true → areValid ed ks m c ≡ true → (q : ℕ) → readComponents (placed (calendarContent c) q noNodes) ≡ c
+  unfolding octets-compute calendarContent placed readComponents readInner insideOf
+  components-back noMore ks m a h q = refl
+  components-back (component n ps inner next) ks m a h q =
+      let v = valid-component ed ks m n ps inner next h in
+      rw (
+        kept-back n (word-passes isKeptName ks n a (v .named)),
+        properties-back ed n ps (v .properties),
+        inner-back n ps inner (components-back inner (subcomponentsOf n) (methodFor n ps m) (inside-kept n) (v .inside)),
+        components-back next ks m a (v .after),
+      )

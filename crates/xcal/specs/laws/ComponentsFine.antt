@@ -23,6 +23,7 @@ use Rattle.validity.specs.ValidCalendar.{isKeptName, isValidProperty, hasCompon
 use Rattle.validity.specs.laws.ValidCalendar.{inside-kept, top-name, valid-component}
 use Rattle.xml.specs.Nodes.{noNodes, hasElement}
 use Rattle.xml.specs.Content.{Content, placed}
+use Rattle.edition.specs.declared.Edition.{Edition}
 use Rattle.xcal.specs.WriteXml.{isNoMore}
 use Rattle.xcal.specs.laws.ElementNames.{no-capital, kept-back}
 use Rattle.xcal.specs.laws.Contents.{componentsPart, componentInside, calendarContent}
@@ -40,30 +41,6 @@ has-sub n ps inner q =
     by-part (λ d. (r : ℕ) → hasElement (insideOf (ascii "components") (placed d r noNodes)) ≡ hasComponents inner) n (isNoMore inner) (calendarContent inner)
     (λ h r. has-components inner _) (λ h e r. rw (no-more inner e)) _
 
-properties-first : (n : List ℕ) (ps : List Property) (empty : Bool) (c : Content) → every (isValidProperty n) ps ≡ true → (q : ℕ) →
-    readProperties (insideOf (ascii "properties") (placed (componentInside n ps empty c) q noNodes)) ≡ ps
-unfolding octets-compute placed insideOf
-properties-first n ps empty c h q = properties-back n ps h _
-
-complete-in : (n : List ℕ) (m : Bool) (ps : List Property) (inner : Components) → every (isValidProperty n) ps ≡ true → complete n ps (record { inner = hasComponents inner; method = m }) ≡ true → (q : ℕ) →
-    isComplete n m (placed (componentInside n ps (isNoMore inner) (calendarContent inner)) q noNodes) ≡ true
-complete-in n m ps inner h c q = rw (has-sub n ps inner q, properties-first n ps (isNoMore inner) (calendarContent inner) h q) c
-
--- ---- the children of a component
-
--- a component that has `components` may have some
-has-subcomponents : (n : List ℕ) (m : Bool) (inner : Components) → (isCalendar n or not (isNoMore inner)) ≡ true → areValid (subcomponentsOf n) m inner ≡ true → isEmpty (subcomponentsOf n) ≡ false
-unfolding schema-compute
-has-subcomponents n m inner h c = or-cases (isCalendar n) _ h (λ e. rw (same-true n (ascii "VCALENDAR") e)) (other inner c)
-  where
-    some-word : (v : List ℕ) (ws : List (List ℕ)) → isOneOf v ws ≡ true → isEmpty ws ≡ false
-    some-word v [] e = absurd (false≢true e)
-    some-word v (w ∷ ws) e = refl
-
-    other : (i : Components) → areValid (subcomponentsOf n) m i ≡ true → not (isNoMore i) ≡ true → isEmpty (subcomponentsOf n) ≡ false
-    other noMore c e = absurd (false≢true e)
-    other (component v ps i next) c e = some-word v (subcomponentsOf n) (valid-component (subcomponentsOf n) m v ps i next c .named)
-
 end-fine : (n : List ℕ) (m : Bool) (e : ℕ) → endOfComponent n true (record { properties = true; components = true; method = m }) e ≡ fine
 unfolding endOfComponent pick _and_ _or_
 end-fine n m e = go (isCalendar n)
@@ -71,23 +48,6 @@ end-fine n m e = go (isCalendar n)
     go : (t : Bool) → pick (t and false) (refuse FRAME e) fine ≡ fine
     go true = refl
     go false = refl
-
--- after `properties`
-part-fine : (n : List ℕ) (m : Bool) (inner : Components) → areValid (subcomponentsOf n) m inner ≡ true →
-    ((x q : ℕ) → (isCalendar n or not (isNoMore inner)) ≡ true → componentsVerdict (placed (calendarContent inner) q noNodes) n m false x ≡ fine) →
-    (e q : ℕ) → componentVerdict (placed (componentsPart n (isNoMore inner) (calendarContent inner)) q noNodes) n true (record { properties = true; components = false; method = m }) e ≡ fine
-unfolding octets-compute placed componentVerdict endOfComponent _otherwise_
-part-fine n m inner c ih e q =
-    by-part (λ d. (r : ℕ) → componentVerdict (placed d r noNodes) n true (record { properties = true; components = false; method = m }) e ≡ fine) n (isNoMore inner) (calendarContent inner)
-    (λ h r. rw (has-subcomponents n m inner h c, ih _ _ h) (end-fine n m e))
-    (λ h k r. rw h)
-    q
-
-inside-fine : (n : List ℕ) (m : Bool) (ps : List Property) (inner : Components) → every (isValidProperty n) ps ≡ true → areValid (subcomponentsOf n) (methodFor n ps m) inner ≡ true →
-    ((x q : ℕ) → (isCalendar n or not (isNoMore inner)) ≡ true → componentsVerdict (placed (calendarContent inner) q noNodes) n (methodFor n ps m) false x ≡ fine) →
-    (e q : ℕ) → componentVerdict (placed (componentInside n ps (isNoMore inner) (calendarContent inner)) q noNodes) n true (nothingCome m) e ≡ fine
-unfolding octets-compute placed componentVerdict _otherwise_
-inside-fine n m ps inner h c ih e q = rw (properties-fine n ps h, properties-back n ps h) (part-fine n (methodFor n ps m) inner c ih e _)
 
 -- ---- components
 
@@ -107,38 +67,80 @@ unfolding _or_
 or-middle true b e = refl
 or-middle false b e = e
 
-pub components-fine : (c : Components) (k : List ℕ) (m any : Bool) (x q : ℕ) → areValid (subcomponentsOf k) m c ≡ true → (isCalendar k or any or not (isNoMore c)) ≡ true →
-    componentsVerdict (placed (calendarContent c) q noNodes) k m any x ≡ fine
-unfolding calendarContent placed componentsVerdict pick _and_ _otherwise_
-components-fine noMore k m any x q h o = no-components k any x (or-last (isCalendar k) any o)
-components-fine (component n ps inner next) k m any x q h o =
-    let v = valid-component (subcomponentsOf k) m n ps inner next h in
-    rw (
-      no-capital n,
-      kept-back n (word-passes isKeptName (subcomponentsOf k) n (inside-kept k) (v .named)),
-      v .named,
-      complete-in n m ps inner (v .properties) (v .counts),
-      inside-fine n m ps inner (v .properties) (v .inside) (λ y r z. components-fine inner n (methodFor n ps m) false y r (v .inside) (or-middle _ _ z)),
-    )
-    (components-fine next k m true x _ (v .after) (or-right _ _ (or-left _ _ refl)))
-
 -- ---- the root
 
 calendar-element : (n : List ℕ) → isCalendar n ≡ true → same (lower n) (ascii "vcalendar") ≡ true
 unfolding octets-compute
 calendar-element n h = rw (same-true n (ascii "VCALENDAR") h)
 
-pub stream-fine : (c : Components) (any : Bool) (x q : ℕ) → areValid atTop false c ≡ true → (any or hasComponents c) ≡ true → streamVerdict (placed (calendarContent c) q noNodes) any x ≡ fine
-unfolding calendarContent placed streamVerdict pick _otherwise_
-stream-fine noMore any x q h o = or-cases any false o (λ e. rw e) (λ e. absurd (false≢true e))
-stream-fine (component n ps inner next) any x q h o =
-    let v = valid-component atTop false n ps inner next h in
-    let e = top-name n (v .named) in
-    let z : ascii "VCALENDAR" ≡ n = sym (same-true n (ascii "VCALENDAR") e) in
-    rw (
-      calendar-element n e,
-      z,
-      complete-in n false ps inner (v .properties) (v .counts),
-      inside-fine n false ps inner (v .properties) (v .inside) (λ y r w. components-fine inner n (methodFor n ps false) false y r (v .inside) (or-middle _ _ w)),
-    )
-    (stream-fine next true x _ (v .after) (or-left _ _ refl))
+module _ (ed : Edition) where
+  properties-first : (n : List ℕ) (ps : List Property) (empty : Bool) (c : Content) → every (isValidProperty ed n) ps ≡ true → (q : ℕ) →
+      readProperties (insideOf (ascii "properties") (placed (componentInside n ps empty c) q noNodes)) ≡ ps
+  unfolding octets-compute placed insideOf
+  properties-first n ps empty c h q = properties-back ed n ps h _
+
+  complete-in : (n : List ℕ) (m : Bool) (ps : List Property) (inner : Components) → every (isValidProperty ed n) ps ≡ true → complete n ps (record { inner = hasComponents inner; method = m }) ≡ true → (q : ℕ) →
+      isComplete n m (placed (componentInside n ps (isNoMore inner) (calendarContent inner)) q noNodes) ≡ true
+  complete-in n m ps inner h c q = rw (has-sub n ps inner q, properties-first n ps (isNoMore inner) (calendarContent inner) h q) c
+
+  -- ---- the children of a component
+
+  -- a component that has `components` may have some
+  has-subcomponents : (n : List ℕ) (m : Bool) (inner : Components) → (isCalendar n or not (isNoMore inner)) ≡ true → areValid ed (subcomponentsOf n) m inner ≡ true → isEmpty (subcomponentsOf n) ≡ false
+  unfolding schema-compute
+  has-subcomponents n m inner h c = or-cases (isCalendar n) _ h (λ e. rw (same-true n (ascii "VCALENDAR") e)) (other inner c)
+    where
+      some-word : (v : List ℕ) (ws : List (List ℕ)) → isOneOf v ws ≡ true → isEmpty ws ≡ false
+      some-word v [] e = absurd (false≢true e)
+      some-word v (w ∷ ws) e = refl
+
+      other : (i : Components) → areValid ed (subcomponentsOf n) m i ≡ true → not (isNoMore i) ≡ true → isEmpty (subcomponentsOf n) ≡ false
+      other noMore c e = absurd (false≢true e)
+      other (component v ps i next) c e = some-word v (subcomponentsOf n) (valid-component ed (subcomponentsOf n) m v ps i next c .named)
+
+  -- after `properties`
+  part-fine : (n : List ℕ) (m : Bool) (inner : Components) → areValid ed (subcomponentsOf n) m inner ≡ true →
+      ((x q : ℕ) → (isCalendar n or not (isNoMore inner)) ≡ true → componentsVerdict ed (placed (calendarContent inner) q noNodes) n m false x ≡ fine) →
+      (e q : ℕ) → componentVerdict ed (placed (componentsPart n (isNoMore inner) (calendarContent inner)) q noNodes) n true (record { properties = true; components = false; method = m }) e ≡ fine
+  unfolding octets-compute placed componentVerdict endOfComponent _otherwise_
+  part-fine n m inner c ih e q =
+      by-part (λ d. (r : ℕ) → componentVerdict ed (placed d r noNodes) n true (record { properties = true; components = false; method = m }) e ≡ fine) n (isNoMore inner) (calendarContent inner)
+      (λ h r. rw (has-subcomponents n m inner h c, ih _ _ h) (end-fine n m e))
+      (λ h k r. rw h)
+      q
+
+  inside-fine : (n : List ℕ) (m : Bool) (ps : List Property) (inner : Components) → every (isValidProperty ed n) ps ≡ true → areValid ed (subcomponentsOf n) (methodFor n ps m) inner ≡ true →
+      ((x q : ℕ) → (isCalendar n or not (isNoMore inner)) ≡ true → componentsVerdict ed (placed (calendarContent inner) q noNodes) n (methodFor n ps m) false x ≡ fine) →
+      (e q : ℕ) → componentVerdict ed (placed (componentInside n ps (isNoMore inner) (calendarContent inner)) q noNodes) n true (nothingCome m) e ≡ fine
+  unfolding octets-compute placed componentVerdict _otherwise_
+  inside-fine n m ps inner h c ih e q = rw (properties-fine ed n ps h, properties-back ed n ps h) (part-fine n (methodFor n ps m) inner c ih e _)
+
+  pub components-fine : (c : Components) (k : List ℕ) (m any : Bool) (x q : ℕ) → areValid ed (subcomponentsOf k) m c ≡ true → (isCalendar k or any or not (isNoMore c)) ≡ true →
+      componentsVerdict ed (placed (calendarContent c) q noNodes) k m any x ≡ fine
+  unfolding calendarContent placed componentsVerdict pick _and_ _otherwise_
+  components-fine noMore k m any x q h o = no-components k any x (or-last (isCalendar k) any o)
+  components-fine (component n ps inner next) k m any x q h o =
+      let v = valid-component ed (subcomponentsOf k) m n ps inner next h in
+      rw (
+        no-capital n,
+        kept-back n (word-passes isKeptName (subcomponentsOf k) n (inside-kept k) (v .named)),
+        v .named,
+        complete-in n m ps inner (v .properties) (v .counts),
+        inside-fine n m ps inner (v .properties) (v .inside) (λ y r z. components-fine inner n (methodFor n ps m) false y r (v .inside) (or-middle _ _ z)),
+      )
+      (components-fine next k m true x _ (v .after) (or-right _ _ (or-left _ _ refl)))
+
+  pub stream-fine : (c : Components) (any : Bool) (x q : ℕ) → areValid ed atTop false c ≡ true → (any or hasComponents c) ≡ true → streamVerdict ed (placed (calendarContent c) q noNodes) any x ≡ fine
+  unfolding calendarContent placed streamVerdict pick _otherwise_
+  stream-fine noMore any x q h o = or-cases any false o (λ e. rw e) (λ e. absurd (false≢true e))
+  stream-fine (component n ps inner next) any x q h o =
+      let v = valid-component ed atTop false n ps inner next h in
+      let e = top-name n (v .named) in
+      let z : ascii "VCALENDAR" ≡ n = sym (same-true n (ascii "VCALENDAR") e) in
+      rw (
+        calendar-element n e,
+        z,
+        complete-in n false ps inner (v .properties) (v .counts),
+        inside-fine n false ps inner (v .properties) (v .inside) (λ y r w. components-fine inner n (methodFor n ps false) false y r (v .inside) (or-middle _ _ w)),
+      )
+      (stream-fine next true x _ (v .after) (or-left _ _ refl))

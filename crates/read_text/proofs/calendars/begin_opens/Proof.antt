@@ -8,8 +8,8 @@ pub begin-opens-spec : {M : Type 1} → statement M
 begin-opens-spec = tie.close (tie.spec
     (λ c κs. search needs)  -- component-number-requires
     (λ c κs. search needs)  -- no-params-requires
-    (λ c. outer-begins (c .before .before .before .before .before .args .mode) (c .before .before .before .before .before .args .s .now) (c .before .before .before .before .before .args .l) (c .before .before .before .component-number .ensures) (c .before .before .if1 .taken) (c .before .no-params .ensures) (c .if2 .taken))  -- returns
+    (λ c. outer-begins _ (c .before .before .before .before .before .args .mode) (c .before .before .before .before .before .args .s .now) (c .before .before .before .before .before .args .l) (c .before .before .before .component-number .ensures) (c .before .before .if1 .taken) (c .before .no-params .ensures) (c .if2 .taken))  -- returns
     (λ c κs. search needs)  -- parameter-cursor-requires
-    (λ c. outer-parameters (c .before .before .before .before .before .before .args .mode) (c .before .before .before .before .before .before .args .s .now) (c .before .before .before .before .before .before .args .l) (c .before .before .before .before .component-number .ensures) (c .before .before .before .if1 .taken) (c .before .before .no-params .ensures) (c .before .if2 .left) (c .parameter-cursor .ensures))  -- returns-2
-    (λ c. outer-other (c .before .before .before .args .mode) (c .before .before .before .args .s .now) (c .before .before .before .args .l) (c .before .component-number .ensures) (c .if1 .left))  -- returns-3
+    (λ c. outer-parameters _ (c .before .before .before .before .before .before .args .mode) (c .before .before .before .before .before .before .args .s .now) (c .before .before .before .before .before .before .args .l) (c .before .before .before .before .component-number .ensures) (c .before .before .before .if1 .taken) (c .before .before .no-params .ensures) (c .before .if2 .left) (c .parameter-cursor .ensures))  -- returns-2
+    (λ c. outer-other _ (c .before .before .before .args .mode) (c .before .before .before .args .s .now) (c .before .before .before .args .l) (c .before .component-number .ensures) (c .if1 .left))  -- returns-3
     )

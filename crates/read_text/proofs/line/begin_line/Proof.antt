@@ -9,8 +9,8 @@ begin-line-spec = tie.close (tie.spec
     (λ c κs. search needs)  -- component-number-requires
     (λ c κs. search needs)  -- may-begin-requires
     (λ c κs. search needs)  -- no-params-requires
-    (λ c. λ w. begin-starts (c .before .before .before .before .before .before .args .mode) (c .before .before .before .before .before .before .args .s .now) (c .before .before .before .before .before .before .args .l) w (c .before .before .before .before .before .before .pre) (c .before .before .before .before .component-number .ensures) (c .before .before .before .may-begin .ensures) (c .before .before .if1 .taken) (c .before .no-params .ensures) (c .if2 .taken))  -- returns
+    (λ c. λ w. begin-starts _ (c .before .before .before .before .before .before .args .mode) (c .before .before .before .before .before .before .args .s .now) (c .before .before .before .before .before .before .args .l) w (c .before .before .before .before .before .before .pre) (c .before .before .before .before .component-number .ensures) (c .before .before .before .may-begin .ensures) (c .before .before .if1 .taken) (c .before .no-params .ensures) (c .if2 .taken))  -- returns
     (λ c κs. search needs)  -- parameter-cursor-requires
-    (λ c. λ w. begin-parameters (c .before .before .before .before .before .before .before .args .mode) (c .before .before .before .before .before .before .before .args .s .now) (c .before .before .before .before .before .before .before .args .l) w (c .before .before .before .before .before .before .before .pre) (c .before .before .before .before .before .component-number .ensures) (c .before .before .before .before .may-begin .ensures) (c .before .before .before .if1 .taken) (c .before .before .no-params .ensures) (c .before .if2 .left) (c .parameter-cursor .ensures))  -- returns-2
-    (λ c. λ w. begin-not (c .before .before .before .before .args .mode) (c .before .before .before .before .args .s .now) (c .before .before .before .before .args .l) w (c .before .before .before .before .pre) (c .before .before .component-number .ensures) (c .before .may-begin .ensures) (c .if1 .left))  -- returns-3
+    (λ c. λ w. begin-parameters _ (c .before .before .before .before .before .before .before .args .mode) (c .before .before .before .before .before .before .before .args .s .now) (c .before .before .before .before .before .before .before .args .l) w (c .before .before .before .before .before .before .before .pre) (c .before .before .before .before .before .component-number .ensures) (c .before .before .before .before .may-begin .ensures) (c .before .before .before .if1 .taken) (c .before .before .no-params .ensures) (c .before .if2 .left) (c .parameter-cursor .ensures))  -- returns-2
+    (λ c. λ w. begin-not _ (c .before .before .before .before .args .mode) (c .before .before .before .before .args .s .now) (c .before .before .before .before .args .l) w (c .before .before .before .before .pre) (c .before .before .component-number .ensures) (c .before .may-begin .ensures) (c .if1 .left))  -- returns-3
     )
