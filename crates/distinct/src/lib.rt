@@ -7,6 +7,7 @@ mod numbers;
 mod order;
 mod pairs;
 
+pub use compare::compare_from;
 pub use cuts::keep;
 use heap::sort;
 use numbers::count_up;

@@ -1,12 +1,16 @@
 -- The kind of a line in an open component, by numbers.
---     KindIs              what the code's answer says of a kind;   Held: of a property
+--     KindIs              what the code's answer says of a kind, where the line is s, and v says whether there is a level left;   Held: of a property
 use mathlib.Core.Path.{_≡_}
-use Prim.Native.Nat.{ℕ, _<_}
+use mathlib.Core.Bool.{Bool, true}
+use mathlib.Core.List.{List}
+use Prim.Native.Nat.{ℕ}
+use Rattle.octets.specs.Class.{upper}
+use Rattle.source.specs.Source.{rest}
 use Rattle.names.specs.Table.{placeOf}
 use Rattle.calendar.specs.Calendar.{Property}
 use Rattle.calendar.specs.Refusal.{refusalAt}
+use Rattle.schema.specs.Components.{componentNames}
 use Rattle.schema.specs.Properties.{propertyNames}
-use Rattle.schema.specs.Numbers.{componentName}
 use Rattle.schema.specs.Counts.{firstText}
 use Rattle.schema.specs.Completing.{actionNumber}
 use Rattle.schema.specs.Property.{ACTION}
@@ -21,8 +25,9 @@ pub record Held (x : LineKind) (p a : ℕ) : Type 0 where
   pub number : p ≡ placeOf (property .name) propertyNames
   pub action : p ≡ ACTION → a ≡ actionNumber (firstText (property .values))
 
-abbrev pub KindIs : LineKind → Kind → Type 0
-KindIs x (Starts n) = (x ≡ starts (componentName n)) × (n < 9)
-KindIs x Stops = x ≡ stops
-KindIs x (Holds p a) = Held x p a
-KindIs x (Faulty n) = x ≡ faulty (refusalAt n)
+-- of a component that starts its number, and where its name stands in the line
+abbrev pub KindIs : Bool → ℕ → List ℕ → LineKind → Kind → Type 0
+KindIs v m s x (Starts n a) = (x ≡ starts (upper (rest m s a))) × (n ≡ placeOf (upper (rest m s a)) componentNames) × (v ≡ true)
+KindIs v m s x Stops = x ≡ stops
+KindIs v m s x (Holds p a) = Held x p a
+KindIs v m s x (Faulty n) = x ≡ faulty (refusalAt n)

@@ -1,8 +1,10 @@
 // The calendars of a text, one after another, and nothing between them.
 use crate::Checked;
+use crate::Opening;
 use crate::Step;
 use crate::component::body;
 use crate::line::no_params;
+use crate::named::is_component_name;
 use names::is_word_any_case;
 use read_text_line::Ending;
 use read_text_line::LineCursors;
@@ -27,28 +29,32 @@ ghost use Rattle.source.specs.Source.{rest, cuts};
 ghost use Rattle.read_text_line.specs.Line.{named, Parts};
 ghost use Rattle.text.specs.Nesting.{moveBy, move};
 ghost use Rattle.read_text_line.specs.Ready.{Ready};
-ghost use Rattle.read_text.specs.Outer.{outward, beginsOuter, Outer};
+ghost use Rattle.read_text.specs.Outer.{beginsOuter, OpensAs, Outer};
 ghost use Rattle.read_text.specs.Answers.{Checks};
 
 // The fault of a BEGIN where nothing is open, NO_FAULT where it has none: it begins a VCALENDAR.
 fn begin_fault(mode: usize, s: &[u8], l: LineCursors) -> u8
-    ensures { λ r. ⌜ beginsOuter mode (now (s .entry)) l ≡ outward r ⌝ }
+    ensures { λ r. ⌜ OpensAs mode (now (s .entry)) (beginsOuter mode (now (s .entry)) l) r (l .value) ⌝ }
 {
-    let n = component_number(mode, s, l.value);
-    if n == component::VCALENDAR {
-        let bare = no_params(mode, s, l.parameters);
-        if bare {
-            return NO_FAULT;
+    let good = is_component_name(mode, s, l.value);
+    if good {
+        let n = component_number(mode, s, l.value);
+        if n == component::VCALENDAR {
+            let bare = no_params(mode, s, l.parameters);
+            if bare {
+                return NO_FAULT;
+            }
+            return PARAMETER;
         }
-        return PARAMETER;
+        return FRAME;
     }
-    FRAME
+    NAME
 }
 
 // The fault of a content line where nothing is open.
 fn content_fault(mode: usize, s: &[u8], l: LineCursors) -> u8
     requires { ⌜ (l .name ≤ length (now s)) × Parts mode (now s) l × (cuts mode ≡ true) ⌝ }
-    ensures { λ r. ⌜ moveBy (named mode (now (s .entry)) l) [] ≡ outward r ⌝ }
+    ensures { λ r. ⌜ OpensAs mode (now (s .entry)) (moveBy (named mode (now (s .entry)) l) []) r (l .value) ⌝ }
 {
     let at = l.name;
     let e = l.parameters;
@@ -64,14 +70,22 @@ fn content_fault(mode: usize, s: &[u8], l: LineCursors) -> u8
 }
 
 // The fault of a line where nothing is open, NO_FAULT where it begins a VCALENDAR.
-fn outer_fault(mode: usize, s: &[u8], at: usize) -> u8
+fn outer_fault(mode: usize, s: &[u8], at: usize) -> Opening
     requires { ⌜ (at ≤ length (now s)) × (cuts mode ≡ true) ⌝ }
-    ensures { λ r. ⌜ move (rest mode (now (s .entry)) at) [] ≡ outward r ⌝ }
+    ensures { λ r. ⌜
+        OpensAs mode (now (s .entry)) (move (rest mode (now (s .entry)) at) []) (r .fault) (r .value) ⌝ }
 {
     let LineRead::Line(l) = line_at(mode, s, at) else {
-        return LINE;
+        return Opening {
+            fault: LINE,
+            value: at,
+        };
     };
-    content_fault(mode, s, l)
+    let fault = content_fault(mode, s, l);
+    Opening {
+        fault,
+        value: l.value,
+    }
 }
 
 // A calendar, from its BEGIN on.
@@ -82,11 +96,20 @@ fn calendar(mode: usize, s: &[u8], at: usize) -> Step
     let Ending::Whole(e, next) = line_end(mode, s, at) else {
         return Step::Failed(LINE, at);
     };
-    let fault = outer_fault(mode, &s[..e], at);
-    if fault == NO_FAULT {
-        return body(mode, s, next, component::VCALENDAR, false);
+    let o = outer_fault(mode, &s[..e], at);
+    if o.fault == NO_FAULT {
+        return body(
+            mode,
+            s,
+            next,
+            component::VCALENDAR,
+            &s[..e],
+            o.value,
+            component::BELOW,
+            false,
+        );
     }
-    Step::Failed(fault, at)
+    Step::Failed(o.fault, at)
 }
 
 // The check of an unfolded text.

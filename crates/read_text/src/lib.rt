@@ -2,22 +2,30 @@
 mod calendars;
 mod component;
 mod line;
+mod named;
 
 pub use calendars::check;
 
-// What a line is in an open component: the beginning of the component of a number; the component's end; a property of a number, with the number of
+// What a line is in an open component: the beginning of the component of a number, whose name stands at a cursor; the component's end; a property of a number, with the number of
 // ACTION's word where it is ACTION; or a refusal of a number.
 pub enum Kind {
-    Starts(usize),
+    Starts(usize, usize),
     Stops,
     Holds(usize, usize),
     Faulty(u8),
 }
 
-// A line's kind, and the place behind the line.
+// A line's kind, the place of its end, and that behind the line.
 pub struct Turn {
     pub kind: Kind,
+    pub end: usize,
     pub next: usize,
+}
+
+// A line where nothing is open: its fault, and the cursor of its value.
+pub struct Opening {
+    pub fault: u8,
+    pub value: usize,
 }
 
 // A component was closed, and the text goes on at a place; or a refusal and its place.

@@ -1,5 +1,6 @@
 // The calendars of a document, and its root. See crate xcal, specs/ComponentNodes.antt.
 use crate::subcomponents::component_verdict;
+use crate::subcomponents::no_component;
 use markup::element;
 use names::is_word;
 use octets::is_space;
@@ -46,7 +47,14 @@ fn stream_verdict(s: &[u8], inside: usize, e: usize) -> Judged
             NodeKind::Element => {
                 let calendar = is_calendar(s, n.name, n.name_end);
                 if calendar {
-                    let j = component_verdict(s, n.inside, component::VCALENDAR, false, n.end);
+                    let j = component_verdict(
+                        s,
+                        n.inside,
+                        component::VCALENDAR,
+                        component::BELOW,
+                        false,
+                        n.end,
+                    );
                     match j {
                         Judged::Fine => {
                             any = true;
@@ -57,7 +65,7 @@ fn stream_verdict(s: &[u8], inside: usize, e: usize) -> Judged
                         }
                     }
                 } else {
-                    return unexpected(s, at, n.name, n.name_end);
+                    return no_component(s, at, n.name, n.name_end);
                 }
             }
             NodeKind::Literal => {

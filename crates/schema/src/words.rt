@@ -40,7 +40,7 @@ fn status_set(k: usize) -> usize
     if k == component::VJOURNAL {
         return set::JOURNAL_STATUS;
     }
-    set::NONE
+    set::STATUS
 }
 
 // The number of the set of a property other than STATUS.
@@ -166,6 +166,16 @@ fn read_in_parameter_set(n: usize, xcal: bool, mode: usize, s: &[u8], at: usize)
             s,
             at,
             b"CHAIR\nREQ-PARTICIPANT\nOPT-PARTICIPANT\nNON-PARTICIPANT\n",
+        );
+    }
+    if n <= set::STATUS {
+        return read_word_in(
+            8,
+            xcal,
+            mode,
+            s,
+            at,
+            b"TENTATIVE\nCONFIRMED\nCANCELLED\nNEEDS-ACTION\nCOMPLETED\nIN-PROCESS\nDRAFT\nFINAL\n",
         );
     }
     WordRead::NoWord

@@ -1,4 +1,4 @@
--- What a line is in an open component, by the component's name and whether a subcomponent has come: all that a reader needs of a line before it looks at what
+-- What a line is in an open component, by the component's name, whether there is a level left inside it, and whether a subcomponent has come: all that a reader needs of a line before it looks at what
 -- the component has seen.
 --     LineKind      the beginning of a subcomponent, the component's end, a property, or a refusal
 --     lineKind      the kind of a line
@@ -8,14 +8,15 @@ use mathlib.Core.List.{List, [], _∷_}
 use mathlib.Core.Option.{Option, none, some}
 use Prim.Native.Nat.{ℕ}
 use Rattle.octets.specs.Ascii.{ascii}
-use Rattle.octets.specs.Pick.{pick}
+use Rattle.octets.specs.Pick.{pick, _and_}
 use Rattle.octets.specs.Class.{upper}
-use Rattle.octets.specs.Words.{same, isOneOf, isEmpty}
+use Rattle.octets.specs.Words.{same, isEmpty}
 use Rattle.calendar.specs.Calendar.{Property}
 use Rattle.calendar.specs.Refusal.{Refusal, LINE, NAME, FRAME, PARAMETER, COUNT}
-use Rattle.schema.specs.Components.{subcomponentsOf}
+use Rattle.schema.specs.Components.{mayContain}
 use Rattle.schema.specs.Counts.{Around, complete}
 use Rattle.read_text_line.specs.ContentLine.{ContentLine, contentLine}
+use Rattle.read_text_line.specs.Names.{isComponentName}
 use Rattle.text.specs.Statement.{propertyFault, propertyOf}
 use Rattle.text.specs.Nesting.{Open, Move, on, stop, opened, methodIn, mayHold, namesCarried}
 
@@ -29,11 +30,13 @@ pub data LineKind : Type 0 where
 abbrev pub openAs : List ℕ → Bool → Open
 openAs k inner = record { name = k; seen = []; inner = inner }
 
-abbrev pub beginKind : List ℕ → ContentLine → LineKind
-beginKind k l =
-    pick (isOneOf (upper (l .value)) (subcomponentsOf k))
+abbrev pub beginKind : List ℕ → Bool → ContentLine → LineKind
+beginKind k level l =
+    pick (isComponentName (upper (l .value)))
+    (pick (mayContain k (upper (l .value)) and level)
     (pick (isEmpty (l .parameters)) (starts (upper (l .value))) (faulty PARAMETER))
-    (faulty FRAME)
+    (faulty FRAME))
+    (faulty NAME)
 
 abbrev pub endKind : List ℕ → ContentLine → LineKind
 endKind k l = pick (same (upper (l .value)) k) (pick (isEmpty (l .parameters)) stops (faulty PARAMETER)) (faulty FRAME)
@@ -45,20 +48,20 @@ heldBy (some r) p = faulty r
 abbrev pub propertyKind : List ℕ → Bool → ContentLine → LineKind
 propertyKind k inner l = pick (mayHold (upper (l .name)) (openAs k inner)) (heldBy (propertyFault k l) (propertyOf k l)) (faulty FRAME)
 
-unfoldable pub kindBy : List ℕ → Bool → ContentLine → LineKind
-kindBy k inner l =
+unfoldable pub kindBy : List ℕ → Bool → Bool → ContentLine → LineKind
+kindBy k level inner l =
     pick (namesCarried l)
-    (pick (same (upper (l .name)) (ascii "BEGIN")) (beginKind k l)
+    (pick (same (upper (l .name)) (ascii "BEGIN")) (beginKind k level l)
     (pick (same (upper (l .name)) (ascii "END")) (endKind k l)
     (propertyKind k inner l)))
     (faulty NAME)
 
-unfoldable pub kindOf : List ℕ → Bool → Option ContentLine → LineKind
-kindOf k inner none = faulty LINE
-kindOf k inner (some l) = kindBy k inner l
+unfoldable pub kindOf : List ℕ → Bool → Bool → Option ContentLine → LineKind
+kindOf k level inner none = faulty LINE
+kindOf k level inner (some l) = kindBy k level inner l
 
-abbrev pub lineKind : List ℕ → Bool → List ℕ → LineKind
-lineKind k inner s = kindOf k inner (contentLine s)
+abbrev pub lineKind : List ℕ → Bool → Bool → List ℕ → LineKind
+lineKind k level inner s = kindOf k level inner (contentLine s)
 
 -- ---- what it does
 

@@ -3,6 +3,7 @@ use crate::components::put_components;
 use markup::declaration;
 use markup::element;
 use markup::namespace;
+use schema::component;
 use sink::put;
 use sink::put_all;
 use source::settled;
@@ -81,6 +82,6 @@ pub fn put_document(out: &mut [u8], o: usize, mode: usize, s: &[u8]) -> usize
 {
     let a = put_front(out, o);
     let from = settled(mode, s, 0);
-    let b = put_components(out, a, mode, s, from);
+    let b = put_components(out, a, mode, s, from, component::LEVELS);
     put_back(out, b.to)
 }

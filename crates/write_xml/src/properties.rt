@@ -13,7 +13,7 @@ ghost use Rattle.xml.specs.Escape.{elementOf};
 ghost use Rattle.schema.specs.Numbers.{componentName};
 ghost use Rattle.write_xml.specs.Entries.{entriesAt};
 ghost use Rattle.write_xml.specs.Walks.{ownXml};
-ghost use Rattle.write_xml.specs.Places.{PropertiesPut, LeadingPut};
+ghost use Rattle.write_xml.specs.Places.{whole, PropertiesPut, LeadingPut};
 
 // What a walk over a component's properties came to: the index in the sink; the cursor of the first subcomponent, or of what ends the component; whether there is
 // no subcomponent; and if there is none, the cursor behind the component's END.
@@ -105,7 +105,7 @@ fn put_following(out: &mut [u8], o: usize, k: usize, mode: usize, s: &[u8], from
 fn put_properties(out: &mut [u8], o: usize, k: usize, mode: usize, s: &[u8], from: usize) -> Walked
     requires { ⌜ Ready mode (now s) from ⌝ }
     ensures { λ r. ⌜
-        PropertiesPut (now (out .entry)) (now (out .exit)) o
+        PropertiesPut whole (now (out .entry)) (now (out .exit)) o
         (ownXml (componentName k) (entriesAt mode (now (s .entry)) from)) mode (now (s .entry)) from r ⌝ }
 {
     let a = put_leading(out, o, k, mode, s, from);
@@ -132,7 +132,7 @@ pub fn put_properties_element(
 ) -> Walked
     requires { ⌜ Ready mode (now s) from ⌝ }
     ensures { λ r. ⌜
-        PropertiesPut (now (out .entry)) (now (out .exit)) o
+        PropertiesPut whole (now (out .entry)) (now (out .exit)) o
         (elementOf (ascii "properties") (ownXml (componentName k) (entriesAt mode (now (s .entry)) from))) mode
         (now (s .entry)) from r ⌝ }
 {

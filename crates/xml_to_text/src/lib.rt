@@ -18,7 +18,7 @@ ghost use Rattle.xml.specs.WellFormed.{xmlVerdict};
 ghost use Rattle.xml.specs.Nodes.{documentNodes};
 ghost use Rattle.xml.specs.NodesAt.{nodesAt};
 ghost use Rattle.text.specs.WriteText.{writeCalendar};
-ghost use Rattle.xcal.specs.ComponentNodes.{rootVerdict, readComponents};
+ghost use Rattle.xcal.specs.ComponentNodes.{rootVerdict, readCalendars};
 ghost use Rattle.calls.specs.Conversion.{converted};
 ghost use Rattle.calls.specs.ToText.{toTextOutcome, toTextOutput};
 ghost use Rattle.calls.specs.Answered.{outcomeOf, Done};
@@ -29,10 +29,10 @@ fn written_at_once(s: &[u8], from: usize, line: &mut [u8], out: &mut [u8]) -> An
     requires { ⌜
         (length (now s) ≤ 65535)
         × (length (now line) ≡ 262144)
-        × (length (writeCalendar (readComponents (nodesAt (now s) from))) ≤ 6 * length (now s))
+        × (length (writeCalendar (readCalendars (nodesAt (now s) from))) ≤ 6 * length (now s))
         × (6 * length (now s) ≤ length (now out)) ⌝ }
     ensures { λ r. ⌜
-        Done (converted writeCalendar (answer fine (readComponents (nodesAt (now (s .entry)) from)))) (now (out .entry))
+        Done (converted writeCalendar (answer fine (readCalendars (nodesAt (now (s .entry)) from)))) (now (out .entry))
         (now (out .exit)) r ⌝ }
 {
     let n = put_calendar(out, 0, line, s, from);
@@ -44,9 +44,9 @@ fn measured(s: &[u8], from: usize, line: &mut [u8], out: &mut [u8]) -> Answer
     requires { ⌜
         (length (now s) ≤ 65535)
         × (length (now line) ≡ 262144)
-        × (length (writeCalendar (readComponents (nodesAt (now s) from))) ≤ 6 * length (now s)) ⌝ }
+        × (length (writeCalendar (readCalendars (nodesAt (now s) from))) ≤ 6 * length (now s)) ⌝ }
     ensures { λ r. ⌜
-        Done (converted writeCalendar (answer fine (readComponents (nodesAt (now (s .entry)) from)))) (now (out .entry))
+        Done (converted writeCalendar (answer fine (readCalendars (nodesAt (now (s .entry)) from)))) (now (out .entry))
         (now (out .exit)) r ⌝ }
 {
     let need = put_calendar(&mut out[..0], 0, line, s, from);
@@ -62,9 +62,9 @@ fn written(s: &[u8], from: usize, line: &mut [u8], out: &mut [u8]) -> Answer
     requires { ⌜
         (length (now s) ≤ 65535)
         × (length (now line) ≡ 262144)
-        × (length (writeCalendar (readComponents (nodesAt (now s) from))) ≤ 6 * length (now s)) ⌝ }
+        × (length (writeCalendar (readCalendars (nodesAt (now s) from))) ≤ 6 * length (now s)) ⌝ }
     ensures { λ r. ⌜
-        Done (converted writeCalendar (answer fine (readComponents (nodesAt (now (s .entry)) from)))) (now (out .entry))
+        Done (converted writeCalendar (answer fine (readCalendars (nodesAt (now (s .entry)) from)))) (now (out .entry))
         (now (out .exit)) r ⌝ }
 {
     let most = 6 * s.len();
@@ -78,9 +78,9 @@ fn written(s: &[u8], from: usize, line: &mut [u8], out: &mut [u8]) -> Answer
 fn lined(s: &[u8], from: usize, out: &mut [u8]) -> Answer
     requires { ⌜
         (length (now s) ≤ 65535)
-        × (length (writeCalendar (readComponents (nodesAt (now s) from))) ≤ 6 * length (now s)) ⌝ }
+        × (length (writeCalendar (readCalendars (nodesAt (now s) from))) ≤ 6 * length (now s)) ⌝ }
     ensures { λ r. ⌜
-        Done (converted writeCalendar (answer fine (readComponents (nodesAt (now (s .entry)) from)))) (now (out .entry))
+        Done (converted writeCalendar (answer fine (readCalendars (nodesAt (now (s .entry)) from)))) (now (out .entry))
         (now (out .exit)) r ⌝ }
 {
     let mut line = [0u8; 262144];

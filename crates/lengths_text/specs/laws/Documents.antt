@@ -19,7 +19,8 @@ use Rattle.octets.specs.Words.{same}
 use Rattle.octets.specs.Lists.{every, distinct}
 use Rattle.octets.specs.Computing.{octets-compute}
 use Rattle.octets.specs.laws.Letters.{upper-length}
-use Rattle.calendar.specs.Calendar.{Property, Components, component}
+use Rattle.calendar.specs.Calendar.{Property, Components, noMore, component}
+use Rattle.calendar.specs.Levels.{levels, shallow}
 use Rattle.folding.specs.Fold.{width, isOver, foldFrom}
 use Rattle.folding.specs.laws.Fold.{width-most}
 use Rattle.read_text_line.specs.Write.{writeContentLine}
@@ -107,6 +108,30 @@ calendar-length (element p m x kids more) =
     go true h k = omega (arith, h)
     go false h k = omega (arith, k)
 
+none-shorter : (c : Components) → length (writeCalendar noMore) ≤ length (writeCalendar c)
+none-shorter c = unfold writeCalendar in omega arith
+
+-- the lines of a component, exactly
+all-length : (n : List ℕ) (ps : List Property) (i x : Components) → length (writeCalendar (component n ps i x)) ≡
+    length (beginLine n) + length (propertyLines ps) + length (writeCalendar i) + length (endLine n) + length (writeCalendar x)
+unfolding writeCalendar
+all-length n ps i x =
+    let a : List ℕ = propertyLines ps in
+    let b : List ℕ = writeCalendar i in
+    let c : List ℕ = writeCalendar x in
+    omega (arith, length-both (beginLine n) (a ⊕ b ⊕ endLine n ⊕ c), length-both a (b ⊕ endLine n ⊕ c), length-both b (endLine n ⊕ c), length-both (endLine n) c)
+
+-- without what stands too deep
+shallow-length : (c : Components) (l : ℕ) → length (writeCalendar (shallow l c)) ≤ length (writeCalendar c)
+unfolding shallow
+shallow-length noMore l = omega arith
+shallow-length (component n ps inner next) l = go (ltb 0 l) (shallow-length inner (l - 1)) (shallow-length next l)
+  where
+    go : (b : Bool) → length (writeCalendar (shallow (l - 1) inner)) ≤ length (writeCalendar inner) → length (writeCalendar (shallow l next)) ≤ length (writeCalendar next) →
+        length (writeCalendar (pick b (component n ps (shallow (l - 1) inner) (shallow l next)) noMore)) ≤ length (writeCalendar (component n ps inner next))
+    go true h k = unfold pick in omega (arith, all-length n ps inner next, all-length n ps (shallow (l - 1) inner) (shallow l next))
+    go false h k = unfold pick in none-shorter (component n ps inner next)
+
 -- ---- the text
 
 root-length : (ns : Nodes) → length (writeCalendar (readRoot ns)) ≤ rate * size ns
@@ -114,7 +139,7 @@ unfolding readRoot size
 root-length noNodes = unfold writeCalendar in omega arith
 root-length (literal p b more) = unfold writeCalendar in omega arith
 root-length (referred p bs more) = unfold writeCalendar in omega arith
-root-length (element p m x kids more) = omega (arith, calendar-length kids .0)
+root-length (element p m x kids more) = omega (arith, shallow-length (readComponents kids) levels, calendar-length kids .0)
 
 pub text-bound : (s : List ℕ) → length (writeCalendar (readRoot (documentNodes s))) ≤ rate * length s
 text-bound s = omega (arith, root-length (documentNodes s), document-size s)

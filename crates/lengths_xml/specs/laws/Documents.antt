@@ -17,6 +17,7 @@ use Rattle.octets.specs.Words.{same, starts}
 use Rattle.octets.specs.laws.Words.{starts-length}
 use Rattle.octets.specs.laws.Letters.{upper-length}
 use Rattle.calendar.specs.Calendar.{Components}
+use Rattle.calendar.specs.Levels.{levels}
 use Rattle.folding.specs.Unfold.{crlf}
 use Rattle.folding.specs.Lines.{Line, whole, loose, longer, lineStep, linesAfter, lines}
 use Rattle.read_text_line.specs.ContentLine.{ContentLine, contentLine}
@@ -95,7 +96,7 @@ pub xml-bound : (u : List ℕ) → length (writeDocument (calendarOf (lines u)))
 unfolding calendarOf
 xml-bound u =
     let ls : List Line = lines u in
-    omega (arith, document-length (calendarOf ls), nested-length (map entryOf ls), lines-cost ls, after-bytes u 0 0)
+    omega (arith, document-length (calendarOf ls), nested-length (map entryOf ls) levels, lines-cost ls, after-bytes u 0 0)
 
 pub xml-fits : (u : List ℕ) (n : ℕ) → rate * length u + 109 ≤ n → length (writeDocument (calendarOf (lines u))) ≤ n
 xml-fits u n h = omega (arith, xml-bound u, h)

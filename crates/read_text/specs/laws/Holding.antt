@@ -20,14 +20,13 @@ use Rattle.names.specs.laws.Table.{one-of-place}
 use Rattle.calendar.specs.Calendar.{Property}
 use Rattle.calendar.specs.Refusal.{Refusal, LENGTH, numberOf, refusalAt}
 use Rattle.calendar.specs.laws.Refusal.{refusal-back}
+use Rattle.schema.specs.Components.{componentNames}
 use Rattle.schema.specs.Properties.{propertyNames, isKnownProperty}
-use Rattle.schema.specs.Numbers.{componentName}
 use Rattle.schema.specs.Coded.{rowAt}
 use Rattle.schema.specs.Columns.{standsAt}
 use Rattle.schema.specs.laws.Columns.{number-place, stand-place, row-stands}
 use Rattle.schema.specs.laws.Sets.{timezone-place}
 use Rattle.schema.specs.Completing.{actionNames}
-use Rattle.schema.specs.laws.Places.{component-at}
 use Rattle.schema.specs.Property as property
 use Rattle.schema.specs.declared.table.Row.{Row}
 use Rattle.read_text_line.specs.ContentLine.{ContentLine}
@@ -53,23 +52,23 @@ follow-first inner t h = rw h
 number-of : {row : Row} (w : List ℕ) → row ≡ rowAt (placeOf w propertyNames) → row .number ≡ placeOf w propertyNames
 number-of w e = ap (λ (r : Row). r .number) e ∙ number-place w
 
-module _ {k : ℕ} {row : Row} (inner : Bool) (w : List ℕ) (h : k < 9) (e : row ≡ rowAt (placeOf w propertyNames)) where
-  follow-at : (not inner or same (componentName k) (ascii "VTIMEZONE")) ≡ (not inner or eqb k 5)
-  follow-at = rw (timezone-place (componentName k), component-at k h)
+module _ {k : ℕ} {row : Row} (inner : Bool) (c w : List ℕ) (o : k ≡ placeOf c componentNames) (e : row ≡ rowAt (placeOf w propertyNames)) where
+  follow-at : (not inner or same c (ascii "VTIMEZONE")) ≡ (not inner or eqb k 5)
+  follow-at = rw (timezone-place c, ← o)
 
-  hold-at : mayHold w (openAs (componentName k) inner) ≡ ((not (ltb (row .number) property.KNOWN) or standsAt k row) and (not inner or eqb k 5))
+  hold-at : mayHold w (openAs c inner) ≡ ((not (ltb (row .number) property.KNOWN) or standsAt k row) and (not inner or eqb k 5))
   unfolding isKnownProperty
-  hold-at = rw (one-of-place w propertyNames, stand-place (componentName k) w, component-at k h, ← (row-stands k (placeOf w propertyNames)), ← e, ← (number-of w e), follow-at)
+  hold-at = rw (one-of-place w propertyNames, stand-place c w, ← o, ← (row-stands k (placeOf w propertyNames)), ← e, ← (number-of w e), follow-at)
 
-  pub hold-known : {m r : Bool} → row .number < property.KNOWN → m ≡ standsAt k row → m ≡ true → r ≡ (not inner or eqb k 5) → r ≡ mayHold w (openAs (componentName k) inner)
+  pub hold-known : {m r : Bool} → row .number < property.KNOWN → m ≡ standsAt k row → m ≡ true → r ≡ (not inner or eqb k 5) → r ≡ mayHold w (openAs c inner)
   unfolding _and_ _or_
   hold-known f q g u = u ∙ sym (hold-at ∙ rw (lt-ltb (row .number) property.KNOWN f, ← q, g))
 
-  pub hold-not : {m : Bool} → row .number < property.KNOWN → m ≡ standsAt k row → m ≡ false → false ≡ mayHold w (openAs (componentName k) inner)
+  pub hold-not : {m : Bool} → row .number < property.KNOWN → m ≡ standsAt k row → m ≡ false → false ≡ mayHold w (openAs c inner)
   unfolding _and_ _or_
   hold-not f q g = sym (hold-at ∙ rw (lt-ltb (row .number) property.KNOWN f, ← q, g))
 
-  pub hold-other : {r : Bool} → property.KNOWN ≤ row .number → r ≡ (not inner or eqb k 5) → r ≡ mayHold w (openAs (componentName k) inner)
+  pub hold-other : {r : Bool} → property.KNOWN ≤ row .number → r ≡ (not inner or eqb k 5) → r ≡ mayHold w (openAs c inner)
   unfolding _and_ _or_
   hold-other f u = u ∙ sym (hold-at ∙ rw (le-ltb (row .number) property.KNOWN f))
 
@@ -88,21 +87,21 @@ fault-some : (o : Option Refusal) (p : Property) (f : ℕ) → f ≡ faultNumber
 fault-some none p f e h = absurd (h e)
 fault-some (some r) p f e h = ap faulty (sym (ap refusalAt e ∙ refusal-back r))
 
-module _ (l : ContentLine) (k : ℕ) {row : Row} (inner : Bool) {m : Bool} (e : row ≡ rowAt (placeOf (upper (l .name)) propertyNames)) (q : m ≡ mayHold (upper (l .name)) (openAs (componentName k) inner)) where
-  pub property-not : m ≡ false → KindIs (propertyKind (componentName k) inner l) (Faulty 6)
+module _ (v : Bool) (t : ℕ) (s : List ℕ) (l : ContentLine) (c : List ℕ) {row : Row} (inner : Bool) {m : Bool} (e : row ≡ rowAt (placeOf (upper (l .name)) propertyNames)) (q : m ≡ mayHold (upper (l .name)) (openAs c inner)) where
+  pub property-not : m ≡ false → KindIs v t s (propertyKind c inner l) (Faulty 6)
   unfolding refusalAt
   property-not g = pick-no _ _ _ (sym q ∙ g)
 
-  module _ {f : ℕ} (g : m ≡ true) (u : f ≡ faultNumber (propertyFault (componentName k) l)) where
-    pub property-faulty : (f ≡ 0 → ⊥) → KindIs (propertyKind (componentName k) inner l) (Faulty f)
-    property-faulty z = pick-yes _ _ _ (sym q ∙ g) ∙ fault-some (propertyFault (componentName k) l) (propertyOf (componentName k) l) f u z
+  module _ {f : ℕ} (g : m ≡ true) (u : f ≡ faultNumber (propertyFault c l)) where
+    pub property-faulty : (f ≡ 0 → ⊥) → KindIs v t s (propertyKind c inner l) (Faulty f)
+    property-faulty z = pick-yes _ _ _ (sym q ∙ g) ∙ fault-some (propertyFault c l) (propertyOf c l) f u z
 
-    pub property-held : {a : ℕ} → f ≡ 0 → a ≡ pick (eqb (row .number) property.ACTION) (placeOf (upper (l .value)) actionNames) 3 → KindIs (propertyKind (componentName k) inner l) (Holds (row .number) a)
+    pub property-held : {a : ℕ} → f ≡ 0 → a ≡ pick (eqb (row .number) property.ACTION) (placeOf (upper (l .value)) actionNames) 3 → KindIs v t s (propertyKind c inner l) (Holds (row .number) a)
     unfolding pick propertyOf
     property-held {a} z y =
-        let none-here : propertyFault (componentName k) l ≡ none = fault-none (propertyFault (componentName k) l) (sym u ∙ z) in record {
-          property = propertyOf (componentName k) l;
-          is = pick-yes _ _ _ (sym q ∙ g) ∙ ap (λ (o : Option Refusal). heldBy o (propertyOf (componentName k) l)) none-here;
+        let none-here : propertyFault c l ≡ none = fault-none (propertyFault c l) (sym u ∙ z) in record {
+          property = propertyOf c l;
+          is = pick-yes _ _ _ (sym q ∙ g) ∙ ap (λ (o : Option Refusal). heldBy o (propertyOf c l)) none-here;
           number = number-of (upper (l .name)) e;
-          action = λ x. y ∙ rw (eq-eqb (row .number) property.ACTION x) (sym (action-read (componentName k) l none-here (sym (number-of (upper (l .name)) e) ∙ x)));
+          action = λ x. y ∙ rw (eq-eqb (row .number) property.ACTION x) (sym (action-read c l none-here (sym (number-of (upper (l .name)) e) ∙ x)));
         }

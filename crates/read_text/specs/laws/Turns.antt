@@ -7,13 +7,12 @@ use native.Mathlib.Omega.{arith}
 use lib.ListN.{length, take}
 use Rattle.source.specs.Source.{rest}
 use Rattle.calendar.specs.Refusal.{LINE, refuse, refusalAt}
-use Rattle.schema.specs.Numbers.{componentName}
 use Rattle.folding.specs.Lines.{Line}
 use Rattle.read_text_line.specs.LineEnd.{index, LineEnds, EndsLine}
 use Rattle.read_text_line.specs.laws.LineEnd.{line-first, line-none}
 use Rattle.read_text_line.specs.declared.Ending.the-variants.{Loose}
 use Rattle.read_text_line.specs.Ready.{Ready}
-use Rattle.read_text_line.specs.laws.Ready.{ready-end, line-next, line-low}
+use Rattle.read_text_line.specs.laws.Ready.{ready-end, line-end-inside, line-next, line-low}
 use Rattle.text.specs.Nesting.{Open, onward, move, nesting}
 use Rattle.text.specs.LineKind.{faulty, lineKind, step}
 use Rattle.text.specs.laws.LineKind.{move-is}
@@ -34,22 +33,25 @@ pub loose-stops : (m : ℕ) (s : List ℕ) (at : ℕ) (st : List Open) → Ready
 unfolding nesting
 loose-stops m s at st r h f = ap (λ (ls : List Line). nesting (length (rest m s 0)) ls st) (line-none m s at (λ e. let k = r .some-byte e in omega arith) f)
 
-module _ (k : ℕ) (inner : Bool) {m : ℕ} {s : List ℕ} {at : ℕ} (r : Ready m s at) where
-  pub turned-loose : EndsLine m s at Loose → at < length s → Turned k inner m s at (record { kind = Faulty 4; next = length s })
+module _ (c : List ℕ) (v inner : Bool) {m : ℕ} {s : List ℕ} {at : ℕ} (r : Ready m s at) where
+  pub turned-loose : EndsLine m s at Loose → at < length s → Turned c v inner m s at (record { kind = Faulty 4; end = length s; next = length s })
   unfolding step onward refusalAt
   turned-loose f h = record {
     line = faulty LINE;
     said = refl;
     low = h;
     high = ready-end m s (r .cut);
-    does = λ seen st. loose-stops m s at (openIn k seen inner ∷ st) r h f;
+    within = omega arith;
+    does = λ seen st x. loose-stops m s at (openIn c seen inner ∷ st) r h f;
   }
 
-  pub turned-whole : {e n : ℕ} (x : Kind) → LineEnds m s at e n → KindIs (lineKind (componentName k) inner (rest m (take e s) at)) x → Turned k inner m s at (record { kind = x; next = n })
+  pub turned-whole : {e n : ℕ} (x : Kind) → LineEnds m s at e n → KindIs v m (take e s) (lineKind c v inner (rest m (take e s) at)) x →
+      Turned c v inner m s at (record { kind = x; end = e; next = n })
   turned-whole {e} {n} x f q = record {
-    line = lineKind (componentName k) inner (rest m (take e s) at);
+    line = lineKind c v inner (rest m (take e s) at);
     said = q;
     low = line-low r f;
     high = line-next r f;
-    does = λ seen st. line-moves r f (openIn k seen inner ∷ st) ∙ rw (move-is (rest m (take e s) at) (openIn k seen inner) st);
+    within = line-end-inside r f;
+    does = λ seen st z. line-moves r f (openIn c seen inner ∷ st) ∙ rw (move-is (rest m (take e s) at) (openIn c seen inner) st, z);
   }

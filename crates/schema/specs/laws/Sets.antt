@@ -17,14 +17,14 @@ use borrow.Author.Tests.{lt-ltb, le-ltb, ltb-true, ltb-false}
 use Rattle.octets.specs.Ascii.{ascii}
 use Rattle.octets.specs.Pick.{pick}
 use Rattle.octets.specs.Words.{same, rowOf}
-use Rattle.octets.specs.Reading.{andThen, isRead}
+use Rattle.octets.specs.Reading.{andThen, isRead, readOr}
 use Rattle.octets.specs.Computing.{octets-compute}
 use Rattle.names.specs.Table.{placeOf, nth}
 use Rattle.names.specs.laws.Table.{one-of-place}
 use Rattle.names.specs.laws.Places.{same-place, same-place-first}
 use Rattle.schema.specs.Parameters.{ParameterRow, parameterTable, unrecognisedParameter, parameterNames, parameterWords}
 use Rattle.schema.specs.Components.{componentNames}
-use Rattle.schema.specs.Properties.{WordsRow, propertyNames, wordsTable, statusTable, propertyWords}
+use Rattle.schema.specs.Properties.{WordsRow, propertyNames, wordsTable, statusTable, elsewhere, propertyWords}
 use Rattle.schema.specs.laws.Numbers.{parameter-place}
 use Rattle.schema.specs.Sets.{wordSets, statusSet, propertySet, wordsAt, parameterWordsAt, parameterSetNumbers, parameterSet, isWordOf, wordAmong, wordIn}
 use Rattle.schema.specs.Property as property
@@ -108,15 +108,24 @@ unfolding pick
 choose m n true f g = f
 choose m n false f g = g
 
-of-status : (c : List ℕ) → wordsOf (rowOf (λ r. r .name) c statusTable) ≡
+-- the same where there is a set for the rest
+abbrev orElse : Option WordsRow → Option (List (List ℕ))
+orElse o = some (readOr elsewhere o .words)
+
+step-else : (a : Bool) (r : WordsRow) (o : Option WordsRow) (i n : ℕ) → nth wordSets i ≡ some (r .words) → orElse o ≡ nth wordSets n → orElse (pick a (some r) o) ≡ nth wordSets (pick a i n)
+unfolding pick readOr
+step-else true r o i n e f = sym e
+step-else false r o i n e f = f
+
+of-status : (c : List ℕ) → orElse (rowOf (λ r. r .name) c statusTable) ≡
     nth wordSets (pick (same c (ascii "VEVENT")) 5 (pick (same c (ascii "VTODO")) 6 (pick (same c (ascii "VJOURNAL")) 7 16)))
-unfolding rowOf andThen nth
-of-status c = step _ _ _ 5 _ refl (step _ _ _ 6 _ refl (step _ _ _ 7 16 refl refl))
+unfolding rowOf andThen readOr nth
+of-status c = step-else _ _ _ 5 _ refl (step-else _ _ _ 6 _ refl (step-else _ _ _ 7 16 refl refl))
 
 of-property : (p : List ℕ) → wordsOf (rowOf (λ r. r .name) p wordsTable) ≡
-    nth wordSets (pick (same p (ascii "CALSCALE")) 0 (pick (same p (ascii "VERSION")) 1 (pick (same p (ascii "CLASS")) 2 (pick (same p (ascii "TRANSP")) 3 (pick (same p (ascii "ACTION")) 4 16)))))
+    nth wordSets (pick (same p (ascii "CALSCALE")) 0 (pick (same p (ascii "VERSION")) 1 (pick (same p (ascii "CLASS")) 2 (pick (same p (ascii "TRANSP")) 3 (pick (same p (ascii "ACTION")) 4 17)))))
 unfolding rowOf andThen nth
-of-property p = step _ _ _ 0 _ refl (step _ _ _ 1 _ refl (step _ _ _ 2 _ refl (step _ _ _ 3 _ refl (step _ _ _ 4 16 refl refl))))
+of-property p = step _ _ _ 0 _ refl (step _ _ _ 1 _ refl (step _ _ _ 2 _ refl (step _ _ _ 3 _ refl (step _ _ _ 4 17 refl refl))))
 
 pub words-place : (c p : List ℕ) → propertyWords c p ≡ wordsAt (placeOf c componentNames) (placeOf p propertyNames)
 unfolding propertyWords
@@ -129,7 +138,7 @@ parameter-words-place w = ap (λ (r : ParameterRow). r .words) (parameter-place 
 
 pub parameter-set : (q : ℕ) → nth wordSets (parameterSet q) ≡ parameterWordsAt q
 unfolding nth
-parameter-set q = sym (List·getD-map (nth wordSets) parameterSetNumbers q 16) ∙ List·getD-map (λ r. r .words) parameterTable q unrecognisedParameter
+parameter-set q = sym (List·getD-map (nth wordSets) parameterSetNumbers q 17) ∙ List·getD-map (λ r. r .words) parameterTable q unrecognisedParameter
 
 -- ---- for code
 

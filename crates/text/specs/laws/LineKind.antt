@@ -9,7 +9,7 @@ use Rattle.octets.specs.Pick.{pick}
 use Rattle.calendar.specs.Calendar.{Property}
 use Rattle.calendar.specs.Refusal.{Refusal}
 use Rattle.read_text_line.specs.ContentLine.{ContentLine, contentLine}
-use Rattle.text.specs.Nesting.{Open, on, begins, ends, states, told, moveBy, moveOf, move}
+use Rattle.text.specs.Nesting.{Open, on, hasLevel, begins, ends, states, told, moveBy, moveOf, move}
 use Rattle.text.specs.LineKind.{LineKind, heldBy, kindBy, kindOf, lineKind, step}
 
 -- ---- what it does
@@ -25,10 +25,10 @@ unfolding step
 step-held none p f st = refl
 step-held (some r) p f st = refl
 
-move-by : (o : Option ContentLine) (f : Open) (st : List Open) → moveOf o (f ∷ st) ≡ step (kindOf (f .name) (f .inner) o) f st
+move-by : (o : Option ContentLine) (f : Open) (st : List Open) → moveOf o (f ∷ st) ≡ step (kindOf (f .name) (hasLevel (f ∷ st)) (f .inner) o) f st
 unfolding moveOf kindOf
 move-by none f st = unfold step in refl
 move-by (some l) f st = unfold moveBy kindBy begins ends states in simp (step-pick, step-held) (unfold step in refl)
 
-pub move-is : (s : List ℕ) (f : Open) (st : List Open) → move s (f ∷ st) ≡ step (lineKind (f .name) (f .inner) s) f st
+pub move-is : (s : List ℕ) (f : Open) (st : List Open) → move s (f ∷ st) ≡ step (lineKind (f .name) (hasLevel (f ∷ st)) (f .inner) s) f st
 move-is s f st = move-by (contentLine s) f st

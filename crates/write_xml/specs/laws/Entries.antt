@@ -27,6 +27,7 @@ use Rattle.read_text_line.specs.declared.LineCursors.{LineCursors}
 use Rattle.read_text_line.specs.declared.LineRead.{LineRead}
 use Rattle.read_text_line.specs.declared.LineRead.the-variants.{Line as LineThere, Bad}
 use Rattle.write_xml_property.specs.laws.Property.{name-inside}
+use Rattle.calendar.specs.Levels.{levels, shallow}
 use Rattle.text.specs.Tree.{Entry, nothing, entryBy, entryOf, innerOf, calendarOf}
 use Rattle.write_xml.specs.Entries.{entriesAt, kindNamed, First, FoundBy, FoundAt}
 use Rattle.write_xml.specs.declared.entry.Found.{Found}
@@ -39,7 +40,7 @@ by-kind {mode} {s} {at} {r} f k q = subst (λ (x : Kind). FoundBy x mode s at (r
 
 -- ---- from the start, and past the end
 
-pub entries-start : {mode : ℕ} {s : List ℕ} {at : ℕ} → Settled mode s 0 at → innerOf (entriesAt mode s at) 0 ≡ calendarOf (lines (rest mode s 0))
+pub entries-start : {mode : ℕ} {s : List ℕ} {at : ℕ} → Settled mode s 0 at → shallow levels (innerOf (entriesAt mode s at) 0) ≡ calendarOf (lines (rest mode s 0))
 unfolding entriesAt calendarOf
 entries-start p = rw (lines-start p)
 

@@ -14,7 +14,7 @@ use Rattle.xml.specs.Nodes.{noNodes, documentNodes}
 use Rattle.xml.specs.NodesAt.{nodesAt}
 use Rattle.xml.specs.WellFormed.{xmlVerdict}
 use Rattle.text.specs.WriteText.{writeCalendar}
-use Rattle.xcal.specs.ComponentNodes.{rootVerdict, readComponents, readRoot}
+use Rattle.xcal.specs.ComponentNodes.{rootVerdict, readCalendars, readRoot}
 use Rattle.xcal.specs.ReadDocument.{documentVerdict, readDocument}
 use Rattle.lengths_text.specs.laws.Documents.{rate, text-bound}
 use Rattle.read_xml_nodes.specs.RootFound.{RootNode}
@@ -63,11 +63,11 @@ module _ (s d : List ℕ) where
 
 -- the root of a document within the XML profile
 module _ {s : List ℕ} {t : Element} (x : RootNode s t) (f : xmlVerdict s ≡ fine) where
-  root-reads : readRoot (documentNodes s) ≡ readComponents (nodesAt s (t .inside))
+  root-reads : readRoot (documentNodes s) ≡ readCalendars (nodesAt s (t .inside))
   unfolding readRoot
   root-reads = rw (x .is f)
 
-  pub root-bound : length (writeCalendar (readComponents (nodesAt s (t .inside)))) ≤ rate * length s
+  pub root-bound : length (writeCalendar (readCalendars (nodesAt s (t .inside)))) ≤ rate * length s
   root-bound = rw (← root-reads) (text-bound s)
 
   module _ {j : Judged} (v : RootAt s t j) (d : List ℕ) where
@@ -77,6 +77,6 @@ module _ {s : List ℕ} {t : Element} (x : RootNode s t) (f : xmlVerdict s ≡ f
     pub root-refused : (n : ℕ) {p : ℕ} {r : Answer} → j ≡ judged.Refused n p → r ≡ answerAt n p → Done (nodesGive s (rootVerdict (documentNodes s))) d d r
     root-refused n {p} e g = rw (root-judged, e) (done-fault d (ap outcomeOf g ∙ answer-refusal n p))
 
-    pub root-fine : {e : List ℕ} {r : Answer} → j ≡ judged.Fine → Done (converted writeCalendar (answer fine (readComponents (nodesAt s (t .inside))))) d e r →
+    pub root-fine : {e : List ℕ} {r : Answer} → j ≡ judged.Fine → Done (converted writeCalendar (answer fine (readCalendars (nodesAt s (t .inside))))) d e r →
         Done (nodesGive s (rootVerdict (documentNodes s))) d e r
     root-fine e g = rw (root-judged, e, root-reads) g

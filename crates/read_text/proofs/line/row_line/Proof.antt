@@ -1,9 +1,7 @@
 -- `read_text::line::row_line` meets its contract.
-use mathlib.Core.Path.{refl, sym}
+use mathlib.Core.Path.{refl}
 use borrow.Author.Needs.{needs}
 use Rattle.octets.specs.Class.{upper}
-use Rattle.schema.specs.Numbers.{componentName}
-use Rattle.schema.specs.laws.Places.{component-at}
 use Rattle.read_text_property.specs.laws.Faults.{fault-named}
 use Rattle.read_text_line.specs.Line.{lineFrom}
 use Rattle.read_text.specs.laws.Holding.{property-held, property-faulty, property-not}
@@ -12,10 +10,10 @@ use Rattle.read_text.proofs.line.row_line.Tie as tie
 
 pub row-line-spec : {M : Type 1} → statement M
 row-line-spec = tie.close (tie.spec
-    (λ c κs. c .before .pre .0)  -- may-hold-requires
+    (λ c κs. search needs)  -- may-hold-requires
     (λ c κs. search needs)  -- property-fault-requires
     (λ c κs. search needs)  -- action-of-requires
-    (λ c. λ w e. property-held (lineFrom w (c .before .before .before .before .before .before .args .mode) (c .before .before .before .before .before .before .args .s .now) (c .before .before .before .before .before .before .args .l)) (c .before .before .before .before .before .before .args .k) (c .before .before .before .before .before .before .args .inner) e (c .before .before .before .before .may-hold .ensures (upper w) e) (c .before .before .before .if1 .taken) (fault-named (componentName (c .before .before .before .before .before .before .args .k)) (lineFrom w (c .before .before .before .before .before .before .args .mode) (c .before .before .before .before .before .before .args .s .now) (c .before .before .before .before .before .before .args .l)) (c .before .before .property-fault .ensures) (sym (component-at _ (c .before .before .before .before .before .before .pre .0))) e refl refl) (c .before .if2 .taken) (c .action-of .ensures))  -- returns
-    (λ c. λ w e. property-faulty (lineFrom w (c .before .before .before .before .before .args .mode) (c .before .before .before .before .before .args .s .now) (c .before .before .before .before .before .args .l)) (c .before .before .before .before .before .args .k) (c .before .before .before .before .before .args .inner) e (c .before .before .before .may-hold .ensures (upper w) e) (c .before .before .if1 .taken) (fault-named (componentName (c .before .before .before .before .before .args .k)) (lineFrom w (c .before .before .before .before .before .args .mode) (c .before .before .before .before .before .args .s .now) (c .before .before .before .before .before .args .l)) (c .before .property-fault .ensures) (sym (component-at _ (c .before .before .before .before .before .pre .0))) e refl refl) (c .if2 .left))  -- returns-2
-    (λ c. λ w e. property-not (lineFrom w (c .before .before .before .args .mode) (c .before .before .before .args .s .now) (c .before .before .before .args .l)) (c .before .before .before .args .k) (c .before .before .before .args .inner) e (c .before .may-hold .ensures (upper w) e) (c .if1 .left))  -- returns-3
+    (λ c. λ g n w o e. property-held g (c .before .before .before .before .before .before .args .mode) (c .before .before .before .before .before .before .args .s .now) (lineFrom w (c .before .before .before .before .before .before .args .mode) (c .before .before .before .before .before .before .args .s .now) (c .before .before .before .before .before .before .args .l)) n (c .before .before .before .before .before .before .args .inner) e (c .before .before .before .before .may-hold .ensures n (upper w) o e) (c .before .before .before .if1 .taken) (fault-named n (lineFrom w (c .before .before .before .before .before .before .args .mode) (c .before .before .before .before .before .before .args .s .now) (c .before .before .before .before .before .before .args .l)) (c .before .before .property-fault .ensures) o e refl refl) (c .before .if2 .taken) (c .action-of .ensures))  -- returns
+    (λ c. λ g n w o e. property-faulty g (c .before .before .before .before .before .args .mode) (c .before .before .before .before .before .args .s .now) (lineFrom w (c .before .before .before .before .before .args .mode) (c .before .before .before .before .before .args .s .now) (c .before .before .before .before .before .args .l)) n (c .before .before .before .before .before .args .inner) e (c .before .before .before .may-hold .ensures n (upper w) o e) (c .before .before .if1 .taken) (fault-named n (lineFrom w (c .before .before .before .before .before .args .mode) (c .before .before .before .before .before .args .s .now) (c .before .before .before .before .before .args .l)) (c .before .property-fault .ensures) o e refl refl) (c .if2 .left))  -- returns-2
+    (λ c. λ g n w o e. property-not g (c .before .before .before .args .mode) (c .before .before .before .args .s .now) (lineFrom w (c .before .before .before .args .mode) (c .before .before .before .args .s .now) (c .before .before .before .args .l)) n (c .before .before .before .args .inner) e (c .before .may-hold .ensures n (upper w) o e) (c .if1 .left))  -- returns-3
     )

@@ -42,7 +42,11 @@ unfolding nth namesIn pick
 returns-8 c = word-in wordSets (c .before .before .before .before .before .before .before .before .before .before .before .args .n) 15 _ _ _ (omega arith) refl refl (c .read-word-in8 .ensures)
 
 returns-9 : tie.Need-returns-9
-returns-9 c = word-none wordSets _ _ (c .if8 .left)
+unfolding nth namesIn pick
+returns-9 c = word-in wordSets (c .before .before .before .before .before .before .before .before .before .before .before .before .args .n) 16 _ _ _ (omega arith) refl refl (c .read-word-in9 .ensures)
+
+returns-10 : tie.Need-returns-10
+returns-10 c = word-none wordSets _ _ (c .if9 .left)
 
 pub read-in-parameter-set-spec : {M : Type 1} → statement M
 read-in-parameter-set-spec = tie.close (tie.spec
@@ -70,5 +74,8 @@ read-in-parameter-set-spec = tie.close (tie.spec
     (λ c. search needs)  -- slice-table-8
     (λ c κs. search needs)  -- read-word-in-requires-8
     returns-8
+    (λ c. search needs)  -- slice-table-9
+    (λ c κs. search needs)  -- read-word-in-requires-9
     returns-9
+    returns-10
     )
