@@ -26,7 +26,8 @@ extern "C" {
 #define MALLETTRITON_TEXT_MOST(n) (6 * (size_t)(n))
 
 /* What an answer's number says, and what its value is then. Places count bytes of the input from 0; a line's place is the first of its
- * bytes that unfolding keeps, a tag's place is its `<`.
+ * bytes that unfolding keeps, and so is that of a parameter's name or of a value (of an empty one it is the CR at the line's end); a
+ * tag's place is its `<`.
  *
  * To XML all but XML are given: LENGTH, WORK and CHARACTER first, then the lowest number that the first faulty line has. To text all but
  * WORK and LINE are given: LENGTH, CHARACTER and XML first, over the whole document, then the fault at the smallest place, the lowest
@@ -42,8 +43,10 @@ enum mallettriton_number {
                                    still open at the end, or no calendar at all                  characters that may not stand
                                                                                                  there their first; the text's
                                                                                                  length at its end             */
-    MALLETTRITON_PARAMETER = 7, /* a parameter not permitted, repeated, or of bad value   value: place of the line or tag      */
-    MALLETTRITON_VALUE = 8,     /* a value not of a permitted type                        value: place of the line or tag      */
+    MALLETTRITON_PARAMETER = 7, /* a parameter not permitted, repeated, or of bad value   value: place of its name, of the value
+                                                                                                 where ENCODING is missing, or of
+                                                                                                 the tag                       */
+    MALLETTRITON_VALUE = 8,     /* a value not of a permitted type                        value: place of the value or tag     */
     MALLETTRITON_COUNT = 9,     /* a property missing or too often, a pair broken, a      value: place of the END line or of
                                    VTIMEZONE with nothing in it                                  the component's end tag       */
     MALLETTRITON_ROOM = 10,     /* the result is longer than the output                   value: the result's exact length     */

@@ -65,9 +65,10 @@ pub enum Number {
     Name = 5,
     /// Something where it may not stand, or something open or missing at the end.
     Frame = 6,
-    /// A parameter that is not permitted, comes again, or has a bad value.
+    /// A parameter that is not permitted, comes again, or has a bad value. In a text the place is that of its name, the leftmost if there are several, or of the
+    /// value where ENCODING is missing.
     Parameter = 7,
-    /// A value that is not of a permitted type.
+    /// A value that is not of a permitted type. In a text the place is that of the value's first byte.
     Value = 8,
     /// A property missing or too often, a pair broken, a VTIMEZONE with nothing in it.
     Count = 9,

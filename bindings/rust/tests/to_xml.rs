@@ -38,19 +38,24 @@ fn against_lines(input: &[u8], told: &Told) {
     let reading = reading(input);
     match told {
         Told::Written(xml) => {
-            assert!(reading.lines.iter().all(|(_, fault)| fault.is_none()) && !reading.is_open_at_end);
+            assert!(reading.lines.iter().all(|line| line.fault.is_none()) && !reading.is_open_at_end);
             assert_canonical(xml);
         }
         Told::Refused(number, place) => {
-            for (start, fault) in &reading.lines {
-                if start == place {
-                    match fault {
-                        Some(lowest) => assert_eq!(number, lowest),
+            for line in &reading.lines {
+                let there = match number {
+                    7 => line.names.contains(place) || line.value == Some(*place),
+                    8 => line.value == Some(*place),
+                    _ => line.start == *place,
+                };
+                if there {
+                    match line.fault {
+                        Some(lowest) => assert_eq!(*number, lowest),
                         None => assert!((6..=9).contains(number)),
                     }
                     return;
                 }
-                assert!(fault.is_none(), "refused {number} at {place}, but the line at {start} has {fault:?}");
+                assert!(line.fault.is_none(), "refused {number} at {place}, but the line at {} has {:?}", line.start, line.fault);
             }
             assert!(reading.is_open_at_end && (*number, *place) == (6, input.len()), "refused {number} at {place}");
         }

@@ -1,6 +1,8 @@
 // Bits of a number, by shift and mask. A mask is a set of small numbers, one bit for each.
 ghost use mathlib.Core.Path.{_≡_};
-ghost use Prim.Native.Nat.{_<_};
+ghost use mathlib.Core.Bool.{true, cond};
+ghost use Prim.Native.Nat.{ℕ, _<_};
+ghost use lib.Dec.{eqb};
 ghost use Rattle.bits.specs.Masks.{has, lowBits, highBits};
 
 // How many bits a mask has.
@@ -14,6 +16,14 @@ pub fn holds(mask: u32, i: usize) -> bool
         return (mask >> i) & 1 == 1;
     }
     false
+}
+
+// The set with `i` in it.
+pub fn insert(mask: u32, i: usize) -> u32
+    requires { ⌜ i < 32 ⌝ }
+    ensures { λ r. ⌜ ((j : ℕ) → has r j ≡ cond (eqb i j) true (has mask j)) ⌝ }
+{
+    mask | (1 << i)
 }
 
 // The lowest `count` bits of `x`.

@@ -1,5 +1,6 @@
 // Words cut out of lent bytes, whether no two of them are the same: about n log n comparisons for n words.
 // The words are sorted by their numbers, which needs no proof: what the sort left is checked. See specs/.
+mod again;
 mod compare;
 mod cuts;
 mod heap;
@@ -7,6 +8,7 @@ mod numbers;
 mod order;
 mod pairs;
 
+pub use again::first_again;
 pub use compare::compare_from;
 pub use cuts::keep;
 use heap::sort;

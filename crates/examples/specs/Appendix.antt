@@ -83,7 +83,7 @@ unfolding conversions-compute
 planning-to-xml = refl
 
 -- before erratum 3892: a DATE is no value of DTSTART's default type
-planning-before : given (planning "DTSTART:20081006") ≡ fault VALUE 136
+planning-before : given (planning "DTSTART:20081006") ≡ fault VALUE 144
 unfolding conversions-compute
 planning-before = refl
 

@@ -69,7 +69,7 @@ unfolding conversions-compute
 folded-written = refl
 
 folded-refused : xmlCall (inEvent (ascii "SUM\r\n MARY:a\r\n\t,b\r\n")) (dots 160) (dots 500)
-    ≡ called 8 112 (dots 500) (inEvent (ascii "SUMMARY:a,b\r\n") ++ dots 8)
+    ≡ called 8 123 (dots 500) (inEvent (ascii "SUMMARY:a,b\r\n") ++ dots 8)
 unfolding conversions-compute
 folded-refused = refl
 

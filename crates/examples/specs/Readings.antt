@@ -117,23 +117,23 @@ table =
     wholeText [] gives refused 6 at 0 ∷
     -- DATE `20240229` accepted, `20230229` and `19000229` 8, `20000229` accepted.
     date "20240229" gives is "<dtend><date>2024-02-29</date></dtend>" "DTEND;VALUE=DATE:20240229" ∷
-    date "20230229" gives refused 8 at 112 ∷
-    date "19000229" gives refused 8 at 112 ∷
+    date "20230229" gives refused 8 at 129 ∷
+    date "19000229" gives refused 8 at 129 ∷
     date "20000229" gives is "<dtend><date>2000-02-29</date></dtend>" "DTEND;VALUE=DATE:20000229" ∷
     -- INTEGER `2147483648` 8; `-2147483648` accepted; `+007` is `7`; `-0` is `0`.
-    integer "2147483648" gives refused 8 at 112 ∷
+    integer "2147483648" gives refused 8 at 121 ∷
     integer "-2147483648" gives is "<priority><integer>-2147483648</integer></priority>" "PRIORITY:-2147483648" ∷
     integer "+007" gives is "<priority><integer>7</integer></priority>" "PRIORITY:7" ∷
     integer "-0" gives is "<priority><integer>0</integer></priority>" "PRIORITY:0" ∷
     -- FLOAT `-037.50` is `-37.5`; `.5` 8.
     float "-037.50" gives is "<x-f><float>-37.5</float></x-f>" "X-F;VALUE=FLOAT:-37.5" ∷
-    float ".5" gives refused 8 at 112 ∷
+    float ".5" gives refused 8 at 128 ∷
     -- `PT1H5S` 8; `PT1H0M5S` accepted.
-    duration "PT1H5S" gives refused 8 at 112 ∷
+    duration "PT1H5S" gives refused 8 at 121 ∷
     duration "PT1H0M5S" gives is "<duration><duration>PT1H0M5S</duration></duration>" "DURATION:PT1H0M5S" ∷
     -- SUMMARY `a\,b\Nc` is `a,b`, LF, `c`; `a,b` 8.
     summary "a\\,b\\Nc" gives is "<summary><text>a,b\nc</text></summary>" "SUMMARY:a\\,b\\nc" ∷
-    summary "a,b" gives refused 8 at 112 ∷
+    summary "a,b" gives refused 8 at 120 ∷
     -- A 75-octet line stays whole; 76 octets give 75, then a space and 1. Asked of the line alone, and of a SUMMARY, whose name and colon have 8 octets.
     folded (letters 75) gives octets (letters 75 ++ crlf) ∷
     folded (letters 76) gives octets (letters 75 ++ ascii "\r\n a" ++ crlf) ∷

@@ -36,16 +36,26 @@ textTable =
     line (ascii "BEGIN:VEVENT") gives refused 6 at 112 ∷
     line (ascii "END:VCALENDAR") gives refused 6 at 112 ∷
     wholeText (textLines ("BEGIN:VCALENDAR" ∷ [])) gives refused 6 at 17 ∷
-    -- 7 PARAMETER: not permitted; repeated; not quoted; BINARY without ENCODING; a type that is none; on BEGIN
-    line (ascii "SUMMARY;TZID=Lake:a") gives refused 7 at 112 ∷
-    line (ascii "SUMMARY;X-A=1;x-a=2:a") gives refused 7 at 112 ∷
-    line (ascii "SUMMARY;ALTREP=cid:a") gives refused 7 at 112 ∷
-    line (ascii "ATTACH;VALUE=BINARY:TWFs") gives refused 7 at 112 ∷
-    line (ascii "X-A;VALUE=X-B:1") gives refused 7 at 112 ∷
-    line (ascii "BEGIN;X-A=1:VALARM") gives refused 7 at 112 ∷
-    -- 8 VALUE: a type that is not permitted; not of the type
-    line (ascii "SUMMARY;VALUE=URI:cid:a") gives refused 8 at 112 ∷
-    line (ascii "GEO:37") gives refused 8 at 112 ∷
+    -- 7 PARAMETER, at its name: not permitted; repeated, where it comes again; not quoted; a type that is none; on BEGIN the first
+    line (ascii "SUMMARY;TZID=Lake:a") gives refused 7 at 120 ∷
+    line (ascii "SUMMARY;X-A=1;x-a=2:a") gives refused 7 at 126 ∷
+    line (ascii "SUMMARY;ALTREP=cid:a") gives refused 7 at 120 ∷
+    line (ascii "X-A;VALUE=X-B:1") gives refused 7 at 116 ∷
+    line (ascii "BEGIN;X-A=1;X-B=2:VALARM") gives refused 7 at 118 ∷
+    -- of several the leftmost; the name begins behind a fold
+    line (ascii "SUMMARY;X-A=1;TZID=Lake;RSVP=TRUE:a,b") gives refused 7 at 126 ∷
+    line (ascii "SUMMARY;\r\n T\r\n ZID=Lake:a") gives refused 7 at 123 ∷
+    -- BINARY: without ENCODING at the value; with one that is not BASE64 at its name
+    line (ascii "ATTACH;VALUE=BINARY:TWFs") gives refused 7 at 132 ∷
+    line (ascii "ATTACH;ENCODING=8BIT;VALUE=BINARY;ENCODING=BASE64:TWFs") gives refused 7 at 119 ∷
+    -- RELATED is judged by the type that the value has: where VALUE names none, only VALUE is at fault
+    line (ascii "BEGIN:VALARM\r\nTRIGGER;RELATED=START;VALUE=X-A:PT1H") gives refused 7 at 148 ∷
+    line (ascii "BEGIN:VALARM\r\nTRIGGER;RELATED=START;VALUE=DATE:PT1H") gives refused 7 at 134 ∷
+    -- 8 VALUE, behind the colon: a type that is not permitted; not of the type; behind a fold; empty, at the line's end
+    line (ascii "SUMMARY;VALUE=URI:cid:a") gives refused 8 at 130 ∷
+    line (ascii "GEO:37") gives refused 8 at 116 ∷
+    line (ascii "SUMMARY:\r\n a,b") gives refused 8 at 123 ∷
+    line (ascii "URL:\r\n \r\n ") gives refused 8 at 122 ∷
     -- 9 COUNT, at the END line: too often; a pair excluded
     line (ascii "SUMMARY:a\r\nSUMMARY:b") gives refused 9 at 134 ∷
     line (ascii "DTEND:20240504T090000\r\nDURATION:PT1H") gives refused 9 at 150 ∷

@@ -44,6 +44,9 @@ fn main() {
     try_text(
         b"BEGIN:VCAL\r\n ENDAR\r\nPRODID:a\r\nVERSION:2.0\r\n\r\n\tX;VALUE=INT\r\n EGER:4x\r\nEND:VCALENDAR\r\n",
     );
+    // a faulty parameter, whose name stands behind a fold and has one in it; an empty value, with folds before the line's end
+    try_text(b"BEGIN:VCALENDAR\r\nPRODID;\r\n R\r\n SVP=TRUE:a\r\nEND:VCALENDAR\r\n");
+    try_text(b"BEGIN:VCALENDAR\r\nVERSION:\r\n \r\n \r\nEND:VCALENDAR\r\n");
     // a property that may not stand there, whose line begins behind two folds
     try_text(b"BEGIN:VCALENDAR\r\nPRODID:a\r\nVERSION:2.0\r\n\r\n \r\n DUE:2\r\nEND:VCALENDAR\r\n");
     // one pass of unfolding leaves CR, LF and a space, which end a line and begin another

@@ -14,7 +14,7 @@ use Rattle.octets.specs.Class.{upper}
 use Rattle.names.specs.Table.{placeOf}
 use Rattle.calendar.specs.Calendar.{Property}
 use Rattle.calendar.specs.Levels.{levels}
-use Rattle.calendar.specs.Refusal.{COUNT, refusalAt}
+use Rattle.calendar.specs.Refusal.{COUNT, refuse, refusalAt}
 use Rattle.schema.specs.Components.{componentNames}
 use Rattle.schema.specs.Counts.{actionOf, Around, methodFor, complete}
 use Rattle.schema.specs.Arrays.{bumped, tallies}
@@ -28,11 +28,13 @@ use Rattle.read_text_line.specs.LineEnd.{index, linesAt}
 use Rattle.source.specs.laws.Facts.{rest-past}
 use Rattle.read_text_line.specs.Ready.{Ready}
 use Rattle.read_text_line.specs.laws.Ready.{ready-start, lines-start, lines-past, index-end}
+use Rattle.text.specs.Faults.{fault, lineStart, offset}
 use Rattle.text.specs.Nesting.{Open, on, stop, opened, methodIn, onward, ended, nesting}
 use Rattle.text.specs.LineKind.{LineKind, step}
 use Rattle.text.specs.ReadText.{linesVerdict}
 use Rattle.read_text.specs.Answers.{Checks}
 use Rattle.read_text.specs.laws.Action.{action-seen}
+use Rattle.read_text.specs.Places.{PlaceAt}
 use Rattle.read_text.specs.Kinds.{Held, KindIs}
 use Rattle.read_text.specs.Turns.{onFrom, openIn, Turned, Body}
 use Rattle.read_text.specs.Outer.{Outer}
@@ -74,15 +76,17 @@ module _ {c : List ℕ} {left : ℕ} {method : Bool} {m : ℕ} {s : List ℕ} {f
   module _ {v : Bool} (y : v ≡ ltb 0 left) {t : Turn} (d : Turned c v inner m s at t) where
     -- the check up to a line, and what that line does
     moves : (st : List Open) → methodIn st ≡ method → length st + 1 + left ≡ levels →
-        onFrom m s from (opened c ∷ st) ≡ onward (step (d .line) (openIn c (r .seen) inner) st) (index m s at) (onFrom m s (t .next))
+        onFrom m s from (opened c ∷ st) ≡ onward (step (d .line) (openIn c (r .seen) inner) st) (index m s at) (d .bytes) (onFrom m s (t .next))
     moves st i j = r .agrees st i j ∙ d .does (r .seen) st (level-is left (length st) j ∙ sym y)
 
-    said-as : (x : Kind) → t .kind ≡ x → KindIs v m (take (t .end) s) (d .line) x
-    said-as x e = subst (KindIs v m (take (t .end) s) (d .line)) e (d .said)
+    said-as : (x : Kind) → t .kind ≡ x → KindIs (PlaceAt m s at (d .bytes)) v m (take (t .end) s) (d .line) x
+    said-as x e = subst (KindIs (PlaceAt m s at (d .bytes)) v m (take (t .end) s) (d .line)) e (d .said)
 
-    pub body-faulty : {n : ℕ} → t .kind ≡ Faulty n → Body c left method m s from (Failed n at)
+    pub body-faulty : {n p : ℕ} → t .kind ≡ Faulty n p → Body c left method m s from (Failed n p)
     unfolding step onward
-    body-faulty {n} e = record { ends = r .high .most; agrees = λ st i j. moves st i j ∙ rw (said-as (Faulty n) e) }
+    body-faulty {n} {p} e =
+        let f = said-as (Faulty n p) e in
+        record { ends = f .there .most; agrees = λ st i j. moves st i j ∙ rw (f .is) (ap (refuse (refusalAt n)) (sym (f .there .is))) }
 
     -- a property
     pub reached-held : {p a action' : ℕ} {counts' : List ℕ} → t .kind ≡ Holds p a → counts' ≡ bumped p counts → action' ≡ pick (eqb p property.ACTION) a action →
@@ -94,7 +98,7 @@ module _ {c : List ℕ} {left : ℕ} {method : Bool} {m : ℕ} {s : List ℕ} {f
       seen = h .property ∷ r .seen;
       tallied = f ∙ ap (bumped p) (r .tallied) ∙ ap (λ (n : ℕ). bumped n (tallies (r .seen))) (h .number);
       acted = g ∙ action-seen (h .property) (r .seen) (h .number) (h .action) (r .acted);
-      agrees = λ st i j. moves st i j ∙ ap (λ (x : LineKind). onward (step x (openIn c (r .seen) inner) st) (index m s at) (onFrom m s (t .next))) (h .is);
+      agrees = λ st i j. moves st i j ∙ ap (λ (x : LineKind). onward (step x (openIn c (r .seen) inner) st) (index m s at) (d .bytes) (onFrom m s (t .next))) (h .is);
     }
 
     -- a subcomponent
@@ -134,7 +138,7 @@ module _ {c : List ℕ} {left : ℕ} {method : Bool} {m : ℕ} {s : List ℕ} {f
       counted = sym (complete-tallies c (r .seen) (record { inner = inner; method = method })) ∙ rw (← o, ← (r .tallied), ← (r .acted)) (sym q)
 
       stopped : (st : List Open) → methodIn st ≡ method → length st + 1 + left ≡ levels →
-          onFrom m s from (opened c ∷ st) ≡ onward (pick b (on st) (stop COUNT)) (index m s at) (onFrom m s (t .next))
+          onFrom m s from (opened c ∷ st) ≡ onward (pick b (on st) (stop (fault COUNT lineStart))) (index m s at) (d .bytes) (onFrom m s (t .next))
       unfolding step
       stopped st i j = moves st i j ∙ rw (said-as Stops e, i, counted)
 
@@ -143,8 +147,8 @@ module _ {c : List ℕ} {left : ℕ} {method : Bool} {m : ℕ} {s : List ℕ} {f
       body-closed f = record { ends = (omega (arith, r .low, d .low), d .high); agrees = λ st i j. stopped st i j ∙ rw f }
 
       pub body-short : b ≡ false → Body c left method m s from (Failed 9 at)
-      unfolding onward pick refusalAt
-      body-short f = record { ends = r .high .most; agrees = λ st i j. stopped st i j ∙ rw f }
+      unfolding onward pick refusalAt offset
+      body-short f = record { ends = r .high .most; agrees = λ st i j. let z : index m s at + 0 ≡ index m s at = omega arith in stopped st i j ∙ rw f (ap (refuse COUNT) z) }
 
 -- ---- between calendars
 

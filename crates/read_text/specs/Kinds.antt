@@ -1,5 +1,5 @@
 -- The kind of a line in an open component, by numbers.
---     KindIs              what the code's answer says of a kind, where the line is s, and v says whether there is a level left;   Held: of a property
+--     KindIs P v m s      what the code's answer says of a kind, where P says that a place in the line has a cursor, v whether there is a level left, and the line is s;   Held: of a property;   Faulted: of a fault
 use mathlib.Core.Path.{_≡_}
 use mathlib.Core.Bool.{Bool, true}
 use mathlib.Core.List.{List}
@@ -14,6 +14,7 @@ use Rattle.schema.specs.Properties.{propertyNames}
 use Rattle.schema.specs.Counts.{firstText}
 use Rattle.schema.specs.Completing.{actionNumber}
 use Rattle.schema.specs.Property.{ACTION}
+use Rattle.text.specs.Faults.{Where, fault}
 use Rattle.text.specs.LineKind.{LineKind, starts, stops, holds, faulty}
 use Rattle.read_text.specs.declared.Kind.{Kind}
 use Rattle.read_text.specs.declared.Kind.the-variants.{Starts, Stops, Holds, Faulty}
@@ -25,9 +26,14 @@ pub record Held (x : LineKind) (p a : ℕ) : Type 0 where
   pub number : p ≡ placeOf (property .name) propertyNames
   pub action : p ≡ ACTION → a ≡ actionNumber (firstText (property .values))
 
+pub record Faulted (P : Where → ℕ → Type 0) (x : LineKind) (n c : ℕ) : Type 0 where
+  pub place : Where
+  pub is : x ≡ faulty (fault (refusalAt n) place)
+  pub there : P place c
+
 -- of a component that starts its number, and where its name stands in the line
-abbrev pub KindIs : Bool → ℕ → List ℕ → LineKind → Kind → Type 0
-KindIs v m s x (Starts n a) = (x ≡ starts (upper (rest m s a))) × (n ≡ placeOf (upper (rest m s a)) componentNames) × (v ≡ true)
-KindIs v m s x Stops = x ≡ stops
-KindIs v m s x (Holds p a) = Held x p a
-KindIs v m s x (Faulty n) = x ≡ faulty (refusalAt n)
+abbrev pub KindIs : (Where → ℕ → Type 0) → Bool → ℕ → List ℕ → LineKind → Kind → Type 0
+KindIs P v m s x (Starts n a) = (x ≡ starts (upper (rest m s a))) × (n ≡ placeOf (upper (rest m s a)) componentNames) × (v ≡ true)
+KindIs P v m s x Stops = x ≡ stops
+KindIs P v m s x (Holds p a) = Held x p a
+KindIs P v m s x (Faulty n c) = Faulted P x n c

@@ -1,32 +1,36 @@
 -- A line where nothing is open: it begins a VCALENDAR, or is refused. A calendar from its BEGIN on.
---     outward        what a line without a fault does there, and one with the fault of a number
---     OpensAs        a line's fault there, and where the name stands in it that it begins
---     Outer          the contract of a calendar
+--     OpeningIs P m s    what the code's answer says of what a line does there, where P says that a place in the line has a cursor, and the line is s
+--     Outer              the contract of a calendar
 use mathlib.Core.Path.{_≡_}
 use mathlib.Core.List.{List, [], _∷_}
 use Prim.Native.Nat.{ℕ}
-use lib.Dec.{eqb}
-use Rattle.octets.specs.Pick.{pick}
 use Rattle.octets.specs.Class.{upper}
 use Rattle.calendar.specs.Refusal.{refusalAt}
 use Rattle.source.specs.Source.{rest}
-use Rattle.schema.specs.Numbers.{componentName}
+use Rattle.names.specs.Table.{placeOf}
+use Rattle.schema.specs.Components.{componentNames}
 use Rattle.read_text_line.specs.Cursor.{paramsAt}
 use Rattle.read_text_line.specs.declared.LineCursors.{LineCursors}
-use Rattle.text.specs.Nesting.{Move, on, stop, opened, begins, ends}
+use Rattle.text.specs.Faults.{Where, fault}
+use Rattle.text.specs.Nesting.{Move, on, stop, opened, begins}
 use Rattle.read_text.specs.Turns.{onFrom, resumed, Ends}
 use Rattle.read_text.specs.declared.Step.{Step}
+use Rattle.read_text.specs.declared.Opening.{Opening}
+use Rattle.read_text.specs.declared.Opening.the-variants.{Begins, Faulty}
 
-abbrev pub outward : ℕ → Move
-outward f = pick (eqb f 0) (on (opened (componentName 0) ∷ [])) (stop (refusalAt f))
+pub record Stopped (P : Where → ℕ → Type 0) (x : Move) (n c : ℕ) : Type 0 where
+  pub place : Where
+  pub is : x ≡ stop (fault (refusalAt n) place)
+  pub there : P place c
+
+-- of a calendar that begins where its name stands in the line: VCALENDAR, whose number is 0
+abbrev pub OpeningIs : (Where → ℕ → Type 0) → ℕ → List ℕ → Move → Opening → Type 0
+OpeningIs P m s x (Begins a) = (x ≡ on (opened (upper (rest m s a)) ∷ [])) × (0 ≡ placeOf (upper (rest m s a)) componentNames)
+OpeningIs P m s x (Faulty n c) = Stopped P x n c
 
 -- a BEGIN, by its parts
 abbrev pub beginsOuter : ℕ → List ℕ → LineCursors → Move
 beginsOuter m s l = begins (upper (rest m s (l .value))) (paramsAt m s (l .parameters)) []
-
-pub record OpensAs (m : ℕ) (s : List ℕ) (x : Move) (fault value : ℕ) : Type 0 where
-  pub is : x ≡ outward fault
-  pub named : fault ≡ 0 → upper (rest m s value) ≡ componentName 0
 
 pub record Outer (m : ℕ) (s : List ℕ) (at : ℕ) (r : Step) : Type 0 where
   pub ends : Ends m s at r

@@ -15,6 +15,7 @@ use Rattle.read_text_line.specs.LineEnd.{index, linesAt}
 use Rattle.read_text_line.specs.Ready.{Ready}
 use Rattle.text.specs.Nesting.{Open, opened, hasLevel, methodIn, onward, nesting}
 use Rattle.text.specs.LineKind.{LineKind, step}
+use Rattle.read_text.specs.Places.{PlaceAt}
 use Rattle.read_text.specs.Kinds.{KindIs}
 use Rattle.read_text.specs.declared.Turn.{Turn}
 use Rattle.read_text.specs.declared.Step.{Step}
@@ -30,13 +31,14 @@ openIn c seen inner = record { name = c; seen = seen; inner = inner }
 
 -- in a component c; v says whether there is a level left in it
 pub record Turned (c : List ℕ) (v inner : Bool) (m : ℕ) (s : List ℕ) (at : ℕ) (t : Turn) : Type 0 where
+  pub bytes : List ℕ
   pub line : LineKind
-  pub said : KindIs v m (take (t .end) s) line (t .kind)
+  pub said : KindIs (PlaceAt m s at bytes) v m (take (t .end) s) line (t .kind)
   pub low : at < t .next
   pub high : Ready m s (t .next)
   pub within : t .end ≤ length s
   pub does : (seen : List Property) (st : List Open) → hasLevel (openIn c seen inner ∷ st) ≡ v →
-      onFrom m s at (openIn c seen inner ∷ st) ≡ onward (step line (openIn c seen inner) st) (index m s at) (onFrom m s (t .next))
+      onFrom m s at (openIn c seen inner ∷ st) ≡ onward (step line (openIn c seen inner) st) (index m s at) bytes (onFrom m s (t .next))
 
 -- ---- a component
 

@@ -2,6 +2,7 @@
 --     Names       names of components
 --     Components  components by their numbers
 --     Action      the word of ACTION
+--     Places      the place of a fault in a line, found by a cursor
 --     Kinds       the kind of a line in an open component
 --     Holding     a property in an open component
 --     Turns       a line in its text, and a component
@@ -9,6 +10,7 @@
 pub mod Names
 pub mod Components
 pub mod Action
+pub mod Places
 pub mod Kinds
 pub mod Holding
 pub mod Turns

@@ -5,6 +5,7 @@ use crate::Step;
 use crate::component::body;
 use crate::line::no_params;
 use crate::named::is_component_name;
+use crate::places::parameter_cursor;
 use names::is_word_any_case;
 use read_text_line::Ending;
 use read_text_line::LineCursors;
@@ -15,7 +16,6 @@ use read_text_line::names_carried;
 use refusals::FRAME;
 use refusals::LINE;
 use refusals::NAME;
-use refusals::NO_FAULT;
 use refusals::PARAMETER;
 use schema::component;
 use schema::component_number;
@@ -29,12 +29,14 @@ ghost use Rattle.source.specs.Source.{rest, cuts};
 ghost use Rattle.read_text_line.specs.Line.{named, Parts};
 ghost use Rattle.text.specs.Nesting.{moveBy, move};
 ghost use Rattle.read_text_line.specs.Ready.{Ready};
-ghost use Rattle.read_text.specs.Outer.{beginsOuter, OpensAs, Outer};
+ghost use Rattle.read_text.specs.Places.{PlaceOf, OffsetAt};
+ghost use Rattle.read_text.specs.Outer.{OpeningIs, beginsOuter, Outer};
 ghost use Rattle.read_text.specs.Answers.{Checks};
 
-// The fault of a BEGIN where nothing is open, NO_FAULT where it has none: it begins a VCALENDAR.
-fn begin_fault(mode: usize, s: &[u8], l: LineCursors) -> u8
-    ensures { λ r. ⌜ OpensAs mode (now (s .entry)) (beginsOuter mode (now (s .entry)) l) r (l .value) ⌝ }
+// A BEGIN where nothing is open.
+fn begin_opens(mode: usize, s: &[u8], l: LineCursors) -> Opening
+    ensures { λ r. ⌜
+        OpeningIs (PlaceOf mode (now (s .entry)) l) mode (now (s .entry)) (beginsOuter mode (now (s .entry)) l) r ⌝ }
 {
     let good = is_component_name(mode, s, l.value);
     if good {
@@ -42,19 +44,22 @@ fn begin_fault(mode: usize, s: &[u8], l: LineCursors) -> u8
         if n == component::VCALENDAR {
             let bare = no_params(mode, s, l.parameters);
             if bare {
-                return NO_FAULT;
+                return Opening::Begins(l.value);
             }
-            return PARAMETER;
+            let c = parameter_cursor(mode, s, l.parameters, 0);
+            return Opening::Faulty(PARAMETER, c);
         }
-        return FRAME;
+        return Opening::Faulty(FRAME, l.name);
     }
-    NAME
+    Opening::Faulty(NAME, l.name)
 }
 
-// The fault of a content line where nothing is open.
-fn content_fault(mode: usize, s: &[u8], l: LineCursors) -> u8
+// A content line where nothing is open.
+fn content_opens(mode: usize, s: &[u8], l: LineCursors) -> Opening
     requires { ⌜ (l .name ≤ length (now s)) × Parts mode (now s) l × (cuts mode ≡ true) ⌝ }
-    ensures { λ r. ⌜ OpensAs mode (now (s .entry)) (moveBy (named mode (now (s .entry)) l) []) r (l .value) ⌝ }
+    ensures { λ r. ⌜
+        OpeningIs (PlaceOf mode (now (s .entry)) l) mode (now (s .entry)) (moveBy (named mode (now (s .entry)) l) [])
+        r ⌝ }
 {
     let at = l.name;
     let e = l.parameters;
@@ -62,30 +67,24 @@ fn content_fault(mode: usize, s: &[u8], l: LineCursors) -> u8
     if good {
         let begin = is_word_any_case(mode, &s[..e], at, b"BEGIN");
         if begin {
-            return begin_fault(mode, s, l);
+            return begin_opens(mode, s, l);
         }
-        return FRAME;
+        return Opening::Faulty(FRAME, l.name);
     }
-    NAME
+    Opening::Faulty(NAME, l.name)
 }
 
-// The fault of a line where nothing is open, NO_FAULT where it begins a VCALENDAR.
-fn outer_fault(mode: usize, s: &[u8], at: usize) -> Opening
+// A line where nothing is open.
+fn line_opens(mode: usize, s: &[u8], at: usize) -> Opening
     requires { ⌜ (at ≤ length (now s)) × (cuts mode ≡ true) ⌝ }
     ensures { λ r. ⌜
-        OpensAs mode (now (s .entry)) (move (rest mode (now (s .entry)) at) []) (r .fault) (r .value) ⌝ }
+        OpeningIs (OffsetAt mode (now (s .entry)) at) mode (now (s .entry)) (move (rest mode (now (s .entry)) at) [])
+        r ⌝ }
 {
     let LineRead::Line(l) = line_at(mode, s, at) else {
-        return Opening {
-            fault: LINE,
-            value: at,
-        };
+        return Opening::Faulty(LINE, at);
     };
-    let fault = content_fault(mode, s, l);
-    Opening {
-        fault,
-        value: l.value,
-    }
+    content_opens(mode, s, l)
 }
 
 // A calendar, from its BEGIN on.
@@ -96,20 +95,19 @@ fn calendar(mode: usize, s: &[u8], at: usize) -> Step
     let Ending::Whole(e, next) = line_end(mode, s, at) else {
         return Step::Failed(LINE, at);
     };
-    let o = outer_fault(mode, &s[..e], at);
-    if o.fault == NO_FAULT {
-        return body(
+    match line_opens(mode, &s[..e], at) {
+        Opening::Begins(v) => body(
             mode,
             s,
             next,
             component::VCALENDAR,
             &s[..e],
-            o.value,
+            v,
             component::BELOW,
             false,
-        );
+        ),
+        Opening::Faulty(r, p) => Step::Failed(r, p),
     }
-    Step::Failed(o.fault, at)
 }
 
 // The check of an unfolded text.

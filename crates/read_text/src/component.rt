@@ -46,7 +46,7 @@ fn next_line(
 {
     let Ending::Whole(e, next) = line_end(mode, s, at) else {
         return Turn {
-            kind: Kind::Faulty(LINE),
+            kind: Kind::Faulty(LINE, at),
             end: s.len(),
             next: s.len(),
         };
@@ -113,7 +113,7 @@ pub fn body(
                 action = action_after(p, a, action);
                 at = l.next;
             }
-            Kind::Faulty(r) => return Step::Failed(r, at),
+            Kind::Faulty(r, p) => return Step::Failed(r, p),
         }
     }
     Step::Failed(FRAME, s.len())

@@ -2,18 +2,20 @@
 use crate::Kind;
 use crate::named::is_component_name;
 use crate::named::is_same_name;
+use crate::places::parameter_cursor;
 use names::is_word_any_case;
 use read_text_line::LineCursors;
 use read_text_line::LineRead;
 use read_text_line::line_at;
 use read_text_line::names_carried;
 use read_text_line::next_param;
+use read_text_property::LineFault;
 use read_text_property::property_fault;
 use refusals::FRAME;
 use refusals::LINE;
 use refusals::NAME;
-use refusals::NO_FAULT;
 use refusals::PARAMETER;
+use refusals::VALUE;
 use schema::Row;
 use schema::action;
 use schema::action_number;
@@ -43,6 +45,7 @@ ghost use Rattle.read_text_line.specs.Cursor.{paramsAt};
 ghost use Rattle.read_text_line.specs.Line.{lineFrom, named, Parts};
 ghost use Rattle.text.specs.Nesting.{mayHold};
 ghost use Rattle.text.specs.LineKind.{openAs, beginKind, endKind, propertyKind, kindBy, lineKind};
+ghost use Rattle.read_text.specs.Places.{PlaceOf, OffsetAt};
 ghost use Rattle.read_text.specs.Kinds.{KindIs};
 
 // The line, whose name ends at `e`, has no parameters.
@@ -64,7 +67,8 @@ fn begin_line(k: usize, left: usize, mode: usize, s: &[u8], l: LineCursors) -> K
     ensures { λ r. ⌜
         ((c w : List ℕ) →
         k ≡ placeOf c componentNames →
-        KindIs (ltb 0 left) mode (now (s .entry)) (beginKind c (ltb 0 left) (lineFrom w mode (now (s .entry)) l)) r) ⌝ }
+        KindIs (PlaceOf mode (now (s .entry)) l) (ltb 0 left) mode (now (s .entry))
+        (beginKind c (ltb 0 left) (lineFrom w mode (now (s .entry)) l)) r) ⌝ }
 {
     let good = is_component_name(mode, s, l.value);
     if good {
@@ -76,20 +80,21 @@ fn begin_line(k: usize, left: usize, mode: usize, s: &[u8], l: LineCursors) -> K
                 if bare {
                     return Kind::Starts(n, l.value);
                 }
-                return Kind::Faulty(PARAMETER);
+                let c = parameter_cursor(mode, s, l.parameters, 0);
+                return Kind::Faulty(PARAMETER, c);
             }
-            return Kind::Faulty(FRAME);
+            return Kind::Faulty(FRAME, l.name);
         }
-        return Kind::Faulty(FRAME);
+        return Kind::Faulty(FRAME, l.name);
     }
-    Kind::Faulty(NAME)
+    Kind::Faulty(NAME, l.name)
 }
 
 // The kind of an END in the component whose name stands in `name` from `v` on.
 fn end_line(name: &[u8], v: usize, mode: usize, s: &[u8], l: LineCursors) -> Kind
     ensures { λ r. ⌜
         ((g : Bool) (w : List ℕ) →
-        KindIs g mode (now (s .entry))
+        KindIs (PlaceOf mode (now (s .entry)) l) g mode (now (s .entry))
         (endKind (upper (rest mode (now (name .entry)) v)) (lineFrom w mode (now (s .entry)) l)) r) ⌝ }
 {
     let ours = is_same_name(mode, s, l.value, name, v);
@@ -98,9 +103,10 @@ fn end_line(name: &[u8], v: usize, mode: usize, s: &[u8], l: LineCursors) -> Kin
         if bare {
             return Kind::Stops;
         }
-        return Kind::Faulty(PARAMETER);
+        let c = parameter_cursor(mode, s, l.parameters, 0);
+        return Kind::Faulty(PARAMETER, c);
     }
-    Kind::Faulty(FRAME)
+    Kind::Faulty(FRAME, l.name)
 }
 
 // Properties stand before subcomponents, except in VTIMEZONE.
@@ -149,19 +155,27 @@ fn row_line(k: usize, inner: bool, row: Row, mode: usize, s: &[u8], l: LineCurso
         ((g : Bool) (c w : List ℕ) →
         k ≡ placeOf c componentNames →
         row ≡ rowAt (placeOf (upper w) propertyNames) →
-        KindIs g mode (now (s .entry)) (propertyKind c inner (lineFrom w mode (now (s .entry)) l)) r) ⌝ }
+        KindIs (PlaceOf mode (now (s .entry)) l) g mode (now (s .entry))
+        (propertyKind c inner (lineFrom w mode (now (s .entry)) l)) r) ⌝ }
 {
     let p = row.number;
     let may = may_hold(k, inner, row);
     if may {
         let f = property_fault(k, row, mode, s, l);
-        if f == NO_FAULT {
-            let a = action_of(p, mode, s, l.value);
-            return Kind::Holds(p, a);
+        match f {
+            LineFault::Parameter(i) => {
+                let c = parameter_cursor(mode, s, l.parameters, i);
+                return Kind::Faulty(PARAMETER, c);
+            }
+            LineFault::Encoding => return Kind::Faulty(PARAMETER, l.value),
+            LineFault::Value => return Kind::Faulty(VALUE, l.value),
+            LineFault::None => {
+                let a = action_of(p, mode, s, l.value);
+                return Kind::Holds(p, a);
+            }
         }
-        return Kind::Faulty(f);
     }
-    Kind::Faulty(FRAME)
+    Kind::Faulty(FRAME, l.name)
 }
 
 // The kind of a line that is a property.
@@ -170,7 +184,8 @@ fn property_line(k: usize, inner: bool, mode: usize, s: &[u8], l: LineCursors) -
     ensures { λ r. ⌜
         ((g : Bool) (c : List ℕ) →
         k ≡ placeOf c componentNames →
-        KindIs g mode (now (s .entry)) (propertyKind c inner (named mode (now (s .entry)) l)) r) ⌝ }
+        KindIs (PlaceOf mode (now (s .entry)) l) g mode (now (s .entry))
+        (propertyKind c inner (named mode (now (s .entry)) l)) r) ⌝ }
 {
     let e = l.parameters;
     let row = row_of(mode, &s[..e], l.name);
@@ -194,7 +209,7 @@ fn content_line(
         × Parts mode (now s) l
         × (cuts mode ≡ true) ⌝ }
     ensures { λ r. ⌜
-        KindIs (ltb 0 left) mode (now (s .entry))
+        KindIs (PlaceOf mode (now (s .entry)) l) (ltb 0 left) mode (now (s .entry))
         (kindBy (upper (rest mode (now (name .entry)) v)) (ltb 0 left) inner (named mode (now (s .entry)) l)) r ⌝ }
 {
     let at = l.name;
@@ -211,7 +226,7 @@ fn content_line(
         }
         return property_line(k, inner, mode, s, l);
     }
-    Kind::Faulty(NAME)
+    Kind::Faulty(NAME, l.name)
 }
 
 // The kind of a line in the component of the number `k`, whose name stands in `name` from `v` on, and in which a subcomponent has come or not.
@@ -228,11 +243,11 @@ pub fn line_kind(
     requires { ⌜
         (k ≡ placeOf (upper (rest mode (now name) v)) componentNames) × (at ≤ length (now s)) × (cuts mode ≡ true) ⌝ }
     ensures { λ r. ⌜
-        KindIs (ltb 0 left) mode (now (s .entry))
+        KindIs (OffsetAt mode (now (s .entry)) at) (ltb 0 left) mode (now (s .entry))
         (lineKind (upper (rest mode (now (name .entry)) v)) (ltb 0 left) inner (rest mode (now (s .entry)) at)) r ⌝ }
 {
     let LineRead::Line(l) = line_at(mode, s, at) else {
-        return Kind::Faulty(LINE);
+        return Kind::Faulty(LINE, at);
     };
     content_line(k, name, v, left, inner, mode, s, l)
 }

@@ -5,7 +5,7 @@
 --     Readable     parameters that can be read, by their numbers
 --     Comparing    names compared
 --     Collecting   names collected by their cursors
---     Permitted    the rules of a property's parameters, by numbers
+--     Walking      the walk over a line's parameters, by numbers
 --     laws         laws of these, and what proofs need
 pub mod Cutting
 pub mod Typing
@@ -13,5 +13,5 @@ pub mod Stating
 pub mod Readable
 pub mod Comparing
 pub mod Collecting
-pub mod Permitted
+pub mod Walking
 pub mod laws

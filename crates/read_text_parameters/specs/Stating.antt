@@ -1,5 +1,5 @@
 -- The type that a line states, by its number.
---     numberRead     what an answer says;   TypeOf: the contract of a function that reads a type
+--     numberRead     what an answer says;   NumberOf, TypeOf: contracts of functions that read a type
 --     statedAt       the type that parameters state, where the property's default has a number;   StatedAt: those from a cursor on
 use mathlib.Core.Path.{_≡_}
 use mathlib.Core.List.{List, [], _∷_}
@@ -17,6 +17,10 @@ use Rattle.read_text_parameters.specs.declared.TypeRead.the-variants.{«
 abbrev pub numberRead : TypeRead → Option ℕ
 numberRead (Known t) = some t
 numberRead Bad = none
+
+-- the number is the answer's;   the same of a type
+pub record NumberOf (o : Option ℕ) (r : TypeRead) : Type 0 where
+  pub is : numberRead r ≡ o
 
 pub record TypeOf (o : Option ValueType) (r : TypeRead) : Type 0 where
   pub is : Option·map typePlace o ≡ numberRead r

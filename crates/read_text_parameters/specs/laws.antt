@@ -6,7 +6,10 @@
 --     Readable    parameters that can be read, by their numbers
 --     Comparing   names compared
 --     Collecting  names collected by their cursors
---     Permitted   the rules of a property's parameters, by numbers
+--     Before      names that stand before others
+--     Judging     one parameter, each way that code goes
+--     Walking     the walk over a line's parameters, by numbers
+--     Named       the same, of a property by its name
 pub mod Cutting
 pub mod Typing
 pub mod Stating
@@ -14,4 +17,7 @@ pub mod Steps
 pub mod Readable
 pub mod Comparing
 pub mod Collecting
-pub mod Permitted
+pub mod Before
+pub mod Judging
+pub mod Walking
+pub mod Named

@@ -1,4 +1,4 @@
-// No parameter twice. See specs/Comparing.antt and specs/Collecting.antt.
+// Parameters that come again. See specs/Comparing.antt and specs/Collecting.antt.
 use distinct::Kept;
 use distinct::keep;
 use octets::smaller;
@@ -8,10 +8,12 @@ use read_text_line::next_param;
 use source::unit;
 ghost use mathlib.Core.Path.{_≡_};
 ghost use mathlib.Core.Bool.{true};
+ghost use mathlib.Core.List.{[]};
+ghost use lib.ListN.{take};
 ghost use Rattle.octets.specs.Class.{upper};
 ghost use Rattle.octets.specs.Words.{same, isOneOf};
-ghost use Rattle.octets.specs.Lists.{distinct};
 ghost use Rattle.source.specs.Source.{rest, cuts};
+ghost use Rattle.distinct.specs.Again.{firstAgain};
 ghost use Rattle.read_text_line.specs.Cursor.{paramsAt};
 ghost use Rattle.read_text_parameters.specs.Cutting.{nameCut};
 ghost use Rattle.read_text_parameters.specs.Comparing.{namesOf};
@@ -49,14 +51,16 @@ fn same_names(mode: usize, s: &[u8], a: usize, e: usize, b: usize, f: usize) -> 
     are_same(mode, &s[..x], a, &s[..y], b)
 }
 
-// A parameter from the cursor `at` on has the name.
-fn is_again(mode: usize, s: &[u8], name: usize, end: usize, at: usize) -> bool
+// One of the first `k` parameters from the cursor `e` on has the name.
+pub fn stands_before(mode: usize, s: &[u8], e: usize, k: usize, name: usize, end: usize) -> bool
     requires { ⌜ cuts mode ≡ true ⌝ }
     ensures { λ r. ⌜
-        r ≡ isOneOf (nameCut mode (now (s .entry)) name end) (namesOf (paramsAt mode (now (s .entry)) at)) ⌝ }
+        r ≡ isOneOf (nameCut mode (now (s .entry)) name end)
+        (take k (namesOf (paramsAt mode (now (s .entry)) e))) ⌝ }
 {
-    let mut c = at;
-    loop {
+    let mut c = e;
+    let mut left = k;
+    while 0 < left {
         let a = next_param(mode, s, c);
         if a.there {
             if a.ok {
@@ -65,6 +69,7 @@ fn is_again(mode: usize, s: &[u8], name: usize, end: usize, at: usize) -> bool
                     return true;
                 }
                 c = a.next;
+                left -= 1;
             } else {
                 return false;
             }
@@ -72,30 +77,7 @@ fn is_again(mode: usize, s: &[u8], name: usize, end: usize, at: usize) -> bool
             return false;
         }
     }
-}
-
-// No two parameters from the cursor `e` on have the same name: each name is compared with all behind it.
-fn are_apart(mode: usize, s: &[u8], e: usize) -> bool
-    requires { ⌜ cuts mode ≡ true ⌝ }
-    ensures { λ r. ⌜ r ≡ distinct (namesOf (paramsAt mode (now (s .entry)) e)) ⌝ }
-{
-    let mut c = e;
-    loop {
-        let a = next_param(mode, s, c);
-        if a.there {
-            if a.ok {
-                let again = is_again(mode, s, a.name, a.end, a.next);
-                if again {
-                    return false;
-                }
-                c = a.next;
-            } else {
-                return true;
-            }
-        } else {
-            return true;
-        }
-    }
+    false
 }
 
 // Collects the names from the cursor `e` on by their cursors.
@@ -125,51 +107,50 @@ fn collect(mode: usize, s: &[u8], e: usize, from: &mut [u16], to: &mut [u16]) ->
     }
 }
 
-// The same as `are_apart`, by the names collected, where there is room for all of them.
-fn are_distinct_kept(mode: usize, s: &[u8], e: usize, from: &mut [u16], to: &mut [u16]) -> bool
+// The place of the first parameter from the cursor `e` on that comes again, their number where none does: each is compared with all before it.
+fn first_compared(mode: usize, s: &[u8], e: usize) -> usize
     requires { ⌜ cuts mode ≡ true ⌝ }
-    ensures { λ r. ⌜ r ≡ distinct (namesOf (paramsAt mode (now (s .entry)) e)) ⌝ }
-{
-    let kept = collect(mode, s, e, from, to);
-    if kept.all {
-        return distinct::are_distinct(mode, s, from, to, kept.n);
-    }
-    are_apart(mode, s, e)
-}
-
-// The same for many parameters: of a line of 65,535 bytes there is room for all.
-fn are_many_distinct(mode: usize, s: &[u8], e: usize) -> bool
-    requires { ⌜ cuts mode ≡ true ⌝ }
-    ensures { λ r. ⌜ r ≡ distinct (namesOf (paramsAt mode (now (s .entry)) e)) ⌝ }
-{
-    let mut from = [0u16; 21846];
-    let mut to = [0u16; 21846];
-    are_distinct_kept(mode, s, e, &mut from, &mut to)
-}
-
-// No two parameters from the cursor `e` on have the same name. The first 16 are compared with all behind them, more are collected.
-pub fn are_distinct(mode: usize, s: &[u8], e: usize) -> bool
-    requires { ⌜ cuts mode ≡ true ⌝ }
-    ensures { λ r. ⌜ r ≡ distinct (namesOf (paramsAt mode (now (s .entry)) e)) ⌝ }
+    ensures { λ r. ⌜ r ≡ firstAgain [] (namesOf (paramsAt mode (now (s .entry)) e)) ⌝ }
 {
     let mut c = e;
-    let mut k: usize = 0;
-    while k < 16 {
+    let mut k = 0;
+    loop {
         let a = next_param(mode, s, c);
         if a.there {
             if a.ok {
-                let again = is_again(mode, s, a.name, a.end, a.next);
+                let again = stands_before(mode, s, e, k, a.name, a.end);
                 if again {
-                    return false;
+                    return k;
                 }
                 c = a.next;
                 k += 1;
             } else {
-                return true;
+                return k;
             }
         } else {
-            return true;
+            return k;
         }
     }
-    are_many_distinct(mode, s, c)
+}
+
+// The same by the names collected, where there is room for all of them.
+fn first_kept(mode: usize, s: &[u8], e: usize, from: &mut [u16], to: &mut [u16]) -> usize
+    requires { ⌜ cuts mode ≡ true ⌝ }
+    ensures { λ r. ⌜ r ≡ firstAgain [] (namesOf (paramsAt mode (now (s .entry)) e)) ⌝ }
+{
+    let kept = collect(mode, s, e, from, to);
+    if kept.all {
+        return distinct::first_again(mode, s, from, to, kept.n);
+    }
+    first_compared(mode, s, e)
+}
+
+// The same: of a line of 65,535 bytes there is room for all.
+pub fn first_again(mode: usize, s: &[u8], e: usize) -> usize
+    requires { ⌜ cuts mode ≡ true ⌝ }
+    ensures { λ r. ⌜ r ≡ firstAgain [] (namesOf (paramsAt mode (now (s .entry)) e)) ⌝ }
+{
+    let mut from = [0u16; 21846];
+    let mut to = [0u16; 21846];
+    first_kept(mode, s, e, &mut from, &mut to)
 }

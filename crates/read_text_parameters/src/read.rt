@@ -29,7 +29,7 @@ fn has_amount(q: usize, mode: usize, s: &[u8], first: usize) -> bool
 }
 
 // The values from the cursor `first` on are those of a parameter of the number `q`.
-fn is_parameter(q: usize, mode: usize, s: &[u8], first: usize) -> bool
+pub fn is_parameter(q: usize, mode: usize, s: &[u8], first: usize) -> bool
     requires { ⌜ cuts mode ≡ true ⌝ }
     ensures { λ r. ⌜ r ≡ isReadBy (parameterAt q) (valuesAt mode (now (s .entry)) first) ⌝ }
 {

@@ -30,7 +30,7 @@ fn named_type(mode: usize, s: &[u8], from: usize, to: usize) -> TypeRead
 }
 
 // The type that VALUE's one value names.
-fn type_in(mode: usize, s: &[u8], at: usize) -> TypeRead
+pub fn type_in(mode: usize, s: &[u8], at: usize) -> TypeRead
     requires { ⌜ cuts mode ≡ true ⌝ }
     ensures { λ r. ⌜ TypeOf (typeIn (valuesAt mode (now (s .entry)) at)) r ⌝ }
 {

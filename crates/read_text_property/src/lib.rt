@@ -11,3 +11,11 @@ pub enum ValuesRead {
     Good(usize),
     Bad,
 }
+
+// What is wrong with a property's line: a parameter, by its number; ENCODING, which is missing; the value; or nothing.
+pub enum LineFault {
+    Parameter(usize),
+    Encoding,
+    Value,
+    None,
+}

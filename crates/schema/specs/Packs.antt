@@ -1,33 +1,8 @@
--- The numbers of the schema's names other than properties' (specs/Packing.antt of crate names), with their places, in groups as the code compares them: each in the order of its low halves.
--- That they are the names of specs/Numbers.antt and of the tables is computed in specs/laws/Numbers.antt.
---     typeRows, componentRows, parameterRows    the groups of each list but the last, each with the bound of its low halves; the rows of a group have its number behind
+-- The numbers of the parameters' names (specs/Packing.antt of crate names), with their places, in groups as the code compares them: each in the order of its low halves.
+-- That they are the names is computed in specs/laws/Numbers.antt.
+--     parameterRows    the groups but the last, each with the bound of its low halves; the rows of a group have its number behind
 use mathlib.Core.List.{List, [], _∷_}
 use Rattle.names.specs.Packing.{Row, row, Group, group}
-
-abbrev pub typeRows1 : List Row
-typeRows1 =
-    row 0x0 0x356949 12 ∷ row 0x0 0x18906a45 3 ∷ row 0x0 0x1a916c54 10 ∷ row 0x0 0x1a9266c5 11
-    ∷ row 0x0 0xc6993e0d4 6 ∷ row 0x0 0xd28b0ead2 9 ∷ row 0x0 0x61499d06959 0 ∷ []
-
-abbrev pub typeRows2 : List Row
-typeRows2 =
-    row 0x0 0x6845a5267c4 8 ∷ row 0x0 0x30a7cf99160ce 1 ∷ row 0x0 0x3267548b1e2d2 7 ∷ row 0x30e0cc 0x5b06244a5169d3 2
-    ∷ row 0xc4 0x83522ada9266c5 4 ∷ row 0x6ad4 0x86b67c68d4e2d4 13 ∷ row 0x1 0x8956941a9267ce 5 ∷ []
-
-abbrev pub typeRows : List Group
-typeRows = group 0x6845a5267c4 typeRows1 ∷ []
-
-abbrev pub componentRows1 : List Row
-componentRows1 =
-    row 0x0 0xd6a93e24f 2 ∷ row 0x0 0x6b41990694d 8 ∷ row 0x0 0x6b45ad16754 1 ∷ row 0xd6 0x87066459d120d2 0 ∷ []
-
-abbrev pub componentRows2 : List Row
-componentRows2 =
-    row 0x1 0x8906ccc931e454 7 ∷ row 0xd6 0x8d4a2c585569d9 4 ∷ row 0x1 0xa7520ce8906944 6 ∷ row 0xd6 0xa9266c5b53e745 5
-    ∷ row 0x1 0xad2a7d5a53a0cc 3 ∷ []
-
-abbrev pub componentRows : List Group
-componentRows = group 0x8906ccc931e454 componentRows1 ∷ []
 
 abbrev pub parameterRows1 : List Row
 parameterRows1 =

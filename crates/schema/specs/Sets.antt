@@ -1,5 +1,6 @@
 -- Closed sets of words, by numbers.
 --     wordSets             the sets of properties: of CALSCALE, VERSION, CLASS, TRANSP, ACTION, and of STATUS in VEVENT, VTODO, VJOURNAL; then those of parameters; at the end that of STATUS elsewhere
+--     wordBytes, setStarts, setSizes    the sets as the code has them
 --     setAt, wordsAt       the number of the set of a property in a component, 17 where it has none, and the set
 --     parameterSet, parameterWordsAt    the same of a parameter
 --     isWordOf             a word of a set, where there is one
@@ -41,6 +42,16 @@ wordSets =
     roles ∷
     statusWords ∷
     []
+
+-- the same as the code has them: the words of one set after the other; where each begins, and where the last one ends; how many words each has
+abbrev pub wordBytes : List ℕ
+wordBytes = ascii "GREGORIAN\n2.0\nPUBLIC\nPRIVATE\nCONFIDENTIAL\nOPAQUE\nTRANSPARENT\nAUDIO\nDISPLAY\nEMAIL\nTENTATIVE\nCONFIRMED\nCANCELLED\nNEEDS-ACTION\nCOMPLETED\nIN-PROCESS\nCANCELLED\nDRAFT\nFINAL\nCANCELLED\nINDIVIDUAL\nGROUP\nRESOURCE\nROOM\nUNKNOWN\n8BIT\nBASE64\nFREE\nBUSY\nBUSY-UNAVAILABLE\nBUSY-TENTATIVE\nNEEDS-ACTION\nACCEPTED\nDECLINED\nTENTATIVE\nDELEGATED\nCOMPLETED\nIN-PROCESS\nTHISANDFUTURE\nSTART\nEND\nPARENT\nCHILD\nSIBLING\nCHAIR\nREQ-PARTICIPANT\nOPT-PARTICIPANT\nNON-PARTICIPANT\nTENTATIVE\nCONFIRMED\nCANCELLED\nNEEDS-ACTION\nCOMPLETED\nIN-PROCESS\nDRAFT\nFINAL\n"
+
+abbrev pub setStarts : List ℕ
+setStarts = 0 ∷ 10 ∷ 14 ∷ 42 ∷ 61 ∷ 81 ∷ 111 ∷ 155 ∷ 177 ∷ 216 ∷ 228 ∷ 270 ∷ 342 ∷ 356 ∷ 366 ∷ 387 ∷ 441 ∷ 517 ∷ []
+
+abbrev pub setSizes : List ℕ
+setSizes = 1 ∷ 1 ∷ 3 ∷ 2 ∷ 3 ∷ 3 ∷ 4 ∷ 3 ∷ 5 ∷ 2 ∷ 4 ∷ 7 ∷ 1 ∷ 2 ∷ 3 ∷ 4 ∷ 8 ∷ []
 
 -- of STATUS, by component: VEVENT, VTODO, VJOURNAL, any other
 abbrev pub statusSet : ℕ → ℕ

@@ -1,8 +1,7 @@
-// The number of a name that stands from a cursor on (crate source), in any case: its bytes are packed (specs/Packing.antt of crate names) and compared with the packed names,
-// in groups of at most eight (specs/Packs.antt). `tools/packed-names.py` prints them; one that is wrong is refused by the check.
-use crate::component;
+// The number of a name that stands from a cursor on (crate source), in any case. Of a parameter, of which a line has many, its bytes are packed (specs/Packing.antt of crate names)
+// and compared with the packed names, in groups of at most eight (specs/Packs.antt). `tools/packed-names.py` prints them; one that is wrong is refused by the check.
 use crate::parameter;
-use crate::value_type;
+use names::find_word;
 use names::packed::pack;
 ghost use mathlib.Core.Path.{_≡_};
 ghost use Rattle.octets.specs.Class.{upper};
@@ -12,123 +11,32 @@ ghost use Rattle.names.specs.Packing.{lookup};
 ghost use Rattle.schema.specs.Numbers.{typeNames};
 ghost use Rattle.schema.specs.Components.{componentNames};
 ghost use Rattle.schema.specs.Parameters.{parameterNames};
-ghost use Rattle.schema.specs.Packs.{typeRows1, typeRows2};
-ghost use Rattle.schema.specs.Packs.{componentRows1, componentRows2};
 ghost use Rattle.schema.specs.Packs.{parameterRows1, parameterRows2, parameterRows3};
-
-fn type_1(high: u64, low: u64) -> usize
-    ensures { λ r. ⌜ r ≡ lookup high low typeRows1 14 ⌝ }
-{
-    if (low == 0x356949) & (high == 0x0) {
-        return value_type::URI;
-    }
-    if (low == 0x18906a45) & (high == 0x0) {
-        return value_type::DATE;
-    }
-    if (low == 0x1a916c54) & (high == 0x0) {
-        return value_type::TEXT;
-    }
-    if (low == 0x1a9266c5) & (high == 0x0) {
-        return value_type::TIME;
-    }
-    if (low == 0xc6993e0d4) & (high == 0x0) {
-        return value_type::FLOAT;
-    }
-    if (low == 0xd28b0ead2) & (high == 0x0) {
-        return value_type::RECUR;
-    }
-    if (low == 0x61499d06959) & (high == 0x0) {
-        return value_type::BINARY;
-    }
-    value_type::KNOWN
-}
-
-fn type_2(high: u64, low: u64) -> usize
-    ensures { λ r. ⌜ r ≡ lookup high low typeRows2 14 ⌝ }
-{
-    if (low == 0x6845a5267c4) & (high == 0x0) {
-        return value_type::PERIOD;
-    }
-    if (low == 0x30a7cf99160ce) & (high == 0x0) {
-        return value_type::BOOLEAN;
-    }
-    if (low == 0x3267548b1e2d2) & (high == 0x0) {
-        return value_type::INTEGER;
-    }
-    if (low == 0x5b06244a5169d3) & (high == 0x30e0cc) {
-        return value_type::CAL_ADDRESS;
-    }
-    if (low == 0x83522ada9266c5) & (high == 0xc4) {
-        return value_type::DATE_TIME;
-    }
-    if (low == 0x86b67c68d4e2d4) & (high == 0x6ad4) {
-        return value_type::UTC_OFFSET;
-    }
-    if (low == 0x8956941a9267ce) & (high == 0x1) {
-        return value_type::DURATION;
-    }
-    value_type::KNOWN
-}
 
 // The number of a value type, 14 (UNKNOWN) where there is none of that name.
 pub fn type_number(mode: usize, s: &[u8], at: usize) -> usize
     ensures { λ r. ⌜ r ≡ placeOf (upper (rest mode (now (s .entry)) at)) typeNames ⌝ }
 {
-    let w = pack(mode, s, at);
-    if w.low < 0x6845a5267c4 {
-        return type_1(w.high, w.low);
-    }
-    type_2(w.high, w.low)
+    find_word(
+        false,
+        mode,
+        s,
+        at,
+        b"BINARY\nBOOLEAN\nCAL-ADDRESS\nDATE\nDATE-TIME\nDURATION\nFLOAT\nINTEGER\nPERIOD\nRECUR\nTEXT\nTIME\nURI\nUTC-OFFSET\n",
+    )
 }
 
-fn component_1(high: u64, low: u64) -> usize
-    ensures { λ r. ⌜ r ≡ lookup high low componentRows1 9 ⌝ }
-{
-    if (low == 0xd6a93e24f) & (high == 0x0) {
-        return component::VTODO;
-    }
-    if (low == 0x6b41990694d) & (high == 0x0) {
-        return component::VALARM;
-    }
-    if (low == 0x6b45ad16754) & (high == 0x0) {
-        return component::VEVENT;
-    }
-    if (low == 0x87066459d120d2) & (high == 0xd6) {
-        return component::VCALENDAR;
-    }
-    component::KNOWN
-}
-
-fn component_2(high: u64, low: u64) -> usize
-    ensures { λ r. ⌜ r ≡ lookup high low componentRows2 9 ⌝ }
-{
-    if (low == 0x8906ccc931e454) & (high == 0x1) {
-        return component::DAYLIGHT;
-    }
-    if (low == 0x8d4a2c585569d9) & (high == 0xd6) {
-        return component::VFREEBUSY;
-    }
-    if (low == 0xa7520ce8906944) & (high == 0x1) {
-        return component::STANDARD;
-    }
-    if (low == 0xa9266c5b53e745) & (high == 0xd6) {
-        return component::VTIMEZONE;
-    }
-    if (low == 0xad2a7d5a53a0cc) & (high == 0x1) {
-        return component::VJOURNAL;
-    }
-    component::KNOWN
-}
-
-// The number of a component, 9 (KNOWN) where there is none of that name.
+// The number of a component, 9 where there is none of that name.
 pub fn component_number(mode: usize, s: &[u8], at: usize) -> usize
     ensures { λ r. ⌜ r ≡ placeOf (upper (rest mode (now (s .entry)) at)) componentNames ⌝ }
 {
-    let w = pack(mode, s, at);
-    if w.low < 0x8906ccc931e454 {
-        return component_1(w.high, w.low);
-    }
-    component_2(w.high, w.low)
+    find_word(
+        false,
+        mode,
+        s,
+        at,
+        b"VCALENDAR\nVEVENT\nVTODO\nVJOURNAL\nVFREEBUSY\nVTIMEZONE\nSTANDARD\nDAYLIGHT\nVALARM\n",
+    )
 }
 
 fn parameter_1(high: u64, low: u64) -> usize

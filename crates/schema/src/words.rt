@@ -7,25 +7,12 @@ use crate::set;
 use names::find_word;
 use octets::wide;
 ghost use mathlib.Core.Path.{_≡_};
-ghost use Prim.Native.Nat.{_<_, _≤_};
 ghost use Rattle.octets.specs.Reading.{isRead};
 ghost use Rattle.source.specs.Source.{rest};
 ghost use Rattle.names.specs.Case.{cased, caseOf};
-ghost use Rattle.names.specs.Table.{placeOf, namesIn, nth};
+ghost use Rattle.names.specs.Table.{placeOf, nth};
 ghost use Rattle.schema.specs.Completing.{actionNames};
-ghost use Rattle.schema.specs.Sets.{wordSets, statusSet, propertySet, setAt, wordsAt, parameterSet, parameterWordsAt, wordAmong, wordIn};
-
-// The place of the word in a table of `n` words.
-fn read_word_in(n: usize, xcal: bool, mode: usize, s: &[u8], at: usize, table: &[u8]) -> WordRead
-    ensures { λ r. ⌜
-        r ≡ wordAmong n (placeOf (cased (caseOf xcal) (rest mode (now (s .entry)) at)) (namesIn (now (table .entry)))) ⌝ }
-{
-    let i = find_word(xcal, mode, s, at, table);
-    if i < n {
-        return WordRead::At(i);
-    }
-    WordRead::NoWord
-}
+ghost use Rattle.schema.specs.Sets.{wordSets, statusSet, propertySet, setAt, wordsAt, parameterSet, parameterWordsAt, wordIn};
 
 // The number of the set of STATUS in a component.
 fn status_set(k: usize) -> usize
@@ -75,120 +62,66 @@ fn set_at(k: usize, p: usize) -> usize
     property_set(p)
 }
 
-// The place of the word in the set `n` of a property.
-fn read_in_property_set(n: usize, xcal: bool, mode: usize, s: &[u8], at: usize) -> WordRead
-    requires { ⌜ n < 8 ⌝ }
-    ensures { λ r. ⌜ r ≡ wordIn (nth wordSets n) (cased (caseOf xcal) (rest mode (now (s .entry)) at)) ⌝ }
-{
-    if n <= set::CALSCALE {
-        return read_word_in(1, xcal, mode, s, at, b"GREGORIAN\n");
-    }
-    if n <= set::VERSION {
-        return read_word_in(1, xcal, mode, s, at, b"2.0\n");
-    }
-    if n <= set::CLASS {
-        return read_word_in(3, xcal, mode, s, at, b"PUBLIC\nPRIVATE\nCONFIDENTIAL\n");
-    }
-    if n <= set::TRANSP {
-        return read_word_in(2, xcal, mode, s, at, b"OPAQUE\nTRANSPARENT\n");
-    }
-    if n <= set::ACTION {
-        return read_word_in(3, xcal, mode, s, at, b"AUDIO\nDISPLAY\nEMAIL\n");
-    }
-    if n <= set::EVENT_STATUS {
-        return read_word_in(3, xcal, mode, s, at, b"TENTATIVE\nCONFIRMED\nCANCELLED\n");
-    }
-    if n <= set::TODO_STATUS {
-        return read_word_in(
-            4,
-            xcal,
-            mode,
-            s,
-            at,
-            b"NEEDS-ACTION\nCOMPLETED\nIN-PROCESS\nCANCELLED\n",
-        );
-    }
-    read_word_in(3, xcal, mode, s, at, b"DRAFT\nFINAL\nCANCELLED\n")
-}
+// The words of the sets, one set after the other.
+const WORDS: [u8; 517] = *b"\
+    GREGORIAN\n\
+    2.0\n\
+    PUBLIC\nPRIVATE\nCONFIDENTIAL\n\
+    OPAQUE\nTRANSPARENT\n\
+    AUDIO\nDISPLAY\nEMAIL\n\
+    TENTATIVE\nCONFIRMED\nCANCELLED\n\
+    NEEDS-ACTION\nCOMPLETED\nIN-PROCESS\nCANCELLED\n\
+    DRAFT\nFINAL\nCANCELLED\n\
+    INDIVIDUAL\nGROUP\nRESOURCE\nROOM\nUNKNOWN\n\
+    8BIT\nBASE64\n\
+    FREE\nBUSY\nBUSY-UNAVAILABLE\nBUSY-TENTATIVE\n\
+    NEEDS-ACTION\nACCEPTED\nDECLINED\nTENTATIVE\nDELEGATED\nCOMPLETED\nIN-PROCESS\n\
+    THISANDFUTURE\n\
+    START\nEND\n\
+    PARENT\nCHILD\nSIBLING\n\
+    CHAIR\nREQ-PARTICIPANT\nOPT-PARTICIPANT\nNON-PARTICIPANT\n\
+    TENTATIVE\nCONFIRMED\nCANCELLED\nNEEDS-ACTION\nCOMPLETED\nIN-PROCESS\nDRAFT\nFINAL\n";
 
-// The place of the word in the set `n` of a parameter; no word where there is no such set.
-fn read_in_parameter_set(n: usize, xcal: bool, mode: usize, s: &[u8], at: usize) -> WordRead
-    requires { ⌜ 8 ≤ n ⌝ }
-    ensures { λ r. ⌜ r ≡ wordIn (nth wordSets n) (cased (caseOf xcal) (rest mode (now (s .entry)) at)) ⌝ }
-{
-    if n <= set::CUTYPE {
-        return read_word_in(
-            5,
-            xcal,
-            mode,
-            s,
-            at,
-            b"INDIVIDUAL\nGROUP\nRESOURCE\nROOM\nUNKNOWN\n",
-        );
-    }
-    if n <= set::ENCODING {
-        return read_word_in(2, xcal, mode, s, at, b"8BIT\nBASE64\n");
-    }
-    if n <= set::FBTYPE {
-        return read_word_in(
-            4,
-            xcal,
-            mode,
-            s,
-            at,
-            b"FREE\nBUSY\nBUSY-UNAVAILABLE\nBUSY-TENTATIVE\n",
-        );
-    }
-    if n <= set::PARTSTAT {
-        return read_word_in(
-            7,
-            xcal,
-            mode,
-            s,
-            at,
-            b"NEEDS-ACTION\nACCEPTED\nDECLINED\nTENTATIVE\nDELEGATED\nCOMPLETED\nIN-PROCESS\n",
-        );
-    }
-    if n <= set::RANGE {
-        return read_word_in(1, xcal, mode, s, at, b"THISANDFUTURE\n");
-    }
-    if n <= set::RELATED {
-        return read_word_in(2, xcal, mode, s, at, b"START\nEND\n");
-    }
-    if n <= set::RELTYPE {
-        return read_word_in(3, xcal, mode, s, at, b"PARENT\nCHILD\nSIBLING\n");
-    }
-    if n <= set::ROLE {
-        return read_word_in(
-            4,
-            xcal,
-            mode,
-            s,
-            at,
-            b"CHAIR\nREQ-PARTICIPANT\nOPT-PARTICIPANT\nNON-PARTICIPANT\n",
-        );
-    }
-    if n <= set::STATUS {
-        return read_word_in(
-            8,
-            xcal,
-            mode,
-            s,
-            at,
-            b"TENTATIVE\nCONFIRMED\nCANCELLED\nNEEDS-ACTION\nCOMPLETED\nIN-PROCESS\nDRAFT\nFINAL\n",
-        );
-    }
-    WordRead::NoWord
-}
+// Where each set begins, and where the last one ends.
+const STARTS: [usize; 18] = [
+    0,
+    10,
+    14,
+    42,
+    61,
+    81,
+    111,
+    155,
+    177,
+    216,
+    228,
+    270,
+    342,
+    356,
+    366,
+    387,
+    441,
+    517,
+];
+
+// How many words each set has.
+const SIZES: [usize; 17] = [1, 1, 3, 2, 3, 3, 4, 3, 5, 2, 4, 7, 1, 2, 3, 4, 8];
 
 // The place of the word in the set `n`.
 fn read_in_set(n: usize, xcal: bool, mode: usize, s: &[u8], at: usize) -> WordRead
     ensures { λ r. ⌜ r ≡ wordIn (nth wordSets n) (cased (caseOf xcal) (rest mode (now (s .entry)) at)) ⌝ }
 {
-    if n < set::CUTYPE {
-        return read_in_property_set(n, xcal, mode, s, at);
+    if n < set::NONE {
+        let words = WORDS;
+        let from = STARTS[n];
+        let to = STARTS[n + 1];
+        let i = find_word(xcal, mode, s, at, &words[from..to]);
+        if i < SIZES[n] {
+            return WordRead::At(i);
+        }
+        return WordRead::NoWord;
     }
-    read_in_parameter_set(n, xcal, mode, s, at)
+    WordRead::NoWord
 }
 
 // Whether a property has a closed set in a component.

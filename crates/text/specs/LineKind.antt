@@ -1,6 +1,6 @@
 -- What a line is in an open component, by the component's name, whether there is a level left inside it, and whether a subcomponent has come: all that a reader needs of a line before it looks at what
 -- the component has seen.
---     LineKind      the beginning of a subcomponent, the component's end, a property, or a refusal
+--     LineKind      the beginning of a subcomponent, the component's end, a property, or a fault
 --     lineKind      the kind of a line
 --     step          what a line of a kind does to the open components
 use mathlib.Core.Bool.{Bool, true}
@@ -12,11 +12,12 @@ use Rattle.octets.specs.Pick.{pick, _and_}
 use Rattle.octets.specs.Class.{upper}
 use Rattle.octets.specs.Words.{same, isEmpty}
 use Rattle.calendar.specs.Calendar.{Property}
-use Rattle.calendar.specs.Refusal.{Refusal, LINE, NAME, FRAME, PARAMETER, COUNT}
+use Rattle.calendar.specs.Refusal.{LINE, NAME, FRAME, PARAMETER, COUNT}
 use Rattle.schema.specs.Components.{mayContain}
 use Rattle.schema.specs.Counts.{Around, complete}
 use Rattle.read_text_line.specs.ContentLine.{ContentLine, contentLine}
 use Rattle.read_text_line.specs.Names.{isComponentName}
+use Rattle.text.specs.Faults.{Fault, fault, lineStart, parameterName}
 use Rattle.text.specs.Statement.{propertyFault, propertyOf}
 use Rattle.text.specs.Nesting.{Open, Move, on, stop, opened, methodIn, mayHold, namesCarried}
 
@@ -24,7 +25,7 @@ pub data LineKind : Type 0 where
   starts : List ℕ → LineKind
   stops : LineKind
   holds : Property → LineKind
-  faulty : Refusal → LineKind
+  faulty : Fault → LineKind
 
 -- a component as far as a line's kind depends on it
 abbrev pub openAs : List ℕ → Bool → Open
@@ -34,19 +35,19 @@ abbrev pub beginKind : List ℕ → Bool → ContentLine → LineKind
 beginKind k level l =
     pick (isComponentName (upper (l .value)))
     (pick (mayContain k (upper (l .value)) and level)
-    (pick (isEmpty (l .parameters)) (starts (upper (l .value))) (faulty PARAMETER))
-    (faulty FRAME))
-    (faulty NAME)
+    (pick (isEmpty (l .parameters)) (starts (upper (l .value))) (faulty (fault PARAMETER (parameterName 0))))
+    (faulty (fault FRAME lineStart)))
+    (faulty (fault NAME lineStart))
 
 abbrev pub endKind : List ℕ → ContentLine → LineKind
-endKind k l = pick (same (upper (l .value)) k) (pick (isEmpty (l .parameters)) stops (faulty PARAMETER)) (faulty FRAME)
+endKind k l = pick (same (upper (l .value)) k) (pick (isEmpty (l .parameters)) stops (faulty (fault PARAMETER (parameterName 0)))) (faulty (fault FRAME lineStart))
 
-abbrev pub heldBy : Option Refusal → Property → LineKind
+abbrev pub heldBy : Option Fault → Property → LineKind
 heldBy none p = holds p
 heldBy (some r) p = faulty r
 
 abbrev pub propertyKind : List ℕ → Bool → ContentLine → LineKind
-propertyKind k inner l = pick (mayHold (upper (l .name)) (openAs k inner)) (heldBy (propertyFault k l) (propertyOf k l)) (faulty FRAME)
+propertyKind k inner l = pick (mayHold (upper (l .name)) (openAs k inner)) (heldBy (propertyFault k l) (propertyOf k l)) (faulty (fault FRAME lineStart))
 
 unfoldable pub kindBy : List ℕ → Bool → Bool → ContentLine → LineKind
 kindBy k level inner l =
@@ -54,10 +55,10 @@ kindBy k level inner l =
     (pick (same (upper (l .name)) (ascii "BEGIN")) (beginKind k level l)
     (pick (same (upper (l .name)) (ascii "END")) (endKind k l)
     (propertyKind k inner l)))
-    (faulty NAME)
+    (faulty (fault NAME lineStart))
 
 unfoldable pub kindOf : List ℕ → Bool → Bool → Option ContentLine → LineKind
-kindOf k level inner none = faulty LINE
+kindOf k level inner none = faulty (fault LINE lineStart)
 kindOf k level inner (some l) = kindBy k level inner l
 
 abbrev pub lineKind : List ℕ → Bool → Bool → List ℕ → LineKind
@@ -67,6 +68,6 @@ lineKind k level inner s = kindOf k level inner (contentLine s)
 
 unfoldable pub step : LineKind → Open → List Open → Move
 step (starts n) f st = on (opened n ∷ record { name = f .name; seen = f .seen; inner = true } ∷ st)
-step stops f st = pick (complete (f .name) (f .seen) (record { inner = f .inner; method = methodIn st })) (on st) (stop COUNT)
+step stops f st = pick (complete (f .name) (f .seen) (record { inner = f .inner; method = methodIn st })) (on st) (stop (fault COUNT lineStart))
 step (holds p) f st = on (record { name = f .name; seen = p ∷ f .seen; inner = f .inner } ∷ st)
 step (faulty r) f st = stop r

@@ -1,21 +1,19 @@
--- The parameters of a content line (RFC 5545, section 3.2), typed by the schema, and the rules of refusal 7.
+-- The parameters of a content line (RFC 5545, section 3.2), typed by the schema. The rules of refusal 7 are in Faults.
 --     readParameter       a parameter with its values typed; none where one of them is bad
 --     statedType          the type that VALUE names, or the property's default; none where VALUE names no type
 --     readParameters      the parameters that a line states, all but VALUE, typed
---     parametersGood      whether all is permitted, none is repeated, each is readable, and BINARY has ENCODING=BASE64
 use mathlib.Core.Bool.{Bool, false, not}
-use mathlib.Core.List.{List, [], _∷_, map}
+use mathlib.Core.List.{List, [], _∷_}
 use mathlib.Core.Option.{Option, none, some, Option·map}
 use Prim.Native.Nat.{ℕ}
 use Rattle.octets.specs.Ascii.{ascii}
 use Rattle.octets.specs.Pick.{pick, _and_, _or_}
 use Rattle.octets.specs.Class.{upper}
 use Rattle.octets.specs.Words.{same, isOneOf, isEmpty}
-use Rattle.octets.specs.Lists.{every, anyOne, distinct}
-use Rattle.octets.specs.Reading.{provided, isRead, readEach}
-use Rattle.calendar.specs.Calendar.{ical, ValueType, BINARY, TEXT, Value, text, Parameter}
+use Rattle.octets.specs.Reading.{provided, readEach}
+use Rattle.calendar.specs.Calendar.{ical, ValueType, TEXT, Value, text, Parameter}
 use Rattle.schema.specs.Types.{typeNamed, sameType}
-use Rattle.schema.specs.Properties.{defaultType, permitsParameter}
+use Rattle.schema.specs.Properties.{defaultType}
 use Rattle.schema.specs.Parameters.{parameterType, isListedParameter, parameterWords, isQuotedParameter}
 use Rattle.values.specs.ReadValue.{readValue}
 use Rattle.read_text_line.specs.ContentLine.{ParamValue, RawParameter}
@@ -74,11 +72,3 @@ isWord w (v ∷ vs) = same (upper (v .chars)) w and isEmpty vs
 
 abbrev pub isRawBase64Encoding : RawParameter → Bool
 isRawBase64Encoding r = same (upper (r .name)) (ascii "ENCODING") and isWord (ascii "BASE64") (r .values)
-
--- of the property n with a value of type t: no parameter twice, each readable and permitted; BINARY needs ENCODING=BASE64
-unfoldable pub parametersGood : List ℕ → ValueType → List RawParameter → Bool
-parametersGood n t rs =
-    distinct (map (λ (r : RawParameter). upper (r .name)) rs)
-    and isRead (readParameters rs)
-    and every (λ (r : RawParameter). permitsParameter n t (upper (r .name))) (ownParameters rs)
-    and (not (sameType t BINARY) or anyOne isRawBase64Encoding rs)

@@ -1,5 +1,7 @@
 -- Laws. iCalendar text (RFC 5545).
 --     LineKind            what a line is in an open component
+--     Faults              when parameters have no fault
+--     Leftmost            the fault of parameters is the leftmost
 --     ParameterLaws       parameters are read back
 --     ValuesLaws          the values of a property are read back
 --     AcceptedValues      what is read is values of the property
@@ -19,6 +21,8 @@
 --     AcceptedTree        what lines state that are not refused is a valid calendar
 --     AcceptedText        what an accepted text states is a valid calendar
 pub mod LineKind
+pub mod Faults
+pub mod Leftmost
 pub mod ParameterLaws
 pub mod ValuesLaws
 pub mod AcceptedValues

@@ -63,11 +63,13 @@ pub fn lines(kept: &[u8]) -> Vec<Line<'_>> {
     lines
 }
 
-/// A content line: its name, the names of its parameters, its value.
+/// A content line: its name, the names of its parameters, its value; and how many bytes of it stand before each of these names, and before the value.
 pub struct Content {
     pub name: String,
     pub parameters: Vec<String>,
     pub value: String,
+    pub names_at: Vec<usize>,
+    pub value_at: usize,
 }
 
 /// Reads `name *(";" name "=" value *("," value)) ":" value`; the characters have been looked at before.
@@ -81,8 +83,10 @@ pub fn content(line: &Line<'_>) -> Option<Content> {
     }
     let (name, mut rest) = name_of(text)?;
     let mut parameters = Vec::new();
+    let mut names_at = Vec::new();
     while let Some(parameter) = rest.strip_prefix(';') {
         let (name, behind) = name_of(parameter)?;
+        names_at.push(text.len() - parameter.len());
         parameters.push(name.to_ascii_uppercase());
         rest = behind.strip_prefix('=')?;
         loop {
@@ -97,7 +101,8 @@ pub fn content(line: &Line<'_>) -> Option<Content> {
         }
     }
     let value = rest.strip_prefix(':')?;
-    Some(Content { name: name.to_ascii_uppercase(), parameters, value: value.to_string() })
+    let value_at = text.len() - value.len();
+    Some(Content { name: name.to_ascii_uppercase(), parameters, value: value.to_string(), names_at, value_at })
 }
 
 fn name_of(text: &str) -> Option<(&str, &str)> {
@@ -153,10 +158,18 @@ impl Open {
     }
 }
 
-/// What these readings say of a text whose characters are good: of each line its place and, where they find it faulty, the lowest number from 4 to 6 that they can tell; and
-/// whether something is open at the end, or there is no calendar, if no line before is faulty.
+/// A line: its place, and those of its parameters' names and of its value; and, where these readings find it faulty, the lowest number from 4 to 6 that they can tell.
+pub struct LineTold {
+    pub start: usize,
+    pub names: Vec<usize>,
+    pub value: Option<usize>,
+    pub fault: Option<u8>,
+}
+
+/// What these readings say of a text whose characters are good: its lines, up to the first that they find faulty; and whether something is open at the end, or there is
+/// no calendar, if no line before is faulty.
 pub struct Reading {
-    pub lines: Vec<(usize, Option<u8>)>,
+    pub lines: Vec<LineTold>,
     pub is_open_at_end: bool,
 }
 
@@ -166,9 +179,14 @@ pub fn reading(input: &[u8]) -> Reading {
     let mut open = Open { stack: Vec::new() };
     let mut told = Vec::new();
     for line in lines(&kept) {
+        let lent = |at: usize| unfolded[line.start + at].0;
+        let mut names = Vec::new();
+        let mut value = None;
         let fault = match content(&line) {
             None => Some(4),
             Some(content) => {
+                names = content.names_at.iter().map(|at| lent(*at)).collect();
+                value = Some(lent(content.value_at));
                 let stands = open.takes(&content);
                 let property = content.name != "BEGIN" && content.name != "END";
                 if property && !is_carried(&content.name) || !content.parameters.iter().all(|name| is_carried(name)) {
@@ -180,7 +198,7 @@ pub fn reading(input: &[u8]) -> Reading {
                 }
             }
         };
-        told.push((unfolded[line.start].0, fault));
+        told.push(LineTold { start: lent(0), names, value, fault });
         if fault.is_some() {
             break;
         }

@@ -18,7 +18,6 @@ use Rattle.octets.specs.Reading.{isRead, readOr, provided}
 use Rattle.octets.specs.Computing.{octets-compute}
 use Rattle.names.specs.Table.{placeOf}
 use Rattle.calendar.specs.Calendar.{ValueType, TEXT, text, Property}
-use Rattle.calendar.specs.Refusal.{PARAMETER, VALUE}
 use Rattle.schema.specs.Types.{isTypeOf}
 use Rattle.schema.specs.Properties.{propertyNames, propertyRow, permittedTypes, propertyWords}
 use Rattle.schema.specs.Counts.{firstText, actionOf}
@@ -26,8 +25,10 @@ use Rattle.schema.specs.Completing.{actionNames, actionNumber}
 use Rattle.schema.specs.laws.Sets.{action-place, action-first}
 use Rattle.schema.specs.Property as property
 use Rattle.read_text_line.specs.ContentLine.{ContentLine}
-use Rattle.text.specs.Parameters.{statedType, parametersGood}
+use Rattle.text.specs.Parameters.{statedType}
 use Rattle.text.specs.Values.{readValues, readOwn, oneValue}
+use Rattle.text.specs.Faults.{parametersFault}
+use Rattle.text.specs.laws.AcceptedProperty.{both-pass}
 use Rattle.text.specs.Statement.{faultAs, propertyFault, propertyOf}
 
 -- the values of an ACTION
@@ -50,14 +51,8 @@ action-values k n t s e h = rw e (go (isTypeOf t (permittedTypes (ascii "ACTION"
 
 -- a line without a fault has a type, and its value is read
 none-fault : (o : Option ValueType) (k : List ℕ) (l : ContentLine) → faultAs o k l ≡ none → isRead (readValues k (upper (l .name)) (readOr TEXT o) (l .value)) ≡ true
-unfolding faultAs pick readOr
-none-fault none k l h = let z : _≡_ {A = Bool} false true = cc in absurd (false≢true z)
-none-fault (some t) k l h = go (parametersGood (upper (l .name)) t (l .parameters)) (isRead (readValues k (upper (l .name)) t (l .value))) refl h
-  where
-    go : (a b : Bool) → isRead (readValues k (upper (l .name)) t (l .value)) ≡ b → pick a (pick b none (some VALUE)) (some PARAMETER) ≡ none → isRead (readValues k (upper (l .name)) t (l .value)) ≡ true
-    go true true e h = e
-    go true false e h = let z : _≡_ {A = Bool} false true = cc in absurd (false≢true z)
-    go false b e h = let z : _≡_ {A = Bool} false true = cc in absurd (false≢true z)
+unfolding faultAs
+none-fault o k l h = both-pass (parametersFault (upper (l .name)) o (l .parameters)) (isRead (readValues k (upper (l .name)) (readOr TEXT o) (l .value))) h .1
 
 pub action-read : (k : List ℕ) (l : ContentLine) → propertyFault k l ≡ none → placeOf (upper (l .name)) propertyNames ≡ property.ACTION →
     actionNumber (firstText (propertyOf k l .values)) ≡ placeOf (upper (l .value)) actionNames

@@ -5,10 +5,10 @@
 use mathlib.Core.Path.{_≡_, refl, sym, ap, _∙_}
 use mathlib.Core.Bool.{Bool, true, false, not}
 use mathlib.Core.List.{List}
-use mathlib.Core.Option.{Option, none, some}
+use mathlib.Core.Option.{Option}
 use Prim.Native.Nat.{ℕ, _≤_, _<_}
-use native.Mathlib.Omega.{arith}
 use lib.Dec.{eqb, ltb}
+use lib.ListN.{length}
 use borrow.Author.Tests.{eq-eqb, lt-ltb, le-ltb}
 use Rattle.octets.specs.Ascii.{ascii}
 use Rattle.octets.specs.Pick.{pick, _and_, _or_}
@@ -17,9 +17,8 @@ use Rattle.octets.specs.Class.{upper}
 use Rattle.octets.specs.Words.{same}
 use Rattle.names.specs.Table.{placeOf}
 use Rattle.names.specs.laws.Table.{one-of-place}
-use Rattle.calendar.specs.Calendar.{Property}
-use Rattle.calendar.specs.Refusal.{Refusal, LENGTH, numberOf, refusalAt}
-use Rattle.calendar.specs.laws.Refusal.{refusal-back}
+use Rattle.calendar.specs.Refusal.{refusalAt}
+use Rattle.source.specs.Source.{rest}
 use Rattle.schema.specs.Components.{componentNames}
 use Rattle.schema.specs.Properties.{propertyNames, isKnownProperty}
 use Rattle.schema.specs.Coded.{rowAt}
@@ -29,11 +28,18 @@ use Rattle.schema.specs.laws.Sets.{timezone-place}
 use Rattle.schema.specs.Completing.{actionNames}
 use Rattle.schema.specs.Property as property
 use Rattle.schema.specs.declared.table.Row.{Row}
-use Rattle.read_text_line.specs.ContentLine.{ContentLine}
+use Rattle.read_text_line.specs.Cursor.{paramsAt}
+use Rattle.read_text_line.specs.Line.{lineFrom}
+use Rattle.read_text_line.specs.declared.LineCursors.{LineCursors}
+use Rattle.text.specs.Faults.{lineStart, parameterName, valueStart, Fault}
+use Rattle.text.specs.laws.Faults.{fault-within}
 use Rattle.text.specs.Statement.{propertyFault, propertyOf}
 use Rattle.text.specs.Nesting.{mayHold}
-use Rattle.text.specs.LineKind.{faulty, openAs, heldBy, propertyKind}
-use Rattle.read_text_property.specs.Faults.{faultNumber}
+use Rattle.text.specs.LineKind.{openAs, heldBy, propertyKind}
+use Rattle.read_text_property.specs.Faults.{faultOf, FaultIs}
+use Rattle.read_text_property.specs.declared.LineFault.{LineFault}
+use Rattle.read_text_property.specs.declared.LineFault.the-variants.{Parameter, Encoding, Value, None}
+use Rattle.read_text.specs.Places.{NameAt, PlaceOf}
 use Rattle.read_text.specs.laws.Action.{action-read}
 use Rattle.read_text.specs.Kinds.{KindIs}
 use Rattle.read_text.specs.declared.Kind.the-variants.{Holds, Faulty}
@@ -74,34 +80,41 @@ module _ {k : ℕ} {row : Row} (inner : Bool) (c w : List ℕ) (o : k ≡ placeO
 
 -- ---- its line
 
--- a fault's number
-fault-none : (o : Option Refusal) → faultNumber o ≡ 0 → o ≡ none
-unfolding refusalAt
-fault-none none h = refl
-fault-none (some r) h = absurd (no-zero r h)
-  where
-    no-zero : (r : Refusal) → numberOf r ≡ 0 → ⊥
-    no-zero r h = let q : r ≡ LENGTH = sym (refusal-back r) ∙ ap refusalAt h in let z : numberOf r ≡ 1 = ap numberOf q in omega arith
-
-fault-some : (o : Option Refusal) (p : Property) (f : ℕ) → f ≡ faultNumber o → (f ≡ 0 → ⊥) → heldBy o p ≡ faulty (refusalAt f)
-fault-some none p f e h = absurd (h e)
-fault-some (some r) p f e h = ap faulty (sym (ap refusalAt e ∙ refusal-back r))
-
-module _ (v : Bool) (t : ℕ) (s : List ℕ) (l : ContentLine) (c : List ℕ) {row : Row} (inner : Bool) {m : Bool} (e : row ≡ rowAt (placeOf (upper (l .name)) propertyNames)) (q : m ≡ mayHold (upper (l .name)) (openAs c inner)) where
-  pub property-not : m ≡ false → KindIs v t s (propertyKind c inner l) (Faulty 6)
+module _ (v : Bool) (m : ℕ) (s : List ℕ) (c : LineCursors) (w n : List ℕ) {row : Row} (inner : Bool) {b : Bool} (e : row ≡ rowAt (placeOf (upper w) propertyNames)) (q : b ≡ mayHold (upper w) (openAs n inner)) where
+  pub property-not : b ≡ false → KindIs (PlaceOf m s c) v m s (propertyKind n inner (lineFrom w m s c)) (Faulty 6 (c .name))
   unfolding refusalAt
-  property-not g = pick-no _ _ _ (sym q ∙ g)
+  property-not g = record { place = lineStart; is = pick-no _ _ _ (sym q ∙ g); there = refl }
 
-  module _ {f : ℕ} (g : m ≡ true) (u : f ≡ faultNumber (propertyFault c l)) where
-    pub property-faulty : (f ≡ 0 → ⊥) → KindIs v t s (propertyKind c inner l) (Faulty f)
-    property-faulty z = pick-yes _ _ _ (sym q ∙ g) ∙ fault-some (propertyFault c l) (propertyOf c l) f u z
+  module _ {f : LineFault} (g : b ≡ true) (u : FaultIs (propertyFault n (lineFrom w m s c)) f) where
+    fault-as : (x : LineFault) → f ≡ x → propertyFault n (lineFrom w m s c) ≡ faultOf x
+    fault-as x z = sym (u .is) ∙ ap faultOf z
 
-    pub property-held : {a : ℕ} → f ≡ 0 → a ≡ pick (eqb (row .number) property.ACTION) (placeOf (upper (l .value)) actionNames) 3 → KindIs v t s (propertyKind c inner l) (Holds (row .number) a)
+    kind-as : (x : LineFault) → f ≡ x → propertyKind n inner (lineFrom w m s c) ≡ heldBy (faultOf x) (propertyOf n (lineFrom w m s c))
+    kind-as x z = pick-yes _ _ _ (sym q ∙ g) ∙ ap (λ (o : Option Fault). heldBy o (propertyOf n (lineFrom w m s c))) (fault-as x z)
+
+    pub property-parameter : {i r : ℕ} → f ≡ Parameter i → (i < length (paramsAt m s (c .parameters)) → NameAt m s (c .parameters) i r) →
+        KindIs (PlaceOf m s c) v m s (propertyKind n inner (lineFrom w m s c)) (Faulty 7 r)
+    unfolding refusalAt
+    property-parameter {i} z x = record {
+      place = parameterName i;
+      is = kind-as (Parameter i) z;
+      there = x (fault-within n (lineFrom w m s c) i (fault-as (Parameter i) z));
+    }
+
+    pub property-encoding : f ≡ Encoding → KindIs (PlaceOf m s c) v m s (propertyKind n inner (lineFrom w m s c)) (Faulty 7 (c .value))
+    unfolding refusalAt
+    property-encoding z = record { place = valueStart; is = kind-as Encoding z; there = refl }
+
+    pub property-value : f ≡ Value → KindIs (PlaceOf m s c) v m s (propertyKind n inner (lineFrom w m s c)) (Faulty 8 (c .value))
+    unfolding refusalAt
+    property-value z = record { place = valueStart; is = kind-as Value z; there = refl }
+
+    pub property-held : {a : ℕ} → f ≡ None → a ≡ pick (eqb (row .number) property.ACTION) (placeOf (upper (rest m s (c .value))) actionNames) 3 →
+        KindIs (PlaceOf m s c) v m s (propertyKind n inner (lineFrom w m s c)) (Holds (row .number) a)
     unfolding pick propertyOf
-    property-held {a} z y =
-        let none-here : propertyFault c l ≡ none = fault-none (propertyFault c l) (sym u ∙ z) in record {
-          property = propertyOf c l;
-          is = pick-yes _ _ _ (sym q ∙ g) ∙ ap (λ (o : Option Refusal). heldBy o (propertyOf c l)) none-here;
-          number = number-of (upper (l .name)) e;
-          action = λ x. y ∙ rw (eq-eqb (row .number) property.ACTION x) (sym (action-read c l none-here (sym (number-of (upper (l .name)) e) ∙ x)));
-        }
+    property-held {a} z y = record {
+      property = propertyOf n (lineFrom w m s c);
+      is = kind-as None z;
+      number = number-of (upper w) e;
+      action = λ x. y ∙ rw (eq-eqb (row .number) property.ACTION x) (sym (action-read n (lineFrom w m s c) (fault-as None z) (sym (number-of (upper w) e) ∙ x)));
+    }

@@ -3,10 +3,11 @@
 --     begin-starts ..     a BEGIN;   end-stops ..: an END
 --     kind-begin ..       a line, by its name
 use mathlib.Core.Path.{_≡_, refl, sym, ap, subst, _∙_}
-use mathlib.Core.Bool.{Bool, true, false}
-use mathlib.Core.List.{List}
+use mathlib.Core.Bool.{Bool, true, false, false≢true}
+use mathlib.Core.List.{List, [], _∷_}
 use mathlib.Core.Option.{Option}
-use Prim.Native.Nat.{ℕ, _≤_}
+use Prim.Native.Nat.{ℕ, _≤_, _<_}
+use native.Mathlib.Omega.{arith}
 use lib.ListN.{length, take}
 use lib.Seq.{length-take-le}
 use Rattle.octets.specs.Ascii.{ascii}
@@ -35,21 +36,24 @@ use Rattle.read_text_line.specs.Carried.{carriesName}
 use Rattle.read_text_line.specs.declared.ParamRead.{ParamRead}
 use Rattle.read_text_line.specs.declared.LineCursors.{LineCursors}
 use Rattle.read_text_line.specs.declared.LineRead.the-variants.{Line, Bad}
+use Rattle.text.specs.Faults.{Where, lineStart, parameterName}
 use Rattle.text.specs.Nesting.{namesCarried}
 use Rattle.text.specs.LineKind.{LineKind, beginKind, endKind, propertyKind, kindBy, kindOf, lineKind}
 use Rattle.read_text.specs.laws.Names.{component-upper}
+use Rattle.read_text.specs.Places.{NameAt, PlaceOf, OffsetAt}
+use Rattle.read_text.specs.laws.Places.{offset-start, place-offset}
 use Rattle.read_text.specs.Kinds.{KindIs}
 use Rattle.read_text.specs.declared.Kind.{Kind}
-use Rattle.read_text.specs.declared.Kind.the-variants.{Starts, Stops, Faulty}
+use Rattle.read_text.specs.declared.Kind.the-variants.{Starts, Stops, Holds, Faulty}
 
 -- ---- what an answer says
 
-module _ (v : Bool) (m : ℕ) (s : List ℕ) where
-  kind-yes : (r : Kind) (t : Bool) (a b : LineKind) → t ≡ true → KindIs v m s a r → KindIs v m s (pick t a b) r
-  kind-yes r t a b h k = subst (λ (x : LineKind). KindIs v m s x r) (sym (pick-yes t a b h)) k
+module _ (P : Where → ℕ → Type 0) (v : Bool) (m : ℕ) (s : List ℕ) (r : Kind) (t : Bool) (a b : LineKind) where
+  kind-yes : t ≡ true → KindIs P v m s a r → KindIs P v m s (pick t a b) r
+  kind-yes h k = subst (λ (x : LineKind). KindIs P v m s x r) (sym (pick-yes t a b h)) k
 
-  kind-no : (r : Kind) (t : Bool) (a b : LineKind) → t ≡ false → KindIs v m s b r → KindIs v m s (pick t a b) r
-  kind-no r t a b h k = subst (λ (x : LineKind). KindIs v m s x r) (sym (pick-no t a b h)) k
+  kind-no : t ≡ false → KindIs P v m s b r → KindIs P v m s (pick t a b) r
+  kind-no h k = subst (λ (x : LineKind). KindIs P v m s x r) (sym (pick-no t a b h)) k
 
 -- ---- no parameters
 
@@ -65,11 +69,16 @@ module _ {m : ℕ} {s : List ℕ} {e : ℕ} {r : ParamRead} (a : ParamOf nextPar
 
 -- ---- BEGIN
 
+-- some parameter stands there
+pub some-params : {A : Type 0} (rs : List A) → isEmpty rs ≡ false → 0 < length rs
+some-params [] h = absurd (false≢true (sym h))
+some-params (r ∷ rs) h = omega arith
+
 -- in a component c of the number k, where v says whether there is a level left in it
 module _ (v : Bool) (m : ℕ) (s w : List ℕ) (y : LineCursors) (c : List ℕ) {a : Bool} (d : a ≡ isComponentName (rest m s (y .value))) where
-  pub begin-unnamed : a ≡ false → KindIs v m s (beginKind c v (lineFrom w m s y)) (Faulty 5)
+  pub begin-unnamed : a ≡ false → KindIs (PlaceOf m s y) v m s (beginKind c v (lineFrom w m s y)) (Faulty 5 (y .name))
   unfolding refusalAt
-  begin-unnamed h = pick-no _ _ _ (component-upper (rest m s (y .value)) ∙ sym d ∙ h)
+  begin-unnamed h = record { place = lineStart; is = pick-no _ _ _ (component-upper (rest m s (y .value)) ∙ sym d ∙ h); there = refl }
 
   module _ (h : a ≡ true) {k n : ℕ} (o : k ≡ placeOf c componentNames) (e : n ≡ placeOf (upper (rest m s (y .value))) componentNames) {b : Bool} (q : b ≡ mayBegin k n) where
     good : isComponentName (upper (rest m s (y .value))) ≡ true
@@ -78,37 +87,47 @@ module _ (v : Bool) (m : ℕ) (s w : List ℕ) (y : LineCursors) (c : List ℕ) 
     contains : mayContain c (upper (rest m s (y .value))) ≡ b
     contains = begin-place c (upper (rest m s (y .value))) ∙ rw (← o, ← e) (sym q)
 
-    pub begin-not : b ≡ false → KindIs v m s (beginKind c v (lineFrom w m s y)) (Faulty 6)
+    pub begin-not : b ≡ false → KindIs (PlaceOf m s y) v m s (beginKind c v (lineFrom w m s y)) (Faulty 6 (y .name))
     unfolding refusalAt
-    begin-not f = pick-yes _ _ _ good ∙ pick-no _ _ _ (and-no-left _ _ (contains ∙ f))
+    begin-not f = record { place = lineStart; is = pick-yes _ _ _ good ∙ pick-no _ _ _ (and-no-left _ _ (contains ∙ f)); there = refl }
 
     module _ (f : b ≡ true) where
-      pub begin-deep : v ≡ false → KindIs v m s (beginKind c v (lineFrom w m s y)) (Faulty 6)
+      pub begin-deep : v ≡ false → KindIs (PlaceOf m s y) v m s (beginKind c v (lineFrom w m s y)) (Faulty 6 (y .name))
       unfolding refusalAt
-      begin-deep g = pick-yes _ _ _ good ∙ pick-no _ _ _ (and-no-right _ _ g)
+      begin-deep g = record { place = lineStart; is = pick-yes _ _ _ good ∙ pick-no _ _ _ (and-no-right _ _ g); there = refl }
 
       module _ (g : v ≡ true) {p : Bool} (z : p ≡ isEmpty (paramsAt m s (y .parameters))) where
-        pub begin-starts : p ≡ true → KindIs v m s (beginKind c v (lineFrom w m s y)) (Starts n (y .value))
+        pub begin-starts : p ≡ true → KindIs (PlaceOf m s y) v m s (beginKind c v (lineFrom w m s y)) (Starts n (y .value))
         begin-starts x = (pick-yes _ _ _ good ∙ pick-yes _ _ _ (and-yes _ _ (contains ∙ f) g) ∙ pick-yes _ _ _ (sym z ∙ x), e, g)
 
-        pub begin-parameters : p ≡ false → KindIs v m s (beginKind c v (lineFrom w m s y)) (Faulty 7)
+        pub begin-parameters : {i : ℕ} → p ≡ false → (0 < length (paramsAt m s (y .parameters)) → NameAt m s (y .parameters) 0 i) →
+            KindIs (PlaceOf m s y) v m s (beginKind c v (lineFrom w m s y)) (Faulty 7 i)
         unfolding refusalAt
-        begin-parameters x = pick-yes _ _ _ good ∙ pick-yes _ _ _ (and-yes _ _ (contains ∙ f) g) ∙ pick-no _ _ _ (sym z ∙ x)
+        begin-parameters x u = record {
+          place = parameterName 0;
+          is = pick-yes _ _ _ good ∙ pick-yes _ _ _ (and-yes _ _ (contains ∙ f) g) ∙ pick-no _ _ _ (sym z ∙ x);
+          there = u (some-params (paramsAt m s (y .parameters)) (sym z ∙ x));
+        }
 
 -- ---- END
 
 module _ (v : Bool) (m : ℕ) (s w : List ℕ) (y : LineCursors) (c : List ℕ) {a : Bool} (d : a ≡ same (upper (rest m s (y .value))) c) where
-  pub end-other : a ≡ false → KindIs v m s (endKind c (lineFrom w m s y)) (Faulty 6)
+  pub end-other : a ≡ false → KindIs (PlaceOf m s y) v m s (endKind c (lineFrom w m s y)) (Faulty 6 (y .name))
   unfolding refusalAt
-  end-other h = pick-no _ _ _ (sym d ∙ h)
+  end-other h = record { place = lineStart; is = pick-no _ _ _ (sym d ∙ h); there = refl }
 
   module _ (h : a ≡ true) {p : Bool} (z : p ≡ isEmpty (paramsAt m s (y .parameters))) where
-    pub end-stops : p ≡ true → KindIs v m s (endKind c (lineFrom w m s y)) Stops
+    pub end-stops : p ≡ true → KindIs (PlaceOf m s y) v m s (endKind c (lineFrom w m s y)) Stops
     end-stops x = pick-yes _ _ _ (sym d ∙ h) ∙ pick-yes _ _ _ (sym z ∙ x)
 
-    pub end-parameters : p ≡ false → KindIs v m s (endKind c (lineFrom w m s y)) (Faulty 7)
+    pub end-parameters : {i : ℕ} → p ≡ false → (0 < length (paramsAt m s (y .parameters)) → NameAt m s (y .parameters) 0 i) →
+        KindIs (PlaceOf m s y) v m s (endKind c (lineFrom w m s y)) (Faulty 7 i)
     unfolding refusalAt
-    end-parameters x = pick-yes _ _ _ (sym d ∙ h) ∙ pick-no _ _ _ (sym z ∙ x)
+    end-parameters x u = record {
+      place = parameterName 0;
+      is = pick-yes _ _ _ (sym d ∙ h) ∙ pick-no _ _ _ (sym z ∙ x);
+      there = u (some-params (paramsAt m s (y .parameters)) (sym z ∙ x));
+    }
 
 -- ---- a line
 
@@ -129,33 +148,40 @@ module _ {m : ℕ} {s : List ℕ} {l : LineCursors} (y : cuts m ≡ true) (p : P
   name-row q = q ∙ ap (λ (n : List ℕ). rowAt (placeOf (upper n) propertyNames)) name-cut
 
   module _ (n : List ℕ) (v inner : Bool) {c : Bool} (q : c ≡ (isCarriedName (runOf isNameChar (rest m s (l .name))) and every carriesName (paramsAt m s (l .parameters)))) where
-    pub kind-uncarried : c ≡ false → KindIs v m s (kindBy n v inner (named m s l)) (Faulty 5)
+    pub kind-uncarried : c ≡ false → KindIs (PlaceOf m s l) v m s (kindBy n v inner (named m s l)) (Faulty 5 (l .name))
     unfolding kindBy namesCarried refusalAt
-    kind-uncarried f = pick-no _ _ _ (sym q ∙ f)
+    kind-uncarried f = record { place = lineStart; is = pick-no _ _ _ (sym q ∙ f); there = refl }
 
     module _ (r : Kind) {b : Bool} (f : c ≡ true) (i : b ≡ same (upper (rest m (take (l .parameters) s) (l .name))) (ascii "BEGIN")) where
-      pub kind-begin : b ≡ true → KindIs v m s (beginKind n v (named m s l)) r → KindIs v m s (kindBy n v inner (named m s l)) r
+      pub kind-begin : b ≡ true → KindIs (PlaceOf m s l) v m s (beginKind n v (named m s l)) r → KindIs (PlaceOf m s l) v m s (kindBy n v inner (named m s l)) r
       unfolding kindBy namesCarried
-      kind-begin g x = kind-yes v m s r _ _ _ (sym q ∙ f) (kind-yes v m s r _ _ _ (sym (name-is (ascii "BEGIN") i) ∙ g) x)
+      kind-begin g x = kind-yes _ v m s r _ _ _ (sym q ∙ f) (kind-yes _ v m s r _ _ _ (sym (name-is (ascii "BEGIN") i) ∙ g) x)
 
       module _ {d : Bool} (g : b ≡ false) (j : d ≡ same (upper (rest m (take (l .parameters) s) (l .name))) (ascii "END")) where
-        pub kind-end : d ≡ true → KindIs v m s (endKind n (named m s l)) r → KindIs v m s (kindBy n v inner (named m s l)) r
+        pub kind-end : d ≡ true → KindIs (PlaceOf m s l) v m s (endKind n (named m s l)) r → KindIs (PlaceOf m s l) v m s (kindBy n v inner (named m s l)) r
         unfolding kindBy namesCarried
-        kind-end z x = kind-yes v m s r _ _ _ (sym q ∙ f) (kind-no v m s r _ _ _ (sym (name-is (ascii "BEGIN") i) ∙ g) (kind-yes v m s r _ _ _ (sym (name-is (ascii "END") j) ∙ z) x))
+        kind-end z x = kind-yes _ v m s r _ _ _ (sym q ∙ f) (kind-no _ v m s r _ _ _ (sym (name-is (ascii "BEGIN") i) ∙ g) (kind-yes _ v m s r _ _ _ (sym (name-is (ascii "END") j) ∙ z) x))
 
-        pub kind-property : d ≡ false → KindIs v m s (propertyKind n inner (named m s l)) r → KindIs v m s (kindBy n v inner (named m s l)) r
+        pub kind-property : d ≡ false → KindIs (PlaceOf m s l) v m s (propertyKind n inner (named m s l)) r → KindIs (PlaceOf m s l) v m s (kindBy n v inner (named m s l)) r
         unfolding kindBy namesCarried
-        kind-property z x = kind-yes v m s r _ _ _ (sym q ∙ f) (kind-no v m s r _ _ _ (sym (name-is (ascii "BEGIN") i) ∙ g) (kind-no v m s r _ _ _ (sym (name-is (ascii "END") j) ∙ z) x))
+        kind-property z x = kind-yes _ v m s r _ _ _ (sym q ∙ f) (kind-no _ v m s r _ _ _ (sym (name-is (ascii "BEGIN") i) ∙ g) (kind-no _ v m s r _ _ _ (sym (name-is (ascii "END") j) ∙ z) x))
 
 -- where its name stands
 pub name-within : {m : ℕ} {s : List ℕ} {at : ℕ} {l : LineCursors} → LineAt m s at (Line l) → at ≤ length s → l .name ≤ length s
 name-within {s = s} a h = subst (λ (n : ℕ). n ≤ length s) (sym (a .parts .0)) h
 
 module _ (n : List ℕ) (v inner : Bool) (m : ℕ) (s : List ℕ) (at : ℕ) where
-  pub kind-bad : LineAt m s at Bad → KindIs v m s (lineKind n v inner (rest m s at)) (Faulty 4)
+  pub kind-bad : LineAt m s at Bad → KindIs (OffsetAt m s at) v m s (lineKind n v inner (rest m s at)) (Faulty 4 at)
   unfolding kindOf refusalAt
-  kind-bad a = rw (a .is)
+  kind-bad a = record { place = lineStart; is = rw (a .is); there = offset-start m s at }
 
-  pub kind-line : (l : LineCursors) (r : Kind) → LineAt m s at (Line l) → KindIs v m s (kindBy n v inner (named m s l)) r → KindIs v m s (lineKind n v inner (rest m s at)) r
+  pub kind-line : (l : LineCursors) (r : Kind) → cuts m ≡ true → LineAt m s at (Line l) → KindIs (PlaceOf m s l) v m s (kindBy n v inner (named m s l)) r →
+      KindIs (OffsetAt m s at) v m s (lineKind n v inner (rest m s at)) r
   unfolding kindOf
-  kind-line l r a x = subst (λ (o : Option ContentLine). KindIs v m s (kindOf n v inner o) r) (sym (a .is)) x
+  kind-line l r y a x = subst (λ (o : Option ContentLine). KindIs (OffsetAt m s at) v m s (kindOf n v inner o) r) (sym (a .is)) (moved r x)
+    where
+      moved : (r : Kind) → KindIs (PlaceOf m s l) v m s (kindBy n v inner (named m s l)) r → KindIs (OffsetAt m s at) v m s (kindBy n v inner (named m s l)) r
+      moved (Starts i b) x = x
+      moved Stops x = x
+      moved (Holds p b) x = x
+      moved (Faulty i b) x = record { place = x .place; is = x .is; there = place-offset y a (x .place) (x .there) }

@@ -1,5 +1,5 @@
 -- Laws of what specs/LineEnd.antt defines.
---     line-first, line-none    what the lines are then
+--     line-first, line-none    what the lines are then;   index-on: places further on
 --     Seeking           the invariant of looking for a line's end;   seeking-plain: its rules over bytes as they stand
 use mathlib.Core.Path.{_≡_, refl, sym, ap, _∙_}
 use mathlib.Core.Bool.{Bool, true, false, false≢true}
@@ -32,7 +32,7 @@ use Rattle.read_text_line.specs.declared.Ending.the-variants.{Whole, Loo
 -- ---- the lines
 
 -- how many bytes stand before a cursor that is reached from the start
-index-on : (m : ℕ) (s : List ℕ) (c n k : ℕ) → cuts m ≡ true → Onward m s 0 c → length (rest m s c) ≡ k + length (rest m s n) → index m s n ≡ index m s c + k
+pub index-on : (m : ℕ) (s : List ℕ) (c n k : ℕ) → cuts m ≡ true → Onward m s 0 c → length (rest m s c) ≡ k + length (rest m s n) → index m s n ≡ index m s c + k
 unfolding index
 index-on m s c n k y o h =
     let e : length (rest m s 0) ≡ length (rest m (take c s) 0) + length (rest m s c) = ap length (rest-cut m s 0 c y (o .onward) (o .reach)) ∙ length-both (rest m (take c s) 0) (rest m s c) in

@@ -3,7 +3,7 @@
 --     tabled-at    its entries
 --     column-at     the entry of a row in the list of a field of each row;   column-past: of a number that is no row
 --     cell-at       the entry of two numbers in a table of w to a line
---     at-passes, row-passes    what every row passes
+--     at-passes, row-passes    what every row passes;   below-passes: every number of a run
 use mathlib.Core.Path.{_≡_, refl, sym, ap, _∙_}
 use mathlib.Core.Bool.{Bool, true, false}
 use mathlib.Core.List.{List, [], _∷_, map}
@@ -15,6 +15,7 @@ use lib.ListN.{length, getD, List·getD-eq-default}
 use Rattle.octets.specs.laws.Pick.{and-both}
 use Rattle.octets.specs.Lists.{every}
 use Rattle.schema.specs.Cells.{tabled}
+use Rattle.schema.specs.Arrays.{eachFrom}
 
 abbrev pub digit : Bool → ℕ
 digit true = 49
@@ -60,3 +61,13 @@ module _ {A : Type 0} where
   row-at-passes p d [] n a h = absurd (not-suc-le-zero h)
   row-at-passes p d (x ∷ rows) zero a h = and-both _ _ a .0
   row-at-passes p d (x ∷ rows) (suc n) a h = row-at-passes p d rows n (and-both _ _ a .1) (le-of-suc-le-suc h)
+
+-- what a run of numbers passes
+from-passes : (p : ℕ → Bool) (i k n : ℕ) → eachFrom i k p ≡ true → n < k → p (i + n) ≡ true
+unfolding eachFrom
+from-passes p i zero n a h = absurd (not-suc-le-zero h)
+from-passes p i (suc k) zero a h = ap p (omega arith) ∙ and-both _ _ a .0
+from-passes p i (suc k) (suc n) a h = ap p (omega arith) ∙ from-passes p (suc i) k n (and-both _ _ a .1) (le-of-suc-le-suc h)
+
+pub below-passes : (p : ℕ → Bool) (k n : ℕ) → eachFrom 0 k p ≡ true → n < k → p n ≡ true
+below-passes p k n a h = let z : n ≡ 0 + n = omega arith in ap p z ∙ from-passes p 0 k n a h

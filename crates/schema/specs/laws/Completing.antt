@@ -32,7 +32,7 @@ use Rattle.schema.specs.laws.Tallies.{often-at}
 use Rattle.schema.specs.laws.Unknown.{unknown-often}
 use Rattle.schema.specs.Numbers.{componentAt, propertyAt, propertyName}
 use Rattle.schema.specs.laws.Numbers.{component-place}
-use Rattle.schema.specs.laws.Cells.{row-at-passes}
+use Rattle.schema.specs.laws.Cells.{row-at-passes, below-passes}
 use Rattle.schema.specs.laws.Columns.{alarm-place}
 use Rattle.schema.specs.laws.Sets.{calendar-place, event-place, todo-place, timezone-place}
 use Rattle.schema.specs.Arrays.{tallies, eachFrom}
@@ -149,15 +149,6 @@ oftenMasked r l =
 all-masked : every (λ r. eachFrom 0 12 (oftenMasked r)) propertyTable ≡ true
 unfolding schema-compute columns oftenMasked evenMost
 all-masked = refl
-
-from-passes : (p : ℕ → Bool) (i k n : ℕ) → eachFrom i k p ≡ true → n < k → p (i + n) ≡ true
-unfolding eachFrom
-from-passes p i zero n a h = absurd (not-suc-le-zero h)
-from-passes p i (suc k) zero a h = ap p (omega arith) ∙ and-both _ _ a .0
-from-passes p i (suc k) (suc n) a h = ap p (omega arith) ∙ from-passes p (suc i) k n (and-both _ _ a .1) (le-of-suc-le-suc h)
-
-pub below-passes : (p : ℕ → Bool) (k n : ℕ) → eachFrom 0 k p ≡ true → n < k → p n ≡ true
-below-passes p k n a h = let z : n ≡ 0 + n = omega arith in ap p z ∙ from-passes p 0 k n a h
 
 often-same : (e : Entry) (l c least : ℕ) (most : Option ℕ) → leastIn e l ≡ least → mostIn e l ≡ most → plainBy least most ≡ true →
     oftenIn e l (min 255 c) ≡ (leb least c and isAtMost most c)

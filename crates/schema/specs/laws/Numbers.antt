@@ -1,7 +1,7 @@
 -- Laws of what specs/Numbers.antt defines.
 --     property-place, parameter-place, component-place, type-place    the row of a name is the row of its number
---     types-packed, components-packed, parameters-packed    the numbers of the code are those of the names
---     type-words-are   a table of names in the code
+--     parameters-packed    the numbers of the code are those of the names
+--     type-names-are, component-names-are, type-words-are   the tables of names in the code
 use mathlib.Core.Path.{_≡_, refl}
 use mathlib.Core.Bool.{true}
 use mathlib.Core.List.{List}
@@ -18,7 +18,7 @@ use Rattle.schema.specs.Parameters.{parameterTable, parameterNames, unre
 use Rattle.schema.specs.Components.{componentTable, componentNames, unknownComponent, componentRow}
 use Rattle.schema.specs.Properties.{propertyTable, propertyNames, unrecognisedProperty, propertyRow}
 use Rattle.schema.specs.Numbers.{typeNames, typeWords, typeAt, componentAt, propertyAt, parameterAt}
-use Rattle.schema.specs.Packs.{typeRows, typeRows2, componentRows, componentRows2, parameterRows, parameterRows3}
+use Rattle.schema.specs.Packs.{parameterRows, parameterRows3}
 
 -- ---- rows
 
@@ -45,13 +45,13 @@ type-place-or w = row-or typeName w (λ t. t) UNKNOWN valueTypes
 
 -- ---- the names of the code
 
-pub types-packed : agree typeRows typeRows2 typeNames ≡ true
-unfolding packing-compute
-types-packed = refl
+pub type-names-are : namesIn (ascii "BINARY\nBOOLEAN\nCAL-ADDRESS\nDATE\nDATE-TIME\nDURATION\nFLOAT\nINTEGER\nPERIOD\nRECUR\nTEXT\nTIME\nURI\nUTC-OFFSET\n") ≡ typeNames
+unfolding namesIn pick
+type-names-are = refl
 
-pub components-packed : agree componentRows componentRows2 componentNames ≡ true
-unfolding packing-compute
-components-packed = refl
+pub component-names-are : namesIn (ascii "VCALENDAR\nVEVENT\nVTODO\nVJOURNAL\nVFREEBUSY\nVTIMEZONE\nSTANDARD\nDAYLIGHT\nVALARM\n") ≡ componentNames
+unfolding namesIn pick
+component-names-are = refl
 
 pub parameters-packed : agree parameterRows parameterRows3 parameterNames ≡ true
 unfolding packing-compute

@@ -2,31 +2,35 @@
 --     parameter-set    the set of the number is the row's
 --     words-place, parameter-words-place     the same of names
 --     event-place ..       a name by its number
---     word-in, word-none, nth-read           for code
+--     stored, set-yes, set-no, word-none, nth-read           for code
 --     word-yes, word-no    what the answer of a reader of words says
 use mathlib.Core.Path.{_≡_, refl, sym, ap, _∙_}
-use mathlib.Core.Bool.{Bool, true, false}
+use mathlib.Core.Bool.{Bool, true, false, false≢true}
 use mathlib.Core.List.{List, [], _∷_}
 use mathlib.Core.Option.{Option, none, some}
-use Prim.Native.Nat.{ℕ, zero, suc, _≤_, _<_}
+use Prim.Native.Nat.{ℕ, zero, suc, _+_, _-_, _≤_, _<_}
 use native.Mathlib.Nat.{not-suc-le-zero, le-of-suc-le-suc}
 use native.Mathlib.Omega.{arith}
-use lib.Dec.{eqb, ltb}
-use lib.ListN.{length, List·getD-map}
-use borrow.Author.Tests.{lt-ltb, le-ltb, ltb-true, ltb-false}
+use lib.Dec.{eqb, leb, ltb}
+use lib.ListN.{length, getD, take, drop, List·getD-map}
+use borrow.Author.Tests.{lt-ltb, le-ltb, ltb-true, ltb-false, leb-true, eqb-true}
 use Rattle.octets.specs.Ascii.{ascii}
-use Rattle.octets.specs.Pick.{pick}
+use Rattle.octets.specs.Pick.{pick, _and_}
+use Rattle.octets.specs.laws.Pick.{and-both}
 use Rattle.octets.specs.Words.{same, rowOf}
+use Rattle.octets.specs.laws.Words.{same-true}
 use Rattle.octets.specs.Reading.{andThen, isRead, readOr}
 use Rattle.octets.specs.Computing.{octets-compute}
-use Rattle.names.specs.Table.{placeOf, nth}
+use Rattle.names.specs.Table.{placeOf, namesIn, nth}
 use Rattle.names.specs.laws.Table.{one-of-place}
 use Rattle.names.specs.laws.Places.{same-place, same-place-first}
 use Rattle.schema.specs.Parameters.{ParameterRow, parameterTable, unrecognisedParameter, parameterNames, parameterWords}
 use Rattle.schema.specs.Components.{componentNames}
 use Rattle.schema.specs.Properties.{WordsRow, propertyNames, wordsTable, statusTable, elsewhere, propertyWords}
 use Rattle.schema.specs.laws.Numbers.{parameter-place}
-use Rattle.schema.specs.Sets.{wordSets, statusSet, propertySet, wordsAt, parameterWordsAt, parameterSetNumbers, parameterSet, isWordOf, wordAmong, wordIn}
+use Rattle.schema.specs.Arrays.{eachFrom}
+use Rattle.schema.specs.laws.Cells.{below-passes}
+use Rattle.schema.specs.Sets.{wordSets, wordBytes, setStarts, setSizes, statusSet, propertySet, wordsAt, parameterWordsAt, parameterSetNumbers, parameterSet, isWordOf, wordAmong, wordIn}
 use Rattle.schema.specs.Property as property
 use Rattle.schema.specs.declared.WordRead.{WordRead}
 use Rattle.schema.specs.declared.WordRead.the-variants.{At, NoWord}
@@ -152,20 +156,67 @@ nth-read (a ∷ l) (suc n) = below-both n (length l) (ltb n (length l)) refl ∙
     below-both n m true e = lt-ltb (suc n) (suc m) (omega (arith, ltb-true n m e)) ∙ sym e
     below-both n m false e = le-ltb (suc n) (suc m) (omega (arith, ltb-false n m e)) ∙ sym e
 
--- a word among a set of n
-module _ {n i j : ℕ} (h : i ≡ j) where
-  pub among-yes : i < n → At i ≡ wordAmong n j
-  unfolding pick
-  among-yes l = rw (← h, lt-ltb i n l)
+-- a set as the code has it: its words, how many they are, where they stand
+unfoldable pub sameWords : List (List ℕ) → List (List ℕ) → Bool
+sameWords [] [] = true
+sameWords [] (u ∷ us) = false
+sameWords (w ∷ ws) [] = false
+sameWords (w ∷ ws) (u ∷ us) = same w u and sameWords ws us
 
-  pub among-no : n ≤ i → NoWord ≡ wordAmong n j
-  unfolding pick
-  among-no l = rw (← h, le-ltb i n l)
+pub words-are : (ws us : List (List ℕ)) → sameWords ws us ≡ true → ws ≡ us
+unfolding sameWords
+words-are [] [] h = refl
+words-are [] (u ∷ us) h = absurd (false≢true h)
+words-are (w ∷ ws) [] h = absurd (false≢true h)
+words-are (w ∷ ws) (u ∷ us) h =
+    let a = and-both (same w u) (sameWords ws us) h in
+    rw (same-true w u (a .0), words-are ws us (a .1))
 
--- the set of the number n, which is i, is a table's words
-pub word-in : (sets : List (List (List ℕ))) (n i : ℕ) (ws l : List (List ℕ)) (w : List ℕ) {r : WordRead} →
-    n ≡ i → nth sets i ≡ some ws → l ≡ ws → r ≡ wordAmong (length ws) (placeOf w l) → r ≡ wordIn (nth sets n) w
-word-in sets n i ws l w e g f h = h ∙ rw (e, g, f)
+bytesOf : ℕ → List ℕ
+bytesOf n = take (getD setStarts (n + 1) 0 - getD setStarts n 0) (drop (getD setStarts n 0) wordBytes)
+
+isStored : ℕ → Bool
+isStored n =
+    sameWords (namesIn (bytesOf n)) (getD wordSets n []) and eqb (getD setSizes n 0) (length (getD wordSets n []))
+    and leb (getD setStarts n 0) (getD setStarts (n + 1) 0) and leb (getD setStarts (n + 1) 0) 517
+
+all-stored : eachFrom 0 17 isStored ≡ true
+unfolding octets-compute namesIn eachFrom sameWords bytesOf isStored
+all-stored = refl
+
+pub record Stored (n : ℕ) : Type 0 where
+  pub words : namesIn (take (getD setStarts (n + 1) 0 - getD setStarts n 0) (drop (getD setStarts n 0) wordBytes)) ≡ getD wordSets n []
+  pub size : getD setSizes n 0 ≡ length (getD wordSets n [])
+  pub rises : getD setStarts n 0 ≤ getD setStarts (n + 1) 0
+  pub within : getD setStarts (n + 1) 0 ≤ 517
+
+pub stored : (n : ℕ) → n < 17 → Stored n
+unfolding isStored bytesOf
+stored n h =
+    let a = and-both (sameWords (namesIn (bytesOf n)) (getD wordSets n [])) _ (below-passes isStored 17 n all-stored h) in
+    let b = and-both (eqb (getD setSizes n 0) (length (getD wordSets n []))) _ (a .1) in
+    let c = and-both (leb (getD setStarts n 0) (getD setStarts (n + 1) 0)) _ (b .1) in
+    record { words = words-are _ _ (a .0); size = eqb-true _ _ (b .0); rises = leb-true _ _ (c .0); within = leb-true _ _ (c .1) }
+
+nth-some : {A : Type 0} (l : List A) (d : A) (n : ℕ) → n < length l → nth l n ≡ some (getD l n d)
+unfolding nth
+nth-some [] d n h = absurd (not-suc-le-zero h)
+nth-some (a ∷ l) d zero h = refl
+nth-some (a ∷ l) d (suc n) h = nth-some l d n (le-of-suc-le-suc h)
+
+-- a word found at the place i among those of the set n, or at no place of it
+module _ (w : List ℕ) {n i : ℕ} (h : n < 17)
+    (e : i ≡ placeOf w (namesIn (take (getD setStarts (n + 1) 0 - getD setStarts n 0) (drop (getD setStarts n 0) wordBytes)))) where
+  set-place : wordIn (nth wordSets n) w ≡ wordAmong (getD setSizes n 0) i
+  set-place = let s = stored n h in rw (nth-some wordSets [] n h, s .size, e, s .words)
+
+  pub set-yes : i < getD setSizes n 0 → At i ≡ wordIn (nth wordSets n) w
+  unfolding pick
+  set-yes l = sym (set-place ∙ rw (lt-ltb i (getD setSizes n 0) l))
+
+  pub set-no : getD setSizes n 0 ≤ i → NoWord ≡ wordIn (nth wordSets n) w
+  unfolding pick
+  set-no l = sym (set-place ∙ rw (le-ltb i (getD setSizes n 0) l))
 
 pub word-none : (sets : List (List (List ℕ))) (n : ℕ) (w : List ℕ) → length sets ≤ n → NoWord ≡ wordIn (nth sets n) w
 unfolding nth

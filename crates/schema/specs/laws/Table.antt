@@ -12,7 +12,6 @@ use Rattle.octets.specs.Ascii.{ascii}
 use Rattle.octets.specs.Pick.{pick, _and_}
 use Rattle.octets.specs.laws.Pick.{and-both}
 use Rattle.octets.specs.Words.{same, isOneOf, rowOf}
-use Rattle.octets.specs.laws.Words.{same-true}
 use Rattle.octets.specs.laws.Tables.{row-none, row-any-passes}
 use Rattle.octets.specs.Lists.{every}
 use Rattle.octets.specs.laws.Lists.{word-passes}
@@ -28,9 +27,10 @@ use Rattle.schema.specs.Counts.{absent, occurrenceIn}
 use Rattle.schema.specs.Arrays.{eachFrom}
 use Rattle.schema.specs.Computing.{schema-compute}
 use Rattle.schema.specs.laws.Rows.{unrecognised-property, unrecognised-permits, list-names-known}
-use Rattle.schema.specs.laws.Cells.{at-passes}
+use Rattle.schema.specs.laws.Cells.{at-passes, below-passes}
 use Rattle.schema.specs.laws.Columns.{even, even-is, stand-outside, stand-unknown}
-use Rattle.schema.specs.laws.Completing.{evenMost, most-is, below-passes}
+use Rattle.schema.specs.laws.Completing.{evenMost, most-is}
+use Rattle.schema.specs.laws.Sets.{sameWords, words-are}
 use Rattle.schema.specs.laws.Lists.{ListedRow, unlisted, namesListed, rowListed, listedRows, ListRow, componentLists, noList, standsListed, occurrenceLists, listListed}
 
 -- what the lists say of a parameter: unrecognised ones stand anywhere; RELATED exactly with DURATION
@@ -66,21 +66,6 @@ types-are (t ∷ ts) [] h = absurd (false≢true h)
 types-are (t ∷ ts) (u ∷ us) h =
     let a = and-both (sameType t u) (sameTypes ts us) h in
     rw (same-type-true t u (a .0), types-are ts us (a .1))
-
-sameWords : List (List ℕ) → List (List ℕ) → Bool
-sameWords [] [] = true
-sameWords [] (u ∷ us) = false
-sameWords (w ∷ ws) [] = false
-sameWords (w ∷ ws) (u ∷ us) = same w u and sameWords ws us
-
-words-are : (ws us : List (List ℕ)) → sameWords ws us ≡ true → ws ≡ us
-unfolding sameWords
-words-are [] [] h = refl
-words-are [] (u ∷ us) h = absurd (false≢true h)
-words-are (w ∷ ws) [] h = absurd (false≢true h)
-words-are (w ∷ ws) (u ∷ us) h =
-    let a = and-both (same w u) (sameWords ws us) h in
-    rw (same-true w u (a .0), words-are ws us (a .1))
 
 testRow : PropertyRow → ListedRow → Bool
 testRow r o = sameType (r .default) (o .default) and sameTypes (r .others) (o .others) and sameWords (r .parameters) (o .parameters) and even (r .listed) (o .listed)

@@ -51,7 +51,8 @@ use Rattle.text.specs.Parameters.{readWord, readParamValue, readParamete
 use Rattle.text.specs.Values.{oneValue, readListed, readChosen, readValues}
 use Rattle.text.specs.Statement.{propertyFault, propertyOf}
 use Rattle.text.specs.laws.AcceptedProperty.{parameter-read, no-fault}
-use Rattle.text.specs.laws.AcceptedLine.{alone-is, text-made, unknown-is, status-parts, own-every}
+use Rattle.text.specs.laws.Faults.{own-every}
+use Rattle.text.specs.laws.AcceptedLine.{alone-is, text-made, unknown-is, status-parts}
 use Rattle.text.specs.laws.GoodPieces.{split-good, cut-good}
 use Rattle.text.specs.laws.WrittenLine.{isGoodChars, comma-ascii}
 

@@ -1,6 +1,6 @@
 -- What a content line with no fault states can be written as a content line again: its names are names, and its free characters are such that a line can have.
 --     line-accepted, line-property    what a line with no fault states is such a property
---     alone-is, status-parts, text-made, unknown-is    what a value was read from;   own-every: what all parameters pass, those but VALUE pass
+--     alone-is, status-parts, text-made, unknown-is    what a value was read from
 use mathlib.Core.Path.{_≡_, refl, sym, _∙_}
 use mathlib.Core.Bool.{Bool, true, false, not, false≢true}
 use mathlib.Core.List.{List, [], _∷_, map}
@@ -8,14 +8,14 @@ use mathlib.Core.Option.{Option, none, some, Option·map}
 use Prim.Native.Nat.{ℕ}
 use borrow.Author.Tests.{not-true}
 use Rattle.octets.specs.Pick.{pick, _and_, _or_}
-use Rattle.octets.specs.laws.Pick.{pick-either, pick-second, and-yes, and-both}
+use Rattle.octets.specs.laws.Pick.{pick-second, and-yes, and-both}
 use Rattle.octets.specs.Scan.{allOf}
 use Rattle.octets.specs.Class.{upper}
 use Rattle.octets.specs.Ascii.{ascii}
 use Rattle.octets.specs.Words.{same, isOneOf, holds, cutAt, noneHolds}
 use Rattle.octets.specs.laws.Words.{none-split, all-without}
 use Rattle.octets.specs.Lists.{every}
-use Rattle.octets.specs.laws.Lists.{every-both, every-weaker}
+use Rattle.octets.specs.laws.Lists.{every-weaker}
 use Rattle.octets.specs.Reading.{readOr, readEach}
 use Rattle.octets.specs.laws.Reading.{none-some, provided-some, andThen-some, each-accepted-of}
 use Rattle.texts.specs.Text.{splitText, alone, readText}
@@ -40,9 +40,10 @@ use Rattle.values.specs.laws.Characters.{free-or-shown}
 use Rattle.read_text_line.specs.ContentLine.{ParamValue, RawParameter, ContentLine, isValueChar, isQSafeChar, isSafeChar, isName, isParamValue, isRawParameter, isContentLine}
 use Rattle.read_text_line.specs.laws.Chars.{safe-qsafe}
 use Rattle.read_text_line.specs.laws.Names.{name-upper}
-use Rattle.text.specs.Parameters.{readWord, readParamValue, readParameter, isValueParameter, ownParameters, readParameters}
+use Rattle.text.specs.Parameters.{readWord, readParamValue, readParameter, ownParameters, readParameters}
 use Rattle.text.specs.Values.{oneValue, readListed, readChosen, readValues}
 use Rattle.text.specs.Statement.{propertyFault, propertyOf}
+use Rattle.text.specs.laws.Faults.{own-every}
 use Rattle.text.specs.laws.ParameterLaws.{hasValue}
 use Rattle.text.specs.laws.AcceptedProperty.{parameter-read, no-fault, property-accepted}
 use Rattle.text.specs.laws.Pieces.{split-without, cut-without}
@@ -153,14 +154,6 @@ parameter-line r p q h =
     let a = and-both (isName (r .name)) _ q in
     and-yes _ _ (rw (d .named) (name-upper (r .name) (a .0)))
     (each-accepted-of (readParamValue (upper (r .name))) isParameterText isParamValue (λ v x k e. param-value-free (upper (r .name)) v x k e) (r .values) (p .values) (pick-second _ _ (a .1) .1) (d .each))
-
-pub own-every : (q : RawParameter → Bool) (rs : List RawParameter) → every q rs ≡ true → every q (ownParameters rs) ≡ true
-unfolding ownParameters every
-own-every q [] h = refl
-own-every q (r ∷ rs) h =
-    let e = every-both q r rs h in
-    let ih = own-every q rs (e .1) in
-    pick-either (λ (l : List RawParameter). every q l ≡ true) (isValueParameter r) (ownParameters rs) (r ∷ ownParameters rs) ih (and-yes _ _ (e .0) ih)
 
 parameters-line : (rs : List RawParameter) (ps : List Parameter) → every isRawParameter rs ≡ true → readParameters rs ≡ some ps → every isLineParameter ps ≡ true
 parameters-line rs ps q h = each-accepted-of readParameter isLineParameter isRawParameter parameter-line (ownParameters rs) ps (own-every isRawParameter rs q) h

@@ -1,5 +1,6 @@
 -- What a content line with no fault states is a property of its component.
 --     parameters-read      parameters that are good are those of a property
+--     both-pass            a line without a fault has parameters without one, and its value is read
 --     property-accepted    what such a line states is a property
 use mathlib.Core.Path.{_≡_, refl, sym, ap, _∙_}
 use mathlib.Core.Bool.{Bool, true, false, not, false≢true}
@@ -19,16 +20,17 @@ use Rattle.octets.specs.Reading.{consRead, isRead, readOr, readEach}
 use Rattle.octets.specs.laws.Reading.{none-some, provided-some, andThen-some, consRead-some, each-empty, read-some}
 use Rattle.octets.specs.Computing.{octets-compute}
 use Rattle.calendar.specs.Calendar.{ValueType, BINARY, Value, text, textIn, Parameter}
-use Rattle.calendar.specs.Refusal.{PARAMETER, VALUE}
 use Rattle.schema.specs.Types.{sameType}
 use Rattle.schema.specs.Parameters.{parameterRow, parameterType, parameterWords, isListedParameter, isQuotedParameter, encodings}
 use Rattle.schema.specs.Properties.{permitsParameter}
 use Rattle.values.specs.Valid
 use Rattle.values.specs.Valid.{isWordIn, areParameters, isProperty, isBase64Encoding}
 use Rattle.read_text_line.specs.ContentLine.{ParamValue, RawParameter, ContentLine}
-use Rattle.text.specs.Parameters.{readWord, readParamValue, isSingle, readParameter, isValueParameter, statedType, ownParameters, readParameters, isWord, isRawBase64Encoding, parametersGood}
+use Rattle.text.specs.Parameters.{readWord, readParamValue, isSingle, readParameter, isValueParameter, statedType, ownParameters, readParameters, isWord, isRawBase64Encoding}
 use Rattle.text.specs.Values.{readValues}
-use Rattle.text.specs.Statement.{faultAs, propertyFault, propertyOf}
+use Rattle.text.specs.Faults.{Where, parametersFault, lineFault}
+use Rattle.text.specs.Statement.{valuesOfLine, faultAs, propertyFault, propertyOf}
+use Rattle.text.specs.laws.Faults.{parametersGood, faultless-good}
 use Rattle.text.specs.laws.ParameterLaws.{hasValue, parameters-accepted}
 use Rattle.text.specs.laws.AcceptedValues.{values-accepted}
 
@@ -177,24 +179,23 @@ pub record NoFault (k : List ℕ) (l : ContentLine) : Type 0 where
 some-none : {A X : Type 0} {a : A} → some a ≡ none → X
 some-none e = none-some (sym e)
 
--- the two tests that a line of a type passes
-both-pass : (g r : Bool) → pick g (pick r none (some VALUE)) (some PARAMETER) ≡ none → (g ≡ true) × (r ≡ true)
-unfolding pick
-both-pass true true h = (refl, refl)
-both-pass true false h = some-none h
-both-pass false r h = some-none h
+-- the two tests that a line passes
+pub both-pass : (o : Option Where) (r : Bool) → lineFault o r ≡ none → (o ≡ none) × (r ≡ true)
+both-pass none true h = (refl, refl)
+both-pass none false h = some-none h
+both-pass (some w) r h = some-none h
 
 pub no-fault : (k : List ℕ) (l : ContentLine) → propertyFault k l ≡ none → NoFault k l
-unfolding faultAs parametersGood
-no-fault k l h = go (statedType (upper (l .name)) (l .parameters)) refl h
-  where
-    go : (o : Option ValueType) → statedType (upper (l .name)) (l .parameters) ≡ o → faultAs o k l ≡ none → NoFault k l
-    go none e h = some-none h
-    go (some t) e h =
-        let b = both-pass (parametersGood (upper (l .name)) t (l .parameters)) _ h in
-        let v = read-some (readValues k (upper (l .name)) t (l .value)) (b .1) in
-        let p = read-some (readParameters (l .parameters)) (and-both _ _ (and-both _ _ (b .0) .1) .0) in
-        record { type = t; parameters = p .0; values = v .0; stated = e; good = b .0; parametersRead = p .1; valuesRead = v .1 }
+unfolding faultAs parametersGood readOr
+no-fault k l h =
+    let n = upper (l .name) in
+    let o = statedType n (l .parameters) in
+    let b = both-pass (parametersFault n o (l .parameters)) (isRead (valuesOfLine k o l)) h in
+    let f = faultless-good n (l .parameters) (b .0) in
+    let r : isRead (readValues k n (f .type) (l .value)) ≡ true = rw (f .stated) at (b .1) in
+    let v = read-some (readValues k n (f .type) (l .value)) r in
+    let p = read-some (readParameters (l .parameters)) (and-both _ _ (and-both _ _ (f .good) .1) .0) in
+    record { type = f .type; parameters = p .0; values = v .0; stated = f .stated; good = f .good; parametersRead = p .1; valuesRead = v .1 }
 
 pub property-accepted : (k : List ℕ) (l : ContentLine) → every hasValue (l .parameters) ≡ true → propertyFault k l ≡ none → isProperty k (propertyOf k l) ≡ true
 unfolding isProperty propertyOf readOr

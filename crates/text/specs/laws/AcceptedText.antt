@@ -27,6 +27,7 @@ use Rattle.text.specs.Nesting.{Open, Move, move, onward, nesting}
 use Rattle.text.specs.Tree.{calendarOf}
 use Rattle.text.specs.ReadText.{linesVerdict, keptVerdict, placed, textVerdict, readCalendar}
 use Rattle.text.specs.WriteText.{writeCalendar}
+use Rattle.text.specs.laws.Faults.{fault-not}
 use Rattle.text.specs.laws.AcceptedCharacters.{after-byte}
 use Rattle.text.specs.laws.AcceptedTree.{isGoodOne, tree-accepted, tree-some}
 use Rattle.text.specs.laws.TextBack.{text-back}
@@ -88,16 +89,16 @@ pub text-lines-good : (u : List ℕ) → firstBad u ≡ none → noneLoose (line
 text-lines-good u h n = lines-good (lines u) n (rw (lines-text u 0 0 n, behind-none u) h)
 
 -- lines that are not refused are whole
-moved-whole : (m : Move) (p : ℕ) (f : List Open → Verdict) (b : Bool) → ((u : List Open) → f u ≡ fine → b ≡ true) → onward m p f ≡ fine → b ≡ true
+moved-whole : (m : Move) (p : ℕ) (s : List ℕ) (f : List Open → Verdict) (b : Bool) → ((u : List Open) → f u ≡ fine → b ≡ true) → onward m p s f ≡ fine → b ≡ true
 unfolding onward
-moved-whole (Move.on u) p f b k h = k u h
-moved-whole (Move.stop r) p f b k h = refused-not _ _ h
+moved-whole (Move.on u) p s f b k h = k u h
+moved-whole (Move.stop r) p s f b k h = fault-not r p s h
 
 nesting-whole : (ls : List Line) (e : ℕ) (st : List Open) → nesting e ls st ≡ fine → noneLoose ls ≡ true
 unfolding nesting noneLoose
 nesting-whole [] e st h = refl
 nesting-whole (loose p ∷ ls) e st h = refused-not _ _ h
-nesting-whole (whole p s ∷ ls) e st h = moved-whole (move s st) p (nesting e ls) (noneLoose ls) (λ u k. nesting-whole ls e u k) h
+nesting-whole (whole p s ∷ ls) e st h = moved-whole (move s st) p s (nesting e ls) (noneLoose ls) (λ u k. nesting-whole ls e u k) h
 
 -- ---- what an answer says
 

@@ -38,6 +38,8 @@ use Rattle.read_text_line.specs.Write.{writeContentLine}
 use Rattle.read_text_line.specs.laws.Accepted.{content-line-accepted, content-line-write-back}
 use Rattle.validity.specs.ValidCalendar.{isKeptName, isValidParameter, isValidProperty, hasComponents, areValid, atTop}
 use Rattle.validity.specs.laws.ValidCalendar.{component-valid, valid-shallow}
+use Rattle.text.specs.Faults.{Fault, fault, lineStart}
+use Rattle.text.specs.laws.Faults.{fault-not}
 use Rattle.text.specs.Statement.{propertyOf, propertyFault}
 use Rattle.text.specs.Nesting.{Open, Move, on, stop, opened, hasLevel, mayBegin, beginIn, begins, methodIn, ends, mayHold, told, states, namesCarried, moveBy, moveOf, move, onward, ended, nesting}
 use Rattle.text.specs.Tree.{Entry, begin, end, property, entryBy, entryOf, ownOf, innerOf, calendarOf}
@@ -108,10 +110,10 @@ frames-property (f ∷ st) l es d h = (h .0, frames-property st l es (suc d) (h 
 
 -- ---- a line that is not refused
 
-stop-on : {X : Type 0} {r : Refusal} {u : List Open} → stop r ≡ on u → X
+stop-on : {X : Type 0} {r : Fault} {u : List Open} → stop r ≡ on u → X
 stop-on e = let z : _≡_ {A = ℕ} 0 1 = cc in absurd (omega arith)
 
-begun : (n a b : Bool) (o r q : Refusal) (v u : List Open) → pick n (pick a (pick b (on v) (stop r)) (stop q)) (stop o) ≡ on u → (n ≡ true) × (a ≡ true) × (v ≡ u)
+begun : (n a b : Bool) (o r q : Fault) (v u : List Open) → pick n (pick a (pick b (on v) (stop r)) (stop q)) (stop o) ≡ on u → (n ≡ true) × (a ≡ true) × (v ≡ u)
 unfolding pick
 begun true true true o r q v u h = (refl, refl, cc)
 begun true true false o r q v u h = stop-on h
@@ -176,7 +178,7 @@ begin-step v ps st u es m h =
     let e = begun (isComponentName (upper v)) (mayBegin (upper v) st) (isEmpty ps) _ _ _ (beginIn (upper v) st) u m in
     begin-in (upper v) st es (and-yes _ _ (rw (upper-twice v) (same-self (upper v))) (e .0)) (e .1) (rw (← (e .2)) at h)
 
-closed : (a b c : Bool) (r q o : Refusal) (v u : List Open) → pick a (pick b (pick c (on v) (stop o)) (stop r)) (stop q) ≡ on u → (c ≡ true) × (v ≡ u)
+closed : (a b c : Bool) (r q o : Fault) (v u : List Open) → pick a (pick b (pick c (on v) (stop o)) (stop r)) (stop q) ≡ on u → (c ≡ true) × (v ≡ u)
 unfolding pick
 closed true true true r q o v u h = (refl, cc)
 closed true true false r q o v u h = stop-on h
@@ -190,7 +192,7 @@ end-step k ps (f ∷ st) u es m h =
     let e = closed (same k (f .name)) (isEmpty ps) (complete (f .name) (f .seen) (record { inner = f .inner; method = methodIn st })) _ _ _ st u m in
     (record { own = refl; inside = refl; counts = rw (or-false (f .inner)) (e .0); settled = λ i. refl }, frames-end st es 0 (rw (← (e .1)) at h))
 
-held : (a : Bool) (o : Option Refusal) (q : Refusal) (v u : List Open) → pick a (told o (on v)) (stop q) ≡ on u → (a ≡ true) × (o ≡ none) × (v ≡ u)
+held : (a : Bool) (o : Option Fault) (q : Fault) (v u : List Open) → pick a (told o (on v)) (stop q) ≡ on u → (a ≡ true) × (o ≡ none) × (v ≡ u)
 unfolding pick
 held true none q v u h = (refl, refl, cc)
 held true (some r) q v u h = stop-on h
@@ -229,7 +231,7 @@ unfolding moveOf moveBy entryBy pick
 line-step s st u es g m h = go (contentLine s) refl m
   where
     by : (l : ContentLine) → contentLine s ≡ some l → (c b e : Bool) → namesCarried l ≡ c → same (upper (l .name)) (ascii "BEGIN") ≡ b → same (upper (l .name)) (ascii "END") ≡ e →
-        pick c (pick b (begins (upper (l .value)) (l .parameters) st) (pick e (ends (upper (l .value)) (l .parameters) st) (states l st))) (stop Refusal.NAME) ≡ on u →
+        pick c (pick b (begins (upper (l .value)) (l .parameters) st) (pick e (ends (upper (l .value)) (l .parameters) st) (states l st))) (stop (fault Refusal.NAME lineStart)) ≡ on u →
         Frames st (pick b (begin (upper (l .value))) (pick e end (property l)) ∷ es) 0
     by l i false b e c₁ b₁ e₁ k = stop-on k
     by l i true true e c₁ b₁ e₁ k = begin-step (l .value) (l .parameters) st u es k h
@@ -247,10 +249,10 @@ unfoldable pub isGoodOne : Line → Bool
 isGoodOne (whole p s) = wellFormed s
 isGoodOne (loose p) = false
 
-moved-on : (m : Move) (p : ℕ) (f : List Open → Verdict) → onward m p f ≡ fine → (u : List Open) × (m ≡ on u) × (f u ≡ fine)
+moved-on : (m : Move) (p : ℕ) (s : List ℕ) (f : List Open → Verdict) → onward m p s f ≡ fine → (u : List Open) × (m ≡ on u) × (f u ≡ fine)
 unfolding onward
-moved-on (on u) p f h = (u, refl, h)
-moved-on (stop r) p f h = refused-not _ _ h
+moved-on (on u) p s f h = (u, refl, h)
+moved-on (stop r) p s f h = fault-not r p s h
 
 all-frames : (ls : List Line) (e : ℕ) (st : List Open) → every isGoodOne ls ≡ true → nesting e ls st ≡ fine → Frames st (map entryOf ls) 0
 unfolding nesting ended entryOf innerOf areValid isGoodOne
@@ -259,7 +261,7 @@ all-frames [] e (f ∷ st) g h = refused-not _ _ h
 all-frames (loose p ∷ ls) e st g h = refused-not _ _ h
 all-frames (whole p s ∷ ls) e st g h =
     let a = every-both isGoodOne (whole p s) ls g in
-    let m = moved-on (move s st) p (nesting e ls) h in
+    let m = moved-on (move s st) p s (nesting e ls) h in
     line-step s st (m .0) (map entryOf ls) (well-formed-good s (a .0)) (m .1) (all-frames ls e (m .0) (a .1) (m .2))
 
 pub tree-accepted : (ls : List Line) (e : ℕ) → every isGoodOne ls ≡ true → nesting e ls [] ≡ fine → areValid levels atTop false (calendarOf ls) ≡ true
@@ -272,7 +274,7 @@ first-begins : (s : List ℕ) (u : List Open) (es : List Entry) → move s [] �
 unfolding moveOf moveBy entryBy pick innerOf shallow ends states
 first-begins s u es m = go (contentLine s) m
   where
-    by : (l : ContentLine) (c b e : Bool) → pick c (pick b (begins (upper (l .value)) (l .parameters) []) (pick e (ends (upper (l .value)) (l .parameters) []) (states l []))) (stop Refusal.NAME) ≡ on u →
+    by : (l : ContentLine) (c b e : Bool) → pick c (pick b (begins (upper (l .value)) (l .parameters) []) (pick e (ends (upper (l .value)) (l .parameters) []) (states l []))) (stop (fault Refusal.NAME lineStart)) ≡ on u →
         hasComponents (shallow levels (innerOf (pick b (begin (upper (l .value))) (pick e end (property l)) ∷ es) 0)) ≡ true
     by l false b e k = stop-on k
     by l true true e k = refl
@@ -286,4 +288,4 @@ first-begins s u es m = go (contentLine s) m
 pub tree-some : (l : Line) (ls : List Line) (e : ℕ) → nesting e (l ∷ ls) [] ≡ fine → hasComponents (calendarOf (l ∷ ls)) ≡ true
 unfolding nesting calendarOf entryOf
 tree-some (loose p) ls e h = refused-not _ _ h
-tree-some (whole p s) ls e h = let m = moved-on (move s []) p (nesting e ls) h in first-begins s (m .0) (map entryOf ls) (m .1)
+tree-some (whole p s) ls e h = let m = moved-on (move s []) p s (nesting e ls) h in first-begins s (m .0) (map entryOf ls) (m .1)

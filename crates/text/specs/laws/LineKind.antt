@@ -7,8 +7,8 @@ use mathlib.Core.Option.{Option, none, some}
 use Prim.Native.Nat.{ℕ}
 use Rattle.octets.specs.Pick.{pick}
 use Rattle.calendar.specs.Calendar.{Property}
-use Rattle.calendar.specs.Refusal.{Refusal}
 use Rattle.read_text_line.specs.ContentLine.{ContentLine, contentLine}
+use Rattle.text.specs.Faults.{Fault}
 use Rattle.text.specs.Nesting.{Open, on, hasLevel, begins, ends, states, told, moveBy, moveOf, move}
 use Rattle.text.specs.LineKind.{LineKind, heldBy, kindBy, kindOf, lineKind, step}
 
@@ -20,7 +20,7 @@ unfolding pick
 step-pick true a b f st = refl
 step-pick false a b f st = refl
 
-step-held : (o : Option Refusal) (p : Property) (f : Open) (st : List Open) → step (heldBy o p) f st ≡ told o (on (record { name = f .name; seen = p ∷ f .seen; inner = f .inner } ∷ st))
+step-held : (o : Option Fault) (p : Property) (f : Open) (st : List Open) → step (heldBy o p) f st ≡ told o (on (record { name = f .name; seen = p ∷ f .seen; inner = f .inner } ∷ st))
 unfolding step
 step-held none p f st = refl
 step-held (some r) p f st = refl

@@ -26,8 +26,9 @@ use Rattle.values.specs.Valid
 use Rattle.values.specs.Valid.{isAmount, isWordIn, isParameter, areParameters, areValuesOf, arePropertyValues, isProperty, isBase64Encoding}
 use Rattle.values.specs.laws.Valid.{only-one}
 use Rattle.read_text_line.specs.ContentLine.{RawParameter}
-use Rattle.text.specs.Parameters.{isWord, isRawBase64Encoding, readParameters, statedType, parametersGood}
+use Rattle.text.specs.Parameters.{isWord, isRawBase64Encoding, readParameters, statedType}
 use Rattle.text.specs.Statement.{faultAs, propertyFault, propertyOf}
+use Rattle.text.specs.laws.Faults.{parametersGood, good-faultless}
 use Rattle.text.specs.WriteText.{paramValueOf, rawOf, valueParameter, withValue, contentLineOf}
 use Rattle.text.specs.laws.ParameterLaws.{parameter-name, parameter-own, own-written, parameters-read-back, own-with-value, type-read-back}
 use Rattle.text.specs.laws.ValuesLaws.{values-read-back}
@@ -160,6 +161,8 @@ module _ (k : List ℕ) (p : Property) (h : isProperty k p ≡ true) where
       rw (name-is, parameters-with-value (p .name) (typeOfAll (p .values)) (p .parameters) each-is, type-stated, values-read-back k (p .name) (p .values) values-are)
 
   pub property-no-fault : propertyFault k (contentLineOf p) ≡ none
-  unfolding faultAs contentLineOf isRead pick
+  unfolding faultAs contentLineOf isRead readOr
   property-no-fault =
-      rw (name-is, type-stated, name-is, parameters-good (p .name) (typeOfAll (p .values)) (p .parameters) parameters-are, values-read-back k (p .name) (p .values) values-are)
+      let rs = withValue (p .name) (typeOfAll (p .values)) (map rawOf (p .parameters)) in
+      let f = good-faultless (p .name) (typeOfAll (p .values)) rs type-stated (parameters-good (p .name) (typeOfAll (p .values)) (p .parameters) parameters-are) in
+      rw (name-is, f, type-stated, values-read-back k (p .name) (p .values) values-are)
