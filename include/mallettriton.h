@@ -17,6 +17,13 @@
 extern "C" {
 #endif
 
+/* The version of these declarations: it grows where a call changes. 2: both calls take an edition. */
+#define MALLETTRITON_VERSION 2
+
+/* Editions of iCalendar text: RFC 5545 alone; with the carets of RFC 6868 in values of parameters. */
+#define MALLETTRITON_RFC_5545 0u
+#define MALLETTRITON_RFC_6868 1u
+
 /* The longest input in bytes, both ways. A work room of this length serves every input. */
 #define MALLETTRITON_LONGEST 65535
 
@@ -29,8 +36,8 @@ extern "C" {
  * bytes that unfolding keeps, and so is that of a parameter's name or of a value (of an empty one it is the CR at the line's end); a
  * tag's place is its `<`.
  *
- * To XML all but XML are given: LENGTH, WORK and CHARACTER first, then the lowest number that the first faulty line has. To text all but
- * WORK and LINE are given: LENGTH, CHARACTER and XML first, over the whole document, then the fault at the smallest place, the lowest
+ * To XML all but XML are given: LENGTH, WORK, EDITION and CHARACTER first, then the lowest number that the first faulty line has. To text all but
+ * WORK and LINE are given: LENGTH, EDITION, CHARACTER and XML first, over the whole document, then the fault at the smallest place, the lowest
  * number if there are several. ROOM comes last both ways. */
 enum mallettriton_number {
     MALLETTRITON_WRITTEN = 0,   /* converted                                              value: how many bytes were written   */
@@ -50,10 +57,11 @@ enum mallettriton_number {
     MALLETTRITON_COUNT = 9,     /* a property missing or too often, a pair broken, a      value: place of the END line or of
                                    VTIMEZONE with nothing in it                                  the component's end tag       */
     MALLETTRITON_ROOM = 10,     /* the result is longer than the output                   value: the result's exact length     */
-    MALLETTRITON_XML = 11       /* to text: outside the XML that is read                  value: place of the tag, reference or
+    MALLETTRITON_XML = 11,      /* to text: outside the XML that is read                  value: place of the tag, reference or
                                                                                                  character; the document's length
                                                                                                  if an element is still open or
                                                                                                  there is none                 */
+    MALLETTRITON_EDITION = 13   /* an edition other than 0 and 1                          value: 0                             */
 };
 
 /* An answer is one number: its number times 4294967296, and its value, which is below 4294967296. */
@@ -63,28 +71,30 @@ enum mallettriton_number {
 /* Converts the iCalendar text `input` to canonical XML in `out`.
  *
  *   input, input_length   the text; it is not changed
- *   work, work_length     a work room, as long as the input or longer. After LENGTH and WORK it is as it was; after every other
+ *   work, work_length     a work room, as long as the input or longer. After LENGTH, WORK and EDITION it is as it was; after every other
  *                         answer it begins with the input without its folds, and its other bytes are as they were
  *   out, out_length       the output. After WRITTEN it begins with the result, and its other bytes are as they were; after every
  *                         other answer all of it is as it was. With a length of 0 the call tells the length that is needed
+ *   edition               that of the text
  *
- * Its answers are 0 to 10. Allow the call 250 kB of stack: the names of many parameters are compared there.
+ * Its answers are 0 to 10 and 13. Allow the call 250 kB of stack: the names of many parameters are compared there.
  */
 uint64_t mallettriton_to_xml(const uint8_t *input, size_t input_length,
                              uint8_t *work, size_t work_length,
-                             uint8_t *out, size_t out_length);
+                             uint8_t *out, size_t out_length, uint32_t edition);
 
 /* Converts the xCal document `input` to canonical iCalendar text in `out`.
  *
  *   input, input_length   the document; it is not changed
  *   out, out_length       the output. After WRITTEN it begins with the result, and its other bytes are as they were; after every
  *                         other answer all of it is as it was. With a length of 0 the call tells the length that is needed
+ *   edition               that of the text which is written
  *
- * Its answers are 0, 1, 3 and 5 to 11. There is no work room. Allow the call 500 kB of stack: a content line is put together in a room
+ * Its answers are 0, 1, 3, 5 to 11 and 13. There is no work room. Allow the call 500 kB of stack: a content line is put together in a room
  * of 262,144 bytes there, before it is folded into the output, and the names of many parameters are compared there.
  */
 uint64_t mallettriton_to_text(const uint8_t *input, size_t input_length,
-                              uint8_t *out, size_t out_length);
+                              uint8_t *out, size_t out_length, uint32_t edition);
 
 #ifdef __cplusplus
 }

@@ -4,7 +4,7 @@
     tools/pack-cases.py FILE.. > crates/cases/stdin
 
 A FILE has a case a line, or is a JSON list of cases: {"call": "to_xml" or "to_text", "in": [INPUT], "answer": ["ok", {"b64": RESULT}] or ["refused", N, P]},
-INPUT and RESULT in base64; or, as for the base, {"way": "to-xml" or "to-text", "in": INPUT, "answer": ["ok", RESULT] or ["refused", N, P]}. Added are, both ways, an empty input and inputs as long as the limit and one byte longer; and to text, documents
+INPUT and RESULT in base64; or, as for the base, {"way": "to-xml" or "to-text", "in": INPUT, "answer": ["ok", RESULT] or ["refused", N, P]}; "edition" is 0 where it is not given. Added are, both ways, an empty input and inputs as long as the limit and one byte longer; and to text, documents
 with 32 and with 33 open elements. The form of what is written stands in the program's main.rt.
 """
 import base64
@@ -30,18 +30,19 @@ def parts(front, middle=b"", times=0, back=b""):
     return b"".join(map(number, lengths)) + front + middle + back
 
 
-def record(call, n, value, given, result=parts(b"")):
-    return bytes([CALLS[call]]) + number(n) + number(value) + given + result
+def record(call, n, value, given, result=parts(b""), edition=0):
+    return bytes([CALLS[call]]) + number(edition) + number(n) + number(value) + given + result
 
 
 def packed(case):
     text, answer = case["in"], case["answer"]
     call = case.get("call") or case["way"].replace("-", "_")
+    edition = case.get("edition", 0)
     given = parts(base64.b64decode(text[0] if isinstance(text, list) else text))
     if answer[0] == "ok":
         result = base64.b64decode(answer[1]["b64"] if isinstance(answer[1], dict) else answer[1])
-        return record(call, 0, len(result), given, parts(result))
-    return record(call, answer[1], answer[2], given)
+        return record(call, 0, len(result), given, parts(result), edition)
+    return record(call, answer[1], answer[2], given, edition=edition)
 
 
 def long(call, form, unit, result_form, result_unit, length):

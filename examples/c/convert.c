@@ -19,9 +19,9 @@ static uint8_t none[1];
 static uint64_t convert(int is_to_xml, size_t length, uint8_t *out, size_t out_length)
 {
     if (is_to_xml) {
-        return mallettriton_to_xml(input, length, work, sizeof work, out, out_length);
+        return mallettriton_to_xml(input, length, work, sizeof work, out, out_length, MALLETTRITON_RFC_5545);
     }
-    return mallettriton_to_text(input, length, out, out_length);
+    return mallettriton_to_text(input, length, out, out_length, MALLETTRITON_RFC_5545);
 }
 
 int main(int argc, char **argv)

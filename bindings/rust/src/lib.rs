@@ -3,11 +3,12 @@
 //! ```
 //! let text = b"BEGIN:VCALENDAR\r\nPRODID:-//A//B//EN\r\nVERSION:2.0\r\nBEGIN:VTODO\r\n\
 //!     UID:1\r\nDTSTAMP:20240501T060000Z\r\nEND:VTODO\r\nEND:VCALENDAR\r\n";
-//! let xml = mallettriton::to_xml(text)?;
+//! use mallettriton::Edition;
+//! let xml = mallettriton::to_xml(text, Edition::Rfc5545)?;
 //! assert!(xml.starts_with(b"<?xml version=\"1.0\" encoding=\"utf-8\"?>\n<icalendar "));
-//! assert_eq!(mallettriton::to_text(&xml)?, text);
+//! assert_eq!(mallettriton::to_text(&xml, Edition::Rfc5545)?, text);
 //!
-//! let refusal = mallettriton::to_xml(b"BEGIN:VCALENDAR\r\n").unwrap_err();
+//! let refusal = mallettriton::to_xml(b"BEGIN:VCALENDAR\r\n", Edition::Rfc5545).unwrap_err();
 //! assert_eq!((refusal.number, refusal.place), (mallettriton::Number::Frame, 17));
 //! # Ok::<(), mallettriton::Refusal>(())
 //! ```
@@ -49,8 +50,20 @@ pub const fn longest_text(length: usize) -> usize {
     6 * length
 }
 
+/// An edition of iCalendar text. The discriminants are the numbers that the library takes.
+#[derive(Clone, Copy, Debug, Default, PartialEq, Eq, Hash)]
+#[repr(u32)]
+pub enum Edition {
+    /// RFC 5545 alone: the value of a parameter stands as it is, and can hold neither a double quote nor LF.
+    #[default]
+    Rfc5545 = 0,
+    /// With the carets of RFC 6868 in values of parameters.
+    Rfc6868 = 1,
+}
+
 /// Why an input is refused. The discriminants are the numbers of `docs/FORMAT.md`.
 #[derive(Clone, Copy, Debug, PartialEq, Eq, PartialOrd, Ord, Hash)]
+#[non_exhaustive]
 #[repr(u8)]
 pub enum Number {
     /// The input is longer than [`LONGEST`].
@@ -74,6 +87,26 @@ pub enum Number {
     Count = 9,
     /// Outside the XML that is read. Only the way to text answers it.
     Xml = 11,
+    /// An edition that there is not. No call of this crate is refused so.
+    Edition = 13,
+}
+
+impl fmt::Display for Number {
+    fn fmt(&self, f: &mut fmt::Formatter<'_>) -> fmt::Result {
+        f.write_str(match self {
+            Number::Length => "the input is too long",
+            Number::Work => "the work room is too short",
+            Number::Character => "not UTF-8, or a character that may not stand there",
+            Number::Line => "no content line",
+            Number::Name => "a name that can't be carried",
+            Number::Frame => "something where it may not stand, or something missing",
+            Number::Parameter => "a parameter that is not permitted, comes again, or has a bad value",
+            Number::Value => "a value that is not of a permitted type",
+            Number::Count => "a property missing or too often, or a pair broken",
+            Number::Xml => "outside the XML that is read",
+            Number::Edition => "an edition that there is not",
+        })
+    }
 }
 
 /// A refusal: its number, and its place in the input, counted in bytes from 0.
@@ -88,14 +121,27 @@ pub struct Refusal {
 
 impl fmt::Display for Refusal {
     fn fmt(&self, f: &mut fmt::Formatter<'_>) -> fmt::Result {
-        write!(f, "refused {} at {}", self.number as u8, self.place)
+        write!(f, "refused {} at byte {}: {}", self.number as u8, self.place, self.number)
     }
 }
 
 impl Error for Refusal {}
 
+/// The line and the column of a place in an input, both counted from 1: a line ends after each LF, folded or not, and the column counts bytes.
+///
+/// ```
+/// assert_eq!(mallettriton::line_and_column(b"BEGIN:VCALENDAR\r\nX", 17), (2, 1));
+/// ```
+pub fn line_and_column(input: &[u8], place: usize) -> (usize, usize) {
+    let before = &input[..place.min(input.len())];
+    let lines = before.iter().filter(|&&b| b == b'\n').count();
+    let start = before.iter().rposition(|&b| b == b'\n').map_or(0, |i| i + 1);
+    (lines + 1, before.len() - start + 1)
+}
+
 /// What a call on lent buffers answers.
 #[derive(Clone, Copy, Debug, PartialEq, Eq)]
+#[non_exhaustive]
 pub enum Answer<'a> {
     /// Converted. The result stands at the output's start; the output's other bytes are as they were.
     Written(&'a [u8]),
@@ -106,8 +152,8 @@ pub enum Answer<'a> {
 }
 
 extern "C" {
-    fn mallettriton_to_xml(input: *const u8, input_length: usize, work: *mut u8, work_length: usize, out: *mut u8, out_length: usize) -> u64;
-    fn mallettriton_to_text(input: *const u8, input_length: usize, out: *mut u8, out_length: usize) -> u64;
+    fn mallettriton_to_xml(input: *const u8, input_length: usize, work: *mut u8, work_length: usize, out: *mut u8, out_length: usize, edition: u32) -> u64;
+    fn mallettriton_to_text(input: *const u8, input_length: usize, out: *mut u8, out_length: usize, edition: u32) -> u64;
 }
 
 /// Takes an answer of the library apart: its number times 2 ^ 32, and its value.
@@ -126,6 +172,7 @@ fn answer(code: u64, out: &[u8]) -> Answer<'_> {
         9 => Number::Count,
         10 => return Answer::Needs(value),
         11 => Number::Xml,
+        13 => Number::Edition,
         other => panic!("libmallettriton.a answered the number {other}, which this crate does not know: they are of different versions"),
     };
     Answer::Refused(Refusal { number, place: value })
@@ -137,28 +184,29 @@ fn answer(code: u64, out: &[u8]) -> Answer<'_> {
 /// without its folds, and its other bytes are as they were. Neither buffer has to be cleared between calls.
 ///
 /// ```
-/// use mallettriton::{to_xml_into, Answer, LONGEST};
+/// use mallettriton::{to_xml_into, Answer, Edition, LONGEST};
 /// # let text = b"BEGIN:VCALENDAR\r\nPRODID:-//A//B//EN\r\nVERSION:2.0\r\nBEGIN:VTODO\r\nUID:1\r\nDTSTAMP:20240501T060000Z\r\nEND:VTODO\r\nEND:VCALENDAR\r\n";
 /// let mut work = vec![0; LONGEST];
 /// let mut out = vec![0; 1000];
-/// match to_xml_into(text, &mut work, &mut out) {
+/// match to_xml_into(text, &mut work, &mut out, Edition::Rfc5545) {
 ///     Answer::Written(xml) => assert!(xml.ends_with(b"</icalendar>\n")),
 ///     Answer::Needs(length) => panic!("an output of {length} bytes is needed"),
 ///     Answer::Refused(refusal) => panic!("{refusal}"),
+///     _ => unreachable!(),
 /// }
 /// ```
-pub fn to_xml_into<'a>(input: &[u8], work: &mut [u8], out: &'a mut [u8]) -> Answer<'a> {
+pub fn to_xml_into<'a>(input: &[u8], work: &mut [u8], out: &'a mut [u8], edition: Edition) -> Answer<'a> {
     // SAFETY: the pointers are those of slices, so they are not null and are to as many bytes as the lengths say; `work` and `out` are borrowed alone.
-    let code = unsafe { mallettriton_to_xml(input.as_ptr(), input.len(), work.as_mut_ptr(), work.len(), out.as_mut_ptr(), out.len()) };
+    let code = unsafe { mallettriton_to_xml(input.as_ptr(), input.len(), work.as_mut_ptr(), work.len(), out.as_mut_ptr(), out.len(), edition as u32) };
     answer(code, out)
 }
 
 /// Converts the xCal document `input` to canonical iCalendar text, at the start of `out`.
 ///
 /// Allow it 500 kB of stack.
-pub fn to_text_into<'a>(input: &[u8], out: &'a mut [u8]) -> Answer<'a> {
+pub fn to_text_into<'a>(input: &[u8], out: &'a mut [u8], edition: Edition) -> Answer<'a> {
     // SAFETY: as above.
-    let code = unsafe { mallettriton_to_text(input.as_ptr(), input.len(), out.as_mut_ptr(), out.len()) };
+    let code = unsafe { mallettriton_to_text(input.as_ptr(), input.len(), out.as_mut_ptr(), out.len(), edition as u32) };
     answer(code, out)
 }
 
@@ -180,16 +228,16 @@ fn in_a_vec(length: usize, convert: impl Fn(&mut [u8]) -> Answer<'_>) -> Result<
 /// Converts the iCalendar text `input` to canonical XML.
 ///
 /// It allocates the work room and an output of [`longest_xml`] bytes, and gives back what the result does not fill. To use buffers over and over, call [`to_xml_into`].
-pub fn to_xml(input: &[u8]) -> Result<Vec<u8>, Refusal> {
+pub fn to_xml(input: &[u8], edition: Edition) -> Result<Vec<u8>, Refusal> {
     // too long an input is refused before either is used
     let length = if input.len() <= LONGEST { input.len() } else { 0 };
-    in_a_vec(longest_xml(length), |out| to_xml_into(input, &mut vec![0; length], out))
+    in_a_vec(longest_xml(length), |out| to_xml_into(input, &mut vec![0; length], out, edition))
 }
 
 /// Converts the xCal document `input` to canonical iCalendar text.
 ///
 /// It allocates an output of [`longest_text`] bytes, and gives back what the result does not fill. Allow it 500 kB of stack. To use a buffer over and over, call [`to_text_into`].
-pub fn to_text(input: &[u8]) -> Result<Vec<u8>, Refusal> {
+pub fn to_text(input: &[u8], edition: Edition) -> Result<Vec<u8>, Refusal> {
     let length = if input.len() <= LONGEST { input.len() } else { 0 };
-    in_a_vec(longest_text(length), |out| to_text_into(input, out))
+    in_a_vec(longest_text(length), |out| to_text_into(input, out, edition))
 }

@@ -4,7 +4,7 @@ mod common;
 use common::inputs::{calendar, damaged, rearranged, rewritten, unfolded_text, with_folds, Random, XML_TOKENS};
 use common::readings::{assert_folded, bad_character, kept_of, BACK, FRONT};
 use common::{ample, in_every_room, to_text_in, Told};
-use mallettriton::{to_text, to_xml, Number, Refusal, LONGEST};
+use mallettriton::{Edition, to_text, to_xml, Number, Refusal, LONGEST};
 
 const SAMPLE: &[u8] = include_bytes!("../../../samples/rota.ics");
 const SAMPLE_XML: &[u8] = include_bytes!("../../../samples/rota.xml");
@@ -35,7 +35,7 @@ fn document(r: &mut Random) -> (Vec<u8>, Vec<u8>) {
     loop {
         let kept = unfolded_text(&calendar(r));
         let text = with_folds(r, &kept);
-        match to_xml(&text) {
+        match to_xml(&text, Edition::Rfc5545) {
             Ok(xml) if xml.len() <= LONGEST => return (text, xml),
             _ => continue,
         }
@@ -45,13 +45,13 @@ fn document(r: &mut Random) -> (Vec<u8>, Vec<u8>) {
 #[test]
 fn the_sample_gives_its_text() {
     assert_eq!(checked(SAMPLE_XML), Told::Written(SAMPLE.to_vec()));
-    assert_eq!(to_text(SAMPLE_XML), Ok(SAMPLE.to_vec()));
+    assert_eq!(to_text(SAMPLE_XML, Edition::Rfc5545), Ok(SAMPLE.to_vec()));
 }
 
 #[test]
 fn an_empty_document_has_no_root() {
     assert_eq!(checked(b""), Told::Refused(11, 0));
-    assert_eq!(to_text(b""), Err(Refusal { number: Number::Xml, place: 0 }));
+    assert_eq!(to_text(b"", Edition::Rfc5545), Err(Refusal { number: Number::Xml, place: 0 }));
 }
 
 #[test]
@@ -63,7 +63,7 @@ fn the_longest_input_is_taken_and_no_longer_one() {
 
     let longer = format!("{longest} ");
     assert_eq!(to_text_in(longer.as_bytes(), 100_000), Told::Refused(1, 0));
-    assert_eq!(to_text(longer.as_bytes()), Err(Refusal { number: Number::Length, place: 0 }));
+    assert_eq!(to_text(longer.as_bytes(), Edition::Rfc5545), Err(Refusal { number: Number::Length, place: 0 }));
 }
 
 #[test]
@@ -81,8 +81,8 @@ fn calendars_come_back_unchanged() {
         let Told::Written(back) = checked(&xml) else {
             panic!("the XML of an accepted text is refused: {}", String::from_utf8_lossy(&xml));
         };
-        assert_eq!(to_xml(&back).as_ref(), Ok(&xml), "of {}", String::from_utf8_lossy(&text));
-        assert_eq!(to_xml(&kept_of(&back)).as_ref(), Ok(&xml));
+        assert_eq!(to_xml(&back, Edition::Rfc5545).as_ref(), Ok(&xml), "of {}", String::from_utf8_lossy(&text));
+        assert_eq!(to_xml(&kept_of(&back), Edition::Rfc5545).as_ref(), Ok(&xml));
     }
 }
 
@@ -93,7 +93,7 @@ fn a_calendar_may_be_written_in_many_ways() {
         let (_, xml) = document(&mut r);
         let other = rewritten(&mut r, std::str::from_utf8(&xml).unwrap());
         if other.len() <= LONGEST {
-            assert_eq!(checked(other.as_bytes()), Told::Written(to_text(&xml).unwrap()), "of {other}");
+            assert_eq!(checked(other.as_bytes()), Told::Written(to_text(&xml, Edition::Rfc5545).unwrap()), "of {other}");
         }
     }
 }
@@ -115,8 +115,8 @@ fn damaged_documents_have_an_answer() {
         };
         let told = checked(&input);
         if let Told::Written(text) = &told {
-            let again = to_xml(text).expect("canonical text is accepted");
-            assert_eq!(to_text(&again).as_ref(), Ok(text));
+            let again = to_xml(text, Edition::Rfc5545).expect("canonical text is accepted");
+            assert_eq!(to_text(&again, Edition::Rfc5545).as_ref(), Ok(text));
         }
         match told {
             Told::Refused(number, _) => numbers[usize::from(number)] += 1,

@@ -4,7 +4,7 @@ mod common;
 use common::inputs::{calendar, damaged, unfolded_text, with_folds, Random, TEXT_TOKENS};
 use common::readings::{assert_canonical, bad_character, kept_of, reading, unfolded};
 use common::{ample, in_every_room, to_xml_in, Told, FILL};
-use mallettriton::{to_xml, Number, Refusal, LONGEST};
+use mallettriton::{Edition, to_xml, Number, Refusal, LONGEST};
 
 const SAMPLE: &[u8] = include_bytes!("../../../samples/rota.ics");
 const SAMPLE_XML: &[u8] = include_bytes!("../../../samples/rota.xml");
@@ -66,14 +66,14 @@ fn against_lines(input: &[u8], told: &Told) {
 #[test]
 fn the_sample_gives_its_document() {
     assert_eq!(checked(SAMPLE), Told::Written(SAMPLE_XML.to_vec()));
-    assert_eq!(to_xml(SAMPLE), Ok(SAMPLE_XML.to_vec()));
+    assert_eq!(to_xml(SAMPLE, Edition::Rfc5545), Ok(SAMPLE_XML.to_vec()));
 }
 
 #[test]
 fn an_empty_text_has_no_calendar() {
     assert_eq!(checked(b""), Told::Refused(6, 0));
-    assert_eq!(to_xml(b""), Err(Refusal { number: Number::Frame, place: 0 }));
-    assert_eq!(to_xml(b"").unwrap_err().to_string(), "refused 6 at 0");
+    assert_eq!(to_xml(b"", Edition::Rfc5545), Err(Refusal { number: Number::Frame, place: 0 }));
+    assert_eq!(to_xml(b"", Edition::Rfc5545).unwrap_err().to_string(), "refused 6 at byte 0: something where it may not stand, or something missing");
 }
 
 #[test]
@@ -82,7 +82,7 @@ fn the_longest_input_is_taken_and_no_longer_one() {
     let back = b"\r\nVERSION:2.0\r\nEND:VCALENDAR\r\n";
     let longest = [&front[..], &vec![b'a'; LONGEST - front.len() - back.len()], back].concat();
     assert!(matches!(checked(&longest), Told::Written(_)));
-    assert!(to_xml(&longest).is_ok());
+    assert!(to_xml(&longest, Edition::Rfc5545).is_ok());
 
     let longer = [&front[..], &vec![b'a'; LONGEST + 1 - front.len() - back.len()], back].concat();
     for work_length in [0, longer.len()] {
@@ -90,13 +90,13 @@ fn the_longest_input_is_taken_and_no_longer_one() {
         assert_eq!(told, Told::Refused(1, 0));
         assert!(work.iter().all(|byte| *byte == FILL));
     }
-    assert_eq!(to_xml(&longer), Err(Refusal { number: Number::Length, place: 0 }));
+    assert_eq!(to_xml(&longer, Edition::Rfc5545), Err(Refusal { number: Number::Length, place: 0 }));
 }
 
 #[test]
 fn a_result_much_longer_than_the_text_is_given_whole() {
     let text = [&b"BEGIN:VCALENDAR\r\nPRODID:\r\nVERSION:2.0\r\n"[..], &b"A:\r\n".repeat(5000), b"END:VCALENDAR\r\n"].concat();
-    let xml = to_xml(&text).unwrap();
+    let xml = to_xml(&text, Edition::Rfc5545).unwrap();
     assert!(xml.len() > 6 * text.len());
     assert_canonical(&xml);
 }
@@ -113,7 +113,7 @@ fn calendars_are_written_whatever_their_folds_are() {
             Told::Written(xml) => {
                 accepted += 1;
                 assert_eq!(checked(&folded), told);
-                assert_eq!(to_xml(&folded).as_ref(), Ok(xml));
+                assert_eq!(to_xml(&folded, Edition::Rfc5545).as_ref(), Ok(xml));
             }
             Told::Refused(number, place) => {
                 let place = if *place == kept.len() { folded.len() } else { unfolded(&folded)[*place].0 };

@@ -1,5 +1,5 @@
 -- The refusals and their numbers, and the answer of a reading.
---     Refusal, numberOf   the eleven refusals;   refusalAt: the one of a number, refusal-back: the one that has this number
+--     Refusal, numberOf   the refusals;   refusalAt: the one of a number, refusal-back: the one that has this number
 --     Verdict             what a check finds;   _otherwise_ is one check after another
 --     characters, limit   refusals 3 and 1
 --     Answer              what reading an input gives
@@ -9,9 +9,9 @@ use Prim.Native.Nat.{ℕ, _-_}
 use lib.ListN.{getD}
 use Rattle.calendar.specs.Calendar.{Calendar}
 
--- 1 LENGTH, 2 WORK, 3 CHARACTER, 4 LINE, 5 NAME, 6 FRAME, 7 PARAMETER, 8 VALUE, 9 COUNT, 11 XML have a place; 10 ROOM has the exact length
+-- 1 LENGTH, 2 WORK, 3 CHARACTER, 4 LINE, 5 NAME, 6 FRAME, 7 PARAMETER, 8 VALUE, 9 COUNT, 11 XML, 13 EDITION have a place; 10 ROOM has the exact length
 pub data Refusal : Type 0 where
-  LENGTH WORK CHARACTER LINE NAME FRAME PARAMETER VALUE COUNT ROOM XML : Refusal
+  LENGTH WORK CHARACTER LINE NAME FRAME PARAMETER VALUE COUNT ROOM XML EDITION : Refusal
 
 abbrev pub numberOf : Refusal → ℕ
 numberOf LENGTH = 1
@@ -25,9 +25,11 @@ numberOf VALUE = 8
 numberOf COUNT = 9
 numberOf ROOM = 10
 numberOf XML = 11
+numberOf EDITION = 13
 
+-- 12 is none
 unfoldable pub refusalAt : ℕ → Refusal
-refusalAt n = getD (LENGTH ∷ WORK ∷ CHARACTER ∷ LINE ∷ NAME ∷ FRAME ∷ PARAMETER ∷ VALUE ∷ COUNT ∷ ROOM ∷ XML ∷ []) (n - 1) LENGTH
+refusalAt n = getD (LENGTH ∷ WORK ∷ CHARACTER ∷ LINE ∷ NAME ∷ FRAME ∷ PARAMETER ∷ VALUE ∷ COUNT ∷ ROOM ∷ XML ∷ LENGTH ∷ EDITION ∷ []) (n - 1) LENGTH
 
 -- what a check finds: nothing, or a refusal and its place
 pub data Verdict : Type 0 where

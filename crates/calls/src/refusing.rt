@@ -2,6 +2,7 @@
 use crate::Answer;
 use refusals::CHARACTER;
 use refusals::COUNT;
+use refusals::EDITION;
 use refusals::FRAME;
 use refusals::LINE;
 use refusals::NAME;
@@ -26,6 +27,9 @@ fn refusal_else(n: u8) -> Refusal
     }
     if n == XML {
         return Refusal::Xml;
+    }
+    if n == EDITION {
+        return Refusal::Edition;
     }
     Refusal::Length
 }

@@ -19,12 +19,14 @@ const WORK: u8 = 165;
 
 const OUT: u8 = 90;
 
-// The refusals that depend on the rooms or on the limit, as wide as an answer's number.
+// The refusals that depend on the rooms, on the limit or on the edition, as wide as an answer's number.
 const REFUSED_LENGTH: u64 = refusals::LENGTH as u64;
 
 const REFUSED_WORK: u64 = refusals::WORK as u64;
 
 const REFUSED_ROOM: u64 = refusals::ROOM as u64;
+
+const REFUSED_EDITION: u64 = refusals::EDITION as u64;
 
 // The output holds the result and its other bytes as before.
 fn is_written(result: &[u8], out: &[u8]) -> bool {
@@ -84,9 +86,10 @@ fn is_unfolded(input: &[u8], work: &[u8]) -> bool {
     all_from(work, n, WORK)
 }
 
-// A call that is tried: its way, how many bytes of work room and output are lent, and the number and value of its answer.
+// A call that is tried: its way, its edition, how many bytes of work room and output are lent, and the number and value of its answer.
 struct Trial {
     way: u8,
+    edition: u32,
     work: usize,
     out: usize,
     number: u64,
@@ -97,6 +100,7 @@ struct Trial {
 fn with_rooms(c: Case, work: usize, out: usize) -> Trial {
     Trial {
         way: c.way,
+        edition: c.edition,
         work: work,
         out: out,
         number: c.number,
@@ -108,6 +112,7 @@ fn with_rooms(c: Case, work: usize, out: usize) -> Trial {
 fn refused(t: Trial, number: u64, value: u64) -> Trial {
     Trial {
         way: t.way,
+        edition: t.edition,
         work: t.work,
         out: t.out,
         number: number,
@@ -115,9 +120,17 @@ fn refused(t: Trial, number: u64, value: u64) -> Trial {
     }
 }
 
+// The call is refused before it unfolds.
+fn is_early(number: u64) -> bool {
+    (number == REFUSED_LENGTH) | (number == REFUSED_WORK) | (number == REFUSED_EDITION)
+}
+
 // The unfolded input stands in the work room afterwards.
 fn unfolds(t: Trial) -> bool {
-    (t.way == TO_XML) & (t.number != REFUSED_LENGTH) & (t.number != REFUSED_WORK)
+    if t.way == TO_XML {
+        return !is_early(t.number);
+    }
+    false
 }
 
 // What the work room must hold after an answer.
@@ -139,27 +152,34 @@ fn code(number: u64, value: u64) -> u64 {
 }
 
 // The answer of the call.
-fn answer(way: u8, input: &[u8], work: &mut [u8], out: &mut [u8]) -> Answer {
+fn answer(way: u8, edition: u32, input: &[u8], work: &mut [u8], out: &mut [u8]) -> Answer {
     if way == TO_XML {
-        return to_xml(input, work, out);
+        return to_xml(input, work, out, edition);
     }
-    to_text(input, out)
+    to_text(input, out, edition)
 }
 
 // The answer of the call for C.
-fn answer_for_c(way: u8, input: &[u8], work: &mut [u8], out: &mut [u8]) -> u64 {
+fn answer_for_c(way: u8, edition: u32, input: &[u8], work: &mut [u8], out: &mut [u8]) -> u64 {
     if way == TO_XML {
-        return mallettriton_to_xml(input, work, out);
+        return mallettriton_to_xml(input, work, out, edition);
     }
-    mallettriton_to_text(input, out)
+    mallettriton_to_text(input, out, edition)
 }
 
 // The answer of either, as one number.
-fn answer_code(is_for_c: bool, way: u8, input: &[u8], work: &mut [u8], out: &mut [u8]) -> u64 {
+fn answer_code(
+    is_for_c: bool,
+    way: u8,
+    edition: u32,
+    input: &[u8],
+    work: &mut [u8],
+    out: &mut [u8],
+) -> u64 {
     if is_for_c {
-        return answer_for_c(way, input, work, out);
+        return answer_for_c(way, edition, input, work, out);
     }
-    let a = answer(way, input, work, out);
+    let a = answer(way, edition, input, work, out);
     let n = number_of(a);
     let v = value_of(a);
     code(n, v as u64)
@@ -173,7 +193,14 @@ fn answers(is_for_c: bool, t: Trial, input: &[u8], work: &mut [u8], out: &mut [u
     let o = t.out;
     if w <= work.len() {
         if o <= out.len() {
-            let a = answer_code(is_for_c, t.way, input, &mut work[..w], &mut out[..o]);
+            let a = answer_code(
+                is_for_c,
+                t.way,
+                t.edition,
+                input,
+                &mut work[..w],
+                &mut out[..o],
+            );
             return a == code(t.number, t.value);
         }
     }

@@ -1,7 +1,7 @@
 // Runs the cases on standard input through the two conversions and prints a line for each, `to XML: agreed N, differing M` and
 // `to text: agreed N, differing M`; the numbers of the cases that differ go to standard error. A case agrees if all checks of it hold (checks.rt).
 //
-// A case is a byte for its way, 1 to XML and 2 to text, the answer's number and value, the input, the result. Numbers have four bytes,
+// A case is a byte for its way, 1 to XML and 2 to text, the edition, the answer's number and value, the input, the result. Numbers have four bytes,
 // the highest first. The value of number 0 is the result's length; a refusal has an empty result. Input and result are each four
 // lengths, of a front, of a middle, of the middle when it is repeated, of a back, and then the bytes of front, middle and back. So an
 // input of 65,535 bytes is a short case as well.

@@ -9,9 +9,11 @@ pub const TO_XML: u8 = 1;
 
 pub const TO_TEXT: u8 = 2;
 
-// What a case says: its way, the answer with room enough, how long the input and the result are. After the last case the way is neither.
+// What a case says: its way, the edition, the answer with room enough, how long the input and the result are. After the last case the way is
+// neither.
 pub struct Case {
     pub way: u8,
+    pub edition: u32,
     pub number: u64,
     pub value: u64,
     pub input: usize,
@@ -76,12 +78,14 @@ fn next_parts(b: &mut [u8]) -> usize {
 pub fn next_case(input: &mut [u8], output: &mut [u8]) -> Case {
     let mut way = [0u8; 1];
     io::read_full(STDIN_FILENO, &mut way);
+    let edition = next_number();
     let number = next_number();
     let value = next_number();
     let n = next_parts(input);
     let m = next_parts(output);
     Case {
         way: way[0],
+        edition: edition as u32,
         number: number,
         value: value,
         input: n,

@@ -6,10 +6,12 @@
 --     meetings, meetingsPage     B.2.1 and B.2.2; the page is in a file of its own
 use mathlib.Core.Path.{_≡_, refl}
 use mathlib.Core.List.{List, [], _∷_, _++_}
+use mathlib.Core.Option.{some}
 use Prim.Native.Nat.{ℕ}
 use Prim.Native.String.{String}
 use Rattle.octets.specs.Ascii.{ascii}
 use Rattle.calendar.specs.Refusal.{FRAME, VALUE}
+use Rattle.edition.specs.declared.Edition.the-variants.{Rfc5545}
 use Rattle.calls.specs.Conversion.{result, fault}
 use Rattle.calls.specs.ToText.{toText}
 use Rattle.calls.specs.Computing.{conversions-compute}
@@ -87,7 +89,7 @@ planning-before : given (planning "DTSTART:20081006") ≡ fault VALUE 144
 unfolding conversions-compute
 planning-before = refl
 
-planning-page-to-text : toText planningPage ≡ result (planning "DTSTART;VALUE=DATE:20081006")
+planning-page-to-text : toText (some Rfc5545) planningPage ≡ result (planning "DTSTART;VALUE=DATE:20081006")
 unfolding conversions-compute
 planning-page-to-text = refl
 
@@ -185,7 +187,7 @@ abbrev pub meetingsText : List String → List ℕ
 meetingsText description = meetings ("BEGIN:VCALENDAR" ∷ "PRODID:-//Example Inc.//Example Client//EN" ∷ "VERSION:2.0" ∷ []) "RDATE;VALUE=PERIOD;TZID=US/Eastern:20060102T150000/PT2H" description
 
 -- B.2.2 as it is printed: the description's text has four line ends, three of them from the page
-meetings-page-to-text : toText (meetingsPage "          <tzid><text>US/Eastern</text></tzid>" (
+meetings-page-to-text : toText (some Rfc5545) (meetingsPage "          <tzid><text>US/Eastern</text></tzid>" (
     "            <text>We are having a meeting all this week at 12" ∷
     "pm for one hour, with an additional meeting on the first day" ∷
     "2 hours long.&#x0a;Please bring your own lunch for the 12 pm" ∷
@@ -205,18 +207,18 @@ foldedDescription =
     " r own lunch for the 12 pm meetings." ∷ []
 
 -- B.2.2 with the description in one line: it is then B.2.1's
-meetings-joined-to-text : toText (meetingsPage "          <tzid><text>US/Eastern</text></tzid>" (
+meetings-joined-to-text : toText (some Rfc5545) (meetingsPage "          <tzid><text>US/Eastern</text></tzid>" (
     "            <text>We are having a meeting all this week at 12 pm for one hour, with an additional meeting on the first day 2 hours long.&#x0a;Please bring your own lunch for the 12 pm meetings.</text>" ∷ []))
     ≡ result (meetingsText foldedDescription)
 unfolding conversions-compute
 meetings-joined-to-text = refl
 
 -- and back from the canonical XML of B.2.1: VERSION before PRODID
-meetings-xml-to-text : toText meetingsXml ≡ result (meetings ("BEGIN:VCALENDAR" ∷ "VERSION:2.0" ∷ "PRODID:-//Example Inc.//Example Client//EN" ∷ []) "RDATE;VALUE=PERIOD;TZID=US/Eastern:20060102T150000/PT2H" foldedDescription)
+meetings-xml-to-text : toText (some Rfc5545) meetingsXml ≡ result (meetings ("BEGIN:VCALENDAR" ∷ "VERSION:2.0" ∷ "PRODID:-//Example Inc.//Example Client//EN" ∷ []) "RDATE;VALUE=PERIOD;TZID=US/Eastern:20060102T150000/PT2H" foldedDescription)
 unfolding conversions-compute
 meetings-xml-to-text = refl
 
 -- before erratum 3679: text where the property's value belongs, at its first byte
-meetings-page-before : toText (meetingsPage "          <tzid>US/Eastern</tzid>" ("            <text>We are having a meeting.</text>" ∷ [])) ≡ fault FRAME 473
+meetings-page-before : toText (some Rfc5545) (meetingsPage "          <tzid>US/Eastern</tzid>" ("            <text>We are having a meeting.</text>" ∷ [])) ≡ fault FRAME 473
 unfolding conversions-compute
 meetings-page-before = refl

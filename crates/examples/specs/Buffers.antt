@@ -25,11 +25,11 @@ called n v out work = record { answer = (n, v); output = out; work = work }
 
 -- to XML: the text, the work room, the output
 abbrev pub xmlCall : List ℕ → List ℕ → List ℕ → Called
-xmlCall s work out = record { answer = numbers (toXmlOutcome s work out); output = toXmlOutput s work out; work = toXmlWork s work }
+xmlCall s work out = record { answer = numbers (toXmlOutcome s work out 0); output = toXmlOutput s work out 0; work = toXmlWork s work 0 }
 
 -- to text: the document, the output; there is no work room
 abbrev pub textCall : List ℕ → List ℕ → Called
-textCall s out = record { answer = numbers (toTextOutcome s out); output = toTextOutput s out; work = [] }
+textCall s out = record { answer = numbers (toTextOutcome s out 0); output = toTextOutput s out 0; work = [] }
 
 -- ---- the rota: 208 bytes of text, 578 of XML
 

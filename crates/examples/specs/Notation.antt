@@ -6,10 +6,12 @@
 --     inEvent       a small calendar with one event, in which these lines stand last: the first of them at place 112
 --     eventXml      the canonical document of that calendar, in which these properties stand last
 use mathlib.Core.List.{List, [], _∷_, _++_}
+use mathlib.Core.Option.{some}
 use Prim.Native.Nat.{ℕ}
 use Prim.Native.String.{String}
 use lib.ListN.{length}
 use Rattle.octets.specs.Ascii.{ascii}
+use Rattle.edition.specs.declared.Edition.the-variants.{Rfc5545}
 use Rattle.calls.specs.Conversion.{Converted}
 use Rattle.calls.specs.ToXml.{toXml}
 
@@ -28,7 +30,7 @@ canonical s =
 
 -- with a work room as long as the text
 abbrev pub given : List ℕ → Converted
-given s = toXml s (length s)
+given s = toXml (some Rfc5545) s (length s)
 
 -- ---- one event
 

@@ -5,6 +5,7 @@
 --     readings          the definitions answer every question of the table with the table's answer
 use mathlib.Core.Path.{_≡_, refl}
 use mathlib.Core.List.{List, [], _∷_, _++_, map}
+use mathlib.Core.Option.{some}
 use Prim.Native.Nat.{ℕ}
 use Prim.Native.String.{String}
 use lib.ListN.{length, replicate}
@@ -13,6 +14,7 @@ use Rattle.calendar.specs.Calendar.{Value, dateTime, text, unknown, Parameter, 
 use Rattle.calendar.specs.Refusal.{numberOf, Answer, accepted}
 use Rattle.folding.specs.Unfold.{crlf, unfolded}
 use Rattle.folding.specs.Fold.{foldedLine}
+use Rattle.edition.specs.declared.Edition.the-variants.{Rfc5545}
 use Rattle.text.specs.ReadText.{readCalendar}
 use Rattle.calls.specs.Conversion.{Converted, result, fault}
 use Rattle.calls.specs.ToText.{toText}
@@ -41,7 +43,7 @@ toldBack x (result t) = bothWays x t
 toldBack x (fault r p) = refused numberOf r at p
 
 abbrev pub toldOf : Converted → Told
-toldOf (result x) = toldBack x (toText x)
+toldOf (result x) = toldBack x (toText (some Rfc5545) x)
 toldOf (fault r p) = refused numberOf r at p
 
 abbrev pub ofText : List ℕ → Told
@@ -58,7 +60,7 @@ answerOf (integer v) = ofLine (ascii "PRIORITY:" ++ ascii v)
 answerOf (float v) = ofLine (ascii "X-F;VALUE=FLOAT:" ++ ascii v)
 answerOf (duration v) = ofLine (ascii "DURATION:" ++ ascii v)
 answerOf (summary v) = ofLine (ascii "SUMMARY:" ++ ascii v)
-answerOf (statedBy l) = let s = inEvent (l ++ crlf) in states (readCalendar s (length s))
+answerOf (statedBy l) = let s = inEvent (l ++ crlf) in states (readCalendar Rfc5545 s (length s))
 answerOf (folded l) = octets (foldedLine l)
 answerOf (kept s) = octets (unfolded s)
 

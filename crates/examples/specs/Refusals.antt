@@ -3,10 +3,12 @@
 --     documentTable    documents: a property of an event stands at place 377
 use mathlib.Core.Path.{_≡_, refl}
 use mathlib.Core.List.{List, [], _∷_, _++_, map}
+use mathlib.Core.Option.{some}
 use Prim.Native.Nat.{ℕ}
 use lib.ListN.{replicate}
 use Rattle.octets.specs.Ascii.{ascii}
 use Rattle.calendar.specs.Refusal.{numberOf}
+use Rattle.edition.specs.declared.Edition.the-variants.{Rfc5545}
 use Rattle.calls.specs.Conversion.{Converted, result, fault}
 use Rattle.calls.specs.ToText.{toText}
 use Rattle.calls.specs.Computing.{conversions-compute}
@@ -76,7 +78,7 @@ toldText (result t) = octets t
 toldText (fault r p) = refused numberOf r at p
 
 abbrev pub ofDocument : DocumentRow → Told
-ofDocument (x isTold a) = toldText (toText x)
+ofDocument (x isTold a) = toldText (toText (some Rfc5545) x)
 
 abbrev pub documentAnswer : DocumentRow → Told
 documentAnswer (x isTold a) = a

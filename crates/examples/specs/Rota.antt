@@ -1,7 +1,9 @@
 -- The rota of the rules ("One rota, whole"), to XML and back to text, byte for byte.
 use mathlib.Core.Path.{_≡_, refl}
 use mathlib.Core.List.{List, [], _∷_}
+use mathlib.Core.Option.{some}
 use Prim.Native.Nat.{ℕ}
+use Rattle.edition.specs.declared.Edition.the-variants.{Rfc5545}
 use Rattle.calls.specs.Conversion.{result}
 use Rattle.calls.specs.ToText.{toText}
 use Rattle.calls.specs.Computing.{conversions-compute}
@@ -29,6 +31,6 @@ pub rota-to-xml : given rota ≡ result rotaXml
 unfolding conversions-compute
 rota-to-xml = refl
 
-pub rota-to-text : toText rotaXml ≡ result rota
+pub rota-to-text : toText (some Rfc5545) rotaXml ≡ result rota
 unfolding conversions-compute
 rota-to-text = refl

@@ -4,10 +4,12 @@
 -- and whole texts: a time zone, alarms, busy time, two calendars.
 use mathlib.Core.Path.{_≡_, refl}
 use mathlib.Core.List.{List, [], _∷_, _++_, map}
+use mathlib.Core.Option.{some}
 use Prim.Native.Nat.{ℕ}
 use Prim.Native.String.{String}
 use Rattle.octets.specs.Ascii.{ascii}
 use Rattle.folding.specs.Unfold.{crlf}
+use Rattle.edition.specs.declared.Edition.the-variants.{Rfc5545}
 use Rattle.calls.specs.Conversion.{result}
 use Rattle.calls.specs.ToText.{toText}
 use Rattle.calls.specs.Computing.{conversions-compute}
@@ -115,7 +117,7 @@ elementTable =
     reads ascii "X-DEPTH:a,b" ∷
     []
 
-elements-converted : map (λ (r : ElementRow). toText (eventXml (elementIn r))) elementTable ≡ map (λ (r : ElementRow). result (inEvent (lineIn r ++ crlf))) elementTable
+elements-converted : map (λ (r : ElementRow). toText (some Rfc5545) (eventXml (elementIn r))) elementTable ≡ map (λ (r : ElementRow). result (inEvent (lineIn r ++ crlf))) elementTable
 unfolding conversions-compute
 elements-converted = refl
 

@@ -1,4 +1,5 @@
 // A text both ways: unfolded, and with its folds in place.
+use edition::Edition;
 use folding::skip::skip_folds;
 use folding::unfolding::place_of;
 use folding::unfolding::unfold;
@@ -42,8 +43,8 @@ fn lent_place(s: &[u8], at: usize) -> usize {
 }
 
 fn written(kept: &[u8], s: &[u8], out: &mut [u8], other: &mut [u8]) -> Came {
-    let n = put_document(out, 0, PLAIN, kept);
-    let m = put_document(other, 0, FOLDED, s);
+    let n = put_document(out, 0, Edition::Rfc5545, PLAIN, kept);
+    let m = put_document(other, 0, Edition::Rfc5545, FOLDED, s);
     if n == m {
         if is_same(out, other) {
             return Came::Written(n as u64);
@@ -65,12 +66,12 @@ fn refused(s: &[u8], a: u8, p: usize, b: u8, q: usize) -> Came {
 }
 
 fn checked(kept: &[u8], s: &[u8], out: &mut [u8], other: &mut [u8]) -> Came {
-    match check(PLAIN, kept) {
-        Checked::Fine => match check(FOLDED, s) {
+    match check(Edition::Rfc5545, PLAIN, kept) {
+        Checked::Fine => match check(Edition::Rfc5545, FOLDED, s) {
             Checked::Fine => written(kept, s, out, other),
             Checked::Refused(b, q) => Came::Different,
         },
-        Checked::Refused(a, p) => match check(FOLDED, s) {
+        Checked::Refused(a, p) => match check(Edition::Rfc5545, FOLDED, s) {
             Checked::Fine => Came::Different,
             Checked::Refused(b, q) => refused(s, a, p, b, q),
         },

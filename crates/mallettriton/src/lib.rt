@@ -20,13 +20,18 @@ fn joined(n: u64, v: usize) -> u64
 
 // `to_xml` for C: the answer's number times 2 ^ 32, and its value.
 #[no_mangle]
-pub extern "C" fn mallettriton_to_xml(input: &[u8], work: &mut [u8], out: &mut [u8]) -> u64
+pub extern "C" fn mallettriton_to_xml(
+    input: &[u8],
+    work: &mut [u8],
+    out: &mut [u8],
+    edition: u32,
+) -> u64
     ensures { λ r. ⌜
-        (r ≡ codeOf (toXmlOutcome (now (input .entry)) (now (work .entry)) (now (out .entry))))
-        × (now (out .exit) ≡ toXmlOutput (now (input .entry)) (now (work .entry)) (now (out .entry)))
-        × (now (work .exit) ≡ toXmlWork (now (input .entry)) (now (work .entry))) ⌝ }
+        (r ≡ codeOf (toXmlOutcome (now (input .entry)) (now (work .entry)) (now (out .entry)) edition))
+        × (now (out .exit) ≡ toXmlOutput (now (input .entry)) (now (work .entry)) (now (out .entry)) edition)
+        × (now (work .exit) ≡ toXmlWork (now (input .entry)) (now (work .entry)) edition) ⌝ }
 {
-    let a = to_xml(input, work, out);
+    let a = to_xml(input, work, out, edition);
     let n = number_of(a);
     let v = value_of(a);
     joined(n, v)
@@ -34,12 +39,12 @@ pub extern "C" fn mallettriton_to_xml(input: &[u8], work: &mut [u8], out: &mut [
 
 // `to_text` for C: the same.
 #[no_mangle]
-pub extern "C" fn mallettriton_to_text(input: &[u8], out: &mut [u8]) -> u64
+pub extern "C" fn mallettriton_to_text(input: &[u8], out: &mut [u8], edition: u32) -> u64
     ensures { λ r. ⌜
-        (r ≡ codeOf (toTextOutcome (now (input .entry)) (now (out .entry))))
-        × (now (out .exit) ≡ toTextOutput (now (input .entry)) (now (out .entry))) ⌝ }
+        (r ≡ codeOf (toTextOutcome (now (input .entry)) (now (out .entry)) edition))
+        × (now (out .exit) ≡ toTextOutput (now (input .entry)) (now (out .entry)) edition) ⌝ }
 {
-    let a = to_text(input, out);
+    let a = to_text(input, out, edition);
     let n = number_of(a);
     let v = value_of(a);
     joined(n, v)

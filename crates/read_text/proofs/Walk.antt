@@ -32,6 +32,7 @@ use Rattle.text.specs.Faults.{fault, lineStart, offset}
 use Rattle.text.specs.Nesting.{Open, on, stop, opened, methodIn, onward, ended, nesting}
 use Rattle.text.specs.LineKind.{LineKind, step}
 use Rattle.text.specs.ReadText.{linesVerdict}
+use Rattle.edition.specs.declared.Edition.{Edition}
 use Rattle.read_text.specs.Answers.{Checks}
 use Rattle.read_text.specs.laws.Action.{action-seen}
 use Rattle.read_text.specs.Places.{PlaceAt}
@@ -44,8 +45,6 @@ use Rattle.read_text.specs.declared.Turn.{Turn}
 use Rattle.read_text.specs.declared.Step.the-variants.{Closed, Failed}
 use Rattle.read_text.specs.declared.Checked.the-variants.{Fine, Refused}
 
--- ---- in a component
-
 -- whether there is a level left
 level-is : (left n : ℕ) → n + 1 + left ≡ levels → ltb (suc n) levels ≡ ltb 0 left
 level-is left n h = go (ltb 0 left) refl
@@ -54,137 +53,141 @@ level-is left n h = go (ltb 0 left) refl
     go true e = lt-ltb (suc n) levels (omega (arith, ltb-true 0 left e))
     go false e = le-ltb (suc n) levels (omega (arith, ltb-false 0 left e))
 
--- from the line behind the BEGIN of the component c to a place, with these tallies, the number of ACTION's word, and whether a subcomponent has come;
--- left levels are left in it, and method says whether the calendar round it has METHOD
-pub record Reached (c : List ℕ) (left : ℕ) (method : Bool) (m : ℕ) (s : List ℕ) (from at : ℕ) (counts : List ℕ) (action : ℕ) (inner : Bool) : Type 0 where
-  pub low : from ≤ at
-  pub high : Ready m s at
-  pub seen : List Property
-  pub tallied : counts ≡ tallies seen
-  pub acted : action ≡ actionNumber (actionOf seen)
-  pub agrees : (st : List Open) → methodIn st ≡ method → length st + 1 + left ≡ levels → onFrom m s from (opened c ∷ st) ≡ onFrom m s at (openIn c seen inner ∷ st)
+module _ (ed : Edition) where
+  -- ---- in a component
 
-pub reached-none : (c : List ℕ) (left : ℕ) (method : Bool) (m : ℕ) (s : List ℕ) (from : ℕ) → Ready m s from → Reached c left method m s from from (replicate property.KNOWN 0) 3 false
-unfolding tallies actionOf
-reached-none c left method m s from h = record { low = omega arith; high = h; seen = []; tallied = refl; acted = refl; agrees = λ st i j. refl }
+  -- from the line behind the BEGIN of the component c to a place, with these tallies, the number of ACTION's word, and whether a subcomponent has come;
+  -- left levels are left in it, and method says whether the calendar round it has METHOD
+  pub record Reached (c : List ℕ) (left : ℕ) (method : Bool) (m : ℕ) (s : List ℕ) (from at : ℕ) (counts : List ℕ) (action : ℕ) (inner : Bool) : Type 0 where
+    pub low : from ≤ at
+    pub high : Ready m s at
+    pub seen : List Property
+    pub tallied : counts ≡ tallies seen
+    pub acted : action ≡ actionNumber (actionOf seen)
+    pub agrees : (st : List Open) → methodIn st ≡ method → length st + 1 + left ≡ levels → onFrom ed m s from (opened c ∷ st) ≡ onFrom ed m s at (openIn c seen inner ∷ st)
 
-module _ {c : List ℕ} {left : ℕ} {method : Bool} {m : ℕ} {s : List ℕ} {from at : ℕ} {counts : List ℕ} {action : ℕ} {inner : Bool} (r : Reached c left method m s from at counts action inner) where
-  pub body-open : length s ≤ at → Body c left method m s from (Failed 6 (length s))
-  unfolding nesting ended refusalAt
-  body-open h = record { ends = omega arith; agrees = λ st i j. r .agrees st i j ∙ rw (lines-past m s at (r .high .cut) h, index-end m s (length s) (r .high .cut) (omega arith)) }
+  -- ---- between calendars
 
-  module _ {v : Bool} (y : v ≡ ltb 0 left) {t : Turn} (d : Turned c v inner m s at t) where
-    -- the check up to a line, and what that line does
-    moves : (st : List Open) → methodIn st ≡ method → length st + 1 + left ≡ levels →
-        onFrom m s from (opened c ∷ st) ≡ onward (step (d .line) (openIn c (r .seen) inner) st) (index m s at) (d .bytes) (onFrom m s (t .next))
-    moves st i j = r .agrees st i j ∙ d .does (r .seen) st (level-is left (length st) j ∙ sym y)
+  -- from the first line of a text to a place where nothing is open
+  pub record Between (m : ℕ) (s : List ℕ) (at : ℕ) : Type 0 where
+    pub high : Ready m s at
+    pub agrees : linesVerdict ed (length (rest m s 0)) (lines (rest m s 0)) ≡ onFrom ed m s at []
 
-    said-as : (x : Kind) → t .kind ≡ x → KindIs (PlaceAt m s at (d .bytes)) v m (take (t .end) s) (d .line) x
-    said-as x e = subst (KindIs (PlaceAt m s at (d .bytes)) v m (take (t .end) s) (d .line)) e (d .said)
+module _ {ed : Edition} where
+  pub reached-none : (c : List ℕ) (left : ℕ) (method : Bool) (m : ℕ) (s : List ℕ) (from : ℕ) → Ready m s from → Reached ed c left method m s from from (replicate property.KNOWN 0) 3 false
+  unfolding tallies actionOf
+  reached-none c left method m s from h = record { low = omega arith; high = h; seen = []; tallied = refl; acted = refl; agrees = λ st i j. refl }
 
-    pub body-faulty : {n p : ℕ} → t .kind ≡ Faulty n p → Body c left method m s from (Failed n p)
-    unfolding step onward
-    body-faulty {n} {p} e =
-        let f = said-as (Faulty n p) e in
-        record { ends = f .there .most; agrees = λ st i j. moves st i j ∙ rw (f .is) (ap (refuse (refusalAt n)) (sym (f .there .is))) }
+  module _ {c : List ℕ} {left : ℕ} {method : Bool} {m : ℕ} {s : List ℕ} {from at : ℕ} {counts : List ℕ} {action : ℕ} {inner : Bool} (r : Reached ed c left method m s from at counts action inner) where
+    pub body-open : length s ≤ at → Body ed c left method m s from (Failed 6 (length s))
+    unfolding nesting ended refusalAt
+    body-open h = record { ends = omega arith; agrees = λ st i j. r .agrees st i j ∙ rw (lines-past m s at (r .high .cut) h, index-end m s (length s) (r .high .cut) (omega arith)) }
 
-    -- a property
-    pub reached-held : {p a action' : ℕ} {counts' : List ℕ} → t .kind ≡ Holds p a → counts' ≡ bumped p counts → action' ≡ pick (eqb p property.ACTION) a action →
-        Reached c left method m s from (t .next) counts' action' inner
-    unfolding step onward tallies
-    reached-held {p} {a} e f g = let h : Held (d .line) p a = said-as (Holds p a) e in record {
-      low = omega (arith, r .low, d .low);
-      high = d .high;
-      seen = h .property ∷ r .seen;
-      tallied = f ∙ ap (bumped p) (r .tallied) ∙ ap (λ (n : ℕ). bumped n (tallies (r .seen))) (h .number);
-      acted = g ∙ action-seen (h .property) (r .seen) (h .number) (h .action) (r .acted);
-      agrees = λ st i j. moves st i j ∙ ap (λ (x : LineKind). onward (step x (openIn c (r .seen) inner) st) (index m s at) (d .bytes) (onFrom m s (t .next))) (h .is);
-    }
+    module _ {v : Bool} (y : v ≡ ltb 0 left) {t : Turn} (d : Turned ed c v inner m s at t) where
+      -- the check up to a line, and what that line does
+      moves : (st : List Open) → methodIn st ≡ method → length st + 1 + left ≡ levels →
+          onFrom ed m s from (opened c ∷ st) ≡ onward (step (d .line) (openIn c (r .seen) inner) st) (index m s at) (d .bytes) (onFrom ed m s (t .next))
+      moves st i j = r .agrees st i j ∙ d .does (r .seen) st (level-is left (length st) j ∙ sym y)
 
-    -- a subcomponent
-    module _ {n a : ℕ} (e : t .kind ≡ Starts n a) where
-      pub starts-number : n ≡ placeOf (upper (rest m (take (t .end) s) a)) componentNames
-      starts-number = said-as (Starts n a) e .1
+      said-as : (x : Kind) → t .kind ≡ x → KindIs (PlaceAt m s at (d .bytes)) v m (take (t .end) s) (d .line) x
+      said-as x e = subst (KindIs (PlaceAt m s at (d .bytes)) v m (take (t .end) s) (d .line)) e (d .said)
 
-      pub starts-left : 1 ≤ left
-      starts-left = ltb-true 0 left (sym y ∙ said-as (Starts n a) e .2)
-
-      begins-inner : (st : List Open) → methodIn st ≡ method → length st + 1 + left ≡ levels →
-          onFrom m s from (opened c ∷ st) ≡ onFrom m s (t .next) (opened (upper (rest m (take (t .end) s) a)) ∷ openIn c (r .seen) true ∷ st)
+      pub body-faulty : {n p : ℕ} → t .kind ≡ Faulty n p → Body ed c left method m s from (Failed n p)
       unfolding step onward
-      begins-inner st i j = moves st i j ∙ rw (said-as (Starts n a) e .0)
+      body-faulty {n} {p} e =
+          let f = said-as (Faulty n p) e in
+          record { ends = f .there .most; agrees = λ st i j. moves st i j ∙ rw (f .is) (ap (refuse (refusalAt n)) (sym (f .there .is))) }
 
-      module _ {k : ℕ} {inside : Bool} (o : k ≡ placeOf c componentNames) (q : inside ≡ methodAt k counts method) where
-        method-inside : (st : List Open) → methodIn st ≡ method → methodFor c (r .seen) (methodIn st) ≡ inside
-        method-inside st i =
-            ap (λ (b : Bool). methodFor c (r .seen) b) i ∙ sym (method-tallies c (r .seen) method) ∙ rw (← o, ← (r .tallied)) (sym q)
+      -- a property
+      pub reached-held : {p a action' : ℕ} {counts' : List ℕ} → t .kind ≡ Holds p a → counts' ≡ bumped p counts → action' ≡ pick (eqb p property.ACTION) a action →
+          Reached ed c left method m s from (t .next) counts' action' inner
+      unfolding step onward tallies
+      reached-held {p} {a} e f g = let h : Held (d .line) p a = said-as (Holds p a) e in record {
+        low = omega (arith, r .low, d .low);
+        high = d .high;
+        seen = h .property ∷ r .seen;
+        tallied = f ∙ ap (bumped p) (r .tallied) ∙ ap (λ (n : ℕ). bumped n (tallies (r .seen))) (h .number);
+        acted = g ∙ action-seen (h .property) (r .seen) (h .number) (h .action) (r .acted);
+        agrees = λ st i j. moves st i j ∙ ap (λ (x : LineKind). onward (step x (openIn c (r .seen) inner) st) (index m s at) (d .bytes) (onFrom ed m s (t .next))) (h .is);
+      }
 
-        pub reached-inner : {next : ℕ} → Body (upper (rest m (take (t .end) s) a)) (left - 1) inside m s (t .next) (Closed next) → Reached c left method m s from next counts action true
-        reached-inner b = record {
-          low = omega (arith, r .low, d .low, b .ends .0);
-          high = b .ends .1;
-          seen = r .seen;
-          tallied = r .tallied;
-          acted = r .acted;
-          agrees = λ st i j. begins-inner st i j ∙ b .agrees (openIn c (r .seen) true ∷ st) (method-inside st i) (omega (arith, starts-left));
-        }
+      -- a subcomponent
+      module _ {n a : ℕ} (e : t .kind ≡ Starts n a) where
+        pub starts-number : n ≡ placeOf (upper (rest m (take (t .end) s) a)) componentNames
+        starts-number = said-as (Starts n a) e .1
 
-        pub body-inner : {x p : ℕ} → Body (upper (rest m (take (t .end) s) a)) (left - 1) inside m s (t .next) (Failed x p) → Body c left method m s from (Failed x p)
-        body-inner b = record { ends = b .ends; agrees = λ st i j. begins-inner st i j ∙ b .agrees (openIn c (r .seen) true ∷ st) (method-inside st i) (omega (arith, starts-left)) }
+        pub starts-left : 1 ≤ left
+        starts-left = ltb-true 0 left (sym y ∙ said-as (Starts n a) e .2)
 
-    -- the end
-    module _ {b : Bool} {k : ℕ} (e : t .kind ≡ Stops) (o : k ≡ placeOf c componentNames) (q : b ≡ completeAt k counts action (record { inner = inner; method = method })) where
-      counted : complete c (r .seen) (record { inner = inner; method = method }) ≡ b
-      counted = sym (complete-tallies c (r .seen) (record { inner = inner; method = method })) ∙ rw (← o, ← (r .tallied), ← (r .acted)) (sym q)
+        begins-inner : (st : List Open) → methodIn st ≡ method → length st + 1 + left ≡ levels →
+            onFrom ed m s from (opened c ∷ st) ≡ onFrom ed m s (t .next) (opened (upper (rest m (take (t .end) s) a)) ∷ openIn c (r .seen) true ∷ st)
+        unfolding step onward
+        begins-inner st i j = moves st i j ∙ rw (said-as (Starts n a) e .0)
 
-      stopped : (st : List Open) → methodIn st ≡ method → length st + 1 + left ≡ levels →
-          onFrom m s from (opened c ∷ st) ≡ onward (pick b (on st) (stop (fault COUNT lineStart))) (index m s at) (d .bytes) (onFrom m s (t .next))
-      unfolding step
-      stopped st i j = moves st i j ∙ rw (said-as Stops e, i, counted)
+        module _ {k : ℕ} {inside : Bool} (o : k ≡ placeOf c componentNames) (q : inside ≡ methodAt k counts method) where
+          method-inside : (st : List Open) → methodIn st ≡ method → methodFor c (r .seen) (methodIn st) ≡ inside
+          method-inside st i =
+              ap (λ (b : Bool). methodFor c (r .seen) b) i ∙ sym (method-tallies c (r .seen) method) ∙ rw (← o, ← (r .tallied)) (sym q)
 
-      pub body-closed : b ≡ true → Body c left method m s from (Closed (t .next))
-      unfolding onward pick
-      body-closed f = record { ends = (omega (arith, r .low, d .low), d .high); agrees = λ st i j. stopped st i j ∙ rw f }
+          pub reached-inner : {next : ℕ} → Body ed (upper (rest m (take (t .end) s) a)) (left - 1) inside m s (t .next) (Closed next) → Reached ed c left method m s from next counts action true
+          reached-inner b = record {
+            low = omega (arith, r .low, d .low, b .ends .0);
+            high = b .ends .1;
+            seen = r .seen;
+            tallied = r .tallied;
+            acted = r .acted;
+            agrees = λ st i j. begins-inner st i j ∙ b .agrees (openIn c (r .seen) true ∷ st) (method-inside st i) (omega (arith, starts-left));
+          }
 
-      pub body-short : b ≡ false → Body c left method m s from (Failed 9 at)
-      unfolding onward pick refusalAt offset
-      body-short f = record { ends = r .high .most; agrees = λ st i j. let z : index m s at + 0 ≡ index m s at = omega arith in stopped st i j ∙ rw f (ap (refuse COUNT) z) }
+          pub body-inner : {x p : ℕ} → Body ed (upper (rest m (take (t .end) s) a)) (left - 1) inside m s (t .next) (Failed x p) → Body ed c left method m s from (Failed x p)
+          body-inner b = record { ends = b .ends; agrees = λ st i j. begins-inner st i j ∙ b .agrees (openIn c (r .seen) true ∷ st) (method-inside st i) (omega (arith, starts-left)) }
 
--- ---- between calendars
+      -- the end
+      module _ {b : Bool} {k : ℕ} (e : t .kind ≡ Stops) (o : k ≡ placeOf c componentNames) (q : b ≡ completeAt k counts action (record { inner = inner; method = method })) where
+        counted : complete c (r .seen) (record { inner = inner; method = method }) ≡ b
+        counted = sym (complete-tallies c (r .seen) (record { inner = inner; method = method })) ∙ rw (← o, ← (r .tallied), ← (r .acted)) (sym q)
 
--- from the first line of a text to a place where nothing is open
-pub record Between (m : ℕ) (s : List ℕ) (at : ℕ) : Type 0 where
-  pub high : Ready m s at
-  pub agrees : linesVerdict (length (rest m s 0)) (lines (rest m s 0)) ≡ onFrom m s at []
+        stopped : (st : List Open) → methodIn st ≡ method → length st + 1 + left ≡ levels →
+            onFrom ed m s from (opened c ∷ st) ≡ onward (pick b (on st) (stop (fault COUNT lineStart))) (index m s at) (d .bytes) (onFrom ed m s (t .next))
+        unfolding step
+        stopped st i j = moves st i j ∙ rw (said-as Stops e, i, counted)
 
-lines-verdict : (e : ℕ) (ls : List Line) → 0 < length ls → linesVerdict e ls ≡ nesting e ls []
-unfolding linesVerdict
-lines-verdict e [] h = absurd (omega arith)
-lines-verdict e (l ∷ ls) h = refl
+        pub body-closed : b ≡ true → Body ed c left method m s from (Closed (t .next))
+        unfolding onward pick
+        body-closed f = record { ends = (omega (arith, r .low, d .low), d .high); agrees = λ st i j. stopped st i j ∙ rw f }
 
--- the first line begins behind folds
-pub between-none : {m : ℕ} {s : List ℕ} {c : ℕ} → cuts m ≡ true → Settled m s 0 c → c < length s → Between m s c
-between-none {m} {s} {c} y p h = record {
-  high = ready-start y p;
-  agrees = some (rest m s 0) (λ e. let k = p .some-byte y (sym (p .is) ∙ e) in omega arith) ∙ rw (lines-start p);
-}
-  where
-    some : (l : List ℕ) → (l ≡ [] → ⊥) → linesVerdict (length l) (lines l) ≡ nesting (length l) (lines l) []
-    some [] h = absurd (h refl)
-    some (a ∷ l) h = lines-verdict (length (a ∷ l)) (lines (a ∷ l)) (lines-some a l 0)
+        pub body-short : b ≡ false → Body ed c left method m s from (Failed 9 at)
+        unfolding onward pick refusalAt offset
+        body-short f = record { ends = r .high .most; agrees = λ st i j. let z : index m s at + 0 ≡ index m s at = omega arith in stopped st i j ∙ rw f (ap (refuse COUNT) z) }
 
-module _ {m : ℕ} {s : List ℕ} {at : ℕ} (r : Between m s at) where
-  pub between-more : {next : ℕ} → Outer m s at (Closed next) → Between m s next
-  between-more o = record { high = o .ends .1; agrees = r .agrees ∙ o .agrees }
+  lines-verdict : (e : ℕ) (ls : List Line) → 0 < length ls → linesVerdict ed e ls ≡ nesting ed e ls []
+  unfolding linesVerdict
+  lines-verdict e [] h = absurd (omega arith)
+  lines-verdict e (l ∷ ls) h = refl
 
-  pub checked-refused : {n p : ℕ} → Outer m s at (Failed n p) → Checks m s (Refused n p)
-  checked-refused o = record { is = r .agrees ∙ o .agrees; place = o .ends }
+  -- the first line begins behind folds
+  pub between-none : {m : ℕ} {s : List ℕ} {c : ℕ} → cuts m ≡ true → Settled m s 0 c → c < length s → Between ed m s c
+  between-none {m} {s} {c} y p h = record {
+    high = ready-start y p;
+    agrees = some (rest m s 0) (λ e. let k = p .some-byte y (sym (p .is) ∙ e) in omega arith) ∙ rw (lines-start p);
+  }
+    where
+      some : (l : List ℕ) → (l ≡ [] → ⊥) → linesVerdict ed (length l) (lines l) ≡ nesting ed (length l) (lines l) []
+      some [] h = absurd (h refl)
+      some (a ∷ l) h = lines-verdict (length (a ∷ l)) (lines (a ∷ l)) (lines-some a l 0)
 
-  pub checked-fine : length s ≤ at → Checks m s Fine
-  unfolding nesting ended
-  checked-fine h = record { is = r .agrees ∙ rw (lines-past m s at (r .high .cut) h); place = tt }
+  module _ {m : ℕ} {s : List ℕ} {at : ℕ} (r : Between ed m s at) where
+    pub between-more : {next : ℕ} → Outer ed m s at (Closed next) → Between ed m s next
+    between-more o = record { high = o .ends .1; agrees = r .agrees ∙ o .agrees }
 
--- nothing but folds
-pub checked-empty : {m : ℕ} {s : List ℕ} {c : ℕ} → cuts m ≡ true → Settled m s 0 c → length s ≤ c → Checks m s (Refused 6 0)
-unfolding linesVerdict linesAfter refusalAt index
-checked-empty {m} {s} {c} y p h = let e : rest m s 0 ≡ [] = p .is ∙ rest-past m s c y h in record { is = rw e; place = omega arith }
+    pub checked-refused : {n p : ℕ} → Outer ed m s at (Failed n p) → Checks ed m s (Refused n p)
+    checked-refused o = record { is = r .agrees ∙ o .agrees; place = o .ends }
+
+    pub checked-fine : length s ≤ at → Checks ed m s Fine
+    unfolding nesting ended
+    checked-fine h = record { is = r .agrees ∙ rw (lines-past m s at (r .high .cut) h); place = tt }
+
+  -- nothing but folds
+  pub checked-empty : {m : ℕ} {s : List ℕ} {c : ℕ} → cuts m ≡ true → Settled m s 0 c → length s ≤ c → Checks ed m s (Refused 6 0)
+  unfolding linesVerdict linesAfter refusalAt index
+  checked-empty {m} {s} {c} y p h = let e : rest m s 0 ≡ [] = p .is ∙ rest-past m s c y h in record { is = rw e; place = omega arith }

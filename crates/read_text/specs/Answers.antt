@@ -10,6 +10,7 @@ use Rattle.source.specs.Source.{rest}
 use Rattle.read_text_line.specs.LineEnd.{index}
 use Rattle.folding.specs.Lines.{lines}
 use Rattle.text.specs.ReadText.{linesVerdict}
+use Rattle.edition.specs.declared.Edition.{Edition}
 use Rattle.read_text.specs.declared.Checked.{Checked}
 use Rattle.read_text.specs.declared.Checked.the-variants.{Fine, Refused}
 
@@ -22,6 +23,7 @@ abbrev pub PlaceIn : ℕ → Checked → Type 0
 PlaceIn n Fine = Unit {0}
 PlaceIn n (Refused r p) = p ≤ n
 
-pub record Checks (m : ℕ) (s : List ℕ) (r : Checked) : Type 0 where
-  pub is : linesVerdict (length (rest m s 0)) (lines (rest m s 0)) ≡ verdictOf m s r
-  pub place : PlaceIn (length s) r
+module _ (ed : Edition) where
+  pub record Checks (m : ℕ) (s : List ℕ) (r : Checked) : Type 0 where
+    pub is : linesVerdict ed (length (rest m s 0)) (lines (rest m s 0)) ≡ verdictOf m s r
+    pub place : PlaceIn (length s) r

@@ -9,10 +9,11 @@ use Rattle.calendar.specs.Refusal.{refusalAt}
 use Rattle.source.specs.Source.{rest}
 use Rattle.names.specs.Table.{placeOf}
 use Rattle.schema.specs.Components.{componentNames}
-use Rattle.read_text_line.specs.Cursor.{paramsAt}
+use Rattle.read_text_line.specs.Decoded.{paramsIn}
 use Rattle.read_text_line.specs.declared.LineCursors.{LineCursors}
 use Rattle.text.specs.Faults.{Where, fault}
 use Rattle.text.specs.Nesting.{Move, on, stop, opened, begins}
+use Rattle.edition.specs.declared.Edition.{Edition}
 use Rattle.read_text.specs.Turns.{onFrom, resumed, Ends}
 use Rattle.read_text.specs.declared.Step.{Step}
 use Rattle.read_text.specs.declared.Opening.{Opening}
@@ -28,10 +29,11 @@ abbrev pub OpeningIs : (Where → ℕ → Type 0) → ℕ → List ℕ → Move 
 OpeningIs P m s x (Begins a) = (x ≡ on (opened (upper (rest m s a)) ∷ [])) × (0 ≡ placeOf (upper (rest m s a)) componentNames)
 OpeningIs P m s x (Faulty n c) = Stopped P x n c
 
--- a BEGIN, by its parts
-abbrev pub beginsOuter : ℕ → List ℕ → LineCursors → Move
-beginsOuter m s l = begins (upper (rest m s (l .value))) (paramsAt m s (l .parameters)) []
+module _ (ed : Edition) where
+  -- a BEGIN, by its parts
+  abbrev pub beginsOuter : ℕ → List ℕ → LineCursors → Move
+  beginsOuter m s l = begins (upper (rest m s (l .value))) (paramsIn ed m s (l .parameters)) []
 
-pub record Outer (m : ℕ) (s : List ℕ) (at : ℕ) (r : Step) : Type 0 where
-  pub ends : Ends m s at r
-  pub agrees : onFrom m s at [] ≡ resumed m s r []
+  pub record Outer (m : ℕ) (s : List ℕ) (at : ℕ) (r : Step) : Type 0 where
+    pub ends : Ends m s at r
+    pub agrees : onFrom ed m s at [] ≡ resumed ed m s r []

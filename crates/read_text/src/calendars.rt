@@ -6,6 +6,7 @@ use crate::component::body;
 use crate::line::no_params;
 use crate::named::is_component_name;
 use crate::places::parameter_cursor;
+use edition::Edition;
 use names::is_word_any_case;
 use read_text_line::Ending;
 use read_text_line::LineCursors;
@@ -26,6 +27,7 @@ ghost use mathlib.Core.List.{[]};
 ghost use Prim.Native.Nat.{_≤_, _<_};
 ghost use lib.ListN.{length};
 ghost use Rattle.source.specs.Source.{rest, cuts};
+ghost use Rattle.read_text_line.specs.Decoded.{decodedLine};
 ghost use Rattle.read_text_line.specs.Line.{named, Parts};
 ghost use Rattle.text.specs.Nesting.{moveBy, move};
 ghost use Rattle.read_text_line.specs.Ready.{Ready};
@@ -34,9 +36,9 @@ ghost use Rattle.read_text.specs.Outer.{OpeningIs, beginsOuter, Outer};
 ghost use Rattle.read_text.specs.Answers.{Checks};
 
 // A BEGIN where nothing is open.
-fn begin_opens(mode: usize, s: &[u8], l: LineCursors) -> Opening
+fn begin_opens(edition: Edition, mode: usize, s: &[u8], l: LineCursors) -> Opening
     ensures { λ r. ⌜
-        OpeningIs (PlaceOf mode (now (s .entry)) l) mode (now (s .entry)) (beginsOuter mode (now (s .entry)) l) r ⌝ }
+        OpeningIs (PlaceOf mode (now (s .entry)) l) mode (now (s .entry)) (beginsOuter edition mode (now (s .entry)) l) r ⌝ }
 {
     let good = is_component_name(mode, s, l.value);
     if good {
@@ -55,10 +57,10 @@ fn begin_opens(mode: usize, s: &[u8], l: LineCursors) -> Opening
 }
 
 // A content line where nothing is open.
-fn content_opens(mode: usize, s: &[u8], l: LineCursors) -> Opening
+fn content_opens(edition: Edition, mode: usize, s: &[u8], l: LineCursors) -> Opening
     requires { ⌜ (l .name ≤ length (now s)) × Parts mode (now s) l × (cuts mode ≡ true) ⌝ }
     ensures { λ r. ⌜
-        OpeningIs (PlaceOf mode (now (s .entry)) l) mode (now (s .entry)) (moveBy (named mode (now (s .entry)) l) [])
+        OpeningIs (PlaceOf mode (now (s .entry)) l) mode (now (s .entry)) (moveBy (decodedLine edition (named mode (now (s .entry)) l)) [])
         r ⌝ }
 {
     let at = l.name;
@@ -67,7 +69,7 @@ fn content_opens(mode: usize, s: &[u8], l: LineCursors) -> Opening
     if good {
         let begin = is_word_any_case(mode, &s[..e], at, b"BEGIN");
         if begin {
-            return begin_opens(mode, s, l);
+            return begin_opens(edition, mode, s, l);
         }
         return Opening::Faulty(FRAME, l.name);
     }
@@ -75,28 +77,29 @@ fn content_opens(mode: usize, s: &[u8], l: LineCursors) -> Opening
 }
 
 // A line where nothing is open.
-fn line_opens(mode: usize, s: &[u8], at: usize) -> Opening
+fn line_opens(edition: Edition, mode: usize, s: &[u8], at: usize) -> Opening
     requires { ⌜ (at ≤ length (now s)) × (cuts mode ≡ true) ⌝ }
     ensures { λ r. ⌜
-        OpeningIs (OffsetAt mode (now (s .entry)) at) mode (now (s .entry)) (move (rest mode (now (s .entry)) at) [])
+        OpeningIs (OffsetAt mode (now (s .entry)) at) mode (now (s .entry)) (move edition (rest mode (now (s .entry)) at) [])
         r ⌝ }
 {
     let LineRead::Line(l) = line_at(mode, s, at) else {
         return Opening::Faulty(LINE, at);
     };
-    content_opens(mode, s, l)
+    content_opens(edition, mode, s, l)
 }
 
 // A calendar, from its BEGIN on.
-fn calendar(mode: usize, s: &[u8], at: usize) -> Step
+fn calendar(edition: Edition, mode: usize, s: &[u8], at: usize) -> Step
     requires { ⌜ Ready mode (now s) at × (at < length (now s)) ⌝ }
-    ensures { λ r. ⌜ Outer mode (now (s .entry)) at r ⌝ }
+    ensures { λ r. ⌜ Outer edition mode (now (s .entry)) at r ⌝ }
 {
     let Ending::Whole(e, next) = line_end(mode, s, at) else {
         return Step::Failed(LINE, at);
     };
-    match line_opens(mode, &s[..e], at) {
+    match line_opens(edition, mode, &s[..e], at) {
         Opening::Begins(v) => body(
+            edition,
             mode,
             s,
             next,
@@ -111,9 +114,9 @@ fn calendar(mode: usize, s: &[u8], at: usize) -> Step
 }
 
 // The check of an unfolded text.
-pub fn check(mode: usize, s: &[u8]) -> Checked
+pub fn check(edition: Edition, mode: usize, s: &[u8]) -> Checked
     requires { ⌜ cuts mode ≡ true ⌝ }
-    ensures { λ r. ⌜ Checks mode (now (s .entry)) r ⌝ }
+    ensures { λ r. ⌜ Checks edition mode (now (s .entry)) r ⌝ }
 {
     let start = settled(mode, s, 0);
     if s.len() <= start {
@@ -121,7 +124,7 @@ pub fn check(mode: usize, s: &[u8]) -> Checked
     }
     let mut at = start;
     while at < s.len() {
-        match calendar(mode, s, at) {
+        match calendar(edition, mode, s, at) {
             Step::Closed(next) => {
                 at = next;
             }

@@ -3,6 +3,7 @@ use crate::Kind;
 use crate::Step;
 use crate::Turn;
 use crate::line::line_kind;
+use edition::Edition;
 use read_text_line::Ending;
 use read_text_line::line_end;
 use refusals::COUNT;
@@ -29,6 +30,7 @@ ghost use Rattle.read_text.specs.Turns.{Turned, Body};
 // The line at a place in the component of the number `k`, whose name stands in `name` from `v` on; `left`, the levels that are left in it;
 // `inner`, whether a subcomponent has come.
 fn next_line(
+    edition: Edition,
     k: usize,
     name: &[u8],
     v: usize,
@@ -42,7 +44,8 @@ fn next_line(
         (k ≡ placeOf (upper (rest mode (now name) v)) componentNames)
         × Ready mode (now s) at
         × (at < length (now s)) ⌝ }
-    ensures { λ r. ⌜ Turned (upper (rest mode (now (name .entry)) v)) (ltb 0 left) inner mode (now (s .entry)) at r ⌝ }
+    ensures { λ r. ⌜
+        Turned edition (upper (rest mode (now (name .entry)) v)) (ltb 0 left) inner mode (now (s .entry)) at r ⌝ }
 {
     let Ending::Whole(e, next) = line_end(mode, s, at) else {
         return Turn {
@@ -51,7 +54,7 @@ fn next_line(
             next: s.len(),
         };
     };
-    let kind = line_kind(k, name, v, left, inner, mode, &s[..e], at);
+    let kind = line_kind(edition, k, name, v, left, inner, mode, &s[..e], at);
     Turn { kind, end: e, next }
 }
 
@@ -68,6 +71,7 @@ fn action_after(p: usize, a: usize, last: usize) -> usize
 // The component of the number `k`, whose name stands in `name` from `v` on, from the line behind its BEGIN on; `left`, the levels that are left in it;
 // `method`, whether the calendar round it has METHOD.
 pub fn body(
+    edition: Edition,
     mode: usize,
     s: &[u8],
     from: usize,
@@ -79,7 +83,7 @@ pub fn body(
 ) -> Step
     requires { ⌜ Ready mode (now s) from × (k ≡ placeOf (upper (rest mode (now name) v)) componentNames) ⌝ }
     ensures { λ r. ⌜
-        Body (upper (rest mode (now (name .entry)) v)) left method mode (now (s .entry)) from r ⌝ }
+        Body edition (upper (rest mode (now (name .entry)) v)) left method mode (now (s .entry)) from r ⌝ }
 {
     let mut at = from;
     // One for each known property.
@@ -87,12 +91,22 @@ pub fn body(
     let mut action = action::NONE;
     let mut inner = false;
     while at < s.len() {
-        let l = next_line(k, name, v, left, inner, mode, s, at);
+        let l = next_line(edition, k, name, v, left, inner, mode, s, at);
         let kind = l.kind;
         match kind {
             Kind::Starts(n, w) => {
                 let inside = method_for(k, counts, method);
-                match body(mode, s, l.next, n, &s[..l.end], w, left - 1, inside) {
+                match body(
+                    edition,
+                    mode,
+                    s,
+                    l.next,
+                    n,
+                    &s[..l.end],
+                    w,
+                    left - 1,
+                    inside,
+                ) {
                     Step::Closed(next) => {
                         inner = true;
                         at = next;

@@ -3,6 +3,7 @@ use crate::Kind;
 use crate::named::is_component_name;
 use crate::named::is_same_name;
 use crate::places::parameter_cursor;
+use edition::Edition;
 use names::is_word_any_case;
 use read_text_line::LineCursors;
 use read_text_line::LineRead;
@@ -42,6 +43,7 @@ ghost use Rattle.schema.specs.Property.{ACTION};
 ghost use Rattle.schema.specs.Properties.{propertyNames};
 ghost use Rattle.schema.specs.Completing.{actionNames};
 ghost use Rattle.read_text_line.specs.Cursor.{paramsAt};
+ghost use Rattle.read_text_line.specs.Decoded.{decodedLine};
 ghost use Rattle.read_text_line.specs.Line.{lineFrom, named, Parts};
 ghost use Rattle.text.specs.Nesting.{mayHold};
 ghost use Rattle.text.specs.LineKind.{openAs, beginKind, endKind, propertyKind, kindBy, lineKind};
@@ -63,12 +65,19 @@ pub fn no_params(mode: usize, s: &[u8], e: usize) -> bool
 }
 
 // The kind of a BEGIN in the component of the number `k`; `left`, here and below, the levels that are left in it.
-fn begin_line(k: usize, left: usize, mode: usize, s: &[u8], l: LineCursors) -> Kind
+fn begin_line(
+    edition: Edition,
+    k: usize,
+    left: usize,
+    mode: usize,
+    s: &[u8],
+    l: LineCursors,
+) -> Kind
     ensures { λ r. ⌜
         ((c w : List ℕ) →
         k ≡ placeOf c componentNames →
         KindIs (PlaceOf mode (now (s .entry)) l) (ltb 0 left) mode (now (s .entry))
-        (beginKind c (ltb 0 left) (lineFrom w mode (now (s .entry)) l)) r) ⌝ }
+        (beginKind c (ltb 0 left) (decodedLine edition (lineFrom w mode (now (s .entry)) l))) r) ⌝ }
 {
     let good = is_component_name(mode, s, l.value);
     if good {
@@ -91,11 +100,11 @@ fn begin_line(k: usize, left: usize, mode: usize, s: &[u8], l: LineCursors) -> K
 }
 
 // The kind of an END in the component whose name stands in `name` from `v` on.
-fn end_line(name: &[u8], v: usize, mode: usize, s: &[u8], l: LineCursors) -> Kind
+fn end_line(edition: Edition, name: &[u8], v: usize, mode: usize, s: &[u8], l: LineCursors) -> Kind
     ensures { λ r. ⌜
         ((g : Bool) (w : List ℕ) →
         KindIs (PlaceOf mode (now (s .entry)) l) g mode (now (s .entry))
-        (endKind (upper (rest mode (now (name .entry)) v)) (lineFrom w mode (now (s .entry)) l)) r) ⌝ }
+        (endKind (upper (rest mode (now (name .entry)) v)) (decodedLine edition (lineFrom w mode (now (s .entry)) l))) r) ⌝ }
 {
     let ours = is_same_name(mode, s, l.value, name, v);
     if ours {
@@ -149,19 +158,27 @@ fn action_of(p: usize, mode: usize, s: &[u8], v: usize) -> usize
 }
 
 // The kind of a line that is a property of the row.
-fn row_line(k: usize, inner: bool, row: Row, mode: usize, s: &[u8], l: LineCursors) -> Kind
+fn row_line(
+    edition: Edition,
+    k: usize,
+    inner: bool,
+    row: Row,
+    mode: usize,
+    s: &[u8],
+    l: LineCursors,
+) -> Kind
     requires { ⌜ cuts mode ≡ true ⌝ }
     ensures { λ r. ⌜
         ((g : Bool) (c w : List ℕ) →
         k ≡ placeOf c componentNames →
         row ≡ rowAt (placeOf (upper w) propertyNames) →
         KindIs (PlaceOf mode (now (s .entry)) l) g mode (now (s .entry))
-        (propertyKind c inner (lineFrom w mode (now (s .entry)) l)) r) ⌝ }
+        (propertyKind c inner (decodedLine edition (lineFrom w mode (now (s .entry)) l))) r) ⌝ }
 {
     let p = row.number;
     let may = may_hold(k, inner, row);
     if may {
-        let f = property_fault(k, row, mode, s, l);
+        let f = property_fault(edition, k, row, mode, s, l);
         match f {
             LineFault::Parameter(i) => {
                 let c = parameter_cursor(mode, s, l.parameters, i);
@@ -179,21 +196,29 @@ fn row_line(k: usize, inner: bool, row: Row, mode: usize, s: &[u8], l: LineCurso
 }
 
 // The kind of a line that is a property.
-fn property_line(k: usize, inner: bool, mode: usize, s: &[u8], l: LineCursors) -> Kind
+fn property_line(
+    edition: Edition,
+    k: usize,
+    inner: bool,
+    mode: usize,
+    s: &[u8],
+    l: LineCursors,
+) -> Kind
     requires { ⌜ (l .name ≤ length (now s)) × Parts mode (now s) l × (cuts mode ≡ true) ⌝ }
     ensures { λ r. ⌜
         ((g : Bool) (c : List ℕ) →
         k ≡ placeOf c componentNames →
         KindIs (PlaceOf mode (now (s .entry)) l) g mode (now (s .entry))
-        (propertyKind c inner (named mode (now (s .entry)) l)) r) ⌝ }
+        (propertyKind c inner (decodedLine edition (named mode (now (s .entry)) l))) r) ⌝ }
 {
     let e = l.parameters;
     let row = row_of(mode, &s[..e], l.name);
-    row_line(k, inner, row, mode, s, l)
+    row_line(edition, k, inner, row, mode, s, l)
 }
 
 // The kind of a content line.
 fn content_line(
+    edition: Edition,
     k: usize,
     name: &[u8],
     v: usize,
@@ -210,7 +235,7 @@ fn content_line(
         × (cuts mode ≡ true) ⌝ }
     ensures { λ r. ⌜
         KindIs (PlaceOf mode (now (s .entry)) l) (ltb 0 left) mode (now (s .entry))
-        (kindBy (upper (rest mode (now (name .entry)) v)) (ltb 0 left) inner (named mode (now (s .entry)) l)) r ⌝ }
+        (kindBy (upper (rest mode (now (name .entry)) v)) (ltb 0 left) inner (decodedLine edition (named mode (now (s .entry)) l))) r ⌝ }
 {
     let at = l.name;
     let e = l.parameters;
@@ -218,19 +243,20 @@ fn content_line(
     if good {
         let begin = is_word_any_case(mode, &s[..e], at, b"BEGIN");
         if begin {
-            return begin_line(k, left, mode, s, l);
+            return begin_line(edition, k, left, mode, s, l);
         }
         let end = is_word_any_case(mode, &s[..e], at, b"END");
         if end {
-            return end_line(name, v, mode, s, l);
+            return end_line(edition, name, v, mode, s, l);
         }
-        return property_line(k, inner, mode, s, l);
+        return property_line(edition, k, inner, mode, s, l);
     }
     Kind::Faulty(NAME, l.name)
 }
 
 // The kind of a line in the component of the number `k`, whose name stands in `name` from `v` on, and in which a subcomponent has come or not.
 pub fn line_kind(
+    edition: Edition,
     k: usize,
     name: &[u8],
     v: usize,
@@ -244,10 +270,10 @@ pub fn line_kind(
         (k ≡ placeOf (upper (rest mode (now name) v)) componentNames) × (at ≤ length (now s)) × (cuts mode ≡ true) ⌝ }
     ensures { λ r. ⌜
         KindIs (OffsetAt mode (now (s .entry)) at) (ltb 0 left) mode (now (s .entry))
-        (lineKind (upper (rest mode (now (name .entry)) v)) (ltb 0 left) inner (rest mode (now (s .entry)) at)) r ⌝ }
+        (lineKind edition (upper (rest mode (now (name .entry)) v)) (ltb 0 left) inner (rest mode (now (s .entry)) at)) r ⌝ }
 {
     let LineRead::Line(l) = line_at(mode, s, at) else {
         return Kind::Faulty(LINE, at);
     };
-    content_line(k, name, v, left, inner, mode, s, l)
+    content_line(edition, k, name, v, left, inner, mode, s, l)
 }

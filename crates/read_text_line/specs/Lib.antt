@@ -1,6 +1,7 @@
 -- Content lines of RFC 5545, section 3.1, on the bytes of one unfolded line.
 --     ContentLine  the grammar, read by recursive descent
 --     Write        a content line written
+--     Decoded      a content line in an edition
 --     Names        names that can be carried (refusal 5)
 --     Items        what a repetition reads before it ends or meets a fault
 --     Cursor       the parts of a line read through a cursor: positions, runs of characters, items
@@ -17,6 +18,7 @@
 --     laws         laws of these, and what proofs need
 pub mod ContentLine
 pub mod Write
+pub mod Decoded
 pub mod Names
 pub mod Items
 pub mod Cursor

@@ -1,6 +1,7 @@
 -- Laws. Content lines of RFC 5545, section 3.1, on the bytes of one unfolded line.
 --     RoundTrip  a content line written is read back
 --     Accepted   what is read is a content line, written as it stood
+--     Decoded    a content line in an edition
 --     Chars      its classes of characters, one within the other
 --     Names      names that can be carried (refusal 5)
 --     Items      what a repetition reads before it ends or meets a fault
@@ -15,6 +16,7 @@
 --     Written    parts of a parameter written one after another
 pub mod RoundTrip
 pub mod Accepted
+pub mod Decoded
 pub mod Chars
 pub mod Names
 pub mod Items

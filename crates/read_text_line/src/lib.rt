@@ -1,6 +1,7 @@
 // Content lines, RFC 5545, section 3.1, read through a cursor: the source is cut at the line's end by the caller. Definitions and laws are in specs/.
 
 mod carried;
+mod encoded;
 mod ends;
 mod line;
 mod param;

@@ -9,7 +9,8 @@ use Rattle.octets.specs.Pick.{pick}
 use Rattle.calendar.specs.Calendar.{ValueType}
 use Rattle.schema.specs.Types.{typePlace}
 use Rattle.read_text_line.specs.ContentLine.{RawParameter}
-use Rattle.read_text_line.specs.Cursor.{paramsAt}
+use Rattle.edition.specs.declared.Edition.{Edition}
+use Rattle.read_text_line.specs.Decoded.{paramsIn}
 use Rattle.text.specs.Parameters.{isValueParameter, typeIn}
 use Rattle.read_text_parameters.specs.declared.TypeRead.{TypeRead}
 use Rattle.read_text_parameters.specs.declared.TypeRead.the-variants.{«Type» as Known, Bad}
@@ -31,5 +32,5 @@ unfoldable pub statedAt : ℕ → List RawParameter → Option ℕ
 statedAt d [] = some d
 statedAt d (r ∷ rs) = pick (isValueParameter r) (Option·map typePlace (typeIn (r .values))) (statedAt d rs)
 
-pub record StatedAt (d m : ℕ) (s : List ℕ) (e : ℕ) (r : TypeRead) : Type 0 where
-  pub is : statedAt d (paramsAt m s e) ≡ numberRead r
+pub record StatedAt (ed : Edition) (d m : ℕ) (s : List ℕ) (e : ℕ) (r : TypeRead) : Type 0 where
+  pub is : statedAt d (paramsIn ed m s e) ≡ numberRead r

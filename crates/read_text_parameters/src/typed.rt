@@ -8,16 +8,14 @@ use schema::value_type;
 use values::ValueRead;
 use values::read_value;
 ghost use mathlib.Core.Path.{_≡_};
-ghost use mathlib.Core.Bool.{true};
 ghost use Rattle.octets.specs.Reading.{isRead};
-ghost use Rattle.source.specs.Source.{rest, cuts};
+ghost use Rattle.source.specs.Source.{rest};
 ghost use Rattle.schema.specs.Numbers.{parameterAt};
 ghost use Rattle.text.specs.Parameters.{readTyped, readWord};
 ghost use Rattle.read_text_parameters.specs.Typing.{readBy};
 
 // A value of the parameter's type. TEXT is any characters.
 fn is_typed(q: usize, mode: usize, s: &[u8], at: usize) -> bool
-    requires { ⌜ cuts mode ≡ true ⌝ }
     ensures { λ r. ⌜ r ≡ isRead (readTyped (parameterAt q .type) (rest mode (now (s .entry)) at)) ⌝ }
 {
     let t = parameter_type(q);
@@ -32,7 +30,6 @@ fn is_typed(q: usize, mode: usize, s: &[u8], at: usize) -> bool
 
 // A word of the parameter's closed set, or a value of its type.
 fn is_chosen(q: usize, mode: usize, s: &[u8], at: usize) -> bool
-    requires { ⌜ cuts mode ≡ true ⌝ }
     ensures { λ r. ⌜
         r ≡ isRead (readWord (parameterAt q .words) (parameterAt q .type) (rest mode (now (s .entry)) at)) ⌝ }
 {
@@ -48,7 +45,6 @@ fn is_chosen(q: usize, mode: usize, s: &[u8], at: usize) -> bool
 
 // A value of the parameter of the number `q`.
 pub fn is_value_at(q: usize, quoted: bool, mode: usize, s: &[u8], at: usize) -> bool
-    requires { ⌜ cuts mode ≡ true ⌝ }
     ensures { λ r. ⌜
         r ≡ isRead (readBy (parameterAt q) (record { quoted = quoted; chars = rest mode (now (s .entry)) at })) ⌝ }
 {

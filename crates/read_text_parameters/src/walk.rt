@@ -11,6 +11,7 @@ use crate::stated::stated_type;
 use crate::stated::type_in;
 use bits::holds;
 use bits::insert;
+use edition::Edition;
 use read_text_line::ParamRead;
 use read_text_line::next_param;
 use schema::Row;
@@ -23,7 +24,8 @@ ghost use Prim.Native.Nat.{_+_, _^_, _<_};
 ghost use lib.Dec.{eqb};
 ghost use Rattle.octets.specs.Pick.{_or_};
 ghost use Rattle.source.specs.Source.{cuts};
-ghost use Rattle.read_text_line.specs.Cursor.{valuesAt, paramsAt};
+ghost use Rattle.read_text_line.specs.Cursor.{paramsAt};
+ghost use Rattle.read_text_line.specs.Decoded.{valuesIn, paramsIn};
 ghost use Rattle.read_text_parameters.specs.Cutting.{nameCut};
 ghost use Rattle.read_text_parameters.specs.Comparing.{namesOf};
 ghost use Rattle.read_text_parameters.specs.Stating.{NumberOf};
@@ -116,9 +118,9 @@ fn is_typed(q: usize) -> bool
 }
 
 // The type by which a parameter is judged: that of the value, which VALUE may name behind it, at the cursor `next`.
-fn type_for(n: Noted, q: usize, mode: usize, s: &[u8], next: usize) -> usize
+fn type_for(edition: Edition, n: Noted, q: usize, mode: usize, s: &[u8], next: usize) -> usize
     requires { ⌜ cuts mode ≡ true ⌝ }
-    ensures { λ r. ⌜ r ≡ typeFor q (statedBy n (paramsAt mode (now (s .entry)) next)) ⌝ }
+    ensures { λ r. ⌜ r ≡ typeFor q (statedBy n (paramsIn edition mode (now (s .entry)) next)) ⌝ }
 {
     let typed = is_typed(q);
     if typed {
@@ -127,7 +129,7 @@ fn type_for(n: Noted, q: usize, mode: usize, s: &[u8], next: usize) -> usize
         if named {
             return t;
         }
-        let TypeRead::Type(u) = stated_type(t, mode, s, next) else {
+        let TypeRead::Type(u) = stated_type(edition, t, mode, s, next) else {
             return value_type::DURATION;
         };
         return u;
@@ -136,13 +138,13 @@ fn type_for(n: Noted, q: usize, mode: usize, s: &[u8], next: usize) -> usize
 }
 
 // With BINARY, ENCODING is BASE64.
-fn is_encoded(t: usize, q: usize, mode: usize, s: &[u8], first: usize) -> bool
+fn is_encoded(edition: Edition, t: usize, q: usize, mode: usize, s: &[u8], first: usize) -> bool
     requires { ⌜ cuts mode ≡ true ⌝ }
-    ensures { λ r. ⌜ r ≡ encodesBy t q (valuesAt mode (now (s .entry)) first) ⌝ }
+    ensures { λ r. ⌜ r ≡ encodesBy t q (valuesIn edition mode (now (s .entry)) first) ⌝ }
 {
     if t == value_type::BINARY {
         if q == parameter::ENCODING {
-            return is_base64(mode, s, first);
+            return is_base64(edition, mode, s, first);
         }
         return true;
     }
@@ -150,15 +152,23 @@ fn is_encoded(t: usize, q: usize, mode: usize, s: &[u8], first: usize) -> bool
 }
 
 // The parameter of the number `q` fits the property, judged by the type `t`.
-fn is_fit(row: Row, t: usize, q: usize, mode: usize, s: &[u8], first: usize) -> bool
+fn is_fit(
+    edition: Edition,
+    row: Row,
+    t: usize,
+    q: usize,
+    mode: usize,
+    s: &[u8],
+    first: usize,
+) -> bool
     requires { ⌜ cuts mode ≡ true ⌝ }
-    ensures { λ r. ⌜ r ≡ fitsBy row t q (valuesAt mode (now (s .entry)) first) ⌝ }
+    ensures { λ r. ⌜ r ≡ fitsBy row t q (valuesIn edition mode (now (s .entry)) first) ⌝ }
 {
     let permitted = permits_parameter(row, t, q);
     if permitted {
-        let read = is_parameter(q, mode, s, first);
+        let read = is_parameter(edition, q, mode, s, first);
         if read {
-            return is_encoded(t, q, mode, s, first);
+            return is_encoded(edition, t, q, mode, s, first);
         }
         return false;
     }
@@ -166,17 +176,25 @@ fn is_fit(row: Row, t: usize, q: usize, mode: usize, s: &[u8], first: usize) -> 
 }
 
 // The type behind a parameter of the number `q`, where that is sound.
-fn type_behind(row: Row, n: Noted, q: usize, mode: usize, s: &[u8], a: ParamRead) -> TypeRead
+fn type_behind(
+    edition: Edition,
+    row: Row,
+    n: Noted,
+    q: usize,
+    mode: usize,
+    s: &[u8],
+    a: ParamRead,
+) -> TypeRead
     requires { ⌜ cuts mode ≡ true ⌝ }
     ensures { λ r. ⌜
-        NumberOf (behindAt row (statedBy n (paramsAt mode (now (s .entry)) (a .next))) (n .«value_type») q
-        (valuesAt mode (now (s .entry)) (a .first))) r ⌝ }
+        NumberOf (behindAt row (statedBy n (paramsIn edition mode (now (s .entry)) (a .next))) (n .«value_type») q
+        (valuesIn edition mode (now (s .entry)) (a .first))) r ⌝ }
 {
     if q == VALUE {
-        return type_in(mode, s, a.first);
+        return type_in(edition, mode, s, a.first);
     }
-    let t = type_for(n, q, mode, s, a.next);
-    let fit = is_fit(row, t, q, mode, s, a.first);
+    let t = type_for(edition, n, q, mode, s, a.next);
+    let fit = is_fit(edition, row, t, q, mode, s, a.first);
     if fit {
         return TypeRead::Type(n.value_type);
     }
@@ -213,9 +231,15 @@ fn ended(n: Noted) -> ParametersRead
 }
 
 // The parameters from the cursor `e` on, of a property.
-pub fn read_parameters(row: Row, mode: usize, s: &[u8], e: usize) -> ParametersRead
+pub fn read_parameters(
+    edition: Edition,
+    row: Row,
+    mode: usize,
+    s: &[u8],
+    e: usize,
+) -> ParametersRead
     requires { ⌜ cuts mode ≡ true ⌝ }
-    ensures { λ r. ⌜ ParametersAt row (paramsAt mode (now (s .entry)) e) r ⌝ }
+    ensures { λ r. ⌜ ParametersAt row (paramsIn edition mode (now (s .entry)) e) r ⌝ }
 {
     let mut c = e;
     let mut n = Noted {
@@ -234,7 +258,7 @@ pub fn read_parameters(row: Row, mode: usize, s: &[u8], e: usize) -> ParametersR
                 if again {
                     return ParametersRead::Faulty(n.count);
                 }
-                let TypeRead::Type(t) = type_behind(row, m, q, mode, s, a) else {
+                let TypeRead::Type(t) = type_behind(edition, row, m, q, mode, s, a) else {
                     return ParametersRead::Faulty(n.count);
                 };
                 n = added(m, q, t);

@@ -2,6 +2,7 @@
 use crate::LineFault;
 use crate::ValuesRead;
 use crate::own::read_values;
+use edition::Edition;
 use read_text_line::LineCursors;
 use read_text_parameters::ParametersRead;
 use read_text_parameters::read_parameters;
@@ -10,7 +11,7 @@ use schema::Row;
 ghost use mathlib.Core.Path.{_≡_};
 ghost use mathlib.Core.Bool.{true};
 ghost use Rattle.source.specs.Source.{rest, cuts};
-ghost use Rattle.read_text_line.specs.Cursor.{paramsAt};
+ghost use Rattle.read_text_line.specs.Decoded.{paramsIn};
 ghost use Rattle.read_text_property.specs.ValuesAt.{goodAt};
 ghost use Rattle.read_text_property.specs.Faults.{FaultIs, valueFault, faultAt};
 
@@ -27,13 +28,20 @@ fn value_fault(c: Context, mode: usize, s: &[u8], at: usize) -> LineFault
 }
 
 // The lowest fault of a line of the property of the row in the component `k`.
-pub fn property_fault(k: usize, row: Row, mode: usize, s: &[u8], l: LineCursors) -> LineFault
+pub fn property_fault(
+    edition: Edition,
+    k: usize,
+    row: Row,
+    mode: usize,
+    s: &[u8],
+    l: LineCursors,
+) -> LineFault
     requires { ⌜ cuts mode ≡ true ⌝ }
     ensures { λ r. ⌜
-        FaultIs (faultAt k row (paramsAt mode (now (s .entry)) (l .parameters))
+        FaultIs (faultAt k row (paramsIn edition mode (now (s .entry)) (l .parameters))
         (rest mode (now (s .entry)) (l .value))) r ⌝ }
 {
-    match read_parameters(row, mode, s, l.parameters) {
+    match read_parameters(edition, row, mode, s, l.parameters) {
         ParametersRead::Good(t) => {
             let c = Context {
                 component: k,

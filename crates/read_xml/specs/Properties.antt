@@ -20,6 +20,7 @@ use Rattle.read_xml_nodes.specs.Judging.{judgedAs}
 use Rattle.read_xml_nodes.specs.declared.Node.{Node}
 use Rattle.read_xml_nodes.specs.declared.Judged.{Judged}
 use Rattle.read_xml_nodes.specs.declared.Judged.the-variants.{Fine}
+use Rattle.edition.specs.declared.Edition.{Edition}
 use Rattle.read_xml.specs.Children.{nameOf}
 use Rattle.read_xml.specs.Counting.{Counted}
 use Rattle.read_xml.specs.declared.Listed.{Listed}
@@ -34,13 +35,14 @@ pub record LacksAt (p t : ℕ) (kids : Nodes) (r : Bool) : Type 0 where
 pub record OffAt (k : ℕ) (row : Row) (r : Bool) : Type 0 where
   pub is : (c w : List ℕ) → k ≡ placeOf c componentNames → row ≡ rowAt (placeOf w propertyNames) → r ≡ (isKnownProperty w and not (mayStand c w))
 
--- ---- the element
+module _ (ed : Edition) where
+  -- ---- the element
 
-pub record PropertyAt (k : ℕ) (s : List ℕ) (at : ℕ) (n : Node) (r : Judged) : Type 0 where
-  pub is : (c : List ℕ) → k ≡ placeOf c componentNames → propertyVerdict c at (nameOf s n) (n .end) (nodesAt s (n .inside)) ≡ judgedAs r
+  pub record PropertyAt (k : ℕ) (s : List ℕ) (at : ℕ) (n : Node) (r : Judged) : Type 0 where
+    pub is : (c : List ℕ) → k ≡ placeOf c componentNames → propertyVerdict ed c at (nameOf s n) (n .end) (nodesAt s (n .inside)) ≡ judgedAs r
 
--- ---- the children of `properties`
+  -- ---- the children of `properties`
 
-pub record ListedAt (k : ℕ) (s : List ℕ) (from : ℕ) (r : Listed) : Type 0 where
-  pub is : (c : List ℕ) → k ≡ placeOf c componentNames → propertiesVerdict c (nodesAt s from) ≡ judgedAs (r .judged)
-  pub counted : r .judged ≡ Fine → Counted (readProperties (nodesAt s from)) (r .kept)
+  pub record ListedAt (k : ℕ) (s : List ℕ) (from : ℕ) (r : Listed) : Type 0 where
+    pub is : (c : List ℕ) → k ≡ placeOf c componentNames → propertiesVerdict ed c (nodesAt s from) ≡ judgedAs (r .judged)
+    pub counted : r .judged ≡ Fine → Counted (readProperties (nodesAt s from)) (r .kept)

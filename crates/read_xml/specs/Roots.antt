@@ -10,13 +10,15 @@ use Rattle.read_xml_nodes.specs.Elements.{nameAt}
 use Rattle.read_xml_nodes.specs.Judging.{judgedAs}
 use Rattle.read_xml_nodes.specs.declared.Element.{Element}
 use Rattle.read_xml_nodes.specs.declared.Judged.{Judged}
+use Rattle.edition.specs.declared.Edition.{Edition}
 
--- ---- the children of `icalendar`
+module _ (ed : Edition) where
+  -- ---- the children of `icalendar`
 
-pub record StreamAt (s : List ℕ) (from e : ℕ) (r : Judged) : Type 0 where
-  pub is : streamVerdict (nodesAt s from) false e ≡ judgedAs r
+  pub record StreamAt (s : List ℕ) (from e : ℕ) (r : Judged) : Type 0 where
+    pub is : streamVerdict ed (nodesAt s from) false e ≡ judgedAs r
 
--- ---- the root
+  -- ---- the root
 
-pub record RootAt (s : List ℕ) (root : Element) (r : Judged) : Type 0 where
-  pub is : (more : Nodes) → rootVerdict (element (root .place) (nameAt s root) (root .end) (nodesAt s (root .inside)) more) ≡ judgedAs r
+  pub record RootAt (s : List ℕ) (root : Element) (r : Judged) : Type 0 where
+    pub is : (more : Nodes) → rootVerdict ed (element (root .place) (nameAt s root) (root .end) (nodesAt s (root .inside)) more) ≡ judgedAs r

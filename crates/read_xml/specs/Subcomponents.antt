@@ -23,6 +23,7 @@ use Rattle.xml.specs.NodesAt.{nodesAt}
 use Rattle.read_xml_nodes.specs.Judging.{judgedAs}
 use Rattle.read_xml_nodes.specs.declared.Judged.{Judged}
 use Rattle.read_xml_nodes.specs.declared.Judged.the-variants.{Fine}
+use Rattle.edition.specs.declared.Edition.{Edition}
 use Rattle.read_xml.specs.Components.{come}
 use Rattle.read_xml.specs.declared.Kept.{Kept}
 use Rattle.read_xml.specs.declared.Numbered.{Numbered}
@@ -47,35 +48,15 @@ pub record NumberedAt (k l : ℕ) (m : List ℕ) (r : Numbered) : Type 0 where
   pub is : (c : List ℕ) → k ≡ placeOf c componentNames → (not (badComponent m) and mayContain c (upper m) and ltb 0 l) ≡ isNumber r
   pub number : NumberIs l m r
 
--- ---- a component
-
--- method says whether the calendar round it has METHOD
-pub record ComponentAt (k l : ℕ) (method : Bool) (s : List ℕ) (from e : ℕ) (r : Judged) : Type 0 where
-  pub is : (c : List ℕ) → k ≡ placeOf c componentNames → componentVerdict (nodesAt s from) c l (isComplete c method (nodesAt s from)) (come false false method) e ≡ judgedAs r
-
 -- METHOD of the calendar that its subcomponents stand in, by what is kept
 abbrev pub methodKept : ℕ → Kept → Bool → Bool → Bool
 methodKept k t had method = pick had (methodAt k (t .counts) method) method
-
--- ---- a node of `components`
-
--- the verdict on the children of `components` in a component c, where this node is what is found; i is the name of the component that begins there
-abbrev pub subOf : List ℕ → List ℕ → ℕ → Bool → List ℕ → ℕ → Bool → Sub → Verdict
-subOf i c l method s e any (Done j) = judgedAs j
-subOf i c l method s e any (Past d) = componentsVerdict (nodesAt s d) c l method any e
-subOf i c l method s e any (Begins n q z d) =
-    componentVerdict (nodesAt s q) i (l - 1) (isComplete i method (nodesAt s q)) (come false false method) z otherwise componentsVerdict (nodesAt s d) c l method true e
 
 -- what is left is shorter; and whether a component is left
 abbrev pub SubFits : List ℕ → ℕ → List ℕ → ℕ → Sub → Type 0
 SubFits i l s at (Done j) = j ≡ Fine → hasElement (nodesAt s at) ≡ false
 SubFits i l s at (Past d) = (length s - d < length s - at) × (hasElement (nodesAt s at) ≡ hasElement (nodesAt s d))
 SubFits i l s at (Begins n q z d) = (n ≡ placeOf i componentNames) × (length s - q < length s - at) × (length s - d < length s - at) × (hasElement (nodesAt s at) ≡ true) × (0 < l)
-
-pub record SubAt (k l : ℕ) (s : List ℕ) (e at : ℕ) (any : Bool) (r : Sub) : Type 0 where
-  pub inner : List ℕ
-  pub is : (c : List ℕ) → k ≡ placeOf c componentNames → (method : Bool) → componentsVerdict (nodesAt s at) c l method any e ≡ subOf inner c l method s e any r
-  pub fits : SubFits inner l s at r
 
 -- ---- the walk
 
@@ -87,6 +68,27 @@ abbrev pub HeldIs : Bool → Held → Type 0
 HeldIs b (Holds a) = a ≡ b
 HeldIs b (Fails n p) = Unit {0}
 
-pub record CompsAt (k l : ℕ) (method : Bool) (s : List ℕ) (from e : ℕ) (r : Held) : Type 0 where
-  pub is : (c : List ℕ) → k ≡ placeOf c componentNames → componentsVerdict (nodesAt s from) c l method false e ≡ heldAs r
-  pub held : HeldIs (hasElement (nodesAt s from)) r
+module _ (ed : Edition) where
+  -- ---- a component
+
+  -- method says whether the calendar round it has METHOD
+  pub record ComponentAt (k l : ℕ) (method : Bool) (s : List ℕ) (from e : ℕ) (r : Judged) : Type 0 where
+    pub is : (c : List ℕ) → k ≡ placeOf c componentNames → componentVerdict ed (nodesAt s from) c l (isComplete c method (nodesAt s from)) (come false false method) e ≡ judgedAs r
+
+  -- ---- a node of `components`
+
+  -- the verdict on the children of `components` in a component c, where this node is what is found; i is the name of the component that begins there
+  abbrev pub subOf : List ℕ → List ℕ → ℕ → Bool → List ℕ → ℕ → Bool → Sub → Verdict
+  subOf i c l method s e any (Done j) = judgedAs j
+  subOf i c l method s e any (Past d) = componentsVerdict ed (nodesAt s d) c l method any e
+  subOf i c l method s e any (Begins n q z d) =
+      componentVerdict ed (nodesAt s q) i (l - 1) (isComplete i method (nodesAt s q)) (come false false method) z otherwise componentsVerdict ed (nodesAt s d) c l method true e
+
+  pub record SubAt (k l : ℕ) (s : List ℕ) (e at : ℕ) (any : Bool) (r : Sub) : Type 0 where
+    pub inner : List ℕ
+    pub is : (c : List ℕ) → k ≡ placeOf c componentNames → (method : Bool) → componentsVerdict ed (nodesAt s at) c l method any e ≡ subOf inner c l method s e any r
+    pub fits : SubFits inner l s at r
+
+  pub record CompsAt (k l : ℕ) (method : Bool) (s : List ℕ) (from e : ℕ) (r : Held) : Type 0 where
+    pub is : (c : List ℕ) → k ≡ placeOf c componentNames → componentsVerdict ed (nodesAt s from) c l method false e ≡ heldAs r
+    pub held : HeldIs (hasElement (nodesAt s from)) r

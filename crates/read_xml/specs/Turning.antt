@@ -22,6 +22,7 @@ use Rattle.read_xml_value.specs.Sequencing.{walked}
 use Rattle.xml.specs.NodesAt.{nodesAt}
 use Rattle.read_xml_nodes.specs.Judging.{judgedAs}
 use Rattle.schema.specs.declared.Context.{Context}
+use Rattle.edition.specs.declared.Edition.{Edition}
 use Rattle.read_xml.specs.Children.{slotsAt, flagsAt}
 use Rattle.read_xml.specs.declared.After.{After}
 use Rattle.read_xml.specs.declared.After.the-variants.{Slot as Then, Nowhere}
@@ -47,10 +48,6 @@ abbrev pub childOf : Tried → (ℕ → Verdict) → Verdict
 childOf (Good k) after = after k
 childOf (Stops j) after = judgedAs j
 
-pub record ChildAt (context : Context) (next place : ℕ) (n : List ℕ) (end : ℕ) (kids : Nodes) (r : Tried) : Type 0 where
-  pub is : (c w : List ℕ) → Holder context c w → (after : ℕ → Verdict) →
-      admitted (afterSlot (slotOf n (slotsAt (context .row .number)) 0) next) place n (childVerdict c w (typeAt (context .«value_type»)) place n end kids) after ≡ childOf r after
-
 -- ---- a turn
 
 abbrev pub turnOf : ℕ → (ℕ → List ℕ → ℕ → Nodes → Verdict) → List ℕ → ℕ → Next → Verdict
@@ -62,8 +59,13 @@ abbrev pub Onward : List ℕ → ℕ → Next → Type 0
 Onward s c (Goes d next f g) = (c < d) × (d ≤ length s)
 Onward s c (Ends j) = Unit {0}
 
-pub record Turns (context : Context) (s : List ℕ) (e at next : ℕ) (f g : Bool) (r : Next) : Type 0 where
-  pub is : (c w : List ℕ) → Holder context c w →
-      walked (slotsAt (context .row .number)) (childVerdict c w (typeAt (context .«value_type»))) (nodesAt s at) next (flagsAt (context .row .number) f g) e ≡
-      turnOf (context .row .number) (childVerdict c w (typeAt (context .«value_type»))) s e r
-  pub onward : Onward s at r
+module _ (ed : Edition) where
+  pub record ChildAt (context : Context) (next place : ℕ) (n : List ℕ) (end : ℕ) (kids : Nodes) (r : Tried) : Type 0 where
+    pub is : (c w : List ℕ) → Holder context c w → (after : ℕ → Verdict) →
+        admitted (afterSlot (slotOf n (slotsAt (context .row .number)) 0) next) place n (childVerdict ed c w (typeAt (context .«value_type»)) place n end kids) after ≡ childOf r after
+
+  pub record Turns (context : Context) (s : List ℕ) (e at next : ℕ) (f g : Bool) (r : Next) : Type 0 where
+    pub is : (c w : List ℕ) → Holder context c w →
+        walked (slotsAt (context .row .number)) (childVerdict ed c w (typeAt (context .«value_type»))) (nodesAt s at) next (flagsAt (context .row .number) f g) e ≡
+        turnOf (context .row .number) (childVerdict ed c w (typeAt (context .«value_type»))) s e r
+    pub onward : Onward s at r

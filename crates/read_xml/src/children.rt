@@ -2,6 +2,7 @@
 use crate::After;
 use crate::Next;
 use crate::Tried;
+use edition::Edition;
 use markup::element;
 use markup::table;
 use names::find_word;
@@ -165,34 +166,41 @@ fn child_after(listed: bool, slot: usize, next: usize) -> After
 }
 
 // What stands in a child of a slot.
-fn child_inside(context: Context, slot: usize, s: &[u8], e: Element) -> Judged
+fn child_inside(edition: Edition, context: Context, slot: usize, s: &[u8], e: Element) -> Judged
     requires { ⌜ (length (now s) ≤ 65535) × (e .inside ≤ length (now s)) ⌝ }
     ensures { λ r. ⌜
         ((c w : List ℕ) →
         Holder context c w →
         slot ≡ slotAt (context .row .number) (placeOf (nameAt (now (s .entry)) e) (childWords (context .row .number))) →
         judgedAs r
-        ≡ childVerdict c w (typeAt (context .«value_type»)) (e .place) (nameAt (now (s .entry)) e) (e .end)
+        ≡ childVerdict edition c w (typeAt (context .«value_type»)) (e .place) (nameAt (now (s .entry)) e) (e .end)
         (nodesAt (now (s .entry)) (e .inside))) ⌝ }
 {
     if slot == 0 {
-        return parameters_verdict(context.row, context.value_type, s, e.inside);
+        return parameters_verdict(edition, context.row, context.value_type, s, e.inside);
     }
     value_verdict(context, s, e)
 }
 
 // The child of a slot, where slots before `next` have passed.
-fn child(context: Context, slot: usize, next: usize, s: &[u8], e: Element) -> Tried
+fn child(
+    edition: Edition,
+    context: Context,
+    slot: usize,
+    next: usize,
+    s: &[u8],
+    e: Element,
+) -> Tried
     requires { ⌜ (length (now s) ≤ 65535) × (e .inside ≤ length (now s)) ⌝ }
     ensures { λ r. ⌜
         (slot ≡ slotAt (context .row .number) (placeOf (nameAt (now (s .entry)) e) (childWords (context .row .number))) →
-        ChildAt context next (e .place) (nameAt (now (s .entry)) e) (e .end) (nodesAt (now (s .entry)) (e .inside))
+        ChildAt edition context next (e .place) (nameAt (now (s .entry)) e) (e .end) (nodesAt (now (s .entry)) (e .inside))
         r) ⌝ }
 {
     let a = child_after(context.row.listed, slot, next);
     match a {
         After::Slot(m) => {
-            let j = child_inside(context, slot, s, e);
+            let j = child_inside(edition, context, slot, s, e);
             match j {
                 Judged::Fine => Tried::Good(m),
                 Judged::Refused(x, q) => Tried::Stops(Judged::Refused(x, q)),
@@ -256,6 +264,7 @@ fn between(unit: usize, at: usize, next: usize, slot: usize, first: bool, second
 
 // One node of the content, at `at`.
 fn turn(
+    edition: Edition,
     context: Context,
     s: &[u8],
     at: usize,
@@ -265,7 +274,7 @@ fn turn(
     e: usize,
 ) -> Next
     requires { ⌜ length (now s) ≤ 65535 ⌝ }
-    ensures { λ r. ⌜ Turns context (now (s .entry)) e at next first second r ⌝ }
+    ensures { λ r. ⌜ Turns edition context (now (s .entry)) e at next first second r ⌝ }
 {
     let n = next_node(s, at);
     let kind = n.kind;
@@ -283,7 +292,7 @@ fn turn(
                 inside: n.inside,
                 end: n.end,
             };
-            let r = child(context, slot, next, s, element);
+            let r = child(edition, context, slot, next, s, element);
             match r {
                 Tried::Good(m) => {
                     let f = fills(slot, 1, first);
@@ -302,13 +311,19 @@ fn turn(
 }
 
 // The children of the property of a context, whose values have its type. Its content begins at `inside`, its end tag is at `e`.
-pub fn children_verdict(context: Context, s: &[u8], inside: usize, e: usize) -> Judged
+pub fn children_verdict(
+    edition: Edition,
+    context: Context,
+    s: &[u8],
+    inside: usize,
+    e: usize,
+) -> Judged
     requires { ⌜ length (now s) ≤ 65535 ⌝ }
     ensures { λ r. ⌜
         ((c w : List ℕ) →
         Holder context c w →
         judgedAs r
-        ≡ sequence (propertySlots w) (childVerdict c w (typeAt (context .«value_type»)))
+        ≡ sequence (propertySlots w) (childVerdict edition c w (typeAt (context .«value_type»)))
         (nodesAt (now (s .entry)) inside) 0 [] e) ⌝ }
 {
     let mut at = inside;
@@ -316,7 +331,7 @@ pub fn children_verdict(context: Context, s: &[u8], inside: usize, e: usize) -> 
     let mut first = false;
     let mut second = false;
     loop {
-        let r = turn(context, s, at, next, first, second, e);
+        let r = turn(edition, context, s, at, next, first, second, e);
         match r {
             Next::Goes(d, m, f, g) => {
                 at = d;

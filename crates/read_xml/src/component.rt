@@ -6,6 +6,7 @@ use crate::Part;
 use crate::Which;
 use crate::counting::none_counted;
 use crate::properties::properties_verdict;
+use edition::Edition;
 use markup::element;
 use names::is_word;
 use octets::is_space;
@@ -136,8 +137,8 @@ fn which_child(k: usize, had: bool, s: &[u8], n: Node) -> Which
 }
 
 // What stands at `at` in the component of the number `k`, before its `components`; `properties` has come or not.
-fn child_at(k: usize, had: bool, s: &[u8], at: usize) -> Met
-    ensures { λ r. ⌜ MetAt k had (now (s .entry)) at r ⌝ }
+fn child_at(edition: Edition, k: usize, had: bool, s: &[u8], at: usize) -> Met
+    ensures { λ r. ⌜ MetAt edition k had (now (s .entry)) at r ⌝ }
 {
     let n = next_node(s, at);
     let kind = n.kind;
@@ -170,15 +171,15 @@ fn child_at(k: usize, had: bool, s: &[u8], at: usize) -> Met
 }
 
 // The component of the number `k`, up to its `components`, or to its end tag at `e`.
-pub fn head(k: usize, method: bool, s: &[u8], inside: usize, e: usize) -> Begun
+pub fn head(edition: Edition, k: usize, method: bool, s: &[u8], inside: usize, e: usize) -> Begun
     requires { ⌜ length (now s) ≤ 65535 ⌝ }
-    ensures { λ r. ⌜ HeadAt k method (now (s .entry)) inside e r ⌝ }
+    ensures { λ r. ⌜ HeadAt edition k method (now (s .entry)) inside e r ⌝ }
 {
     let mut at = inside;
     let mut had = false;
     let mut kept = none_counted();
     loop {
-        let m = child_at(k, had, s, at);
+        let m = child_at(edition, k, had, s, at);
         match m {
             Met::End => {
                 let j = end_of(k, kept, had, false, false, method, e);
@@ -189,7 +190,7 @@ pub fn head(k: usize, method: bool, s: &[u8], inside: usize, e: usize) -> Begun
                 at = d;
             }
             Met::Properties(q, d) => {
-                let l = properties_verdict(k, s, q);
+                let l = properties_verdict(edition, k, s, q);
                 let j = l.judged;
                 match j {
                     Judged::Fine => {
@@ -219,6 +220,7 @@ pub fn head(k: usize, method: bool, s: &[u8], inside: usize, e: usize) -> Begun
 
 // The component's children behind its `components`, which holds a component or not, up to its end tag at `e`.
 pub fn behind(
+    edition: Edition,
     k: usize,
     kept: Kept,
     had: bool,
@@ -228,7 +230,7 @@ pub fn behind(
     from: usize,
     e: usize,
 ) -> Judged
-    ensures { λ r. ⌜ BehindAt k kept had inner method (now (s .entry)) from e r ⌝ }
+    ensures { λ r. ⌜ BehindAt edition k kept had inner method (now (s .entry)) from e r ⌝ }
 {
     let mut at = from;
     loop {

@@ -4,6 +4,7 @@ use crate::children::child_slot;
 use crate::children::children_verdict;
 use crate::counting::count;
 use crate::counting::none_counted;
+use edition::Edition;
 use markup::element;
 use names::is_word;
 use octets::is_space;
@@ -133,11 +134,11 @@ fn property_at(s: &[u8], n: Node) -> Row
 }
 
 // The property of the row in the component of the number `k`: its element is `n`, at `at`.
-fn property_verdict(k: usize, row: Row, s: &[u8], at: usize, n: Node) -> Judged
+fn property_verdict(edition: Edition, k: usize, row: Row, s: &[u8], at: usize, n: Node) -> Judged
     requires { ⌜ (length (now s) ≤ 65535) × (n .«name_end» ≤ length (now s)) ⌝ }
     ensures { λ r. ⌜
         (row ≡ rowAt (placeOf (upper (nameOf (now (s .entry)) n)) propertyNames) →
-        PropertyAt k (now (s .entry)) at n r) ⌝ }
+        PropertyAt edition k (now (s .entry)) at n r) ⌝ }
 {
     let bad = bad_name(s, n.name, n.name_end);
     if bad {
@@ -157,13 +158,13 @@ fn property_verdict(k: usize, row: Row, s: &[u8], at: usize, n: Node) -> Judged
         row,
         value_type: t,
     };
-    children_verdict(context, s, n.inside, n.end)
+    children_verdict(edition, context, s, n.inside, n.end)
 }
 
 // The children of the `properties` of a component of the number `k`, and what is kept of them.
-pub fn properties_verdict(k: usize, s: &[u8], inside: usize) -> Listed
+pub fn properties_verdict(edition: Edition, k: usize, s: &[u8], inside: usize) -> Listed
     requires { ⌜ length (now s) ≤ 65535 ⌝ }
-    ensures { λ r. ⌜ ListedAt k (now (s .entry)) inside r ⌝ }
+    ensures { λ r. ⌜ ListedAt edition k (now (s .entry)) inside r ⌝ }
 {
     let mut at = inside;
     let mut kept = none_counted();
@@ -177,7 +178,7 @@ pub fn properties_verdict(k: usize, s: &[u8], inside: usize) -> Listed
             }
             NodeKind::Element => {
                 let row = property_at(s, n);
-                let j = property_verdict(k, row, s, at, n);
+                let j = property_verdict(edition, k, row, s, at, n);
                 match j {
                     Judged::Fine => {
                         let more = count(kept, row.number, s, n.inside);

@@ -1,6 +1,7 @@
 // The calendars of a document, and its root. See crate xcal, specs/ComponentNodes.antt.
 use crate::subcomponents::component_verdict;
 use crate::subcomponents::no_component;
+use edition::Edition;
 use markup::element;
 use names::is_word;
 use octets::is_space;
@@ -28,9 +29,9 @@ fn is_calendar(s: &[u8], name: usize, name_end: usize) -> bool
 }
 
 // The children of `icalendar`, whose content begins at `inside`, and whose end tag is at `e`.
-fn stream_verdict(s: &[u8], inside: usize, e: usize) -> Judged
+fn stream_verdict(edition: Edition, s: &[u8], inside: usize, e: usize) -> Judged
     requires { ⌜ length (now s) ≤ 65535 ⌝ }
-    ensures { λ r. ⌜ StreamAt (now (s .entry)) inside e r ⌝ }
+    ensures { λ r. ⌜ StreamAt edition (now (s .entry)) inside e r ⌝ }
 {
     let mut at = inside;
     let mut any = false;
@@ -48,6 +49,7 @@ fn stream_verdict(s: &[u8], inside: usize, e: usize) -> Judged
                 let calendar = is_calendar(s, n.name, n.name_end);
                 if calendar {
                     let j = component_verdict(
+                        edition,
                         s,
                         n.inside,
                         component::VCALENDAR,
@@ -84,13 +86,13 @@ fn stream_verdict(s: &[u8], inside: usize, e: usize) -> Judged
 }
 
 // The root of a document.
-pub fn root_verdict(s: &[u8], root: Element) -> Judged
+pub fn root_verdict(edition: Edition, s: &[u8], root: Element) -> Judged
     requires { ⌜ (length (now s) ≤ 65535) × (root .«name_end» ≤ length (now s)) ⌝ }
-    ensures { λ r. ⌜ RootAt (now (s .entry)) root r ⌝ }
+    ensures { λ r. ⌜ RootAt edition (now (s .entry)) root r ⌝ }
 {
     let calendars = is_word(0, &s[..root.name_end], root.name, &element::ICALENDAR);
     if calendars {
-        return stream_verdict(s, root.inside, root.end);
+        return stream_verdict(edition, s, root.inside, root.end);
     }
     unexpected(s, root.place, root.name, root.name_end)
 }

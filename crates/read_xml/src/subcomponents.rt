@@ -7,6 +7,7 @@ use crate::Sub;
 use crate::component::behind;
 use crate::component::end_components;
 use crate::component::head;
+use edition::Edition;
 use octets::is_space;
 use read_text_line::is_carried_name;
 use read_xml_nodes::Judged;
@@ -75,8 +76,8 @@ fn sub_number(k: usize, left: usize, s: &[u8], name: usize, name_end: usize) -> 
 }
 
 // One node of the `components` of a component of the number `k`, at `at`.
-fn sub_at(k: usize, left: usize, s: &[u8], at: usize, any: bool, e: usize) -> Sub
-    ensures { λ r. ⌜ SubAt k left (now (s .entry)) e at any r ⌝ }
+fn sub_at(edition: Edition, k: usize, left: usize, s: &[u8], at: usize, any: bool, e: usize) -> Sub
+    ensures { λ r. ⌜ SubAt edition k left (now (s .entry)) e at any r ⌝ }
 {
     let n = next_node(s, at);
     let kind = n.kind;
@@ -123,6 +124,7 @@ fn method_inside(k: usize, kept: Kept, had: bool, method: bool) -> bool
 
 // The component of the number `k` whose content begins at `inside`, and whose end tag is at `e`; `method`, whether the calendar round it has METHOD.
 pub fn component_verdict(
+    edition: Edition,
     s: &[u8],
     inside: usize,
     k: usize,
@@ -131,18 +133,18 @@ pub fn component_verdict(
     e: usize,
 ) -> Judged
     requires { ⌜ length (now s) ≤ 65535 ⌝ }
-    ensures { λ r. ⌜ ComponentAt k left method (now (s .entry)) inside e r ⌝ }
+    ensures { λ r. ⌜ ComponentAt edition k left method (now (s .entry)) inside e r ⌝ }
 {
-    let h = head(k, method, s, inside, e);
+    let h = head(edition, k, method, s, inside, e);
     let part = h.part;
     match part {
         Part::Ends(j) => j,
         Part::Opens(q, x, after, had) => {
             let kept = h.kept;
             let m = method_inside(k, kept, had, method);
-            let r = components_verdict(s, q, k, left, m, x);
+            let r = components_verdict(edition, s, q, k, left, m, x);
             match r {
-                Held::Holds(inner) => behind(k, kept, had, inner, method, s, after, e),
+                Held::Holds(inner) => behind(edition, k, kept, had, inner, method, s, after, e),
                 Held::Fails(f, y) => Judged::Refused(f, y),
             }
         }
@@ -151,6 +153,7 @@ pub fn component_verdict(
 
 // The children of the `components` of a component of the number `k`, whose content begins at `inside`, and whose end tag is at `e`; `method`, whether their calendar has METHOD.
 fn components_verdict(
+    edition: Edition,
     s: &[u8],
     inside: usize,
     k: usize,
@@ -159,12 +162,12 @@ fn components_verdict(
     e: usize,
 ) -> Held
     requires { ⌜ length (now s) ≤ 65535 ⌝ }
-    ensures { λ r. ⌜ CompsAt k left method (now (s .entry)) inside e r ⌝ }
+    ensures { λ r. ⌜ CompsAt edition k left method (now (s .entry)) inside e r ⌝ }
 {
     let mut at = inside;
     let mut any = false;
     loop {
-        let t = sub_at(k, left, s, at, any, e);
+        let t = sub_at(edition, k, left, s, at, any, e);
         match t {
             Sub::Done(j) => match j {
                 Judged::Fine => return Held::Holds(any),
@@ -173,7 +176,15 @@ fn components_verdict(
             Sub::Past(d) => {
                 at = d;
             }
-            Sub::Begins(n, q, z, d) => match component_verdict(s, q, n, left - 1, method, z) {
+            Sub::Begins(n, q, z, d) => match component_verdict(
+                edition,
+                s,
+                q,
+                n,
+                left - 1,
+                method,
+                z,
+            ) {
                 Judged::Fine => {
                     any = true;
                     at = d;

@@ -4,9 +4,9 @@
 use mathlib.Core.List.{List, []}
 use mathlib.Core.Option.{Option, none, some}
 use Prim.Native.Nat.{ℕ}
-use Rattle.octets.specs.Pick.{pick, _or_}
+use Rattle.octets.specs.Pick.{pick}
 use Rattle.octets.specs.Class.{lower, isSpace}
-use Rattle.octets.specs.Words.{same, holds}
+use Rattle.octets.specs.Words.{same}
 use Rattle.octets.specs.Reading.{andThen, consRead}
 use Rattle.calendar.specs.Calendar.{Value}
 use Rattle.schema.specs.Types.{typeName}
@@ -20,8 +20,7 @@ rowAt q = parameterAt q
 
 unfoldable pub readLeaf : ParameterRow → Nodes → Option Value
 readLeaf r kids =
-    pick (hasElement kids or holds 34 (charactersOf kids) or holds 10 (charactersOf kids)) none
-    (readWordIn (r .words) (r .type) (charactersOf kids))
+    pick (hasElement kids) none (readWordIn (r .words) (r .type) (charactersOf kids))
 
 unfoldable pub readLeaves : ParameterRow → Nodes → Option (List Value)
 readLeaves r noNodes = some []

@@ -14,18 +14,20 @@ use Rattle.schema.specs.declared.table.Row.{Row}
 use Rattle.xml.specs.Nodes.{Nodes, hasElement}
 use Rattle.xcal.specs.ParameterNodes.{badName}
 use Rattle.xml.specs.NodesAt.{nodesAt}
+use Rattle.edition.specs.declared.Edition.{Edition}
 use Rattle.read_xml_parameters.specs.Seen.{isBefore}
 use Rattle.read_xml_parameters.specs.Sound.{soundBy}
-
--- ---- one parameter
-
-unfoldable pub againstBy : Bool → Row → ℕ → List ℕ → Nodes → Bool
-againstBy again row t m kids = again or not (soundBy row t (placeOf (upper m) parameterNames) kids)
 
 -- at the tags at and x: whether its name is bad, it is against a rule, it has a value
 unfoldable pub judgedBy : Bool → Bool → Bool → ℕ → ℕ → Verdict
 judgedBy bad against some at x = pick bad (refuse NAME at) (pick (eqb at x) (refuse FRAME at) (pick against (refuse PARAMETER at) (pick some fine (refuse FRAME x))))
 
--- the verdict on the parameter m, by the parameters from `from` on
-abbrev pub verdictAt : Row → ℕ → List ℕ → ℕ → ℕ → List ℕ → ℕ → Nodes → Verdict
-verdictAt row t s from at m x kids = judgedBy (badName m) (againstBy (isBefore m at (nodesAt s from)) row t m kids) (hasElement kids) at x
+module _ (ed : Edition) where
+  -- ---- one parameter
+
+  unfoldable pub againstBy : Bool → Row → ℕ → List ℕ → Nodes → Bool
+  againstBy again row t m kids = again or not (soundBy ed row t (placeOf (upper m) parameterNames) kids)
+
+  -- the verdict on the parameter m, by the parameters from `from` on
+  abbrev pub verdictAt : Row → ℕ → List ℕ → ℕ → ℕ → List ℕ → ℕ → Nodes → Verdict
+  verdictAt row t s from at m x kids = judgedBy (badName m) (againstBy (isBefore m at (nodesAt s from)) row t m kids) (hasElement kids) at x

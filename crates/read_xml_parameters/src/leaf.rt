@@ -2,8 +2,6 @@
 use markup::table;
 use names::find_word;
 use octets::unit::END;
-use octets::unit::LF;
-use octets::unit::QUOTE;
 use read_xml_nodes::has_element;
 use schema::WordRead;
 use schema::parameter_has_words;
@@ -78,14 +76,6 @@ fn is_leaf(q: usize, s: &[u8], inside: usize) -> bool
         return false;
     }
     let c = cursor_of(s, inside);
-    let quote = has_byte(QUOTE, s, c);
-    if quote {
-        return false;
-    }
-    let feed = has_byte(LF, s, c);
-    if feed {
-        return false;
-    }
     is_chosen(q, s, c)
 }
 

@@ -1,9 +1,13 @@
 // All values of a parameter: the elements of a content. See specs/Several.antt.
 use crate::children::next_child;
 use crate::leaf::cursor_of;
+use crate::leaf::has_byte;
 use crate::leaf::is_value;
+use edition::Edition;
 use names::is_word;
 use octets::is_space;
+use octets::unit::LF;
+use octets::unit::QUOTE;
 use read_xml_nodes::NodeKind;
 use read_xml_nodes::has_element;
 use read_xml_nodes::next_node;
@@ -12,6 +16,7 @@ ghost use mathlib.Core.Path.{_≡_};
 ghost use Prim.Native.Nat.{_≤_};
 ghost use lib.ListN.{length};
 ghost use Rattle.octets.specs.Ascii.{ascii};
+ghost use Rattle.xcal.specs.ParameterNodes.{arePlain, areSpelled};
 ghost use Rattle.xml.specs.NodesAt.{nodesAt};
 ghost use Rattle.read_xml_parameters.specs.Rows.{rowAt};
 ghost use Rattle.read_xml_parameters.specs.Several.{allValues, isSingle, goodBy, firstIs};
@@ -96,4 +101,40 @@ pub fn is_base64(s: &[u8], at: usize) -> bool
         return is_word(1, s, c, b"BASE64");
     }
     true
+}
+
+// No value holds a double quote or LF.
+fn are_plain(s: &[u8], at: usize) -> bool
+    requires { ⌜ length (now s) ≤ 65535 ⌝ }
+    ensures { λ r. ⌜ r ≡ arePlain (nodesAt (now (s .entry)) at) ⌝ }
+{
+    let mut c = at;
+    loop {
+        let n = next_child(s, c);
+        if n.there {
+            let k = cursor_of(s, n.inside);
+            let quote = has_byte(QUOTE, s, k);
+            if quote {
+                return false;
+            }
+            let feed = has_byte(LF, s, k);
+            if feed {
+                return false;
+            }
+            c = n.next;
+        } else {
+            return true;
+        }
+    }
+}
+
+// The edition can spell the values.
+pub fn are_spelled(edition: Edition, s: &[u8], at: usize) -> bool
+    requires { ⌜ length (now s) ≤ 65535 ⌝ }
+    ensures { λ r. ⌜ r ≡ areSpelled edition (nodesAt (now (s .entry)) at) ⌝ }
+{
+    match edition {
+        Edition::Rfc5545 => are_plain(s, at),
+        Edition::Rfc6868 => true,
+    }
 }

@@ -2,7 +2,9 @@
 use crate::children::next_child;
 use crate::fresh::known_fresh;
 use crate::several::are_good;
+use crate::several::are_spelled;
 use crate::several::is_base64;
+use edition::Edition;
 use names::is_word;
 use octets::is_space;
 use read_text_line::is_carried_name;
@@ -101,15 +103,19 @@ fn is_encoded(q: usize, t: usize, s: &[u8], inside: usize) -> bool
 }
 
 // The parameter is permitted, and its values are good.
-fn is_sound(row: Row, t: usize, q: usize, s: &[u8], inside: usize) -> bool
+fn is_sound(edition: Edition, row: Row, t: usize, q: usize, s: &[u8], inside: usize) -> bool
     requires { ⌜ length (now s) ≤ 65535 ⌝ }
-    ensures { λ r. ⌜ r ≡ soundBy row t q (nodesAt (now (s .entry)) inside) ⌝ }
+    ensures { λ r. ⌜ r ≡ soundBy edition row t q (nodesAt (now (s .entry)) inside) ⌝ }
 {
     let permitted = permits_parameter(row, t, q);
     if permitted {
         let good = are_good(q, s, inside);
         if good {
-            return is_encoded(q, t, s, inside);
+            let encoded = is_encoded(q, t, s, inside);
+            if encoded {
+                return are_spelled(edition, s, inside);
+            }
+            return false;
         }
         return false;
     }
@@ -118,6 +124,7 @@ fn is_sound(row: Row, t: usize, q: usize, s: &[u8], inside: usize) -> bool
 
 // The parameter of the name `w` at the place `at` stood before, or is not sound.
 fn is_against(
+    edition: Edition,
     row: Row,
     t: usize,
     s: &[u8],
@@ -130,7 +137,7 @@ fn is_against(
     requires { ⌜ (length (now s) ≤ 65535) × (fresh ≡ true → isBefore (now w) at (nodesAt (now s) from) ≡ false) ⌝ }
     ensures { λ r. ⌜
         r
-        ≡ againstBy (isBefore (now (w .entry)) at (nodesAt (now (s .entry)) from)) row t (now (w .entry))
+        ≡ againstBy edition (isBefore (now (w .entry)) at (nodesAt (now (s .entry)) from)) row t (now (w .entry))
         (nodesAt (now (s .entry)) inside) ⌝ }
 {
     let again = is_again(s, from, at, w, fresh);
@@ -138,7 +145,7 @@ fn is_against(
         return true;
     }
     let q = parameter_number(0, w, 0);
-    let sound = is_sound(row, t, q, s, inside);
+    let sound = is_sound(edition, row, t, q, s, inside);
     if sound {
         return false;
     }
@@ -147,6 +154,7 @@ fn is_against(
 
 // The verdict on the parameter of the name `w` at the tags `at` and `end`; `fresh` says that no parameter before it has the name.
 fn judge(
+    edition: Edition,
     row: Row,
     t: usize,
     s: &[u8],
@@ -159,7 +167,7 @@ fn judge(
 ) -> Judged
     requires { ⌜ (length (now s) ≤ 65535) × (fresh ≡ true → isBefore (now w) at (nodesAt (now s) from) ≡ false) ⌝ }
     ensures { λ r. ⌜
-        verdictAt row t (now (s .entry)) from at (now (w .entry)) end (nodesAt (now (s .entry)) inside) ≡ judgedAs r ⌝ }
+        verdictAt edition row t (now (s .entry)) from at (now (w .entry)) end (nodesAt (now (s .entry)) inside) ≡ judgedAs r ⌝ }
 {
     let bad = is_bad_name(w);
     if bad {
@@ -168,7 +176,7 @@ fn judge(
     if at == end {
         return Judged::Refused(FRAME, at);
     }
-    let against = is_against(row, t, s, from, at, w, inside, fresh);
+    let against = is_against(edition, row, t, s, from, at, w, inside, fresh);
     if against {
         return Judged::Refused(PARAMETER, at);
     }
@@ -180,13 +188,13 @@ fn judge(
 }
 
 // The verdict on the parameters whose content begins at `inside`, of the property of the row with a value of the type of the number `t`.
-pub fn parameters_verdict(row: Row, t: usize, s: &[u8], inside: usize) -> Judged
+pub fn parameters_verdict(edition: Edition, row: Row, t: usize, s: &[u8], inside: usize) -> Judged
     requires { ⌜ length (now s) ≤ 65535 ⌝ }
     ensures { λ r. ⌜
         ((w : List ℕ) →
         row ≡ rowAt (placeOf w propertyNames) →
         t ≤ 14 →
-        judgedAs r ≡ parametersVerdict w (typeAt t) (nodesAt (now (s .entry)) inside) []) ⌝ }
+        judgedAs r ≡ parametersVerdict edition w (typeAt t) (nodesAt (now (s .entry)) inside) []) ⌝ }
 {
     let mut c = inside;
     let mut i = 0;
@@ -202,7 +210,18 @@ pub fn parameters_verdict(row: Row, t: usize, s: &[u8], inside: usize) -> Judged
                 let a = n.name;
                 let e = n.name_end;
                 let k = known_fresh(s, inside, i, fresh);
-                let j = judge(row, t, s, inside, c, &s[a..e], n.end, n.inside, i < k);
+                let j = judge(
+                    edition,
+                    row,
+                    t,
+                    s,
+                    inside,
+                    c,
+                    &s[a..e],
+                    n.end,
+                    n.inside,
+                    i < k,
+                );
                 match j {
                     Judged::Fine => {
                         c = n.next;

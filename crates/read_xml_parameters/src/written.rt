@@ -3,6 +3,7 @@ use crate::children::next_child;
 use crate::leaf::cursor_of;
 use crate::leaf::has_byte;
 use crate::several::are_values;
+use edition::Edition;
 use numbers::boolean::BooleanRead;
 use numbers::boolean::put_boolean;
 use numbers::boolean::read_boolean;
@@ -25,6 +26,7 @@ ghost use Rattle.octets.specs.Append.{joined};
 ghost use Rattle.sink.specs.Sink.{Put};
 ghost use Rattle.source.specs.Source.{rest};
 ghost use Rattle.read_text_line.specs.Write.{writeParameter};
+ghost use Rattle.read_text_line.specs.Decoded.{encodedParameter};
 ghost use Rattle.text.specs.WriteText.{rawOf};
 ghost use Rattle.xml.specs.Nodes.{charactersOf};
 ghost use Rattle.xcal.specs.ParameterNodes.{readParameterNodes};
@@ -64,48 +66,56 @@ fn put_truth(out: &mut [u8], o: usize, s: &[u8], at: usize) -> usize
 }
 
 // The characters as they stand.
-fn put_plain(out: &mut [u8], o: usize, q: usize, s: &[u8], at: usize) -> usize
+fn put_plain(out: &mut [u8], o: usize, edition: Edition, q: usize, s: &[u8], at: usize) -> usize
     ensures { λ r. ⌜
-        Put (now (out .entry)) (now (out .exit)) o r (plainShown (rowAt q .quoted) (rest 1 (now (s .entry)) at)) ⌝ }
+        Put (now (out .entry)) (now (out .exit)) o r (plainShown edition (rowAt q .quoted) (rest 1 (now (s .entry)) at)) ⌝ }
 {
     let quoted = is_quoted(q, s, at);
-    put_param_value(out, o, quoted, 1, s, at)
+    put_param_value(out, o, edition, quoted, 1, s, at)
 }
 
 // The value whose content begins at `inside`.
-fn put_value(out: &mut [u8], o: usize, q: usize, s: &[u8], inside: usize) -> usize
+fn put_value(out: &mut [u8], o: usize, edition: Edition, q: usize, s: &[u8], inside: usize) -> usize
     requires { ⌜ (length (now s) ≤ 65535) × (inside ≤ length (now s)) ⌝ }
     ensures { λ r. ⌜
         Put (now (out .entry)) (now (out .exit)) o r
-        (valueShown (rowAt q) (charactersOf (nodesAt (now (s .entry)) inside))) ⌝ }
+        (valueShown edition (rowAt q) (charactersOf (nodesAt (now (s .entry)) inside))) ⌝ }
 {
     let c = cursor_of(s, inside);
     let t = parameter_type(q);
     if t == value_type::BOOLEAN {
         return put_truth(out, o, s, c);
     }
-    put_plain(out, o, q, s, c)
+    put_plain(out, o, edition, q, s, c)
 }
 
 // The same, with a comma before it where it is a later one.
-fn put_item(out: &mut [u8], o: usize, later: bool, q: usize, s: &[u8], inside: usize) -> usize
+fn put_item(
+    out: &mut [u8],
+    o: usize,
+    edition: Edition,
+    later: bool,
+    q: usize,
+    s: &[u8],
+    inside: usize,
+) -> usize
     requires { ⌜ (length (now s) ≤ 65535) × (inside ≤ length (now s)) ⌝ }
     ensures { λ r. ⌜
         Put (now (out .entry)) (now (out .exit)) o r
-        (itemShown (rowAt q) later (charactersOf (nodesAt (now (s .entry)) inside))) ⌝ }
+        (itemShown edition (rowAt q) later (charactersOf (nodesAt (now (s .entry)) inside))) ⌝ }
 {
     if later {
         let a = put(out, o, b',');
-        return put_value(out, a, q, s, inside);
+        return put_value(out, a, edition, q, s, inside);
     }
-    put_value(out, o, q, s, inside)
+    put_value(out, o, edition, q, s, inside)
 }
 
 // All values from `at` on.
-fn put_list(out: &mut [u8], o: usize, q: usize, s: &[u8], at: usize) -> usize
+fn put_list(out: &mut [u8], o: usize, edition: Edition, q: usize, s: &[u8], at: usize) -> usize
     requires { ⌜ length (now s) ≤ 65535 ⌝ }
     ensures { λ r. ⌜
-        Put (now (out .entry)) (now (out .exit)) o r (listShown (rowAt q) false (nodesAt (now (s .entry)) at)) ⌝ }
+        Put (now (out .entry)) (now (out .exit)) o r (listShown edition (rowAt q) false (nodesAt (now (s .entry)) at)) ⌝ }
 {
     let mut p = o;
     let mut later = false;
@@ -113,7 +123,7 @@ fn put_list(out: &mut [u8], o: usize, q: usize, s: &[u8], at: usize) -> usize
     loop {
         let n = next_child(s, c);
         if n.there {
-            p = put_item(out, p, later, q, s, n.inside);
+            p = put_item(out, p, edition, later, q, s, n.inside);
             later = true;
             c = n.next;
         } else {
@@ -123,36 +133,44 @@ fn put_list(out: &mut [u8], o: usize, q: usize, s: &[u8], at: usize) -> usize
 }
 
 // The same; nothing where they are not all values.
-fn put_values(out: &mut [u8], o: usize, q: usize, s: &[u8], at: usize) -> usize
+fn put_values(out: &mut [u8], o: usize, edition: Edition, q: usize, s: &[u8], at: usize) -> usize
     requires { ⌜ length (now s) ≤ 65535 ⌝ }
     ensures { λ r. ⌜
-        Put (now (out .entry)) (now (out .exit)) o r (valuesShown (rowAt q) (nodesAt (now (s .entry)) at)) ⌝ }
+        Put (now (out .entry)) (now (out .exit)) o r (valuesShown edition (rowAt q) (nodesAt (now (s .entry)) at)) ⌝ }
 {
     let values = are_values(q, s, at);
     if values {
-        return put_list(out, o, q, s, at);
+        return put_list(out, o, edition, q, s, at);
     }
     o
 }
 
 // The parameter of the name `w`.
-fn put_parameter(out: &mut [u8], o: usize, w: &[u8], s: &[u8], inside: usize) -> usize
+fn put_parameter(
+    out: &mut [u8],
+    o: usize,
+    edition: Edition,
+    w: &[u8],
+    s: &[u8],
+    inside: usize,
+) -> usize
     requires { ⌜ length (now s) ≤ 65535 ⌝ }
     ensures { λ r. ⌜
         Put (now (out .entry)) (now (out .exit)) o r
-        (parameterShown (now (w .entry)) (nodesAt (now (s .entry)) inside)) ⌝ }
+        (parameterShown edition (now (w .entry)) (nodesAt (now (s .entry)) inside)) ⌝ }
 {
     let q = parameter_number(0, w, 0);
     let a = put_param_name(out, o, 0, w, 0);
-    put_values(out, a, q, s, inside)
+    put_values(out, a, edition, q, s, inside)
 }
 
 // The parameters whose content begins at `inside`, as they stand in a content line.
-pub fn put_parameters(out: &mut [u8], o: usize, s: &[u8], inside: usize) -> usize
+pub fn put_parameters(out: &mut [u8], o: usize, edition: Edition, s: &[u8], inside: usize) -> usize
     requires { ⌜ length (now s) ≤ 65535 ⌝ }
     ensures { λ r. ⌜
         Put (now (out .entry)) (now (out .exit)) o r
-        (joined (map writeParameter (map rawOf (readParameterNodes (nodesAt (now (s .entry)) inside))))) ⌝ }
+        (joined (map writeParameter (map (encodedParameter edition) (map rawOf
+        (readParameterNodes (nodesAt (now (s .entry)) inside)))))) ⌝ }
 {
     let mut p = o;
     let mut c = inside;
@@ -161,7 +179,7 @@ pub fn put_parameters(out: &mut [u8], o: usize, s: &[u8], inside: usize) -> usiz
         if n.there {
             let a = n.name;
             let e = n.name_end;
-            p = put_parameter(out, p, &s[a..e], s, n.inside);
+            p = put_parameter(out, p, edition, &s[a..e], s, n.inside);
             c = n.next;
         } else {
             return p;

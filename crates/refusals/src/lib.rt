@@ -12,6 +12,7 @@ pub enum Refusal {
     Value = 8,
     Count = 9,
     Xml = 11,
+    Edition = 13,
 }
 
 // The same numbers, for checks that answer a number.
@@ -34,6 +35,8 @@ pub const VALUE: u8 = Refusal::Value as u8;
 pub const COUNT: u8 = Refusal::Count as u8;
 
 pub const XML: u8 = Refusal::Xml as u8;
+
+pub const EDITION: u8 = Refusal::Edition as u8;
 
 pub const ROOM: u8 = 10;
 

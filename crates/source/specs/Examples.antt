@@ -3,6 +3,8 @@ use mathlib.Core.Path.{_≡_, refl}
 use mathlib.Core.List.{List, [], _∷_}
 use Prim.Native.Nat.{ℕ}
 use Rattle.octets.specs.Ascii.{ascii}
+use Rattle.folding.specs.Computing.{folding-compute}
+use Rattle.edition.specs.Computing.{edition-compute}
 use Rattle.xml.specs.Computing.{xml-compute}
 use Rattle.source.specs.Characters.{ampersand, remaining, charsWithin, charsFrom}
 use Rattle.source.specs.Source.{rest}
@@ -24,3 +26,8 @@ within-reference = refl
 at-places : (rest 1 content 26 ≡ 98 ∷ []) × (rest 1 content 28 ≡ [])
 unfolding xml-compute content ampersand remaining charsWithin charsFrom rest
 at-places = (refl, refl)
+
+-- a value with carets, as it stands and with a fold between a caret and its letter
+with-carets : (rest 4 (ascii "^'a^^b") 0 ≡ ascii "\"a^b") × (rest 5 (ascii "^\r\n na^") 0 ≡ ascii "\na^")
+unfolding folding-compute edition-compute rest
+with-carets = (refl, refl)

@@ -1,6 +1,9 @@
 // A cursor over lent bytes in a given encoding: a value is read character by character, whatever encoding it stands in. See specs/Source.antt.
+mod carets;
 mod characters;
 
+use carets::caret_unit;
+pub use carets::value_mode;
 pub use characters::xml_unit;
 use folding::skip::skip_folds;
 use octets::unit::END;
@@ -59,14 +62,14 @@ pub fn settled(mode: usize, s: &[u8], at: usize) -> usize
 
 // An encoding that there is not has no characters.
 fn no_unit(s: &[u8], at: usize, mode: usize) -> Step
-    requires { ⌜ (mode ≡ 0 → ⊥) × (mode ≡ 1 → ⊥) × (mode ≡ 2 → ⊥) ⌝ }
+    requires { ⌜ (mode ≡ 0 → ⊥) × (mode ≡ 1 → ⊥) × (mode ≡ 2 → ⊥) × (mode ≡ 4 → ⊥) × (mode ≡ 5 → ⊥) ⌝ }
     ensures { λ r. ⌜ Reads mode (now (s .entry)) at r ⌝ }
 {
     Step { u: END, next: at }
 }
 
 // The byte at the cursor `at`, in the encoding that `mode` names: 0 for bytes as they stand, 1 for the characters of an XML element,
-// 2 for a text with its folds in place.
+// 2 for a text with its folds in place, 4 and 5 for a parameter's value with carets over 0 and over 2; 3 is kept for the characters of a JSON string.
 pub fn unit(mode: usize, s: &[u8], at: usize) -> Step
     ensures { λ r. ⌜ Reads mode (now (s .entry)) at r ⌝ }
 {
@@ -78,6 +81,12 @@ pub fn unit(mode: usize, s: &[u8], at: usize) -> Step
     }
     if mode == 2 {
         return folded_unit(s, at);
+    }
+    if mode == 4 {
+        return caret_unit(0, mode, s, at);
+    }
+    if mode == 5 {
+        return caret_unit(2, mode, s, at);
     }
     no_unit(s, at, mode)
 }

@@ -6,6 +6,7 @@ use Prim.Native.String.{String}
 use lib.ListN.{length}
 use Rattle.octets.specs.Ascii.{ascii}
 use Rattle.calendar.specs.Refusal.{LINE, NAME, FRAME, PARAMETER, VALUE, COUNT, Verdict, refuse}
+use Rattle.edition.specs.declared.Edition.the-variants.{Rfc5545}
 use Rattle.text.specs.ReadText.{textVerdict}
 use Rattle.text.specs.Computing.{ical-compute}
 
@@ -17,7 +18,7 @@ abbrev textWith : String → List ℕ
 textWith l = ascii "BEGIN:VCALENDAR\r\n" ++ (ascii l ++ ascii "\r\n")
 
 abbrev verdictOn : Row → Verdict
-verdictOn (l isRefused v) = textVerdict (textWith l) (length (textWith l))
+verdictOn (l isRefused v) = textVerdict Rfc5545 (textWith l) (length (textWith l))
 
 abbrev answered : Row → Verdict
 answered (l isRefused v) = v

@@ -15,7 +15,9 @@ use Rattle.calendar.specs.Calendar.{Property}
 use Rattle.calendar.specs.Refusal.{LINE, NAME, FRAME, PARAMETER, COUNT}
 use Rattle.schema.specs.Components.{mayContain}
 use Rattle.schema.specs.Counts.{Around, complete}
-use Rattle.read_text_line.specs.ContentLine.{ContentLine, contentLine}
+use Rattle.edition.specs.declared.Edition.{Edition}
+use Rattle.read_text_line.specs.ContentLine.{ContentLine}
+use Rattle.read_text_line.specs.Decoded.{readLine}
 use Rattle.read_text_line.specs.Names.{isComponentName}
 use Rattle.text.specs.Faults.{Fault, fault, lineStart, parameterName}
 use Rattle.text.specs.Statement.{propertyFault, propertyOf}
@@ -61,8 +63,8 @@ unfoldable pub kindOf : List ℕ → Bool → Bool → Option ContentLine → Li
 kindOf k level inner none = faulty (fault LINE lineStart)
 kindOf k level inner (some l) = kindBy k level inner l
 
-abbrev pub lineKind : List ℕ → Bool → Bool → List ℕ → LineKind
-lineKind k level inner s = kindOf k level inner (contentLine s)
+abbrev pub lineKind : Edition → List ℕ → Bool → Bool → List ℕ → LineKind
+lineKind ed k level inner s = kindOf k level inner (readLine ed s)
 
 -- ---- what it does
 

@@ -2,7 +2,7 @@
 -- In a line each test is made in the order of the refusals' numbers, so that the lowest number stands.
 --     methodIn   whether the calendar that is open has METHOD
 --     move       what one line does to the open components, or its fault
---     nesting    the verdict on the lines that are left, with these components open
+--     nesting    the verdict on the lines that are left, with these components open; both in an edition
 use mathlib.Core.Bool.{Bool, true, false, not}
 use mathlib.Core.List.{List, [], _∷_}
 use mathlib.Core.Option.{Option, none, some}
@@ -21,7 +21,9 @@ use Rattle.schema.specs.Components.{mayContain, mayStand}
 use Rattle.schema.specs.Properties.{isKnownProperty}
 use Rattle.schema.specs.Counts.{Around, methodFor, complete}
 use Rattle.folding.specs.Lines.{Line, whole, loose}
-use Rattle.read_text_line.specs.ContentLine.{RawParameter, ContentLine, contentLine}
+use Rattle.edition.specs.declared.Edition.{Edition}
+use Rattle.read_text_line.specs.ContentLine.{RawParameter, ContentLine}
+use Rattle.read_text_line.specs.Decoded.{readLine}
 use Rattle.read_text_line.specs.Names.{isCarriedName, isComponentName}
 use Rattle.text.specs.Faults.{Fault, fault, lineStart, parameterName, refusedAt}
 use Rattle.text.specs.Statement.{propertyFault, propertyOf}
@@ -109,8 +111,8 @@ unfoldable pub moveOf : Option ContentLine → List Open → Move
 moveOf none st = stop (fault LINE lineStart)
 moveOf (some l) st = moveBy l st
 
-abbrev pub move : List ℕ → List Open → Move
-move s st = moveOf (contentLine s) st
+abbrev pub move : Edition → List ℕ → List Open → Move
+move ed s st = moveOf (readLine ed s) st
 
 -- ---- all lines
 
@@ -124,7 +126,7 @@ unfoldable pub ended : ℕ → List Open → Verdict
 ended e [] = fine
 ended e (f ∷ st) = refuse FRAME e
 
-unfoldable pub nesting : ℕ → List Line → List Open → Verdict
-nesting e [] st = ended e st
-nesting e (loose p ∷ ls) st = refuse LINE p
-nesting e (whole p s ∷ ls) st = onward (move s st) p s (nesting e ls)
+unfoldable pub nesting : Edition → ℕ → List Line → List Open → Verdict
+nesting ed e [] st = ended e st
+nesting ed e (loose p ∷ ls) st = refuse LINE p
+nesting ed e (whole p s ∷ ls) st = onward (move ed s st) p s (nesting ed e ls)

@@ -14,7 +14,9 @@ use Rattle.octets.specs.Words.{same}
 use Rattle.calendar.specs.Calendar.{Property, Components, noMore, component}
 use Rattle.calendar.specs.Levels.{levels, shallow}
 use Rattle.folding.specs.Lines.{Line, whole, loose}
-use Rattle.read_text_line.specs.ContentLine.{ContentLine, contentLine}
+use Rattle.edition.specs.declared.Edition.{Edition}
+use Rattle.read_text_line.specs.ContentLine.{ContentLine}
+use Rattle.read_text_line.specs.Decoded.{readLine}
 use Rattle.text.specs.Statement.{propertyOf}
 
 pub data Entry : Type 0 where
@@ -27,9 +29,9 @@ unfoldable pub entryBy : Option ContentLine → Entry
 entryBy none = nothing
 entryBy (some l) = pick (same (upper (l .name)) (ascii "BEGIN")) (begin (upper (l .value))) (pick (same (upper (l .name)) (ascii "END")) end (property l))
 
-unfoldable pub entryOf : Line → Entry
-entryOf (loose p) = nothing
-entryOf (whole p s) = entryBy (contentLine s)
+unfoldable pub entryOf : Edition → Line → Entry
+entryOf ed (loose p) = nothing
+entryOf ed (whole p s) = entryBy (readLine ed s)
 
 -- the properties of a component k, VTIMEZONE's among its subcomponents too
 unfoldable pub ownOf : List ℕ → List Entry → ℕ → List Property
@@ -50,5 +52,5 @@ innerOf (end ∷ es) (suc d) = innerOf es d
 innerOf (property l ∷ es) d = innerOf es d
 innerOf (nothing ∷ es) d = innerOf es d
 
-unfoldable pub calendarOf : List Line → Components
-calendarOf ls = shallow levels (innerOf (map entryOf ls) 0)
+unfoldable pub calendarOf : Edition → List Line → Components
+calendarOf ed ls = shallow levels (innerOf (map (entryOf ed) ls) 0)

@@ -1,4 +1,5 @@
--- The canonical text of a calendar (RFC 5545, sections 3.1 and 3.4): names in capitals, VALUE first and only where it must stand, each line folded.
+-- The canonical text of a calendar (RFC 5545, sections 3.1 and 3.4): names in capitals, VALUE first and only where it must stand, each line folded;
+-- values of parameters as the edition spells them.
 --     contentLineOf    the content line of a property
 --     writeCalendar    the canonical text
 use mathlib.Core.Bool.{false}
@@ -15,8 +16,9 @@ use Rattle.schema.specs.Parameters.{isQuotedParameter}
 use Rattle.texts.specs.Quoting.{needsQuotes}
 use Rattle.values.specs.WriteValue.{writeValue, writeValues, typeOfAll}
 use Rattle.folding.specs.Fold.{foldedLine}
+use Rattle.edition.specs.declared.Edition.{Edition}
 use Rattle.read_text_line.specs.ContentLine.{ParamValue, RawParameter, ContentLine}
-use Rattle.read_text_line.specs.Write.{writeContentLine}
+use Rattle.read_text_line.specs.Decoded.{writeLine}
 
 -- ---- parameters
 
@@ -49,12 +51,12 @@ contentLineOf p = record {
   value = writeValues (p .values);
 }
 
-abbrev pub propertyLine : Property → List ℕ
-propertyLine p = foldedLine (writeContentLine (contentLineOf p))
+abbrev pub propertyLine : Edition → Property → List ℕ
+propertyLine ed p = foldedLine (writeLine ed (contentLineOf p))
 
-unfoldable pub propertyLines : List Property → List ℕ
-propertyLines [] = []
-propertyLines (p ∷ ps) = propertyLine p ⊕ propertyLines ps
+unfoldable pub propertyLines : Edition → List Property → List ℕ
+propertyLines ed [] = []
+propertyLines ed (p ∷ ps) = propertyLine ed p ⊕ propertyLines ed ps
 
 abbrev pub beginLine : List ℕ → List ℕ
 beginLine n = foldedLine (ascii "BEGIN:" ⊕ n)
@@ -64,6 +66,7 @@ endLine n = foldedLine (ascii "END:" ⊕ n)
 
 -- ---- components
 
-unfoldable pub writeCalendar : Components → List ℕ
-writeCalendar noMore = []
-writeCalendar (component n ps inner next) = beginLine n ⊕ propertyLines ps ⊕ writeCalendar inner ⊕ endLine n ⊕ writeCalendar next
+unfoldable pub writeCalendar : Edition → Components → List ℕ
+writeCalendar ed noMore = []
+writeCalendar ed (component n ps inner next) =
+    beginLine n ⊕ propertyLines ed ps ⊕ writeCalendar ed inner ⊕ endLine n ⊕ writeCalendar ed next

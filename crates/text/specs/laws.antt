@@ -7,6 +7,7 @@
 --     AcceptedValues      what is read is values of the property
 --     PropertyLaws        the line of a property states it
 --     AcceptedProperty    what is read is a property
+--     Carets              characters with carets
 --     LineLaws            the bytes of a property's line are read back
 --     Pieces              a text in pieces
 --     AcceptedLine        what is read can be written as a line
@@ -28,6 +29,7 @@ pub mod ValuesLaws
 pub mod AcceptedValues
 pub mod PropertyLaws
 pub mod AcceptedProperty
+pub mod Carets
 pub mod LineLaws
 pub mod Pieces
 pub mod AcceptedLine

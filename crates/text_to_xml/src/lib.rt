@@ -1,6 +1,9 @@
 // iCalendar text to canonical XML. See specs/ToXml.antt.
 use calls::Answer;
 use calls::refused;
+use edition::Edition;
+use edition::EditionRead;
+use edition::edition_of;
 use folding::unfolding::place_of;
 use folding::unfolding::unfold;
 use read_text::Checked;
@@ -23,67 +26,67 @@ ghost use Rattle.calls.specs.Answered.{outcomeOf, Done};
 ghost use Rattle.text_to_xml.specs.Steps.{keptGives};
 
 // The XML of an unfolded text, where there is certainly room for it.
-fn written_at_once(kept: &[u8], out: &mut [u8]) -> Answer
+fn written_at_once(edition: Edition, kept: &[u8], out: &mut [u8]) -> Answer
     requires { ⌜ (length (now kept) ≤ 65535) × (19 * length (now kept) + 109 ≤ length (now out)) ⌝ }
     ensures { λ r. ⌜
-        Done (converted writeDocument (answer fine (calendarOf (lines (now (kept .entry)))))) (now (out .entry))
+        Done (converted writeDocument (answer fine (calendarOf edition (lines (now (kept .entry)))))) (now (out .entry))
         (now (out .exit)) r ⌝ }
 {
-    let n = put_document(out, 0, 0, kept);
+    let n = put_document(out, 0, edition, 0, kept);
     Answer::Written(n)
 }
 
 // The XML of an unfolded text: first how long it is, then, if there is room, all of it.
-fn measured(kept: &[u8], out: &mut [u8]) -> Answer
+fn measured(edition: Edition, kept: &[u8], out: &mut [u8]) -> Answer
     requires { ⌜ length (now kept) ≤ 65535 ⌝ }
     ensures { λ r. ⌜
-        Done (converted writeDocument (answer fine (calendarOf (lines (now (kept .entry)))))) (now (out .entry))
+        Done (converted writeDocument (answer fine (calendarOf edition (lines (now (kept .entry)))))) (now (out .entry))
         (now (out .exit)) r ⌝ }
 {
-    let need = put_document(&mut out[..0], 0, 0, kept);
+    let need = put_document(&mut out[..0], 0, edition, 0, kept);
     if need <= out.len() {
-        put_document(out, 0, 0, kept);
+        put_document(out, 0, edition, 0, kept);
         return Answer::Written(need);
     }
     Answer::Needs(need)
 }
 
 // The XML of an unfolded text: it has no more than 19 bytes for each byte of the text, and 109.
-fn written(kept: &[u8], out: &mut [u8]) -> Answer
+fn written(edition: Edition, kept: &[u8], out: &mut [u8]) -> Answer
     requires { ⌜ length (now kept) ≤ 65535 ⌝ }
     ensures { λ r. ⌜
-        Done (converted writeDocument (answer fine (calendarOf (lines (now (kept .entry)))))) (now (out .entry))
+        Done (converted writeDocument (answer fine (calendarOf edition (lines (now (kept .entry)))))) (now (out .entry))
         (now (out .exit)) r ⌝ }
 {
     let most = 19 * kept.len() + 109;
     if most <= out.len() {
-        return written_at_once(kept, out);
+        return written_at_once(edition, kept, out);
     }
-    measured(kept, out)
+    measured(edition, kept, out)
 }
 
 // The first faulty line of an unfolded text, at its place in the text as lent; or its XML.
-fn checked(input: &[u8], kept: &[u8], out: &mut [u8]) -> Answer
+fn checked(edition: Edition, input: &[u8], kept: &[u8], out: &mut [u8]) -> Answer
     requires { ⌜ length (now kept) ≤ 65535 ⌝ }
     ensures { λ r. ⌜
-        Done (keptGives (now (input .entry)) (now (kept .entry))
-        (linesVerdict (length (now (kept .entry))) (lines (now (kept .entry))))) (now (out .entry))
+        Done (keptGives edition (now (input .entry)) (now (kept .entry))
+        (linesVerdict edition (length (now (kept .entry))) (lines (now (kept .entry))))) (now (out .entry))
         (now (out .exit)) r ⌝ }
 {
-    match check(0, kept) {
+    match check(edition, 0, kept) {
         Checked::Refused(n, p) => {
             let q = place_of(input, p);
             refused(n, q)
         }
-        Checked::Fine => written(kept, out),
+        Checked::Fine => written(edition, kept, out),
     }
 }
 
 // The first byte of an unfolded text that begins no character; or its first faulty line; or its XML.
-fn converted(input: &[u8], kept: &[u8], out: &mut [u8]) -> Answer
+fn converted(edition: Edition, input: &[u8], kept: &[u8], out: &mut [u8]) -> Answer
     requires { ⌜ length (now kept) ≤ 65535 ⌝ }
     ensures { λ r. ⌜
-        Done (keptGives (now (input .entry)) (now (kept .entry)) (keptVerdict (now (kept .entry)))) (now (out .entry))
+        Done (keptGives edition (now (input .entry)) (now (kept .entry)) (keptVerdict edition (now (kept .entry)))) (now (out .entry))
         (now (out .exit)) r ⌝ }
 {
     match first_bad(kept) {
@@ -91,21 +94,28 @@ fn converted(input: &[u8], kept: &[u8], out: &mut [u8]) -> Answer
             let q = place_of(input, p);
             Answer::Refused(Refusal::Character, q)
         }
-        Found::Nothing => checked(input, kept, out),
+        Found::Nothing => checked(edition, input, kept, out),
     }
 }
 
-// Converts the iCalendar text `input` to canonical XML in `out`. `work` is as long as `input` or longer: the text is unfolded there.
-pub fn to_xml(input: &[u8], work: &mut [u8], out: &mut [u8]) -> Answer
+// Converts the iCalendar text `input`, read in the edition of the number `edition`, to canonical XML in `out`. `work` is as long as `input` or longer: the text is unfolded there.
+pub fn to_xml(input: &[u8], work: &mut [u8], out: &mut [u8], edition: u32) -> Answer
     ensures { λ r. ⌜
-        (outcomeOf r ≡ toXmlOutcome (now (input .entry)) (now (work .entry)) (now (out .entry)))
-        × (now (out .exit) ≡ toXmlOutput (now (input .entry)) (now (work .entry)) (now (out .entry)))
-        × (now (work .exit) ≡ toXmlWork (now (input .entry)) (now (work .entry))) ⌝ }
+        (outcomeOf r ≡ toXmlOutcome (now (input .entry)) (now (work .entry)) (now (out .entry)) edition)
+        × (now (out .exit) ≡ toXmlOutput (now (input .entry)) (now (work .entry)) (now (out .entry)) edition)
+        × (now (work .exit) ≡ toXmlWork (now (input .entry)) (now (work .entry)) edition) ⌝ }
 {
     if input.len() <= 65535 {
         if input.len() <= work.len() {
-            let n = unfold(input, work);
-            return converted(input, &work[..n], out);
+            match edition_of(edition) {
+                EditionRead::Known(e) => {
+                    let n = unfold(input, work);
+                    return converted(e, input, &work[..n], out);
+                }
+                EditionRead::Unknown => {
+                    return Answer::Refused(Refusal::Edition, 0);
+                }
+            }
         }
         return Answer::Refused(Refusal::Work, 0);
     }

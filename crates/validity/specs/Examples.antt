@@ -10,6 +10,7 @@ use mathlib.Core.Option.{none, some}
 use Prim.Native.Nat.{ℕ}
 use Rattle.octets.specs.Ascii.{ascii}
 use Rattle.calendar.specs.Calendar.{moment, word, weekday, Value, binary, boolean, calAddress, date, dateTime, integer, periodStart, recur, text, uri, unknown, geo, requestStatus, Parameter, Property, Components, noMore, component}
+use Rattle.edition.specs.declared.Edition.the-variants.{Rfc5545, Rfc6868}
 use Rattle.validity.specs.ValidCalendar.{isValid}
 use Rattle.validity.specs.Computing.{validity-compute}
 
@@ -48,7 +49,7 @@ rota = calendar (
     ∷ prop (ascii "X-GLASS") (integer (record { negative = true; magnitude = 5 }) ∷ [])
     ∷ [])
 
-pub rota-valid : isValid rota ≡ true
+pub rota-valid : isValid Rfc5545 rota ≡ true
 unfolding validity-compute
 rota-valid = refl
 
@@ -68,9 +69,14 @@ variants =
     ∷ record { name = ascii "X-A"; parameters = param (ascii "CN") (text (ascii "a\"b") ∷ []) ∷ []; values = text (ascii "a") ∷ [] }  -- a double quote in a parameter
     ∷ []
 
-variants-valid : map (λ p. isValid (calendar (p ∷ []))) variants ≡ (true ∷ false ∷ false ∷ false ∷ false ∷ false ∷ false ∷ false ∷ false ∷ false ∷ false ∷ [])
+variants-valid : map (λ p. isValid Rfc5545 (calendar (p ∷ []))) variants ≡ (true ∷ false ∷ false ∷ false ∷ false ∷ false ∷ false ∷ false ∷ false ∷ false ∷ false ∷ [])
 unfolding validity-compute
 variants-valid = refl
+
+-- with carets the double quote can be spelled
+carets-valid : map (λ p. isValid Rfc6868 (calendar (p ∷ []))) variants ≡ (true ∷ false ∷ false ∷ false ∷ false ∷ false ∷ false ∷ false ∷ false ∷ false ∷ true ∷ [])
+unfolding validity-compute
+carets-valid = refl
 
 -- two calendars, the second with an event that has no DTSTART; of METHOD only its own counts
 abbrev invited : List Property → List Property → Components
@@ -83,7 +89,7 @@ invited ps qs =
 abbrev request : List Property
 request = prop (ascii "METHOD") (text (ascii "REQUEST") ∷ []) ∷ []
 
-invited-valid : isValid (invited [] []) ∷ isValid (invited request []) ∷ isValid (invited [] request) ∷ [] ≡ false ∷ false ∷ true ∷ []
+invited-valid : isValid Rfc5545 (invited [] []) ∷ isValid Rfc5545 (invited request []) ∷ isValid Rfc5545 (invited [] request) ∷ [] ≡ false ∷ false ∷ true ∷ []
 unfolding validity-compute
 invited-valid = refl
 
@@ -111,6 +117,6 @@ fleets =
     ∷ within (x ∷ x ∷ x ∷ x ∷ x ∷ x ∷ x ∷ x ∷ x ∷ [])  -- too deep
     ∷ []
 
-fleets-valid : map (λ c. isValid (holding c)) fleets ≡ (true ∷ false ∷ true ∷ false ∷ false ∷ false ∷ false ∷ true ∷ false ∷ [])
+fleets-valid : map (λ c. isValid Rfc5545 (holding c)) fleets ≡ (true ∷ false ∷ true ∷ false ∷ false ∷ false ∷ false ∷ true ∷ false ∷ [])
 unfolding validity-compute fleets
 fleets-valid = refl

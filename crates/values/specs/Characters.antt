@@ -1,10 +1,9 @@
 -- The characters that values are written in: nearly all show, and a type leaves only few of them free.
 --     freeIn           the characters that a value's type leaves free: TEXT's, and raw ones
---     isValueText, isParameterText   a value whose free characters both formats can have: no CR; in a parameter no LF and no double quote besides
+--     isValueText      a value whose free characters both formats can have: no CR
 use mathlib.Core.Bool.{Bool}
 use mathlib.Core.List.{List, [], _∷_}
 use Prim.Native.Nat.{ℕ}
-use Rattle.octets.specs.Pick.{_and_}
 use Rattle.octets.specs.Words.{noneHolds}
 use Rattle.calendar.specs.Calendar.{Value, binary, boolean, calAddress, date, dateTime, duration, float, integer, periodExplicit, periodStart, recur, text, time, uri, utcOffset, unknown, geo, requestStatus}
 use Rattle.texts.specs.RequestStatus.{statusParts}
@@ -29,9 +28,6 @@ freeIn (unknown s) = s ∷ []
 freeIn (geo la lo) = []
 freeIn (requestStatus c d x) = statusParts c d x
 
--- 13 is CR, 10 LF, 34 the double quote
+-- 13 is CR
 abbrev pub isValueText : Value → Bool
 isValueText v = noneHolds 13 (freeIn v)
-
-abbrev pub isParameterText : Value → Bool
-isParameterText v = noneHolds 13 (freeIn v) and noneHolds 10 (freeIn v) and noneHolds 34 (freeIn v)

@@ -9,24 +9,26 @@ use Rattle.octets.specs.Append.{_⊕_}
 use Rattle.octets.specs.Class.{upper}
 use Rattle.calendar.specs.Calendar.{Property, Components, noMore, component}
 use Rattle.sink.specs.Sink.{overwrite, Put}
-use Rattle.read_text_line.specs.Write.{writeContentLine}
+use Rattle.read_text_line.specs.Decoded.{writeLine}
 use Rattle.text.specs.WriteText.{contentLineOf}
 use Rattle.xml.specs.Nodes.{Nodes}
 use Rattle.xcal.specs.PropertyNodes.{readProperties}
 use Rattle.xcal.specs.ComponentNodes.{insideOf}
-
-unfoldable pub propertiesRoom : List Property → List ℕ → List ℕ
-propertiesRoom [] k = k
-propertiesRoom (p ∷ ps) k = propertiesRoom ps (overwrite k 0 (writeContentLine (contentLineOf p)))
-
-unfoldable pub calendarRoom : Components → List ℕ → List ℕ
-calendarRoom noMore k = k
-calendarRoom (component n ps inner next) k =
-    calendarRoom next (overwrite (calendarRoom inner (propertiesRoom ps (overwrite k 0 (ascii "BEGIN:" ⊕ n)))) 0 (ascii "END:" ⊕ n))
-
-unfoldable pub headRoom : List ℕ → Nodes → List ℕ → List ℕ
-headRoom m kids k = propertiesRoom (readProperties (insideOf (ascii "properties") kids)) (overwrite k 0 (ascii "BEGIN:" ⊕ upper m))
+use Rattle.edition.specs.declared.Edition.{Edition}
 
 pub record PutBy (d e : List ℕ) (at r : ℕ) (bs l after : List ℕ) : Type 0 where
   pub put : Put d e at r bs
   pub room : l ≡ after
+
+module _ (ed : Edition) where
+  unfoldable pub propertiesRoom : List Property → List ℕ → List ℕ
+  propertiesRoom [] k = k
+  propertiesRoom (p ∷ ps) k = propertiesRoom ps (overwrite k 0 (writeLine ed (contentLineOf p)))
+
+  unfoldable pub calendarRoom : Components → List ℕ → List ℕ
+  calendarRoom noMore k = k
+  calendarRoom (component n ps inner next) k =
+      calendarRoom next (overwrite (calendarRoom inner (propertiesRoom ps (overwrite k 0 (ascii "BEGIN:" ⊕ n)))) 0 (ascii "END:" ⊕ n))
+
+  unfoldable pub headRoom : List ℕ → Nodes → List ℕ → List ℕ
+  headRoom m kids k = propertiesRoom (readProperties (insideOf (ascii "properties") kids)) (overwrite k 0 (ascii "BEGIN:" ⊕ upper m))

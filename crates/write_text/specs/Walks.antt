@@ -9,6 +9,8 @@ use Rattle.text.specs.WriteText.{propertyLines, beginLine}
 use Rattle.xml.specs.Nodes.{Nodes}
 use Rattle.xcal.specs.PropertyNodes.{readProperties}
 use Rattle.xcal.specs.ComponentNodes.{insideOf}
+use Rattle.edition.specs.declared.Edition.{Edition}
 
-unfoldable pub headText : List ℕ → Nodes → List ℕ
-headText m kids = beginLine (upper m) ⊕ propertyLines (readProperties (insideOf (ascii "properties") kids))
+module _ (ed : Edition) where
+  unfoldable pub headText : List ℕ → Nodes → List ℕ
+  headText m kids = beginLine (upper m) ⊕ propertyLines ed (readProperties (insideOf (ascii "properties") kids))

@@ -1,6 +1,7 @@
 // Components as lines: BEGIN, the properties, the components inside, END. See specs/Walks.antt.
 use crate::children::inside_of;
 use crate::properties::put_properties;
+use edition::Edition;
 use folding::folded::put_folded;
 use markup::element;
 use names::put_upper;
@@ -50,6 +51,7 @@ fn put_name_line(
 fn put_head(
     out: &mut [u8],
     o: usize,
+    edition: Edition,
     line: &mut [u8],
     s: &[u8],
     name: usize,
@@ -59,13 +61,13 @@ fn put_head(
     requires { ⌜ (length (now s) ≤ 65535) × (length (now line) ≡ 262144) × (end ≤ length (now s)) ⌝ }
     ensures { λ r. ⌜
         PutBy (now (out .entry)) (now (out .exit)) o r
-        (headText (nameIn (now (s .entry)) name end) (nodesAt (now (s .entry)) inside))
+        (headText edition (nameIn (now (s .entry)) name end) (nodesAt (now (s .entry)) inside))
         (now (line .exit))
-        (headRoom (nameIn (now (s .entry)) name end) (nodesAt (now (s .entry)) inside) (now (line .entry))) ⌝ }
+        (headRoom edition (nameIn (now (s .entry)) name end) (nodesAt (now (s .entry)) inside) (now (line .entry))) ⌝ }
 {
     let a = put_name_line(out, o, line, b"BEGIN:", s, name, end);
     let from = inside_of(s, inside, &element::PROPERTIES);
-    put_properties(out, a, line, s, from)
+    put_properties(out, a, edition, line, s, from)
 }
 
 // What stands behind them: END.
@@ -91,6 +93,7 @@ fn components_inside(s: &[u8], inside: usize) -> usize
 fn put_components(
     out: &mut [u8],
     o: usize,
+    edition: Edition,
     line: &mut [u8],
     s: &[u8],
     from: usize,
@@ -99,9 +102,9 @@ fn put_components(
     requires { ⌜ (length (now s) ≤ 65535) × (length (now line) ≡ 262144) ⌝ }
     ensures { λ r. ⌜
         PutBy (now (out .entry)) (now (out .exit)) o r
-        (writeCalendar (shallow left (readComponents (nodesAt (now (s .entry)) from))))
+        (writeCalendar edition (shallow left (readComponents (nodesAt (now (s .entry)) from))))
         (now (line .exit))
-        (calendarRoom (shallow left (readComponents (nodesAt (now (s .entry)) from))) (now (line .entry))) ⌝ }
+        (calendarRoom edition (shallow left (readComponents (nodesAt (now (s .entry)) from))) (now (line .entry))) ⌝ }
 {
     if left < 1 {
         return o;
@@ -116,9 +119,9 @@ fn put_components(
                 return p;
             }
             NodeKind::Element => {
-                let a = put_head(out, p, line, s, n.name, n.name_end, n.inside);
+                let a = put_head(out, p, edition, line, s, n.name, n.name_end, n.inside);
                 let inner = components_inside(s, n.inside);
-                let b = put_components(out, a, line, s, inner, left - 1);
+                let b = put_components(out, a, edition, line, s, inner, left - 1);
                 p = put_tail(out, b, line, s, n.name, n.name_end);
                 at = n.next;
             }
@@ -133,13 +136,20 @@ fn put_components(
 }
 
 // The lines of the calendars whose elements stand from `from` on. `line` is the room for a line.
-pub fn put_calendar(out: &mut [u8], o: usize, line: &mut [u8], s: &[u8], from: usize) -> usize
+pub fn put_calendar(
+    out: &mut [u8],
+    o: usize,
+    edition: Edition,
+    line: &mut [u8],
+    s: &[u8],
+    from: usize,
+) -> usize
     requires { ⌜ (length (now s) ≤ 65535) × (length (now line) ≡ 262144) ⌝ }
     ensures { λ r. ⌜
         PutBy (now (out .entry)) (now (out .exit)) o r
-        (writeCalendar (readCalendars (nodesAt (now (s .entry)) from)))
+        (writeCalendar edition (readCalendars (nodesAt (now (s .entry)) from)))
         (now (line .exit))
-        (calendarRoom (readCalendars (nodesAt (now (s .entry)) from)) (now (line .entry))) ⌝ }
+        (calendarRoom edition (readCalendars (nodesAt (now (s .entry)) from)) (now (line .entry))) ⌝ }
 {
-    put_components(out, o, line, s, from, component::LEVELS)
+    put_components(out, o, edition, line, s, from, component::LEVELS)
 }

@@ -1,6 +1,7 @@
 // The content line of a property's element: its name in capitals, VALUE, its parameters, a colon, its values. See specs/Content.antt.
 use crate::children::parameters_inside;
 use crate::types::put_value_parameter;
+use edition::Edition;
 use names::put_upper;
 use read_xml_nodes::Element;
 use read_xml_parameters::put_parameters;
@@ -24,17 +25,24 @@ ghost use Rattle.read_xml_nodes.specs.Elements.{nameAt};
 ghost use Rattle.write_text.specs.Content.{parametersText, lineText};
 
 // VALUE and the parameters of the property of the row whose content begins at `inside`.
-fn put_all_parameters(out: &mut [u8], o: usize, row: Row, s: &[u8], inside: usize) -> usize
+fn put_all_parameters(
+    out: &mut [u8],
+    o: usize,
+    edition: Edition,
+    row: Row,
+    s: &[u8],
+    inside: usize,
+) -> usize
     requires { ⌜ (length (now s) ≤ 65535) × (inside ≤ length (now s)) ⌝ }
     ensures { λ r. ⌜
         ((w : List ℕ) →
         row ≡ rowAt (placeOf w propertyNames) →
-        Put (now (out .entry)) (now (out .exit)) o r (parametersText w (nodesAt (now (s .entry)) inside))) ⌝ }
+        Put (now (out .entry)) (now (out .exit)) o r (parametersText edition w (nodesAt (now (s .entry)) inside))) ⌝ }
 {
     let t = type_of_values(row.number, s, inside);
     let q = parameters_inside(row.number, s, inside);
     let a = put_value_parameter(out, o, row.default, t);
-    put_parameters(out, a, s, q)
+    put_parameters(out, a, edition, s, q)
 }
 
 // A colon and the values of the property of the number `p`.
@@ -51,14 +59,14 @@ fn put_all_values(out: &mut [u8], o: usize, p: usize, s: &[u8], inside: usize) -
 }
 
 // The content line of the property whose element is `e`.
-pub fn put_content_line(out: &mut [u8], o: usize, s: &[u8], e: Element) -> usize
+pub fn put_content_line(out: &mut [u8], o: usize, edition: Edition, s: &[u8], e: Element) -> usize
     requires { ⌜ (length (now s) ≤ 65535) × (e .«name_end» ≤ length (now s)) × (e .inside ≤ length (now s)) ⌝ }
     ensures { λ r. ⌜
         Put (now (out .entry)) (now (out .exit)) o r
-        (lineText (nameAt (now (s .entry)) e) (nodesAt (now (s .entry)) (e .inside))) ⌝ }
+        (lineText edition (nameAt (now (s .entry)) e) (nodesAt (now (s .entry)) (e .inside))) ⌝ }
 {
     let row = row_of(0, &s[..e.name_end], e.name);
     let a = put_upper(out, o, 0, &s[..e.name_end], e.name);
-    let b = put_all_parameters(out, a, row, s, e.inside);
+    let b = put_all_parameters(out, a, edition, row, s, e.inside);
     put_all_values(out, b, row.number, s, e.inside)
 }

@@ -1,5 +1,6 @@
 // Properties as folded lines. A fold is known only when the line is there: `line` is the room in which it is written before.
 use crate::content::put_content_line;
+use edition::Edition;
 use folding::folded::put_folded;
 use read_xml_nodes::Element;
 use read_xml_nodes::NodeKind;
@@ -17,31 +18,45 @@ ghost use Rattle.write_text.specs.Content.{lineText};
 ghost use Rattle.write_text.specs.Filled.{propertiesRoom, PutBy};
 
 // The line of the property whose element is `e`.
-fn put_property_line(out: &mut [u8], o: usize, line: &mut [u8], s: &[u8], e: Element) -> usize
+fn put_property_line(
+    out: &mut [u8],
+    o: usize,
+    edition: Edition,
+    line: &mut [u8],
+    s: &[u8],
+    e: Element,
+) -> usize
     requires { ⌜
         (length (now s) ≤ 65535)
         × (e .«name_end» ≤ length (now s))
         × (e .inside ≤ length (now s))
-        × (length (lineText (nameAt (now s) e) (nodesAt (now s) (e .inside))) ≤ length (now line)) ⌝ }
+        × (length (lineText edition (nameAt (now s) e) (nodesAt (now s) (e .inside))) ≤ length (now line)) ⌝ }
     ensures { λ r. ⌜
         PutBy (now (out .entry)) (now (out .exit)) o r
-        (foldedLine (lineText (nameAt (now (s .entry)) e) (nodesAt (now (s .entry)) (e .inside))))
+        (foldedLine (lineText edition (nameAt (now (s .entry)) e) (nodesAt (now (s .entry)) (e .inside))))
         (now (line .exit))
         (overwrite (now (line .entry)) 0
-        (lineText (nameAt (now (s .entry)) e) (nodesAt (now (s .entry)) (e .inside)))) ⌝ }
+        (lineText edition (nameAt (now (s .entry)) e) (nodesAt (now (s .entry)) (e .inside)))) ⌝ }
 {
-    let n = put_content_line(line, 0, s, e);
+    let n = put_content_line(line, 0, edition, s, e);
     put_folded(out, o, &line[..n])
 }
 
 // The lines of the properties whose elements stand from `from` on.
-pub fn put_properties(out: &mut [u8], o: usize, line: &mut [u8], s: &[u8], from: usize) -> usize
+pub fn put_properties(
+    out: &mut [u8],
+    o: usize,
+    edition: Edition,
+    line: &mut [u8],
+    s: &[u8],
+    from: usize,
+) -> usize
     requires { ⌜ (length (now s) ≤ 65535) × (length (now line) ≡ 262144) ⌝ }
     ensures { λ r. ⌜
         PutBy (now (out .entry)) (now (out .exit)) o r
-        (propertyLines (readProperties (nodesAt (now (s .entry)) from)))
+        (propertyLines edition (readProperties (nodesAt (now (s .entry)) from)))
         (now (line .exit))
-        (propertiesRoom (readProperties (nodesAt (now (s .entry)) from)) (now (line .entry))) ⌝ }
+        (propertiesRoom edition (readProperties (nodesAt (now (s .entry)) from)) (now (line .entry))) ⌝ }
 {
     let mut p = o;
     let mut at = from;
@@ -60,7 +75,7 @@ pub fn put_properties(out: &mut [u8], o: usize, line: &mut [u8], s: &[u8], from:
                     inside: n.inside,
                     end: n.end,
                 };
-                p = put_property_line(out, p, line, s, element);
+                p = put_property_line(out, p, edition, line, s, element);
                 at = n.next;
             }
             NodeKind::Literal => {

@@ -13,6 +13,7 @@ use Rattle.schema.specs.Numbers.{componentName}
 use Rattle.write_xml_property.specs.Property.{partsXml}
 use Rattle.text.specs.Tree.{Entry, innerOf}
 use Rattle.xcal.specs.WriteXml.{isNoMore}
+use Rattle.edition.specs.declared.Edition.{Edition}
 use Rattle.write_xml.specs.declared.entry.Found.{Found}
 use Rattle.write_xml.specs.declared.entry.Kind.the-variants.{Begin, End, Property, Nothing}
 use Rattle.write_xml.specs.Entries.{entriesAt, FoundAt}
@@ -22,56 +23,58 @@ use Rattle.write_xml.specs.laws.Walks.{own-none, own-close}
 use Rattle.write_xml.specs.Places.{Passed, LeadingPut}
 use Rattle.write_xml.proofs.Walking.{Walking, own, walk-start, walk-passed, walk-closed, own-at-property, own-at-nothing}
 
-pub record Leading (k mode : ℕ) (s : List ℕ) (from : ℕ) (d : List ℕ) (o : ℕ) (e : List ℕ) (p at : ℕ) : Type 0 where
-  pub walking : Walking (own k) mode s from d o e p at
-  pub components : innerOf (entriesAt mode s at) 0 ≡ innerOf (entriesAt mode s from) 0
+module _ (ed : Edition) where
+  pub record Leading (k mode : ℕ) (s : List ℕ) (from : ℕ) (d : List ℕ) (o : ℕ) (e : List ℕ) (p at : ℕ) : Type 0 where
+    pub walking : Walking ed (own k) mode s from d o e p at
+    pub components : innerOf (entriesAt ed mode s at) 0 ≡ innerOf (entriesAt ed mode s from) 0
 
-pub leading-start : (k mode : ℕ) (s : List ℕ) (from : ℕ) (d : List ℕ) (o : ℕ) → length d * 1 < 2 ^ 63 → Ready mode s from → Leading k mode s from d o d o from
-leading-start k mode s from d o h r = record { walking = walk-start (own k) mode s from d o h r; components = refl }
+module _ {ed : Edition} where
+  pub leading-start : (k mode : ℕ) (s : List ℕ) (from : ℕ) (d : List ℕ) (o : ℕ) → length d * 1 < 2 ^ 63 → Ready mode s from → Leading ed k mode s from d o d o from
+  leading-start k mode s from d o h r = record { walking = walk-start (own k) mode s from d o h r; components = refl }
 
-module _ {k mode : ℕ} {s : List ℕ} {from : ℕ} {d : List ℕ} {o : ℕ} {e : List ℕ} {p at : ℕ} (m : Leading k mode s from d o e p at) where
-  pub leading-ready : Ready mode s at
-  leading-ready = m .walking .ready
+  module _ {k mode : ℕ} {s : List ℕ} {from : ℕ} {d : List ℕ} {o : ℕ} {e : List ℕ} {p at : ℕ} (m : Leading ed k mode s from d o e p at) where
+    pub leading-ready : Ready mode s at
+    leading-ready = m .walking .ready
 
-  pub leading-length : length e ≡ length d
-  leading-length = m .walking .kept
+    pub leading-length : length e ≡ length d
+    leading-length = m .walking .kept
 
-  -- it stops at the lines whose entries are es
-  stopped : (es : List Entry) (bare : Bool) (next : ℕ) → at ≤ next → entriesAt mode s at ≡ es → bare ≡ isNoMore (innerOf es 0) → (bare ≡ true → ownXml (componentName k) es ≡ []) → (bare ≡ true → Passed mode s from next) →
-      LeadingPut d e o k mode s from (record { to = p; inner = at; bare = bare; next = next })
-  stopped es bare next h i q z x = record {
-    todo = m .walking .todo;
-    all = λ h. ap (ownXml (componentName k)) i ∙ z h;
-    ahead = record {
-      onward = m .walking .low;
-      forth = omega (arith, m .walking .low);
-      ready = m .walking .ready;
-      components = m .components;
-      rest = m .walking .over;
-      empty = q ∙ ap (λ (es : List Entry). isNoMore (innerOf es 0)) (sym i) ∙ ap isNoMore (m .components);
-      passed = x;
-    };
-  }
+    -- it stops at the lines whose entries are es
+    stopped : (es : List Entry) (bare : Bool) (next : ℕ) → at ≤ next → entriesAt ed mode s at ≡ es → bare ≡ isNoMore (innerOf es 0) → (bare ≡ true → ownXml (componentName k) es ≡ []) → (bare ≡ true → Passed ed mode s from next) →
+        LeadingPut ed d e o k mode s from (record { to = p; inner = at; bare = bare; next = next })
+    stopped es bare next h i q z x = record {
+      todo = m .walking .todo;
+      all = λ h. ap (ownXml (componentName k)) i ∙ z h;
+      ahead = record {
+        onward = m .walking .low;
+        forth = omega (arith, m .walking .low);
+        ready = m .walking .ready;
+        components = m .components;
+        rest = m .walking .over;
+        empty = q ∙ ap (λ (es : List Entry). isNoMore (innerOf es 0)) (sym i) ∙ ap isNoMore (m .components);
+        passed = x;
+      };
+    }
 
-  pub leading-end : length s ≤ at → LeadingPut d e o k mode s from (record { to = p; inner = at; bare = true; next = at })
-  unfolding innerOf
-  leading-end h = stopped [] true at (omega arith) (entries-past mode s at (m .walking .ready .cut) h) refl (λ x. own-none (componentName k)) (λ x. walk-passed (m .walking) h)
-
-  module _ {r : Found} (f : FoundAt mode s at r) where
-    pub leading-begin : r .kind ≡ Begin → LeadingPut d e o k mode s from (record { to = p; inner = at; bare = false; next = at })
+    pub leading-end : length s ≤ at → LeadingPut ed d e o k mode s from (record { to = p; inner = at; bare = true; next = at })
     unfolding innerOf
-    leading-begin q = stopped _ false at (omega arith) (by-kind f Begin q) refl (λ x. absurd (false≢true x)) (λ x. absurd (false≢true x))
+    leading-end h = stopped [] true at (omega arith) (entries-past mode s at (m .walking .ready .cut) h) refl (λ x. own-none (componentName k)) (λ x. walk-passed (m .walking) h)
 
-    pub leading-over : r .kind ≡ End → LeadingPut d e o k mode s from (record { to = p; inner = at; bare = true; next = r .next })
-    unfolding innerOf
-    leading-over q = stopped _ true (r .next) (omega (arith, f .onward)) (by-kind f End q) refl (λ x. own-close (componentName k) _) (λ x. walk-closed (m .walking) (r .next) (f .onward) (f .ready) (by-kind f End q))
+    module _ {r : Found} (f : FoundAt ed mode s at r) where
+      pub leading-begin : r .kind ≡ Begin → LeadingPut ed d e o k mode s from (record { to = p; inner = at; bare = false; next = at })
+      unfolding innerOf
+      leading-begin q = stopped _ false at (omega arith) (by-kind f Begin q) refl (λ x. absurd (false≢true x)) (λ x. absurd (false≢true x))
 
-    pub leading-property : {g : List ℕ} {p′ : ℕ} → r .kind ≡ Property → Put e g p p′ (partsXml k mode (take (r .end) s) (r .line)) → Leading k mode s from d o g p′ (r .next)
-    unfolding innerOf
-    leading-property q b = record { walking = own-at-property (m .walking) f q b; components = ap (λ (es : List Entry). innerOf es 0) (sym (by-kind f Property q .first)) ∙ m .components }
+      pub leading-over : r .kind ≡ End → LeadingPut ed d e o k mode s from (record { to = p; inner = at; bare = true; next = r .next })
+      unfolding innerOf
+      leading-over q = stopped _ true (r .next) (omega (arith, f .onward)) (by-kind f End q) refl (λ x. own-close (componentName k) _) (λ x. walk-closed (m .walking) (r .next) (f .onward) (f .ready) (by-kind f End q))
 
-    pub leading-nothing : r .kind ≡ Nothing → Leading k mode s from d o e p (r .next)
-    unfolding innerOf
-    leading-nothing q = record { walking = own-at-nothing (m .walking) f q; components = ap (λ (es : List Entry). innerOf es 0) (sym (by-kind f Nothing q)) ∙ m .components }
+      pub leading-property : {g : List ℕ} {p′ : ℕ} → r .kind ≡ Property → Put e g p p′ (partsXml ed k mode (take (r .end) s) (r .line)) → Leading ed k mode s from d o g p′ (r .next)
+      unfolding innerOf
+      leading-property q b = record { walking = own-at-property (m .walking) f q b; components = ap (λ (es : List Entry). innerOf es 0) (sym (by-kind f Property q .first)) ∙ m .components }
+
+      pub leading-nothing : r .kind ≡ Nothing → Leading ed k mode s from d o e p (r .next)
+      unfolding innerOf
+      leading-nothing q = record { walking = own-at-nothing (m .walking) f q; components = ap (λ (es : List Entry). innerOf es 0) (sym (by-kind f Nothing q)) ∙ m .components }
 
 pub ruleset leadings = (leading-start, leading-ready, leading-length, leading-end, leading-begin, leading-over, leading-property, leading-nothing, needs)

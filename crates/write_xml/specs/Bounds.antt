@@ -14,6 +14,7 @@ use Rattle.octets.specs.Class.{upper}
 use Rattle.source.specs.Source.{rest}
 use Rattle.read_text_line.specs.Ready.{Ready}
 use Rattle.text.specs.Tree.{Entry, begin, end}
+use Rattle.edition.specs.declared.Edition.{Edition}
 use Rattle.write_xml.specs.declared.entry.Found.{Found}
 use Rattle.write_xml.specs.declared.entry.Kind.{Kind}
 use Rattle.write_xml.specs.declared.entry.Kind.the-variants.{Begin, End, Property, Nothing}
@@ -27,19 +28,20 @@ abbrev pub opens : List ℕ → Bool
 opens [] = false
 opens (b ∷ l) = opensBound b
 
-pub record Aside (mode : ℕ) (s : List ℕ) (at next : ℕ) : Type 0 where
-  pub entry : Entry
-  pub aside : isAside entry ≡ true
-  pub first : First mode s at entry next
+module _ (ed : Edition) where
+  pub record Aside (mode : ℕ) (s : List ℕ) (at next : ℕ) : Type 0 where
+    pub entry : Entry
+    pub aside : isAside entry ≡ true
+    pub first : First ed mode s at entry next
 
-abbrev pub BoundBy : Kind → ℕ → List ℕ → ℕ → ℕ → ℕ → ℕ → Type 0
-BoundBy Begin mode s at v e next = First mode s at (begin (upper (rest mode (take e s) v))) next
-BoundBy End mode s at v e next = First mode s at end next
-BoundBy Property mode s at v e next = Aside mode s at next
-BoundBy Nothing mode s at v e next = Aside mode s at next
+  abbrev pub BoundBy : Kind → ℕ → List ℕ → ℕ → ℕ → ℕ → ℕ → Type 0
+  BoundBy Begin mode s at v e next = First ed mode s at (begin (upper (rest mode (take e s) v))) next
+  BoundBy End mode s at v e next = First ed mode s at end next
+  BoundBy Property mode s at v e next = Aside mode s at next
+  BoundBy Nothing mode s at v e next = Aside mode s at next
 
-pub record BoundAt (mode : ℕ) (s : List ℕ) (at : ℕ) (r : Found) : Type 0 where
-  pub onward : at < r .next
-  pub ready : Ready mode s (r .next)
-  pub ends : r .end ≤ length s
-  pub found : BoundBy (r .kind) mode s at (r .line .value) (r .end) (r .next)
+  pub record BoundAt (mode : ℕ) (s : List ℕ) (at : ℕ) (r : Found) : Type 0 where
+    pub onward : at < r .next
+    pub ready : Ready mode s (r .next)
+    pub ends : r .end ≤ length s
+    pub found : BoundBy (r .kind) mode s at (r .line .value) (r .end) (r .next)

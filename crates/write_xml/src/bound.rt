@@ -2,6 +2,7 @@
 use crate::entry::Found;
 use crate::entry::Kind;
 use crate::entry::entry_at;
+use edition::Edition;
 use octets::unit::LOWER_B;
 use octets::unit::LOWER_E;
 use octets::unit::UPPER_B;
@@ -35,9 +36,9 @@ fn opens_bound(b: usize) -> bool
 }
 
 // The line at `at`, which is neither BEGIN nor END: only its end is sought.
-fn line_aside(mode: usize, s: &[u8], at: usize) -> Found
+fn line_aside(edition: Edition, mode: usize, s: &[u8], at: usize) -> Found
     requires { ⌜ Ready mode (now s) at × (at < length (now s)) × (opens (rest mode (now s) at) ≡ false) ⌝ }
-    ensures { λ r. ⌜ BoundAt mode (now (s .entry)) at r ⌝ }
+    ensures { λ r. ⌜ BoundAt edition mode (now (s .entry)) at r ⌝ }
 {
     match line_end(mode, s, at) {
         Ending::Loose => {
@@ -70,14 +71,14 @@ fn line_aside(mode: usize, s: &[u8], at: usize) -> Found
 }
 
 // The line at `at`: BEGIN, END, or another. Where its first byte tells that it is another, it is not taken apart.
-pub fn bound_at(mode: usize, s: &[u8], at: usize) -> Found
+pub fn bound_at(edition: Edition, mode: usize, s: &[u8], at: usize) -> Found
     requires { ⌜ Ready mode (now s) at × (at < length (now s)) ⌝ }
-    ensures { λ r. ⌜ BoundAt mode (now (s .entry)) at r ⌝ }
+    ensures { λ r. ⌜ BoundAt edition mode (now (s .entry)) at r ⌝ }
 {
     let n = unit(mode, s, at);
     let opens = opens_bound(n.u);
     if opens {
-        return entry_at(mode, s, at);
+        return entry_at(edition, mode, s, at);
     }
-    line_aside(mode, s, at)
+    line_aside(edition, mode, s, at)
 }

@@ -3,6 +3,7 @@ use crate::bound::bound_at;
 use crate::entry::Kind;
 use crate::parts::put_head;
 use crate::parts::put_tail;
+use edition::Edition;
 ghost use Prim.Native.Nat.{_≤_};
 ghost use Rattle.read_text_line.specs.Ready.{Ready};
 ghost use Rattle.write_xml.specs.Places.{ComponentsPut};
@@ -17,28 +18,29 @@ pub struct Reached {
 pub fn put_components(
     out: &mut [u8],
     o: usize,
+    edition: Edition,
     mode: usize,
     s: &[u8],
     from: usize,
     left: usize,
 ) -> Reached
     requires { ⌜ Ready mode (now s) from × (1 ≤ left) ⌝ }
-    ensures { λ r. ⌜ ComponentsPut left (now (out .entry)) (now (out .exit)) o mode (now (s .entry)) from r ⌝ }
+    ensures { λ r. ⌜ ComponentsPut edition left (now (out .entry)) (now (out .exit)) o mode (now (s .entry)) from r ⌝ }
 {
     let mut p = o;
     let mut at = from;
     while at < s.len() {
-        let f = bound_at(mode, s, at);
+        let f = bound_at(edition, mode, s, at);
         let kind = f.kind;
         match kind {
             Kind::Begin => {
                 let l = f.line;
-                let h = put_head(out, p, mode, s, l.value, f.end, f.next, left);
+                let h = put_head(out, p, edition, mode, s, l.value, f.end, f.next, left);
                 if h.bare {
                     p = put_tail(out, h.to, mode, &s[..f.end], l.value, h.bare);
                     at = h.next;
                 } else {
-                    let b = put_components(out, h.to, mode, s, h.inner, left - 1);
+                    let b = put_components(out, h.to, edition, mode, s, h.inner, left - 1);
                     p = put_tail(out, b.to, mode, &s[..f.end], l.value, h.bare);
                     at = b.next;
                 }

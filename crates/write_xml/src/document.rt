@@ -1,5 +1,6 @@
 // The document. See crate xcal, specs/WriteXml.antt; its fixed strings are those of crate markup. See specs/laws/Written.antt.
 use crate::components::put_components;
+use edition::Edition;
 use markup::declaration;
 use markup::element;
 use markup::namespace;
@@ -74,14 +75,14 @@ fn put_back(out: &mut [u8], o: usize) -> usize
 }
 
 // The canonical XML of the text, whatever it is.
-pub fn put_document(out: &mut [u8], o: usize, mode: usize, s: &[u8]) -> usize
+pub fn put_document(out: &mut [u8], o: usize, edition: Edition, mode: usize, s: &[u8]) -> usize
     requires { ⌜ cuts mode ≡ true ⌝ }
     ensures { λ r. ⌜
         Put (now (out .entry)) (now (out .exit)) o r
-        (writeDocument (calendarOf (lines (rest mode (now (s .entry)) 0)))) ⌝ }
+        (writeDocument (calendarOf edition (lines (rest mode (now (s .entry)) 0)))) ⌝ }
 {
     let a = put_front(out, o);
     let from = settled(mode, s, 0);
-    let b = put_components(out, a, mode, s, from, component::LEVELS);
+    let b = put_components(out, a, edition, mode, s, from, component::LEVELS);
     put_back(out, b.to)
 }

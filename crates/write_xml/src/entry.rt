@@ -1,4 +1,5 @@
 // What a line of a text is. See specs/Entries.antt.
+use edition::Edition;
 use names::is_word_any_case;
 use read_text_line::Ending;
 use read_text_line::LineCursors;
@@ -45,9 +46,9 @@ fn kind_of(mode: usize, name: &[u8], at: usize) -> Kind
 }
 
 // The line at `at`.
-pub fn entry_at(mode: usize, s: &[u8], at: usize) -> Found
+pub fn entry_at(edition: Edition, mode: usize, s: &[u8], at: usize) -> Found
     requires { ⌜ Ready mode (now s) at × (at < length (now s)) ⌝ }
-    ensures { λ r. ⌜ FoundAt mode (now (s .entry)) at r ⌝ }
+    ensures { λ r. ⌜ FoundAt edition mode (now (s .entry)) at r ⌝ }
 {
     match line_end(mode, s, at) {
         Ending::Loose => {

@@ -3,6 +3,7 @@
 use crate::passing::pass_component;
 use crate::properties::Walked;
 use crate::properties::put_properties_element;
+use edition::Edition;
 use markup::element;
 use names::is_word_any_case;
 use schema::component_number;
@@ -60,18 +61,18 @@ fn put_components_end(out: &mut [u8], o: usize, there: bool) -> usize
 }
 
 // What a walk over the properties came to, where the component stands `left` levels deep at most with those inside it: on the last level nothing stands inside it.
-fn cut_at_level(mode: usize, s: &[u8], w: Walked, left: usize) -> Walked
+fn cut_at_level(edition: Edition, mode: usize, s: &[u8], w: Walked, left: usize) -> Walked
     requires { ⌜ Ready mode (now s) (w .inner) ⌝ }
     ensures { λ r. ⌜
         ((d e : List ℕ) (o : ℕ) (bs : List ℕ) (from : ℕ) →
-        PropertiesPut whole d e o bs mode (now (s .entry)) from w →
-        PropertiesPut (shallow (left - 1)) d e o bs mode (now (s .entry)) from r) ⌝ }
+        PropertiesPut edition whole d e o bs mode (now (s .entry)) from w →
+        PropertiesPut edition (shallow (left - 1)) d e o bs mode (now (s .entry)) from r) ⌝ }
 {
     if w.bare {
         return w;
     }
     if left < 2 {
-        let next = pass_component(mode, s, w.inner);
+        let next = pass_component(edition, mode, s, w.inner);
         return Walked {
             to: w.to,
             inner: w.inner,
@@ -86,6 +87,7 @@ fn cut_at_level(mode: usize, s: &[u8], w: Walked, left: usize) -> Walked
 pub fn put_head(
     out: &mut [u8],
     o: usize,
+    edition: Edition,
     mode: usize,
     s: &[u8],
     v: usize,
@@ -95,14 +97,15 @@ pub fn put_head(
 ) -> Walked
     requires { ⌜ (e ≤ length (now s)) × Ready mode (now s) from ⌝ }
     ensures { λ r. ⌜
-        PropertiesPut (shallow (left - 1)) (now (out .entry)) (now (out .exit)) o
-        (headXml (upper (rest mode (take e (now (s .entry))) v)) (r .bare) (entriesAt mode (now (s .entry)) from)) mode
-        (now (s .entry)) from r ⌝ }
+        PropertiesPut edition (shallow (left - 1)) (now (out .entry)) (now (out .exit)) o
+        (headXml (upper (rest mode (take e (now (s .entry))) v)) (r .bare)
+        (entriesAt edition mode (now (s .entry)) from))
+        mode (now (s .entry)) from r ⌝ }
 {
     let k = component_number(mode, &s[..e], v);
     let a = put_small_start(out, o, mode, &s[..e], v);
-    let all = put_properties_element(out, a, k, mode, s, from);
-    let b = cut_at_level(mode, s, all, left);
+    let all = put_properties_element(out, a, edition, k, mode, s, from);
+    let b = cut_at_level(edition, mode, s, all, left);
     let there = has_components(mode, &s[..e], v, b.bare);
     let c = put_components_start(out, b.to, there);
     Walked {

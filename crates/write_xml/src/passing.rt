@@ -1,18 +1,19 @@
 // The way past a component. See specs/Places.antt.
 use crate::bound::bound_at;
 use crate::entry::Kind;
+use edition::Edition;
 ghost use Rattle.read_text_line.specs.Ready.{Ready};
 ghost use Rattle.write_xml.specs.Places.{Passed};
 
 // The cursor behind the END of the component whose lines begin at `from`, or the text's end where there is none.
-pub fn pass_component(mode: usize, s: &[u8], from: usize) -> usize
+pub fn pass_component(edition: Edition, mode: usize, s: &[u8], from: usize) -> usize
     requires { ⌜ Ready mode (now s) from ⌝ }
-    ensures { λ r. ⌜ Passed mode (now (s .entry)) from r ⌝ }
+    ensures { λ r. ⌜ Passed edition mode (now (s .entry)) from r ⌝ }
 {
     let mut at = from;
     let mut depth: usize = 0;
     while at < s.len() {
-        let f = bound_at(mode, s, at);
+        let f = bound_at(edition, mode, s, at);
         let kind = f.kind;
         match kind {
             Kind::Begin => {

@@ -2,6 +2,7 @@
 use crate::entry::Kind;
 use crate::entry::entry_at;
 use crate::passing::pass_component;
+use edition::Edition;
 use markup::element;
 use tags::put_end_tag;
 use tags::put_start_tag;
@@ -25,14 +26,22 @@ pub struct Walked {
 }
 
 // The properties of the component of the number `k` whose lines begin at `from`, up to its first subcomponent.
-fn put_leading(out: &mut [u8], o: usize, k: usize, mode: usize, s: &[u8], from: usize) -> Walked
+fn put_leading(
+    out: &mut [u8],
+    o: usize,
+    edition: Edition,
+    k: usize,
+    mode: usize,
+    s: &[u8],
+    from: usize,
+) -> Walked
     requires { ⌜ Ready mode (now s) from ⌝ }
-    ensures { λ r. ⌜ LeadingPut (now (out .entry)) (now (out .exit)) o k mode (now (s .entry)) from r ⌝ }
+    ensures { λ r. ⌜ LeadingPut edition (now (out .entry)) (now (out .exit)) o k mode (now (s .entry)) from r ⌝ }
 {
     let mut p = o;
     let mut at = from;
     while at < s.len() {
-        let f = entry_at(mode, s, at);
+        let f = entry_at(edition, mode, s, at);
         let kind = f.kind;
         match kind {
             Kind::Begin => {
@@ -53,7 +62,7 @@ fn put_leading(out: &mut [u8], o: usize, k: usize, mode: usize, s: &[u8], from: 
             }
             Kind::Property => {
                 let l = f.line;
-                p = put_property(out, p, k, mode, &s[..f.end], l);
+                p = put_property(out, p, edition, k, mode, &s[..f.end], l);
                 at = f.next;
             }
             Kind::Nothing => {
@@ -70,27 +79,35 @@ fn put_leading(out: &mut [u8], o: usize, k: usize, mode: usize, s: &[u8], from: 
 }
 
 // Those from `from` on, between and behind its subcomponents too.
-fn put_following(out: &mut [u8], o: usize, k: usize, mode: usize, s: &[u8], from: usize) -> usize
+fn put_following(
+    out: &mut [u8],
+    o: usize,
+    edition: Edition,
+    k: usize,
+    mode: usize,
+    s: &[u8],
+    from: usize,
+) -> usize
     requires { ⌜ Ready mode (now s) from ⌝ }
     ensures { λ r. ⌜
         Put (now (out .entry)) (now (out .exit)) o r
-        (ownXml (componentName k) (entriesAt mode (now (s .entry)) from)) ⌝ }
+        (ownXml (componentName k) (entriesAt edition mode (now (s .entry)) from)) ⌝ }
 {
     let mut p = o;
     let mut at = from;
     while at < s.len() {
-        let f = entry_at(mode, s, at);
+        let f = entry_at(edition, mode, s, at);
         let kind = f.kind;
         match kind {
             Kind::Begin => {
-                at = pass_component(mode, s, f.next);
+                at = pass_component(edition, mode, s, f.next);
             }
             Kind::End => {
                 return p;
             }
             Kind::Property => {
                 let l = f.line;
-                p = put_property(out, p, k, mode, &s[..f.end], l);
+                p = put_property(out, p, edition, k, mode, &s[..f.end], l);
                 at = f.next;
             }
             Kind::Nothing => {
@@ -102,17 +119,25 @@ fn put_following(out: &mut [u8], o: usize, k: usize, mode: usize, s: &[u8], from
 }
 
 // All of them: those before the first subcomponent, and the rest where there is one.
-fn put_properties(out: &mut [u8], o: usize, k: usize, mode: usize, s: &[u8], from: usize) -> Walked
+fn put_properties(
+    out: &mut [u8],
+    o: usize,
+    edition: Edition,
+    k: usize,
+    mode: usize,
+    s: &[u8],
+    from: usize,
+) -> Walked
     requires { ⌜ Ready mode (now s) from ⌝ }
     ensures { λ r. ⌜
-        PropertiesPut whole (now (out .entry)) (now (out .exit)) o
-        (ownXml (componentName k) (entriesAt mode (now (s .entry)) from)) mode (now (s .entry)) from r ⌝ }
+        PropertiesPut edition whole (now (out .entry)) (now (out .exit)) o
+        (ownXml (componentName k) (entriesAt edition mode (now (s .entry)) from)) mode (now (s .entry)) from r ⌝ }
 {
-    let a = put_leading(out, o, k, mode, s, from);
+    let a = put_leading(out, o, edition, k, mode, s, from);
     if a.bare {
         return a;
     }
-    let b = put_following(out, a.to, k, mode, s, a.inner);
+    let b = put_following(out, a.to, edition, k, mode, s, a.inner);
     Walked {
         to: b,
         inner: a.inner,
@@ -125,6 +150,7 @@ fn put_properties(out: &mut [u8], o: usize, k: usize, mode: usize, s: &[u8], fro
 pub fn put_properties_element(
     out: &mut [u8],
     o: usize,
+    edition: Edition,
     k: usize,
     mode: usize,
     s: &[u8],
@@ -132,12 +158,12 @@ pub fn put_properties_element(
 ) -> Walked
     requires { ⌜ Ready mode (now s) from ⌝ }
     ensures { λ r. ⌜
-        PropertiesPut whole (now (out .entry)) (now (out .exit)) o
-        (elementOf (ascii "properties") (ownXml (componentName k) (entriesAt mode (now (s .entry)) from))) mode
+        PropertiesPut edition whole (now (out .entry)) (now (out .exit)) o
+        (elementOf (ascii "properties") (ownXml (componentName k) (entriesAt edition mode (now (s .entry)) from))) mode
         (now (s .entry)) from r ⌝ }
 {
     let a = put_start_tag(out, o, &element::PROPERTIES);
-    let b = put_properties(out, a, k, mode, s, from);
+    let b = put_properties(out, a, edition, k, mode, s, from);
     let c = put_end_tag(out, b.to, &element::PROPERTIES);
     Walked {
         to: c,

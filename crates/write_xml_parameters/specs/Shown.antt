@@ -11,7 +11,9 @@ use Rattle.calendar.specs.Calendar.{ical, TEXT, text}
 use Rattle.schema.specs.Types.{sameType}
 use Rattle.schema.specs.Parameters.{ParameterRow, parameterRow}
 use Rattle.values.specs.ReadValue.{readValue}
+use Rattle.edition.specs.declared.Edition.{Edition}
 use Rattle.read_text_line.specs.ContentLine.{ParamValue, RawParameter}
+use Rattle.read_text_line.specs.Decoded.{decodedValue}
 use Rattle.xml.specs.Escape.{elementOf}
 use Rattle.text.specs.Parameters.{isValueParameter}
 use Rattle.xcal.specs.WriteXml.{valueXml}
@@ -24,6 +26,10 @@ valueShown p s =
 
 abbrev pub charsShown : ParameterRow → ParamValue → List ℕ
 charsShown p v = valueShown p (v .chars)
+
+-- as an edition reads it
+abbrev pub charsIn : Edition → ParameterRow → ParamValue → List ℕ
+charsIn ed p v = charsShown p (decodedValue ed v)
 
 abbrev pub shown : RawParameter → List ℕ
 shown r = elementOf (lower (r .name)) (joined (map (charsShown (parameterRow (upper (r .name)))) (r .values)))

@@ -1,5 +1,6 @@
 // The parameters of a line as an element.
 use crate::parameter::put_cut_own;
+use edition::Edition;
 use markup::element;
 use read_text_line::next_param;
 use read_text_parameters::are_read;
@@ -14,16 +15,16 @@ ghost use Rattle.octets.specs.Words.{isEmpty};
 ghost use Rattle.octets.specs.Reading.{readOr};
 ghost use Rattle.sink.specs.Sink.{Put};
 ghost use Rattle.source.specs.Source.{cuts};
-ghost use Rattle.read_text_line.specs.Cursor.{paramsAt};
+ghost use Rattle.read_text_line.specs.Decoded.{paramsIn};
 ghost use Rattle.xml.specs.Escape.{elementOf};
 ghost use Rattle.text.specs.Parameters.{ownParameters, readParameters};
 ghost use Rattle.xcal.specs.WriteXml.{parametersElement};
 ghost use Rattle.write_xml_parameters.specs.Shown.{parametersShown};
 
 // There is no parameter besides VALUE.
-fn is_bare(mode: usize, s: &[u8], at: usize) -> bool
+fn is_bare(edition: Edition, mode: usize, s: &[u8], at: usize) -> bool
     requires { ⌜ cuts mode ≡ true ⌝ }
-    ensures { λ r. ⌜ r ≡ isEmpty (ownParameters (paramsAt mode (now (s .entry)) at)) ⌝ }
+    ensures { λ r. ⌜ r ≡ isEmpty (ownParameters (paramsIn edition mode (now (s .entry)) at)) ⌝ }
 {
     let mut c = at;
     loop {
@@ -46,10 +47,10 @@ fn is_bare(mode: usize, s: &[u8], at: usize) -> bool
 }
 
 // The elements of all parameters but VALUE.
-fn put_each(out: &mut [u8], o: usize, mode: usize, s: &[u8], at: usize) -> usize
+fn put_each(out: &mut [u8], o: usize, edition: Edition, mode: usize, s: &[u8], at: usize) -> usize
     requires { ⌜ cuts mode ≡ true ⌝ }
     ensures { λ r. ⌜
-        Put (now (out .entry)) (now (out .exit)) o r (parametersShown (paramsAt mode (now (s .entry)) at)) ⌝ }
+        Put (now (out .entry)) (now (out .exit)) o r (parametersShown (paramsIn edition mode (now (s .entry)) at)) ⌝ }
 {
     let mut q = o;
     let mut c = at;
@@ -57,7 +58,7 @@ fn put_each(out: &mut [u8], o: usize, mode: usize, s: &[u8], at: usize) -> usize
         let p = next_param(mode, s, c);
         if p.there {
             if p.ok {
-                q = put_cut_own(out, q, mode, s, p.name, p.end, p.first);
+                q = put_cut_own(out, q, edition, mode, s, p.name, p.end, p.first);
                 c = p.next;
             } else {
                 return q;
@@ -68,31 +69,45 @@ fn put_each(out: &mut [u8], o: usize, mode: usize, s: &[u8], at: usize) -> usize
     }
 }
 
-fn put_element(out: &mut [u8], o: usize, mode: usize, s: &[u8], at: usize) -> usize
+fn put_element(
+    out: &mut [u8],
+    o: usize,
+    edition: Edition,
+    mode: usize,
+    s: &[u8],
+    at: usize,
+) -> usize
     requires { ⌜ cuts mode ≡ true ⌝ }
     ensures { λ r. ⌜
         Put (now (out .entry)) (now (out .exit)) o r
-        (elementOf (ascii "parameters") (parametersShown (paramsAt mode (now (s .entry)) at))) ⌝ }
+        (elementOf (ascii "parameters") (parametersShown (paramsIn edition mode (now (s .entry)) at))) ⌝ }
 {
     let a = put_start_tag(out, o, &element::PARAMETERS);
-    let b = put_each(out, a, mode, s, at);
+    let b = put_each(out, a, edition, mode, s, at);
     put_end_tag(out, b, &element::PARAMETERS)
 }
 
 // The element `parameters` of the line whose name ends at the cursor `e`: nothing where there is no parameter besides VALUE, or where one is not readable.
-pub fn put_parameters(out: &mut [u8], o: usize, mode: usize, s: &[u8], e: usize) -> usize
+pub fn put_parameters(
+    out: &mut [u8],
+    o: usize,
+    edition: Edition,
+    mode: usize,
+    s: &[u8],
+    e: usize,
+) -> usize
     requires { ⌜ cuts mode ≡ true ⌝ }
     ensures { λ r. ⌜
         Put (now (out .entry)) (now (out .exit)) o r
-        (parametersElement (readOr [] (readParameters (paramsAt mode (now (s .entry)) e)))) ⌝ }
+        (parametersElement (readOr [] (readParameters (paramsIn edition mode (now (s .entry)) e)))) ⌝ }
 {
-    let read = are_read(mode, s, e);
+    let read = are_read(edition, mode, s, e);
     if read {
-        let bare = is_bare(mode, s, e);
+        let bare = is_bare(edition, mode, s, e);
         if bare {
             return o;
         }
-        return put_element(out, o, mode, s, e);
+        return put_element(out, o, edition, mode, s, e);
     }
     o
 }

@@ -1,5 +1,6 @@
 // A parameter as an element. See specs/Shown.antt.
 use crate::value::put_values;
+use edition::Edition;
 use names::is_word_any_case;
 use octets::smaller;
 use schema::parameter_number;
@@ -9,14 +10,15 @@ ghost use mathlib.Core.Path.{_≡_};
 ghost use mathlib.Core.Bool.{true};
 ghost use Rattle.sink.specs.Sink.{Put};
 ghost use Rattle.source.specs.Source.{rest, cuts};
-ghost use Rattle.read_text_line.specs.Cursor.{valuesAt};
-ghost use Rattle.read_text_parameters.specs.Cutting.{paramCut};
+ghost use Rattle.read_text_line.specs.Decoded.{valuesIn};
+ghost use Rattle.read_text_parameters.specs.Cutting.{paramRead};
 ghost use Rattle.write_xml_parameters.specs.Shown.{shown, ownShown};
 
 // The parameter whose name stands in `n` from the cursor on, and whose values stand in `s` from the cursor `first` on.
 fn put_parameter(
     out: &mut [u8],
     o: usize,
+    edition: Edition,
     mode: usize,
     n: &[u8],
     at: usize,
@@ -26,11 +28,11 @@ fn put_parameter(
     requires { ⌜ cuts mode ≡ true ⌝ }
     ensures { λ r. ⌜
         Put (now (out .entry)) (now (out .exit)) o r
-        (shown (record { name = rest mode (now (n .entry)) at; values = valuesAt mode (now (s .entry)) first })) ⌝ }
+        (shown (record { name = rest mode (now (n .entry)) at; values = valuesIn edition mode (now (s .entry)) first })) ⌝ }
 {
     let q = parameter_number(mode, n, at);
     let a = put_small_start(out, o, mode, n, at);
-    let b = put_values(out, a, q, mode, s, first);
+    let b = put_values(out, a, edition, q, mode, s, first);
     put_small_end(out, b, mode, n, at)
 }
 
@@ -38,6 +40,7 @@ fn put_parameter(
 fn put_own(
     out: &mut [u8],
     o: usize,
+    edition: Edition,
     mode: usize,
     n: &[u8],
     at: usize,
@@ -47,19 +50,20 @@ fn put_own(
     requires { ⌜ cuts mode ≡ true ⌝ }
     ensures { λ r. ⌜
         Put (now (out .entry)) (now (out .exit)) o r
-        (ownShown (record { name = rest mode (now (n .entry)) at; values = valuesAt mode (now (s .entry)) first })) ⌝ }
+        (ownShown (record { name = rest mode (now (n .entry)) at; values = valuesIn edition mode (now (s .entry)) first })) ⌝ }
 {
     let value = is_word_any_case(mode, n, at, b"VALUE");
     if value {
         return o;
     }
-    put_parameter(out, o, mode, n, at, s, first)
+    put_parameter(out, o, edition, mode, n, at, s, first)
 }
 
 // The same of a name from the cursor `name` to the cursor `end`.
 pub fn put_cut_own(
     out: &mut [u8],
     o: usize,
+    edition: Edition,
     mode: usize,
     s: &[u8],
     name: usize,
@@ -68,8 +72,8 @@ pub fn put_cut_own(
 ) -> usize
     requires { ⌜ cuts mode ≡ true ⌝ }
     ensures { λ r. ⌜
-        Put (now (out .entry)) (now (out .exit)) o r (ownShown (paramCut mode (now (s .entry)) name end first)) ⌝ }
+        Put (now (out .entry)) (now (out .exit)) o r (ownShown (paramRead edition mode (now (s .entry)) name end first)) ⌝ }
 {
     let e = smaller(end, s.len());
-    put_own(out, o, mode, &s[..e], name, s, first)
+    put_own(out, o, edition, mode, &s[..e], name, s, first)
 }

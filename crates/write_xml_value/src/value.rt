@@ -74,7 +74,7 @@ fn put_plain_xml(out: &mut [u8], o: usize, t: usize, mode: usize, s: &[u8], at: 
 
 // A value of a type that has character data: not PERIOD, not RECUR.
 fn put_plain_element(out: &mut [u8], o: usize, t: usize, mode: usize, s: &[u8], at: usize) -> usize
-    requires { ⌜ (cuts mode ≡ true) × (t ≡ 8 → ⊥) × (t ≡ 9 → ⊥) ⌝ }
+    requires { ⌜ (t ≡ 8 → ⊥) × (t ≡ 9 → ⊥) ⌝ }
     ensures { λ r. ⌜
         Put (now (out .entry)) (now (out .exit)) o r
         (orNothing valueXml (readValue ical (typeAt t) (rest mode (now (s .entry)) at))) ⌝ }
@@ -86,7 +86,7 @@ fn put_plain_element(out: &mut [u8], o: usize, t: usize, mode: usize, s: &[u8], 
     }
 }
 
-// The value of the type at the place `t`, from the cursor `at` to the end; nothing where it is none.
+// The value of the type at the place `t`, from the cursor `at` to the end; nothing where it is none. A rule is written only in an encoding that can be cut.
 pub fn put_value_element(
     out: &mut [u8],
     o: usize,
@@ -95,7 +95,7 @@ pub fn put_value_element(
     s: &[u8],
     at: usize,
 ) -> usize
-    requires { ⌜ cuts mode ≡ true ⌝ }
+    requires { ⌜ (t ≡ 9 → cuts mode ≡ true) ⌝ }
     ensures { λ r. ⌜
         Put (now (out .entry)) (now (out .exit)) o r
         (orNothing valueXml (readValue ical (typeAt t) (rest mode (now (s .entry)) at))) ⌝ }

@@ -15,6 +15,7 @@ use Rattle.calendar.specs.Levels.{levels, shallow}
 use Rattle.calendar.specs.Refusal.{NAME, FRAME, COUNT, Verdict, fine, refuse, _otherwise_}
 use Rattle.schema.specs.Components.{subcomponentsOf, mayContain}
 use Rattle.schema.specs.Counts.{Around, methodFor, complete}
+use Rattle.edition.specs.declared.Edition.{Edition}
 use Rattle.read_text_line.specs.Names.{isCarriedName}
 use Rattle.xml.specs.Nodes.{Nodes, noNodes, element, literal, referred, hasElement}
 use Rattle.xcal.specs.Layout.{hasCapital, unexpected}
@@ -61,48 +62,48 @@ noComponent p m = pick (badComponent m) (refuse NAME p) (refuse FRAME p)
 
 unfoldable mutual
   -- the children of a component k, with so many levels left in it: counts says whether its properties and subcomponents are as often as they must; e is its end tag
-  pub componentVerdict : Nodes → List ℕ → ℕ → Bool → Come → ℕ → Verdict
-  componentVerdict noNodes k left counts c e = endOfComponent k counts c e
-  componentVerdict (literal p b more) k left counts c e = pick (isSpace b) (componentVerdict more k left counts c e) (refuse FRAME p)
-  componentVerdict (referred p bs more) k left counts c e = refuse FRAME p
-  componentVerdict (element p m x kids more) k left counts c e =
+  pub componentVerdict : Edition → Nodes → List ℕ → ℕ → Bool → Come → ℕ → Verdict
+  componentVerdict ed noNodes k left counts c e = endOfComponent k counts c e
+  componentVerdict ed (literal p b more) k left counts c e = pick (isSpace b) (componentVerdict ed more k left counts c e) (refuse FRAME p)
+  componentVerdict ed (referred p bs more) k left counts c e = refuse FRAME p
+  componentVerdict ed (element p m x kids more) k left counts c e =
       pick (same m (ascii "properties") and not (c .properties) and not (c .components))
-      (propertiesVerdict k kids otherwise
-      componentVerdict more k left counts (record { properties = true; components = false; method = methodFor k (readProperties kids) (c .method) }) e)
+      (propertiesVerdict ed k kids otherwise
+      componentVerdict ed more k left counts (record { properties = true; components = false; method = methodFor k (readProperties kids) (c .method) }) e)
       (pick (same m (ascii "components") and not (c .components) and not (isEmpty (subcomponentsOf k)))
-      (componentsVerdict kids k left (c .method) false x otherwise
-      componentVerdict more k left counts (record { properties = c .properties; components = true; method = c .method }) e)
+      (componentsVerdict ed kids k left (c .method) false x otherwise
+      componentVerdict ed more k left counts (record { properties = c .properties; components = true; method = c .method }) e)
       (unexpected p m))
 
   -- the children of `components` in a component k; method says whether the calendar has METHOD; any, whether one has come; e is the end tag of `components`
-  pub componentsVerdict : Nodes → List ℕ → ℕ → Bool → Bool → ℕ → Verdict
-  componentsVerdict noNodes k left method any e = endOfComponents k any e
-  componentsVerdict (literal p b more) k left method any e = pick (isSpace b) (componentsVerdict more k left method any e) (refuse FRAME p)
-  componentsVerdict (referred p bs more) k left method any e = refuse FRAME p
-  componentsVerdict (element p m x kids more) k left method any e =
+  pub componentsVerdict : Edition → Nodes → List ℕ → ℕ → Bool → Bool → ℕ → Verdict
+  componentsVerdict ed noNodes k left method any e = endOfComponents k any e
+  componentsVerdict ed (literal p b more) k left method any e = pick (isSpace b) (componentsVerdict ed more k left method any e) (refuse FRAME p)
+  componentsVerdict ed (referred p bs more) k left method any e = refuse FRAME p
+  componentsVerdict ed (element p m x kids more) k left method any e =
       pick (not (badComponent m) and mayContain k (upper m) and ltb 0 left)
-      (componentVerdict kids (upper m) (left - 1) (isComplete (upper m) method kids) (nothingCome method) x otherwise
-      componentsVerdict more k left method true e)
+      (componentVerdict ed kids (upper m) (left - 1) (isComplete (upper m) method kids) (nothingCome method) x otherwise
+      componentsVerdict ed more k left method true e)
       (noComponent p m)
 
 -- ---- the root
 
 -- the children of `icalendar`: one or more `vcalendar`
-unfoldable pub streamVerdict : Nodes → Bool → ℕ → Verdict
-streamVerdict noNodes any e = pick any fine (refuse FRAME e)
-streamVerdict (literal p b more) any e = pick (isSpace b) (streamVerdict more any e) (refuse FRAME p)
-streamVerdict (referred p bs more) any e = refuse FRAME p
-streamVerdict (element p m x kids more) any e =
+unfoldable pub streamVerdict : Edition → Nodes → Bool → ℕ → Verdict
+streamVerdict ed noNodes any e = pick any fine (refuse FRAME e)
+streamVerdict ed (literal p b more) any e = pick (isSpace b) (streamVerdict ed more any e) (refuse FRAME p)
+streamVerdict ed (referred p bs more) any e = refuse FRAME p
+streamVerdict ed (element p m x kids more) any e =
     pick (same m (ascii "vcalendar"))
-    (componentVerdict kids (ascii "VCALENDAR") (levels - 1) (isComplete (ascii "VCALENDAR") false kids) (nothingCome false) x otherwise
-    streamVerdict more true e)
+    (componentVerdict ed kids (ascii "VCALENDAR") (levels - 1) (isComplete (ascii "VCALENDAR") false kids) (nothingCome false) x otherwise
+    streamVerdict ed more true e)
     (noComponent p m)
 
-unfoldable pub rootVerdict : Nodes → Verdict
-rootVerdict noNodes = fine
-rootVerdict (literal p b more) = fine
-rootVerdict (referred p bs more) = fine
-rootVerdict (element p m x kids more) = pick (same m (ascii "icalendar")) (streamVerdict kids false x) (unexpected p m)
+unfoldable pub rootVerdict : Edition → Nodes → Verdict
+rootVerdict ed noNodes = fine
+rootVerdict ed (literal p b more) = fine
+rootVerdict ed (referred p bs more) = fine
+rootVerdict ed (element p m x kids more) = pick (same m (ascii "icalendar")) (streamVerdict ed kids false x) (unexpected p m)
 
 -- ---- what they state
 

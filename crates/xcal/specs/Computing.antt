@@ -10,12 +10,12 @@ use Rattle.values.specs.Computing.{values-compute}
 use Rattle.xml.specs.Computing.{xml-compute}
 use Rattle.xcal.specs.Layout.{hasCapital, lacks, sequence, innerElement}
 use Rattle.xcal.specs.ValueNodes.{elementType, firstType, typeOfNodes, periodInside, recurInside, typedVerdict, valueVerdict, childNamed, itemsOf, partsOf, valueOf, typedValues, readValueNodes}
-use Rattle.xcal.specs.ParameterNodes.{readParamNode, readParamNodes, hasEncoding, parameterVerdict, parametersVerdict, readParameterNodes}
+use Rattle.xcal.specs.ParameterNodes.{readParamNode, readParamNodes, arePlain, areSpelled, hasEncoding, parameterVerdict, parametersVerdict, readParameterNodes}
 use Rattle.xcal.specs.PropertyNodes.{parametersIn, propertyVerdict, propertiesVerdict, readProperties}
 use Rattle.xcal.specs.ComponentNodes.{insideOf, endOfComponent, endOfComponents, componentVerdict, componentsVerdict, streamVerdict, rootVerdict, readComponents, readInner, readRoot}
 use Rattle.xcal.specs.ReadDocument.{documentVerdict, readDocument}
 use Rattle.xcal.specs.WriteXml.{itemsXml, partsXml, valueXml, valuesXml, parameterXml, parametersXml, propertyXml, propertiesXml, componentsElement, componentsXml, writeDocument}
 
 unfoldable pub xcal-compute : ℕ
-unfolding octets-compute _otherwise_ utf8-compute schema-compute lines-compute values-compute xml-compute hasCapital lacks sequence innerElement elementType firstType typeOfNodes periodInside recurInside typedVerdict valueVerdict childNamed itemsOf partsOf valueOf typedValues readValueNodes readParamNode readParamNodes hasEncoding parameterVerdict parametersVerdict readParameterNodes parametersIn propertyVerdict propertiesVerdict readProperties insideOf endOfComponent endOfComponents componentVerdict componentsVerdict streamVerdict rootVerdict readComponents readInner shallow readRoot documentVerdict readDocument itemsXml partsXml valueXml valuesXml parameterXml parametersXml propertyXml propertiesXml componentsElement componentsXml writeDocument
+unfolding octets-compute _otherwise_ utf8-compute schema-compute lines-compute values-compute xml-compute hasCapital lacks sequence innerElement elementType firstType typeOfNodes periodInside recurInside typedVerdict valueVerdict childNamed itemsOf partsOf valueOf typedValues readValueNodes readParamNode readParamNodes arePlain areSpelled hasEncoding parameterVerdict parametersVerdict readParameterNodes parametersIn propertyVerdict propertiesVerdict readProperties insideOf endOfComponent endOfComponents componentVerdict componentsVerdict streamVerdict rootVerdict readComponents readInner shallow readRoot documentVerdict readDocument itemsXml partsXml valueXml valuesXml parameterXml parametersXml propertyXml propertiesXml componentsElement componentsXml writeDocument
 xcal-compute = 0

@@ -6,6 +6,7 @@ use lib.ListN.{length}
 use lib.Dec.{leb}
 use borrow.Author.Tests.{leb-true}
 use Rattle.calendar.specs.Refusal.{accepted}
+use Rattle.edition.specs.declared.Edition.the-variants.{Rfc5545}
 use Rattle.validity.specs.Examples.{rota, rota-valid}
 use Rattle.xcal.specs.WriteXml.{writeDocument}
 use Rattle.xcal.specs.ReadDocument.{readDocument}
@@ -16,5 +17,5 @@ rota-short : leb (length (writeDocument rota)) 65535 ≡ true
 unfolding xcal-compute
 rota-short = refl
 
-rota-back : readDocument (writeDocument rota) ≡ accepted rota
-rota-back = document-back rota rota-valid (leb-true _ _ rota-short)
+rota-back : readDocument Rfc5545 (writeDocument rota) ≡ accepted rota
+rota-back = document-back Rfc5545 rota rota-valid (leb-true _ _ rota-short)

@@ -1,5 +1,6 @@
 -- The elements of a property's parameters (RFC 6321, section 3.5): what they state, and where they are refused.
 -- Refusal 7 covers all in a parameter but a missing child, at the parameter's start tag.
+--     areSpelled           whether the values of a parameter can be spelled in an edition
 --     parametersVerdict    the verdict on the children of `parameters`
 --     readParameterNodes   the parameters that they state
 --     hasEncoding          whether ENCODING stands among a property's parameters
@@ -18,6 +19,8 @@ use Rattle.calendar.specs.Refusal.{NAME, FRAME, PARAMETER, Verdict, fine, refus
 use Rattle.schema.specs.Types.{typeName, sameType}
 use Rattle.schema.specs.Properties.{permitsParameter}
 use Rattle.schema.specs.Parameters.{parameterType, isListedParameter, parameterWords}
+use Rattle.edition.specs.declared.Edition.{Edition}
+use Rattle.edition.specs.declared.Edition.the-variants.{Rfc5545, Rfc6868}
 use Rattle.read_text_line.specs.Names.{isCarriedName}
 use Rattle.values.specs.ReadValue.{readValue}
 use Rattle.xml.specs.Nodes.{Nodes, noNodes, element, literal, referred, charactersOf, hasElement}
@@ -25,15 +28,14 @@ use Rattle.xcal.specs.Layout.{hasCapital}
 
 -- ---- the values of one parameter
 
--- a word of a closed set exactly; no parameter value holds a double quote (34) or LF (10)
+-- a word of a closed set exactly
 abbrev pub readWordIn : Option (List (List ℕ)) → ValueType → List ℕ → Option Value
 readWordIn none t s = readValue xcal t s
 readWordIn (some words) t s = provided (isOneOf s words) (text s)
 
 unfoldable pub readParamNode : List ℕ → Nodes → Option Value
 readParamNode n kids =
-    pick (hasElement kids or holds 34 (charactersOf kids) or holds 10 (charactersOf kids)) none
-    (readWordIn (parameterWords n) (parameterType n) (charactersOf kids))
+    pick (hasElement kids) none (readWordIn (parameterWords n) (parameterType n) (charactersOf kids))
 
 -- the children of the parameter n, each an element named as its type; none where another thing stands there
 unfoldable pub readParamNodes : List ℕ → Nodes → Option (List Value)
@@ -51,6 +53,20 @@ asMany listed (v ∷ vs) = listed or isEmpty vs
 abbrev pub valuesGood : Bool → Option (List Value) → Bool
 valuesGood listed none = false
 valuesGood listed (some vs) = asMany listed vs
+
+-- ---- what an edition can spell
+
+-- no value holds a double quote (34) or LF (10)
+unfoldable pub arePlain : Nodes → Bool
+arePlain noNodes = true
+arePlain (literal p b more) = arePlain more
+arePlain (referred p bs more) = arePlain more
+arePlain (element p m x kids more) = not (holds 34 (charactersOf kids) or holds 10 (charactersOf kids)) and arePlain more
+
+-- RFC 5545 alone can spell neither in a parameter's value
+unfoldable pub areSpelled : Edition → Nodes → Bool
+areSpelled Rfc5545 kids = arePlain kids
+areSpelled Rfc6868 kids = true
 
 -- ---- ENCODING
 
@@ -76,19 +92,19 @@ abbrev pub badName : List ℕ → Bool
 badName m = hasCapital m or not (isCarriedName m) or same m (ascii "value")
 
 -- the parameter m, at the tags p and x, of the property n whose value has type t, after the parameters `seen`
-unfoldable pub parameterVerdict : List ℕ → ValueType → List (List ℕ) → ℕ → List ℕ → ℕ → Nodes → Verdict
-parameterVerdict n t seen p m x kids =
+unfoldable pub parameterVerdict : Edition → List ℕ → ValueType → List (List ℕ) → ℕ → List ℕ → ℕ → Nodes → Verdict
+parameterVerdict ed n t seen p m x kids =
     pick (badName m) (refuse NAME p)
     (pick (eqb p x) (refuse FRAME p)
-    (pick (isOneOf m seen or not (permitsParameter n t (upper m)) or not (valuesGood (isListedParameter (upper m)) (readParamNodes (upper m) kids)) or not (encodes (upper m) t kids))
+    (pick (isOneOf m seen or not (permitsParameter n t (upper m)) or not (valuesGood (isListedParameter (upper m)) (readParamNodes (upper m) kids)) or not (encodes (upper m) t kids) or not (areSpelled ed kids))
     (refuse PARAMETER p)
     (pick (hasElement kids) fine (refuse FRAME x))))
 
-unfoldable pub parametersVerdict : List ℕ → ValueType → Nodes → List (List ℕ) → Verdict
-parametersVerdict n t noNodes seen = fine
-parametersVerdict n t (literal p b more) seen = pick (isSpace b) (parametersVerdict n t more seen) (refuse FRAME p)
-parametersVerdict n t (referred p bs more) seen = refuse FRAME p
-parametersVerdict n t (element p m x kids more) seen = parameterVerdict n t seen p m x kids otherwise parametersVerdict n t more (m ∷ seen)
+unfoldable pub parametersVerdict : Edition → List ℕ → ValueType → Nodes → List (List ℕ) → Verdict
+parametersVerdict ed n t noNodes seen = fine
+parametersVerdict ed n t (literal p b more) seen = pick (isSpace b) (parametersVerdict ed n t more seen) (refuse FRAME p)
+parametersVerdict ed n t (referred p bs more) seen = refuse FRAME p
+parametersVerdict ed n t (element p m x kids more) seen = parameterVerdict ed n t seen p m x kids otherwise parametersVerdict ed n t more (m ∷ seen)
 
 -- ---- what they state
 

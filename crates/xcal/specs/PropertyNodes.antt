@@ -15,6 +15,7 @@ use Rattle.calendar.specs.Refusal.{NAME, FRAME, PARAMETER, Verdict, fine, refus
 use Rattle.schema.specs.Types.{sameType}
 use Rattle.schema.specs.Components.{mayStand}
 use Rattle.schema.specs.Properties.{isKnownProperty}
+use Rattle.edition.specs.declared.Edition.{Edition}
 use Rattle.read_text_line.specs.Names.{isCarriedName}
 use Rattle.xml.specs.Nodes.{Nodes, noNodes, element, literal, referred}
 use Rattle.xcal.specs.Layout.{hasCapital, Slot, sequence, slotOf}
@@ -42,26 +43,26 @@ parametersIn n (element p m x kids more) =
     pick (same m (ascii "parameters")) kids (pick (stillBefore (slotOf m (valueSlots n) 0)) (parametersIn n more) noNodes)
 
 -- a child of the property n in a component k
-abbrev pub childVerdict : List ℕ → List ℕ → ValueType → ℕ → List ℕ → ℕ → Nodes → Verdict
-childVerdict k n t p m x kids = pick (same m (ascii "parameters")) (parametersVerdict n t kids []) (valueVerdict k n t p m x kids)
+abbrev pub childVerdict : Edition → List ℕ → List ℕ → ValueType → ℕ → List ℕ → ℕ → Nodes → Verdict
+childVerdict ed k n t p m x kids = pick (same m (ascii "parameters")) (parametersVerdict ed n t kids []) (valueVerdict k n t p m x kids)
 
 -- refusal 7 at the property's own tag: a value of type BINARY with no ENCODING
 abbrev pub lacksEncoding : List ℕ → Nodes → Bool
 lacksEncoding n kids = sameType (typeOfNodes n kids) BINARY and not (hasEncoding (parametersIn n kids))
 
 -- the element m, at the tags p and x, in a component k
-unfoldable pub propertyVerdict : List ℕ → ℕ → List ℕ → ℕ → Nodes → Verdict
-propertyVerdict k p m x kids =
+unfoldable pub propertyVerdict : Edition → List ℕ → ℕ → List ℕ → ℕ → Nodes → Verdict
+propertyVerdict ed k p m x kids =
     pick (badName m) (refuse NAME p)
     (pick (isKnownProperty (upper m) and not (mayStand k (upper m))) (refuse FRAME p)
     (pick (lacksEncoding (upper m) kids) (refuse PARAMETER p)
-    (sequence (propertySlots (upper m)) (childVerdict k (upper m) (typeOfNodes (upper m) kids)) kids 0 [] x)))
+    (sequence (propertySlots (upper m)) (childVerdict ed k (upper m) (typeOfNodes (upper m) kids)) kids 0 [] x)))
 
-unfoldable pub propertiesVerdict : List ℕ → Nodes → Verdict
-propertiesVerdict k noNodes = fine
-propertiesVerdict k (literal p b more) = pick (isSpace b) (propertiesVerdict k more) (refuse FRAME p)
-propertiesVerdict k (referred p bs more) = refuse FRAME p
-propertiesVerdict k (element p m x kids more) = propertyVerdict k p m x kids otherwise propertiesVerdict k more
+unfoldable pub propertiesVerdict : Edition → List ℕ → Nodes → Verdict
+propertiesVerdict ed k noNodes = fine
+propertiesVerdict ed k (literal p b more) = pick (isSpace b) (propertiesVerdict ed k more) (refuse FRAME p)
+propertiesVerdict ed k (referred p bs more) = refuse FRAME p
+propertiesVerdict ed k (element p m x kids more) = propertyVerdict ed k p m x kids otherwise propertiesVerdict ed k more
 
 -- ---- what they state
 

@@ -6,7 +6,9 @@ use Rattle.xml.specs.Nodes.{documentNodes}
 use Rattle.text.specs.WriteText.{writeCalendar}
 use Rattle.xcal.specs.ComponentNodes.{readRoot}
 use Rattle.calls.specs.Conversion.{Converted, converted}
+use Rattle.edition.specs.declared.Edition.{Edition}
 
--- what the document s gives whose verdict is v
-abbrev pub nodesGive : List ℕ → Verdict → Converted
-nodesGive s v = converted writeCalendar (answer v (readRoot (documentNodes s)))
+module _ (ed : Edition) where
+  -- what the document s gives whose verdict is v
+  abbrev pub nodesGive : List ℕ → Verdict → Converted
+  nodesGive s v = converted (writeCalendar ed) (answer v (readRoot (documentNodes s)))

@@ -9,7 +9,7 @@
 mod inputs;
 
 use inputs::Kind;
-use mallettriton::{to_text, to_text_into, to_xml_into, Answer, LONGEST};
+use mallettriton::{Edition, to_text, to_text_into, to_xml_into, Answer, LONGEST};
 use std::cell::RefCell;
 use std::hint::black_box;
 
@@ -60,11 +60,11 @@ struct Rooms {
 
 impl Rooms {
     fn xml_of(&mut self, input: &[u8]) -> Answer<'_> {
-        to_xml_into(input, &mut self.work, &mut self.out)
+        to_xml_into(input, &mut self.work, &mut self.out, Edition::Rfc5545)
     }
 
     fn text_of(&mut self, input: &[u8]) -> Answer<'_> {
-        to_text_into(input, &mut self.out)
+        to_text_into(input, &mut self.out, Edition::Rfc5545)
     }
 
     /// How long the XML of a text is.
@@ -197,7 +197,7 @@ fn main() {
     head("XML to text");
     for kind in inputs::ROTAS.iter().filter(chosen) {
         let documents = [SHORT, LONG].map(|length| document_of(kind, length, &mut rooms));
-        let text = to_text(&documents[1]).ok();
+        let text = to_text(&documents[1], Edition::Rfc5545).ok();
         measure_document(kind.name, documents, text, &mut rooms);
     }
     for kind in inputs::WORST_DOCUMENTS.iter().filter(chosen) {

@@ -4,7 +4,7 @@
 pub mod inputs;
 pub mod readings;
 
-use mallettriton::{to_text_into, to_xml_into, Answer};
+use mallettriton::{Edition, to_text_into, to_xml_into, Answer};
 
 /// What the bytes of a buffer are before a call.
 pub const FILL: u8 = 0xa5;
@@ -23,6 +23,7 @@ impl From<Answer<'_>> for Told {
             Answer::Written(result) => Told::Written(result.to_vec()),
             Answer::Needs(length) => Told::Needs(length),
             Answer::Refused(refusal) => Told::Refused(refusal.number as u8, refusal.place),
+            other => unreachable!("{other:?}"),
         }
     }
 }
@@ -31,7 +32,7 @@ impl From<Answer<'_>> for Told {
 /// only `Written` changes the output, and only its first bytes.
 pub fn to_xml_in(input: &[u8], work_length: usize, out_length: usize) -> (Told, Vec<u8>) {
     let (mut work, mut out) = (vec![FILL; work_length], vec![FILL; out_length]);
-    let told = Told::from(to_xml_into(input, &mut work, &mut out));
+    let told = Told::from(to_xml_into(input, &mut work, &mut out, Edition::Rfc5545));
     only_the_result(&told, &out);
     (told, work)
 }
@@ -39,7 +40,7 @@ pub fn to_xml_in(input: &[u8], work_length: usize, out_length: usize) -> (Told, 
 /// The same of the way to text.
 pub fn to_text_in(input: &[u8], out_length: usize) -> Told {
     let mut out = vec![FILL; out_length];
-    let told = Told::from(to_text_into(input, &mut out));
+    let told = Told::from(to_text_into(input, &mut out, Edition::Rfc5545));
     only_the_result(&told, &out);
     told
 }

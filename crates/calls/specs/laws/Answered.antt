@@ -20,7 +20,7 @@ use lib.ListN.{length}
 use borrow.Author.Tests.{le-leb, lt-leb, ne-eqb}
 use Rattle.octets.specs.Pick.{pick}
 use Rattle.octets.specs.Append.{_⊕_}
-use Rattle.calendar.specs.Refusal.{Refusal, LENGTH, WORK, CHARACTER, LINE, NAME, FRAME, PARAMETER, VALUE, COUNT, ROOM, XML, numberOf, refusalAt}
+use Rattle.calendar.specs.Refusal.{Refusal, LENGTH, WORK, CHARACTER, LINE, NAME, FRAME, PARAMETER, VALUE, COUNT, ROOM, XML, EDITION, numberOf, refusalAt}
 use Rattle.sink.specs.Sink.{Put, far, overwrite}
 use Rattle.sink.specs.laws.Sink.{overwrite-fits}
 use Rattle.calls.specs.Conversion.{result, fault, Outcome, written, refusal, isRoom, told, numbers, outcome, contents}
@@ -50,6 +50,7 @@ number-small VALUE = omega arith
 number-small COUNT = omega arith
 number-small ROOM = omega arith
 number-small XML = omega arith
+number-small EDITION = omega arith
 
 -- a cast reads an enum's number as a signed one; a small number is the same
 module _ (r : coded.Refusal) where
@@ -66,7 +67,7 @@ pub number-told : {r s : coded.Refusal} → r ≡ s → numberOf (refusalOf s) �
 number-told e = ap (λ (x : coded.Refusal). numberOf (refusalOf x)) (sym e)
 
 -- the answer of a number stands for the refusal of that number
-other : (n p : ℕ) → 12 ≤ n → outcomeOf (answerAt n p) ≡ refusal LENGTH p
+other : (n p : ℕ) → 14 ≤ n → outcomeOf (answerAt n p) ≡ refusal LENGTH p
 unfolding pick
 other n p h =
     rw (
@@ -80,6 +81,7 @@ other n p h =
       ne-eqb n 2 (λ e. omega arith),
       ne-eqb n 3 (λ e. omega arith),
       ne-eqb n 11 (λ e. omega arith),
+      ne-eqb n 13 (λ e. omega arith),
     )
 
 pub answer-refusal : (n p : ℕ) → outcomeOf (answerAt n p) ≡ refusal (refusalAt n) p
@@ -96,7 +98,9 @@ answer-refusal (suc (suc (suc (suc (suc (suc (suc (suc zero)))))))) p = refl
 answer-refusal (suc (suc (suc (suc (suc (suc (suc (suc (suc zero))))))))) p = refl
 answer-refusal (suc (suc (suc (suc (suc (suc (suc (suc (suc (suc zero)))))))))) p = refl
 answer-refusal (suc (suc (suc (suc (suc (suc (suc (suc (suc (suc (suc zero))))))))))) p = refl
-answer-refusal (suc (suc (suc (suc (suc (suc (suc (suc (suc (suc (suc (suc n)))))))))))) p = simp unary-clauses (other (suc (suc (suc (suc (suc (suc (suc (suc (suc (suc (suc (suc n)))))))))))) p (omega arith))
+answer-refusal (suc (suc (suc (suc (suc (suc (suc (suc (suc (suc (suc (suc zero)))))))))))) p = refl
+answer-refusal (suc (suc (suc (suc (suc (suc (suc (suc (suc (suc (suc (suc (suc zero))))))))))))) p = refl
+answer-refusal (suc (suc (suc (suc (suc (suc (suc (suc (suc (suc (suc (suc (suc (suc n)))))))))))))) p = simp unary-clauses (other (suc (suc (suc (suc (suc (suc (suc (suc (suc (suc (suc (suc (suc (suc n)))))))))))))) p (omega arith))
 
 pub done-fault : {x : Refusal} {p : ℕ} (d : List ℕ) {r : Answer} → outcomeOf r ≡ refusal x p → Done (fault x p) d d r
 unfolding outcome contents

@@ -23,12 +23,13 @@ use Rattle.calendar.specs.Calendar.{Property, Components, noMore, component}
 use Rattle.calendar.specs.Levels.{levels, shallow}
 use Rattle.folding.specs.Fold.{width, isOver, foldFrom}
 use Rattle.folding.specs.laws.Fold.{width-most}
-use Rattle.read_text_line.specs.Write.{writeContentLine}
+use Rattle.read_text_line.specs.Decoded.{writeLine}
 use Rattle.text.specs.WriteText.{contentLineOf, propertyLine, propertyLines, beginLine, endLine, writeCalendar}
 use Rattle.xml.specs.Marks.{marks}
 use Rattle.xml.specs.Nodes.{Nodes, noNodes, element, literal, referred, nodes, documentNodes}
 use Rattle.xcal.specs.PropertyNodes.{readProperties, propertyIn}
 use Rattle.xcal.specs.ComponentNodes.{insideOf, readComponents, readInner, readRoot}
+use Rattle.edition.specs.declared.Edition.{Edition}
 use Rattle.lengths_text.specs.laws.Bytes.{nameBytes, name-some, name-length}
 use Rattle.lengths_text.specs.laws.Sizes.{size, nodes-size, document-size, part, named, parts, parts-size}
 use Rattle.lengths_text.specs.laws.Children.{inside-size}
@@ -52,15 +53,6 @@ fold-length c (b ∷ s) = go (isOver c b) refl (λ (d : ℕ). fold-length d s)
         omega (arith, length-both (13 ∷ 10 ∷ 32 ∷ []) (b ∷ foldFrom 2 s), ih 2, late, width-most b)
     go false e ih = omega (arith, length-both [] (b ∷ foldFrom (c + 1) s), ih (c + 1))
 
-properties-length : (ns : Nodes) → length (propertyLines (readProperties ns)) ≤ rate * size ns
-unfolding readProperties propertyLines size
-properties-length noNodes = omega arith
-properties-length (literal p b more) = omega (arith, properties-length more)
-properties-length (referred p bs more) = omega (arith, properties-length more)
-properties-length (element p m x kids more) =
-    let q : Property = propertyIn m kids in
-    omega (arith, length-both (propertyLine q) (propertyLines (readProperties more)), fold-length 0 (writeContentLine (contentLineOf q)), line-short m kids, name-some m, properties-length more)
-
 -- ---- components
 
 abbrev partNames : List (List ℕ)
@@ -70,104 +62,114 @@ parts-distinct : distinct partNames ≡ true
 unfolding octets-compute
 parts-distinct = refl
 
--- the lines of a component, beside its properties and its subcomponents
-around-length : (n : List ℕ) (ps : List Property) (inner next : Components) →
-    length (writeCalendar (component n ps inner next)) ≤ 4 * length n + 14 + length (propertyLines ps) + length (writeCalendar inner) + length (writeCalendar next)
-unfolding writeCalendar
-around-length n ps inner next =
-    let a : List ℕ = propertyLines ps in
-    let b : List ℕ = writeCalendar inner in
-    let c : List ℕ = writeCalendar next in
-    let begins : length (beginLine n) ≤ 2 * length n + 8 = omega (arith, fold-length 0 (ascii "BEGIN:" ⊕ n), length-both (ascii "BEGIN:") n) in
-    let ends : length (endLine n) ≤ 2 * length n + 6 = omega (arith, fold-length 0 (ascii "END:" ⊕ n), length-both (ascii "END:") n) in
-    omega (arith, length-both (beginLine n) (a ⊕ b ⊕ endLine n ⊕ c), length-both a (b ⊕ endLine n ⊕ c), length-both b (endLine n ⊕ c), length-both (endLine n) c, begins, ends)
-
 abbrev componentsPart : Nodes → ℕ
 componentsPart ns = part (named (ascii "components")) ns
 
-component-length : (m : List ℕ) (kids more : Nodes) →
-    length (writeCalendar (readInner kids)) ≤ rate * componentsPart kids → length (writeCalendar (readComponents more)) ≤ rate * size more →
-    length (writeCalendar (component (upper m) (readProperties (insideOf (ascii "properties") kids)) (readInner kids) (readComponents more))) ≤ rate * (nameBytes m + 2 + size kids + size more)
-unfolding parts
-component-length m kids more inner next =
-    let ps : Nodes = insideOf (ascii "properties") kids in
-    let around = around-length (upper m) (readProperties ps) (readInner kids) (readComponents more) in
-    omega (arith, around, upper-length m, name-some m, name-length m, properties-length ps, inside-size (ascii "properties") kids, parts-size partNames parts-distinct kids, inner, next)
+module _ (ed : Edition) where
+  properties-length : (ns : Nodes) → length (propertyLines ed (readProperties ns)) ≤ rate * size ns
+  unfolding readProperties propertyLines size
+  properties-length noNodes = omega arith
+  properties-length (literal p b more) = omega (arith, properties-length more)
+  properties-length (referred p bs more) = omega (arith, properties-length more)
+  properties-length (element p m x kids more) =
+      let q : Property = propertyIn m kids in
+      omega (arith, length-both (propertyLine ed q) (propertyLines ed (readProperties more)), fold-length 0 (writeLine ed (contentLineOf q)), line-short ed m kids, name-some m, properties-length more)
 
--- the components that nodes state, and those in the `components` among nodes
-calendar-length : (ns : Nodes) → (length (writeCalendar (readComponents ns)) ≤ rate * size ns) × (length (writeCalendar (readInner ns)) ≤ rate * componentsPart ns)
-unfolding readComponents readInner size part pick
-calendar-length noNodes = unfold writeCalendar in (omega arith, omega arith)
-calendar-length (literal p b more) = (omega (arith, calendar-length more .0), calendar-length more .1)
-calendar-length (referred p bs more) = (omega (arith, calendar-length more .0), calendar-length more .1)
-calendar-length (element p m x kids more) =
-    (component-length m kids more (calendar-length kids .1) (calendar-length more .0), go (same m (ascii "components")) (calendar-length kids .0) (calendar-length more .1))
-  where
-    go : (t : Bool) → length (writeCalendar (readComponents kids)) ≤ rate * size kids → length (writeCalendar (readInner more)) ≤ rate * componentsPart more →
-        length (writeCalendar (pick t (readComponents kids) (readInner more))) ≤ rate * (pick t (nameBytes m + 2 + size kids) 0 + componentsPart more)
-    go true h k = omega (arith, h)
-    go false h k = omega (arith, k)
+  -- the lines of a component, beside its properties and its subcomponents
+  around-length : (n : List ℕ) (ps : List Property) (inner next : Components) →
+      length (writeCalendar ed (component n ps inner next)) ≤ 4 * length n + 14 + length (propertyLines ed ps) + length (writeCalendar ed inner) + length (writeCalendar ed next)
+  unfolding writeCalendar
+  around-length n ps inner next =
+      let a : List ℕ = propertyLines ed ps in
+      let b : List ℕ = writeCalendar ed inner in
+      let c : List ℕ = writeCalendar ed next in
+      let begins : length (beginLine n) ≤ 2 * length n + 8 = omega (arith, fold-length 0 (ascii "BEGIN:" ⊕ n), length-both (ascii "BEGIN:") n) in
+      let ends : length (endLine n) ≤ 2 * length n + 6 = omega (arith, fold-length 0 (ascii "END:" ⊕ n), length-both (ascii "END:") n) in
+      omega (arith, length-both (beginLine n) (a ⊕ b ⊕ endLine n ⊕ c), length-both a (b ⊕ endLine n ⊕ c), length-both b (endLine n ⊕ c), length-both (endLine n) c, begins, ends)
 
-none-shorter : (c : Components) → length (writeCalendar noMore) ≤ length (writeCalendar c)
-none-shorter c = unfold writeCalendar in omega arith
+  component-length : (m : List ℕ) (kids more : Nodes) →
+      length (writeCalendar ed (readInner kids)) ≤ rate * componentsPart kids → length (writeCalendar ed (readComponents more)) ≤ rate * size more →
+      length (writeCalendar ed (component (upper m) (readProperties (insideOf (ascii "properties") kids)) (readInner kids) (readComponents more))) ≤ rate * (nameBytes m + 2 + size kids + size more)
+  unfolding parts
+  component-length m kids more inner next =
+      let ps : Nodes = insideOf (ascii "properties") kids in
+      let around = around-length (upper m) (readProperties ps) (readInner kids) (readComponents more) in
+      omega (arith, around, upper-length m, name-some m, name-length m, properties-length ps, inside-size (ascii "properties") kids, parts-size partNames parts-distinct kids, inner, next)
 
--- the lines of a component, exactly
-all-length : (n : List ℕ) (ps : List Property) (i x : Components) → length (writeCalendar (component n ps i x)) ≡
-    length (beginLine n) + length (propertyLines ps) + length (writeCalendar i) + length (endLine n) + length (writeCalendar x)
-unfolding writeCalendar
-all-length n ps i x =
-    let a : List ℕ = propertyLines ps in
-    let b : List ℕ = writeCalendar i in
-    let c : List ℕ = writeCalendar x in
-    omega (arith, length-both (beginLine n) (a ⊕ b ⊕ endLine n ⊕ c), length-both a (b ⊕ endLine n ⊕ c), length-both b (endLine n ⊕ c), length-both (endLine n) c)
+  -- the components that nodes state, and those in the `components` among nodes
+  calendar-length : (ns : Nodes) → (length (writeCalendar ed (readComponents ns)) ≤ rate * size ns) × (length (writeCalendar ed (readInner ns)) ≤ rate * componentsPart ns)
+  unfolding readComponents readInner size part pick
+  calendar-length noNodes = unfold writeCalendar in (omega arith, omega arith)
+  calendar-length (literal p b more) = (omega (arith, calendar-length more .0), calendar-length more .1)
+  calendar-length (referred p bs more) = (omega (arith, calendar-length more .0), calendar-length more .1)
+  calendar-length (element p m x kids more) =
+      (component-length m kids more (calendar-length kids .1) (calendar-length more .0), go (same m (ascii "components")) (calendar-length kids .0) (calendar-length more .1))
+    where
+      go : (t : Bool) → length (writeCalendar ed (readComponents kids)) ≤ rate * size kids → length (writeCalendar ed (readInner more)) ≤ rate * componentsPart more →
+          length (writeCalendar ed (pick t (readComponents kids) (readInner more))) ≤ rate * (pick t (nameBytes m + 2 + size kids) 0 + componentsPart more)
+      go true h k = omega (arith, h)
+      go false h k = omega (arith, k)
 
--- without what stands too deep
-shallow-length : (c : Components) (l : ℕ) → length (writeCalendar (shallow l c)) ≤ length (writeCalendar c)
-unfolding shallow
-shallow-length noMore l = omega arith
-shallow-length (component n ps inner next) l = go (ltb 0 l) (shallow-length inner (l - 1)) (shallow-length next l)
-  where
-    go : (b : Bool) → length (writeCalendar (shallow (l - 1) inner)) ≤ length (writeCalendar inner) → length (writeCalendar (shallow l next)) ≤ length (writeCalendar next) →
-        length (writeCalendar (pick b (component n ps (shallow (l - 1) inner) (shallow l next)) noMore)) ≤ length (writeCalendar (component n ps inner next))
-    go true h k = unfold pick in omega (arith, all-length n ps inner next, all-length n ps (shallow (l - 1) inner) (shallow l next))
-    go false h k = unfold pick in none-shorter (component n ps inner next)
+  none-shorter : (c : Components) → length (writeCalendar noMore) ≤ length (writeCalendar c)
+  none-shorter c = unfold writeCalendar in omega arith
 
--- ---- the text
+  -- the lines of a component, exactly
+  all-length : (n : List ℕ) (ps : List Property) (i x : Components) → length (writeCalendar (component n ps i x)) ≡
+      length (beginLine n) + length (propertyLines ps) + length (writeCalendar i) + length (endLine n) + length (writeCalendar x)
+  unfolding writeCalendar
+  all-length n ps i x =
+      let a : List ℕ = propertyLines ps in
+      let b : List ℕ = writeCalendar i in
+      let c : List ℕ = writeCalendar x in
+      omega (arith, length-both (beginLine n) (a ⊕ b ⊕ endLine n ⊕ c), length-both a (b ⊕ endLine n ⊕ c), length-both b (endLine n ⊕ c), length-both (endLine n) c)
 
-root-length : (ns : Nodes) → length (writeCalendar (readRoot ns)) ≤ rate * size ns
-unfolding readRoot size
-root-length noNodes = unfold writeCalendar in omega arith
-root-length (literal p b more) = unfold writeCalendar in omega arith
-root-length (referred p bs more) = unfold writeCalendar in omega arith
-root-length (element p m x kids more) = omega (arith, shallow-length (readComponents kids) levels, calendar-length kids .0)
+  -- without what stands too deep
+  shallow-length : (c : Components) (l : ℕ) → length (writeCalendar (shallow l c)) ≤ length (writeCalendar c)
+  unfolding shallow
+  shallow-length noMore l = omega arith
+  shallow-length (component n ps inner next) l = go (ltb 0 l) (shallow-length inner (l - 1)) (shallow-length next l)
+    where
+      go : (b : Bool) → length (writeCalendar (shallow (l - 1) inner)) ≤ length (writeCalendar inner) → length (writeCalendar (shallow l next)) ≤ length (writeCalendar next) →
+          length (writeCalendar (pick b (component n ps (shallow (l - 1) inner) (shallow l next)) noMore)) ≤ length (writeCalendar (component n ps inner next))
+      go true h k = unfold pick in omega (arith, all-length n ps inner next, all-length n ps (shallow (l - 1) inner) (shallow l next))
+      go false h k = unfold pick in none-shorter (component n ps inner next)
 
-pub text-bound : (s : List ℕ) → length (writeCalendar (readRoot (documentNodes s))) ≤ rate * length s
-text-bound s = omega (arith, root-length (documentNodes s), document-size s)
+  -- ---- the text
 
-pub text-fits : (s : List ℕ) (n : ℕ) → rate * length s ≤ n → length (writeCalendar (readRoot (documentNodes s))) ≤ n
-text-fits s n h = omega (arith, text-bound s, h)
+  root-length : (ns : Nodes) → length (writeCalendar ed (readRoot ns)) ≤ rate * size ns
+  unfolding readRoot size
+  root-length noNodes = unfold writeCalendar in omega arith
+  root-length (literal p b more) = unfold writeCalendar in omega arith
+  root-length (referred p bs more) = unfold writeCalendar in omega arith
+  root-length (element p m x kids more) = omega (arith, shallow-length (readComponents kids) levels, calendar-length kids .0)
 
-pub text-short : (s : List ℕ) → length s ≤ 65535 → length (writeCalendar (readRoot (documentNodes s))) < 2 ^ 32
-text-short s h = omega (arith, text-bound s, h)
+  pub text-bound : (s : List ℕ) → length (writeCalendar ed (readRoot (documentNodes s))) ≤ rate * length s
+  text-bound s = omega (arith, root-length (documentNodes s), document-size s)
 
--- ---- one content line
+  pub text-fits : (s : List ℕ) (n : ℕ) → rate * length s ≤ n → length (writeCalendar ed (readRoot (documentNodes s))) ≤ n
+  text-fits s n h = omega (arith, text-bound s, h)
 
--- the property that the element at the place p states, whose content is kids
-pub line-fits : (s : List ℕ) (p q : ℕ) (m : List ℕ) (x : ℕ) (kids more : Nodes) → length s ≤ 65535 → nodes (marks p (drop p s)) 0 ≡ element q m x kids more →
-    length (writeContentLine (contentLineOf (propertyIn m kids))) < 262144
-unfolding size
-line-fits s p q m x kids more h e = omega (arith, line-length m kids, name-length m, ap size e, nodes-size (drop p s) p 0, length-drop p s)
+  pub text-short : (s : List ℕ) → length s ≤ 65535 → length (writeCalendar ed (readRoot (documentNodes s))) < 2 ^ 32
+  text-short s h = omega (arith, text-bound s, h)
 
-unfoldable pub lineFits : Property → Bool
-lineFits q = ltb (length (writeContentLine (contentLineOf q))) 262144
+  -- ---- one content line
 
-each-fits : (ns : Nodes) → size ns ≤ 65535 → every lineFits (readProperties ns) ≡ true
-unfolding readProperties every lineFits size
-each-fits noNodes h = refl
-each-fits (literal p b more) h = each-fits more (omega arith)
-each-fits (referred p bs more) h = each-fits more (omega arith)
-each-fits (element p m x kids more) h = and-yes _ _ (lt-ltb (length (writeContentLine (contentLineOf (propertyIn m kids)))) 262144 (omega (arith, line-length m kids, name-length m))) (each-fits more (omega arith))
+  -- the property that the element at the place p states, whose content is kids
+  pub line-fits : (s : List ℕ) (p q : ℕ) (m : List ℕ) (x : ℕ) (kids more : Nodes) → length s ≤ 65535 → nodes (marks p (drop p s)) 0 ≡ element q m x kids more →
+      length (writeLine ed (contentLineOf (propertyIn m kids))) < 262144
+  unfolding size
+  line-fits s p q m x kids more h e = omega (arith, line-length ed m kids, name-length m, ap size e, nodes-size (drop p s) p 0, length-drop p s)
 
--- the properties that the elements from the place p on state
-pub lines-fit : (s : List ℕ) (p : ℕ) → length s ≤ 65535 → every lineFits (readProperties (nodes (marks p (drop p s)) 0)) ≡ true
-lines-fit s p h = each-fits (nodes (marks p (drop p s)) 0) (omega (arith, nodes-size (drop p s) p 0, length-drop p s))
+  unfoldable pub lineFits : Property → Bool
+  lineFits q = ltb (length (writeLine ed (contentLineOf q))) 262144
+
+  each-fits : (ns : Nodes) → size ns ≤ 65535 → every lineFits (readProperties ns) ≡ true
+  unfolding readProperties every lineFits size
+  each-fits noNodes h = refl
+  each-fits (literal p b more) h = each-fits more (omega arith)
+  each-fits (referred p bs more) h = each-fits more (omega arith)
+  each-fits (element p m x kids more) h = and-yes _ _ (lt-ltb (length (writeLine ed (contentLineOf (propertyIn m kids)))) 262144 (omega (arith, line-length ed m kids, name-length m))) (each-fits more (omega arith))
+
+  -- the properties that the elements from the place p on state
+  pub lines-fit : (s : List ℕ) (p : ℕ) → length s ≤ 65535 → every lineFits (readProperties (nodes (marks p (drop p s)) 0)) ≡ true
+  lines-fit s p h = each-fits (nodes (marks p (drop p s)) 0) (omega (arith, nodes-size (drop p s) p 0, length-drop p s))

@@ -9,7 +9,7 @@ mallettriton-to-xml-spec = tie.close (tie.spec
     (λ c κs. search needs)  -- to-xml-requires
     (λ c κs. search needs)  -- number-of-requires
     (λ c κs. search needs)  -- value-of-requires
-    (λ c κs. code-fits (c .before .before .before .before .before .before .to-xml .result) (to-xml-small (c .before .before .before .before .before .before .before .before .before .before .before .before .args .input .now) (c .before .before .before .before .before .before .before .before .before .before .before .before .args .work .now) (c .before .before .before .before .before .before .before .before .before .before .before .before .args .out .now)) (c .before .before .before .before .before .before .to-xml .ensures .0) (c .before .number-of .ensures) (c .value-of .ensures))  -- joined-requires
+    (λ c κs. code-fits (c .before .before .before .before .before .before .to-xml .result) (to-xml-small (c .before .before .before .before .before .before .before .before .before .before .before .before .args .input .now) (c .before .before .before .before .before .before .before .before .before .before .before .before .args .work .now) (c .before .before .before .before .before .before .before .before .before .before .before .before .args .out .now) (c .before .before .before .before .before .before .before .before .before .before .before .before .args .edition)) (c .before .before .before .before .before .before .to-xml .ensures .0) (c .before .number-of .ensures) (c .value-of .ensures))  -- joined-requires
     (λ c. search needs)  -- same-length
     (λ c. search needs)  -- same-length-2
     (λ c. (code-of (c .before .before .before .before .before .before .before .to-xml .result) (c .before .before .before .before .before .before .before .to-xml .ensures .0) (c .before .before .number-of .ensures) (c .before .value-of .ensures) (c .joined .ensures), c .before .before .before .before .before .before .before .to-xml .ensures .1, c .before .before .before .before .before .before .before .to-xml .ensures .2))  -- returns

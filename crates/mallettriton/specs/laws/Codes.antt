@@ -1,9 +1,10 @@
 -- Every value that a conversion answers is below 2 ^ 32, so that its number and its value can be told from the one number that C gets.
 --     to-xml-small, to-text-small    the value of an outcome
 --     code-back                      its number and its value from the one number
-use mathlib.Core.Path.{_≡_, refl, sym, ap, _∙_}
+use mathlib.Core.Path.{_≡_, refl, _∙_}
 use mathlib.Core.Bool.{Bool, true, false}
-use mathlib.Core.List.{List, [], _∷_}
+use mathlib.Core.List.{List}
+use mathlib.Core.Option.{Option, none, some}
 use Prim.Native.Nat.{ℕ, _+_, _*_, _/_, _%_, _^_, _≤_, _<_}
 use native.Mathlib.Decide.{decLe}
 use native.Mathlib.Omega.{arith}
@@ -11,10 +12,12 @@ use lib.Dec.{leb}
 use lib.ListN.{length}
 use borrow.Author.Tests.{leb-true, lt-leb}
 use Rattle.octets.specs.Pick.{pick}
-use Rattle.calendar.specs.Refusal.{LENGTH, WORK, ROOM, Verdict, fine, refuse, answer}
+use Rattle.calendar.specs.Refusal.{LENGTH, WORK, ROOM, EDITION, Verdict, fine, refuse, answer}
 use Rattle.folding.specs.Unfold.{unfolded, origin}
 use Rattle.folding.specs.laws.Unfold.{origin-inside, origin-past, length-unfolded}
 use Rattle.folding.specs.Lines.{lines}
+use Rattle.edition.specs.Edition.{editionOf}
+use Rattle.edition.specs.declared.Edition.{Edition}
 use Rattle.text.specs.Tree.{calendarOf}
 use Rattle.text.specs.ReadText.{keptVerdict, placed, textVerdict, readCalendar}
 use Rattle.text.specs.WriteText.{writeCalendar}
@@ -25,7 +28,7 @@ use Rattle.xcal.specs.ReadDocument.{documentVerdict, readDocument}
 use Rattle.lengths_xml.specs.laws.Documents.{xml-short}
 use Rattle.lengths_text.specs.laws.Documents.{text-short}
 use Rattle.places.specs.laws.Documents.{document-place}
-use Rattle.calls.specs.Conversion.{Converted, result, fault, converted, Outcome, written, refusal, numbers, outcome}
+use Rattle.calls.specs.Conversion.{result, fault, converted, Outcome, written, refusal, numbers, outcome}
 use Rattle.calls.specs.ToXml.{toXml, toXmlOutcome}
 use Rattle.calls.specs.ToText.{toText, toTextOutcome}
 use Rattle.calls.specs.Answered.{outcomeOf, codeOf}
@@ -48,32 +51,63 @@ result-small bs n h = go (leb (length bs) n)
     go true = omega arith
     go false = omega arith
 
-kept-small : (s : List ℕ) (v : Verdict) (n : ℕ) → length s ≤ 65535 → numbers (outcome (converted writeDocument (answer (placed s v) (calendarOf (lines (unfolded s))))) n) .1 < 4294967296
+kept-small : (ed : Edition) (s : List ℕ) (v : Verdict) (n : ℕ) → length s ≤ 65535 → numbers (outcome (converted writeDocument (answer (placed s v) (calendarOf ed (lines (unfolded s))))) n) .1 < 4294967296
 unfolding placed outcome
-kept-small s fine n h = result-small (writeDocument (calendarOf (lines (unfolded s)))) n (xml-short (unfolded s) (omega (arith, length-unfolded s)))
-kept-small s (refuse r p) n h = omega (arith, origin-within s p)
+kept-small ed s fine n h = result-small (writeDocument (calendarOf ed (lines (unfolded s)))) n (xml-short ed (unfolded s) (omega (arith, length-unfolded s)))
+kept-small ed s (refuse r p) n h = omega (arith, origin-within s p)
 
-pub to-xml-small : (s w d : List ℕ) → numbers (toXmlOutcome s w d) .1 < 4294967296
+in-edition-small : (ed : Edition) (s w d : List ℕ) → numbers (outcome (toXml (some ed) s (length w)) (length d)) .1 < 4294967296
 unfolding toXml readCalendar textVerdict pick outcome
-to-xml-small s w d = go (leb (length s) 65535) (leb (length s) (length w)) refl
+in-edition-small ed s w d = go (leb (length s) 65535) (leb (length s) (length w)) refl
   where
     go : (a b : Bool) → leb (length s) 65535 ≡ a →
-        numbers (outcome (converted writeDocument (answer (pick a (pick b (placed s (keptVerdict (unfolded s))) (refuse WORK 0)) (refuse LENGTH 0)) (calendarOf (lines (unfolded s))))) (length d)) .1 < 4294967296
-    go true true e = kept-small s (keptVerdict (unfolded s)) (length d) (leb-true (length s) 65535 e)
+        numbers (outcome (converted writeDocument (answer (pick a (pick b (placed s (keptVerdict ed (unfolded s))) (refuse WORK 0)) (refuse LENGTH 0)) (calendarOf ed (lines (unfolded s))))) (length d)) .1 < 4294967296
+    go true true e = kept-small ed s (keptVerdict ed (unfolded s)) (length d) (leb-true (length s) 65535 e)
     go true false e = omega arith
     go false b e = omega arith
 
-pub to-text-small : (s d : List ℕ) → numbers (toTextOutcome s d) .1 < 4294967296
-unfolding toText readDocument documentVerdict pick outcome
-to-text-small s d = go (decLe (length s) 65535)
+no-edition-small : (s w d : List ℕ) → numbers (outcome (toXml none s (length w)) (length d)) .1 < 4294967296
+unfolding toXml pick outcome
+no-edition-small s w d = go (leb (length s) 65535) (leb (length s) (length w))
   where
-    by-verdict : (v : Verdict) → documentVerdict s ≡ v → length s ≤ 65535 → numbers (outcome (converted writeCalendar (answer v (readRoot (documentNodes s)))) (length d)) .1 < 4294967296
-    by-verdict fine e h = result-small (writeCalendar (readRoot (documentNodes s))) (length d) (text-short s h)
-    by-verdict (refuse r p) e h = omega (arith, document-place s e)
+    go : (a b : Bool) → numbers (outcome (pick a (pick b (fault EDITION 0) (fault WORK 0)) (fault LENGTH 0)) (length d)) .1 < 4294967296
+    go true true = omega arith
+    go true false = omega arith
+    go false b = omega arith
 
-    go : Dec (length s ≤ 65535) → numbers (toTextOutcome s d) .1 < 4294967296
-    go (yes h) = by-verdict (documentVerdict s) refl h
+pub to-xml-small : (s w d : List ℕ) (edition : ℕ) → numbers (toXmlOutcome s w d edition) .1 < 4294967296
+to-xml-small s w d edition = go (editionOf edition)
+  where
+    go : (o : Option Edition) → numbers (outcome (toXml o s (length w)) (length d)) .1 < 4294967296
+    go (some ed) = in-edition-small ed s w d
+    go none = no-edition-small s w d
+
+text-in-edition-small : (ed : Edition) (s d : List ℕ) → numbers (outcome (toText (some ed) s) (length d)) .1 < 4294967296
+unfolding toText readDocument documentVerdict pick outcome
+text-in-edition-small ed s d = go (decLe (length s) 65535)
+  where
+    by-verdict : (v : Verdict) → documentVerdict ed s ≡ v → length s ≤ 65535 → numbers (outcome (converted (writeCalendar ed) (answer v (readRoot (documentNodes s)))) (length d)) .1 < 4294967296
+    by-verdict fine e h = result-small (writeCalendar ed (readRoot (documentNodes s))) (length d) (text-short ed s h)
+    by-verdict (refuse r p) e h = omega (arith, document-place ed s e)
+
+    go : Dec (length s ≤ 65535) → numbers (outcome (toText (some ed) s) (length d)) .1 < 4294967296
+    go (yes h) = by-verdict (documentVerdict ed s) refl h
     go (no h) = rw (lt-leb (length s) 65535 (omega (arith, h))) (omega arith)
+
+text-no-edition-small : (s d : List ℕ) → numbers (outcome (toText none s) (length d)) .1 < 4294967296
+unfolding toText pick outcome
+text-no-edition-small s d = go (leb (length s) 65535)
+  where
+    go : (a : Bool) → numbers (outcome (pick a (fault EDITION 0) (fault LENGTH 0)) (length d)) .1 < 4294967296
+    go true = omega arith
+    go false = omega arith
+
+pub to-text-small : (s d : List ℕ) (edition : ℕ) → numbers (toTextOutcome s d edition) .1 < 4294967296
+to-text-small s d edition = go (editionOf edition)
+  where
+    go : (o : Option Edition) → numbers (outcome (toText o s) (length d)) .1 < 4294967296
+    go (some ed) = text-in-edition-small ed s d
+    go none = text-no-edition-small s d
 
 pub numbers-small : (o : Outcome) → numbers o .0 < 256
 numbers-small (written n) = omega arith

@@ -1,18 +1,19 @@
 -- An output that is long enough for every input of a length: the call never answers ROOM.
 --     xml-room, text-room
-use mathlib.Core.Path.{_≡_, refl}
-use mathlib.Core.Bool.{Bool, true, false}
+use mathlib.Core.Path.{_≡_}
 use mathlib.Core.List.{List}
 use Prim.Native.Nat.{ℕ, _+_, _*_, _≤_}
 use native.Mathlib.Omega.{arith}
-use lib.Dec.{leb}
 use lib.ListN.{length}
 use borrow.Author.Tests.{le-leb}
 use Rattle.octets.specs.Pick.{pick}
-use Rattle.calendar.specs.Refusal.{Refusal, ROOM, LENGTH, WORK, Verdict, fine, refuse, answer}
+use Rattle.calendar.specs.Refusal.{fine}
 use Rattle.folding.specs.Unfold.{unfolded}
 use Rattle.folding.specs.laws.Unfold.{length-unfolded}
 use Rattle.folding.specs.Lines.{lines}
+use Rattle.edition.specs.Edition.{editionNumber}
+use Rattle.edition.specs.laws.Carets.{number-back}
+use Rattle.edition.specs.declared.Edition.{Edition}
 use Rattle.text.specs.Tree.{calendarOf}
 use Rattle.text.specs.ReadText.{readCalendar, textVerdict}
 use Rattle.text.specs.WriteText.{writeCalendar}
@@ -22,7 +23,7 @@ use Rattle.xcal.specs.ComponentNodes.{readRoot}
 use Rattle.xcal.specs.ReadDocument.{documentVerdict, readDocument}
 use Rattle.lengths_xml.specs.laws.Documents.{xml-fits}
 use Rattle.lengths_text.specs.laws.Documents.{text-fits}
-use Rattle.calls.specs.Conversion.{Converted, result, fault, converted, Outcome, written, refusal, outcome}
+use Rattle.calls.specs.Conversion.{result, written, outcome}
 use Rattle.calls.specs.ToXml.{toXml, toXmlOutcome}
 use Rattle.calls.specs.ToText.{toText, toTextOutcome}
 
@@ -31,12 +32,12 @@ result-written : (bs : List ℕ) (n : ℕ) → length bs ≤ n → outcome (resu
 unfolding outcome pick
 result-written bs n h = rw (le-leb (length bs) n h)
 
-pub xml-room : (s w d : List ℕ) → 19 * length s + 109 ≤ length d → textVerdict s (length w) ≡ fine →
-    toXmlOutcome s w d ≡ written (length (writeDocument (calendarOf (lines (unfolded s)))))
+pub xml-room : (ed : Edition) (s w d : List ℕ) → 19 * length s + 109 ≤ length d → textVerdict ed s (length w) ≡ fine →
+    toXmlOutcome s w d (editionNumber ed) ≡ written (length (writeDocument (calendarOf ed (lines (unfolded s)))))
 unfolding toXml readCalendar
-xml-room s w d h v = rw v (result-written _ (length d) (xml-fits (unfolded s) (length d) (omega (arith, h, length-unfolded s))))
+xml-room ed s w d h v = rw (number-back ed, v) (result-written _ (length d) (xml-fits ed (unfolded s) (length d) (omega (arith, h, length-unfolded s))))
 
-pub text-room : (s d : List ℕ) → 6 * length s ≤ length d → documentVerdict s ≡ fine →
-    toTextOutcome s d ≡ written (length (writeCalendar (readRoot (documentNodes s))))
+pub text-room : (ed : Edition) (s d : List ℕ) → 6 * length s ≤ length d → documentVerdict ed s ≡ fine →
+    toTextOutcome s d (editionNumber ed) ≡ written (length (writeCalendar ed (readRoot (documentNodes s))))
 unfolding toText readDocument
-text-room s d h v = rw v (result-written _ (length d) (text-fits s (length d) h))
+text-room ed s d h v = rw (number-back ed, v) (result-written _ (length d) (text-fits ed s (length d) h))

@@ -20,68 +20,10 @@ use Rattle.xcal.specs.ValueNodes.{typeOfNodes}
 use Rattle.xcal.specs.PropertyNodes.{propertySlots, childVerdict, propertyVerdict, propertiesVerdict}
 use Rattle.xcal.specs.ComponentNodes.{Come, isComplete, nothingCome, endOfComponent, endOfComponents, componentVerdict, componentsVerdict, streamVerdict, rootVerdict}
 use Rattle.xcal.specs.ReadDocument.{documentVerdict}
+use Rattle.edition.specs.declared.Edition.{Edition}
 use Rattle.places.specs.laws.Bounds.{Within, within-fine, within-refuse, bounding, Inside}
 use Rattle.places.specs.laws.Marks.{document-inside, xml-within}
 use Rattle.places.specs.laws.Values.{Judges, sequence-within, value-within, parameters-within}
-
-module _ (n : ℕ) where
-  -- ---- properties
-
-  child-within : (k m : List ℕ) (t : ValueType) → Judges n (childVerdict k m t)
-  child-within k m t p q x kids h l i = search (bounding, parameters-within, value-within)
-
-  property-within : (k : List ℕ) → Judges n (propertyVerdict k)
-  unfolding propertyVerdict
-  property-within k p m x kids h l i =
-      let t : ValueType = typeOfNodes (upper m) kids in
-      let a = sequence-within n (propertySlots (upper m)) (childVerdict k (upper m) t) (child-within k (upper m) t) kids 0 [] x i l in
-      search bounding
-
-  pub properties-within : (k : List ℕ) (ns : Nodes) → Inside n ns → Within n (propertiesVerdict k ns)
-  unfolding propertiesVerdict
-  properties-within k noNodes i = within-fine n
-  properties-within k (literal p b more) i = let ih = properties-within k more (i .1) in search bounding
-  properties-within k (referred p bs more) i = search bounding
-  properties-within k (element p m x kids more) i = let ih = properties-within k more (i .3) in search (bounding, property-within)
-
-  -- ---- components
-
-  mutual
-    unfolding componentVerdict endOfComponent endOfComponents
-
-    pub component-within : (ns : Nodes) (k : List ℕ) (l : ℕ) (counts : Bool) (c : Come) (e : ℕ) → Inside n ns → e ≤ n → Within n (componentVerdict ns k l counts c e)
-    component-within noNodes k l counts c e i h = search bounding
-    component-within (literal p b more) k l counts c e i h = let ih = component-within more k l counts c e (i .1) h in search bounding
-    component-within (referred p bs more) k l counts c e i h = search bounding
-    component-within (element p m x kids more) k l counts c e i h =
-        let inner = components-within kids k l (c .method) false x (i .2) (i .1) in
-        let ih : (d : Come) → Within n (componentVerdict more k l counts d e) = λ d. component-within more k l counts d e (i .3) h in
-        search (bounding, properties-within)
-
-    pub components-within : (ns : Nodes) (k : List ℕ) (l : ℕ) (method any : Bool) (e : ℕ) → Inside n ns → e ≤ n → Within n (componentsVerdict ns k l method any e)
-    components-within noNodes k l method any e i h = search bounding
-    components-within (literal p b more) k l method any e i h = let ih = components-within more k l method any e (i .1) h in search bounding
-    components-within (referred p bs more) k l method any e i h = search bounding
-    components-within (element p m x kids more) k l method any e i h =
-        let inner = component-within kids (upper m) (l - 1) (isComplete (upper m) method kids) (nothingCome method) x (i .2) (i .1) in
-        let ih = components-within more k l method true e (i .3) h in
-        search bounding
-
-  -- ---- the root
-
-  stream-within : (ns : Nodes) (any : Bool) (e : ℕ) → Inside n ns → e ≤ n → Within n (streamVerdict ns any e)
-  unfolding streamVerdict
-  stream-within noNodes any e i h = search bounding
-  stream-within (literal p b more) any e i h = let ih = stream-within more any e (i .1) h in search bounding
-  stream-within (referred p bs more) any e i h = search bounding
-  stream-within (element p m x kids more) any e i h = let ih = stream-within more true e (i .3) h in search (bounding, component-within)
-
-  pub root-within : (ns : Nodes) → Inside n ns → Within n (rootVerdict ns)
-  unfolding rootVerdict
-  root-within noNodes i = within-fine n
-  root-within (literal p b more) i = within-fine n
-  root-within (referred p bs more) i = within-fine n
-  root-within (element p m x kids more) i = search (bounding, stream-within)
 
 -- ---- the document
 
@@ -89,13 +31,73 @@ characters-within : (s : List ℕ) (o : Option ℕ) → firstBad s ≡ o → Wit
 characters-within s none e = within-fine (length s)
 characters-within s (some p) e = within-refuse (length s) CHARACTER p (omega (arith, bad-inside s p e))
 
-document-within : (s : List ℕ) → Within (length s) (documentVerdict s)
-unfolding documentVerdict
-document-within s =
-    let c = characters-within s (firstBad s) refl in
-    let r = root-within (length s) (documentNodes s) (document-inside s) in
-    let z : 0 ≤ length s = omega arith in
-    search (bounding, xml-within)
+module _ (ed : Edition) where
+  module _ (n : ℕ) where
+    -- ---- properties
 
-pub document-place : (s : List ℕ) {r : Refusal} {p : ℕ} → documentVerdict s ≡ refuse r p → p ≤ length s
-document-place s {r} {p} e = document-within s .place r p e
+    child-within : (k m : List ℕ) (t : ValueType) → Judges n (childVerdict ed k m t)
+    child-within k m t p q x kids h l i = search (bounding, parameters-within ed, value-within ed)
+
+    property-within : (k : List ℕ) → Judges n (propertyVerdict ed k)
+    unfolding propertyVerdict
+    property-within k p m x kids h l i =
+        let t : ValueType = typeOfNodes (upper m) kids in
+        let a = sequence-within ed n (propertySlots (upper m)) (childVerdict ed k (upper m) t) (child-within k (upper m) t) kids 0 [] x i l in
+        search bounding
+
+    pub properties-within : (k : List ℕ) (ns : Nodes) → Inside n ns → Within n (propertiesVerdict ed k ns)
+    unfolding propertiesVerdict
+    properties-within k noNodes i = within-fine n
+    properties-within k (literal p b more) i = let ih = properties-within k more (i .1) in search bounding
+    properties-within k (referred p bs more) i = search bounding
+    properties-within k (element p m x kids more) i = let ih = properties-within k more (i .3) in search (bounding, property-within)
+
+    -- ---- components
+
+    mutual
+      unfolding componentVerdict endOfComponent endOfComponents
+
+      pub component-within : (ns : Nodes) (k : List ℕ) (l : ℕ) (counts : Bool) (c : Come) (e : ℕ) → Inside n ns → e ≤ n → Within n (componentVerdict ed ns k l counts c e)
+      component-within noNodes k l counts c e i h = search bounding
+      component-within (literal p b more) k l counts c e i h = let ih = component-within more k l counts c e (i .1) h in search bounding
+      component-within (referred p bs more) k l counts c e i h = search bounding
+      component-within (element p m x kids more) k l counts c e i h =
+          let inner = components-within kids k l (c .method) false x (i .2) (i .1) in
+          let ih : (d : Come) → Within n (componentVerdict ed more k l counts d e) = λ d. component-within more k l counts d e (i .3) h in
+          search (bounding, properties-within)
+
+      pub components-within : (ns : Nodes) (k : List ℕ) (l : ℕ) (method any : Bool) (e : ℕ) → Inside n ns → e ≤ n → Within n (componentsVerdict ed ns k l method any e)
+      components-within noNodes k l method any e i h = search bounding
+      components-within (literal p b more) k l method any e i h = let ih = components-within more k l method any e (i .1) h in search bounding
+      components-within (referred p bs more) k l method any e i h = search bounding
+      components-within (element p m x kids more) k l method any e i h =
+          let inner = component-within kids (upper m) (l - 1) (isComplete (upper m) method kids) (nothingCome method) x (i .2) (i .1) in
+          let ih = components-within more k l method true e (i .3) h in
+          search bounding
+
+    -- ---- the root
+
+    stream-within : (ns : Nodes) (any : Bool) (e : ℕ) → Inside n ns → e ≤ n → Within n (streamVerdict ed ns any e)
+    unfolding streamVerdict
+    stream-within noNodes any e i h = search bounding
+    stream-within (literal p b more) any e i h = let ih = stream-within more any e (i .1) h in search bounding
+    stream-within (referred p bs more) any e i h = search bounding
+    stream-within (element p m x kids more) any e i h = let ih = stream-within more true e (i .3) h in search (bounding, component-within)
+
+    pub root-within : (ns : Nodes) → Inside n ns → Within n (rootVerdict ed ns)
+    unfolding rootVerdict
+    root-within noNodes i = within-fine n
+    root-within (literal p b more) i = within-fine n
+    root-within (referred p bs more) i = within-fine n
+    root-within (element p m x kids more) i = search (bounding, stream-within)
+
+  document-within : (s : List ℕ) → Within (length s) (documentVerdict ed s)
+  unfolding documentVerdict
+  document-within s =
+      let c = characters-within s (firstBad s) refl in
+      let r = root-within (length s) (documentNodes s) (document-inside s) in
+      let z : 0 ≤ length s = omega arith in
+      search (bounding, xml-within)
+
+  pub document-place : (s : List ℕ) {r : Refusal} {p : ℕ} → documentVerdict ed s ≡ refuse r p → p ≤ length s
+  document-place s {r} {p} e = document-within s .place r p e

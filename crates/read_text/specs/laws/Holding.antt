@@ -8,7 +8,7 @@ use mathlib.Core.List.{List}
 use mathlib.Core.Option.{Option}
 use Prim.Native.Nat.{ℕ, _≤_, _<_}
 use lib.Dec.{eqb, ltb}
-use lib.ListN.{length}
+use lib.ListN.{length, length-map}
 use borrow.Author.Tests.{eq-eqb, lt-ltb, le-ltb}
 use Rattle.octets.specs.Ascii.{ascii}
 use Rattle.octets.specs.Pick.{pick, _and_, _or_}
@@ -29,6 +29,7 @@ use Rattle.schema.specs.Completing.{actionNames}
 use Rattle.schema.specs.Property as property
 use Rattle.schema.specs.declared.table.Row.{Row}
 use Rattle.read_text_line.specs.Cursor.{paramsAt}
+use Rattle.read_text_line.specs.Decoded.{decodedParameter, decodedLine}
 use Rattle.read_text_line.specs.Line.{lineFrom}
 use Rattle.read_text_line.specs.declared.LineCursors.{LineCursors}
 use Rattle.text.specs.Faults.{lineStart, parameterName, valueStart, Fault}
@@ -39,6 +40,7 @@ use Rattle.text.specs.LineKind.{openAs, heldBy, propertyKind}
 use Rattle.read_text_property.specs.Faults.{faultOf, FaultIs}
 use Rattle.read_text_property.specs.declared.LineFault.{LineFault}
 use Rattle.read_text_property.specs.declared.LineFault.the-variants.{Parameter, Encoding, Value, None}
+use Rattle.edition.specs.declared.Edition.{Edition}
 use Rattle.read_text.specs.Places.{NameAt, PlaceOf}
 use Rattle.read_text.specs.laws.Action.{action-read}
 use Rattle.read_text.specs.Kinds.{KindIs}
@@ -78,43 +80,44 @@ module _ {k : ℕ} {row : Row} (inner : Bool) (c w : List ℕ) (o : k ≡ placeO
   unfolding _and_ _or_
   hold-other f u = u ∙ sym (hold-at ∙ rw (le-ltb (row .number) property.KNOWN f))
 
--- ---- its line
+module _ {ed : Edition} where
+  -- ---- its line
 
-module _ (v : Bool) (m : ℕ) (s : List ℕ) (c : LineCursors) (w n : List ℕ) {row : Row} (inner : Bool) {b : Bool} (e : row ≡ rowAt (placeOf (upper w) propertyNames)) (q : b ≡ mayHold (upper w) (openAs n inner)) where
-  pub property-not : b ≡ false → KindIs (PlaceOf m s c) v m s (propertyKind n inner (lineFrom w m s c)) (Faulty 6 (c .name))
-  unfolding refusalAt
-  property-not g = record { place = lineStart; is = pick-no _ _ _ (sym q ∙ g); there = refl }
-
-  module _ {f : LineFault} (g : b ≡ true) (u : FaultIs (propertyFault n (lineFrom w m s c)) f) where
-    fault-as : (x : LineFault) → f ≡ x → propertyFault n (lineFrom w m s c) ≡ faultOf x
-    fault-as x z = sym (u .is) ∙ ap faultOf z
-
-    kind-as : (x : LineFault) → f ≡ x → propertyKind n inner (lineFrom w m s c) ≡ heldBy (faultOf x) (propertyOf n (lineFrom w m s c))
-    kind-as x z = pick-yes _ _ _ (sym q ∙ g) ∙ ap (λ (o : Option Fault). heldBy o (propertyOf n (lineFrom w m s c))) (fault-as x z)
-
-    pub property-parameter : {i r : ℕ} → f ≡ Parameter i → (i < length (paramsAt m s (c .parameters)) → NameAt m s (c .parameters) i r) →
-        KindIs (PlaceOf m s c) v m s (propertyKind n inner (lineFrom w m s c)) (Faulty 7 r)
+  module _ (v : Bool) (m : ℕ) (s : List ℕ) (c : LineCursors) (w n : List ℕ) {row : Row} (inner : Bool) {b : Bool} (e : row ≡ rowAt (placeOf (upper w) propertyNames)) (q : b ≡ mayHold (upper w) (openAs n inner)) where
+    pub property-not : b ≡ false → KindIs (PlaceOf m s c) v m s (propertyKind n inner (decodedLine ed (lineFrom w m s c))) (Faulty 6 (c .name))
     unfolding refusalAt
-    property-parameter {i} z x = record {
-      place = parameterName i;
-      is = kind-as (Parameter i) z;
-      there = x (fault-within n (lineFrom w m s c) i (fault-as (Parameter i) z));
-    }
+    property-not g = record { place = lineStart; is = pick-no _ _ _ (sym q ∙ g); there = refl }
 
-    pub property-encoding : f ≡ Encoding → KindIs (PlaceOf m s c) v m s (propertyKind n inner (lineFrom w m s c)) (Faulty 7 (c .value))
-    unfolding refusalAt
-    property-encoding z = record { place = valueStart; is = kind-as Encoding z; there = refl }
+    module _ {f : LineFault} (g : b ≡ true) (u : FaultIs (propertyFault n (decodedLine ed (lineFrom w m s c))) f) where
+      fault-as : (x : LineFault) → f ≡ x → propertyFault n (decodedLine ed (lineFrom w m s c)) ≡ faultOf x
+      fault-as x z = sym (u .is) ∙ ap faultOf z
 
-    pub property-value : f ≡ Value → KindIs (PlaceOf m s c) v m s (propertyKind n inner (lineFrom w m s c)) (Faulty 8 (c .value))
-    unfolding refusalAt
-    property-value z = record { place = valueStart; is = kind-as Value z; there = refl }
+      kind-as : (x : LineFault) → f ≡ x → propertyKind n inner (decodedLine ed (lineFrom w m s c)) ≡ heldBy (faultOf x) (propertyOf n (decodedLine ed (lineFrom w m s c)))
+      kind-as x z = pick-yes _ _ _ (sym q ∙ g) ∙ ap (λ (o : Option Fault). heldBy o (propertyOf n (decodedLine ed (lineFrom w m s c)))) (fault-as x z)
 
-    pub property-held : {a : ℕ} → f ≡ None → a ≡ pick (eqb (row .number) property.ACTION) (placeOf (upper (rest m s (c .value))) actionNames) 3 →
-        KindIs (PlaceOf m s c) v m s (propertyKind n inner (lineFrom w m s c)) (Holds (row .number) a)
-    unfolding pick propertyOf
-    property-held {a} z y = record {
-      property = propertyOf n (lineFrom w m s c);
-      is = kind-as None z;
-      number = number-of (upper w) e;
-      action = λ x. y ∙ rw (eq-eqb (row .number) property.ACTION x) (sym (action-read n (lineFrom w m s c) (fault-as None z) (sym (number-of (upper w) e) ∙ x)));
-    }
+      pub property-parameter : {i r : ℕ} → f ≡ Parameter i → (i < length (paramsAt m s (c .parameters)) → NameAt m s (c .parameters) i r) →
+          KindIs (PlaceOf m s c) v m s (propertyKind n inner (decodedLine ed (lineFrom w m s c))) (Faulty 7 r)
+      unfolding refusalAt
+      property-parameter {i} z x = record {
+        place = parameterName i;
+        is = kind-as (Parameter i) z;
+        there = x (let n = length-map (paramsAt m s (c .parameters)) (decodedParameter ed) in let v = fault-within n (decodedLine ed (lineFrom w m s c)) i (fault-as (Parameter i) z) in omega (arith, n, v));
+      }
+
+      pub property-encoding : f ≡ Encoding → KindIs (PlaceOf m s c) v m s (propertyKind n inner (decodedLine ed (lineFrom w m s c))) (Faulty 7 (c .value))
+      unfolding refusalAt
+      property-encoding z = record { place = valueStart; is = kind-as Encoding z; there = refl }
+
+      pub property-value : f ≡ Value → KindIs (PlaceOf m s c) v m s (propertyKind n inner (decodedLine ed (lineFrom w m s c))) (Faulty 8 (c .value))
+      unfolding refusalAt
+      property-value z = record { place = valueStart; is = kind-as Value z; there = refl }
+
+      pub property-held : {a : ℕ} → f ≡ None → a ≡ pick (eqb (row .number) property.ACTION) (placeOf (upper (rest m s (c .value))) actionNames) 3 →
+          KindIs (PlaceOf m s c) v m s (propertyKind n inner (decodedLine ed (lineFrom w m s c))) (Holds (row .number) a)
+      unfolding pick propertyOf
+      property-held {a} z y = record {
+        property = propertyOf n (decodedLine ed (lineFrom w m s c));
+        is = kind-as None z;
+        number = number-of (upper w) e;
+        action = λ x. y ∙ rw (eq-eqb (row .number) property.ACTION x) (sym (action-read n (decodedLine ed (lineFrom w m s c)) (fault-as None z) (sym (number-of (upper w) e) ∙ x)));
+      }

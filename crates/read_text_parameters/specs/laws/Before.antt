@@ -5,17 +5,21 @@
 --     word-..              a value is one word, for code
 use mathlib.Core.Path.{_≡_, refl, sym, ap, _∙_}
 use mathlib.Core.Bool.{Bool, true, false}
-use mathlib.Core.List.{List, [], _∷_}
+use mathlib.Core.List.{List, [], _∷_, map}
 use Prim.Native.Nat.{ℕ, zero, suc, _+_, _-_, _≤_, _<_}
 use native.Mathlib.Omega.{arith}
 use lib.ListN.{length, take}
 use Rattle.octets.specs.Pick.{_or_}
 use Rattle.octets.specs.laws.Pick.{or-false, and-go, and-stop}
+use Rattle.octets.specs.Class.{upper}
 use Rattle.octets.specs.Words.{same, isOneOf, isEmpty}
-use Rattle.source.specs.Source.{rest, cuts}
-use Rattle.read_text_line.specs.ContentLine.{paramValue, nextValue}
+use Rattle.edition.specs.Edition.{decode}
+use Rattle.edition.specs.declared.Edition.{Edition}
+use Rattle.source.specs.Source.{rest, cuts, Decodes}
+use Rattle.read_text_line.specs.ContentLine.{ParamValue, paramValue, nextValue}
 use Rattle.read_text_line.specs.Items.{items}
-use Rattle.read_text_line.specs.Cursor.{valuesAt}
+use Rattle.read_text_line.specs.Decoded.{decodedValue, valuesIn}
+use Rattle.read_text_line.specs.laws.Decoded.{map-empty}
 use Rattle.read_text_line.specs.Values.{ValueAt}
 use Rattle.read_text_line.specs.declared.ParamAt.{ParamAt}
 use Rattle.text.specs.Parameters.{isWord}
@@ -74,15 +78,18 @@ module _ (w : List ℕ) where
     unfolding _or_
     first-halt h = one-more ∙ rw (← e, h)
 
--- ---- one word
+-- ---- one word, in the encoding u of a value
 
-module _ {m : ℕ} (y : cuts m ≡ true) (w : List ℕ) {s : List ℕ} {c : ℕ} {r : ParamAt} (v : ValueAt paramValue m s c r) where
-  module _ {b : Bool} (h : r .ok ≡ true) (e : b ≡ same (nameCut m s (r .from) (r .to)) w) where
-    pub word-one : {a : Bool} → b ≡ true → a ≡ isEmpty (items nextValue (rest m s (r .next))) → a ≡ isWord w (valuesAt m s c)
-    word-one k f = and-go _ _ _ (sym e ∙ k) f ∙ sym (ap (isWord w) (values-first y v h))
+module _ (ed : Edition) {m : ℕ} (y : cuts m ≡ true) (w : List ℕ) {s : List ℕ} {c : ℕ} {r : ParamAt} (v : ValueAt paramValue m s c r) where
+  module _ {u : ℕ} (d : Decodes ed m u) {b : Bool} (h : r .ok ≡ true) (e : b ≡ same (nameCut u s (r .from) (r .to)) w) where
+    stands : b ≡ same (upper (decode ed (rest m (take (r .to) s) (r .from)))) w
+    stands = e ∙ ap (λ (l : List ℕ). same (upper l) w) (d .is (take (r .to) s) (r .from))
 
-    pub word-other : b ≡ false → false ≡ isWord w (valuesAt m s c)
-    word-other k = and-stop _ _ (sym e ∙ k) ∙ sym (ap (isWord w) (values-first y v h))
+    pub word-one : {a : Bool} → b ≡ true → a ≡ isEmpty (items nextValue (rest m s (r .next))) → a ≡ isWord w (valuesIn ed m s c)
+    word-one k f = and-go _ _ _ (sym stands ∙ k) (f ∙ sym (map-empty (decodedValue ed) (items nextValue (rest m s (r .next))))) ∙ sym (ap (λ (l : List ParamValue). isWord w (map (decodedValue ed) l)) (values-first y v h))
 
-  pub word-none : r .ok ≡ false → false ≡ isWord w (valuesAt m s c)
-  word-none h = sym (ap (isWord w) (values-none y v h))
+    pub word-other : b ≡ false → false ≡ isWord w (valuesIn ed m s c)
+    word-other k = and-stop _ _ (sym stands ∙ k) ∙ sym (ap (λ (l : List ParamValue). isWord w (map (decodedValue ed) l)) (values-first y v h))
+
+  pub word-none : r .ok ≡ false → false ≡ isWord w (valuesIn ed m s c)
+  word-none h = sym (ap (λ (l : List ParamValue). isWord w (map (decodedValue ed) l)) (values-none y v h))

@@ -1,10 +1,11 @@
 -- Laws of what specs/Cutting.antt defines.
 --     params-step, params-over, params-fault      a walk over parameters: what F says of those from a cursor on, by the one that is there
+--     read-step, read-over, read-fault            the same as an edition reads them
 --     values-first, values-none, values-step ..   the same of the values of a parameter
 --     last-more, last-over, last-fault            whether a value follows
 use mathlib.Core.Path.{_≡_, refl, sym, ap, _∙_}
 use mathlib.Core.Bool.{true, false}
-use mathlib.Core.List.{List, [], _∷_}
+use mathlib.Core.List.{List, [], _∷_, map}
 use Prim.Native.Nat.{ℕ, min}
 use lib.ListN.{length, take}
 use Rattle.octets.specs.Words.{isEmpty}
@@ -12,6 +13,8 @@ use Rattle.octets.specs.laws.Scan.{take-least}
 use Rattle.source.specs.Source.{rest, cuts}
 use Rattle.read_text_line.specs.ContentLine.{ParamValue, RawParameter, paramValue, nextValue, nextParam}
 use Rattle.read_text_line.specs.Items.{items}
+use Rattle.edition.specs.declared.Edition.{Edition}
+use Rattle.read_text_line.specs.Decoded.{decodedParameter, paramsIn}
 use Rattle.read_text_line.specs.Cursor.{valuesOf, valuesAt, paramsAt}
 use Rattle.read_text_line.specs.laws.Repeating.{item-bad}
 use Rattle.read_text_line.specs.Values.{ValueAt}
@@ -20,7 +23,7 @@ use Rattle.read_text_line.specs.Params.{ParamOf}
 use Rattle.read_text_line.specs.laws.Params.{name-chars, param-more, param-over, param-fault}
 use Rattle.read_text_line.specs.declared.ParamAt.{ParamAt}
 use Rattle.read_text_line.specs.declared.ParamRead.{ParamRead}
-use Rattle.read_text_parameters.specs.Cutting.{paramCut, valueCut}
+use Rattle.read_text_parameters.specs.Cutting.{paramCut, valueCut, paramRead}
 
 pub cut-at : {A : Type 0} (f : List ℕ → A) {r : A} {e : ℕ} (m : ℕ) (s : List ℕ) (c to : ℕ) → e ≡ min to (length s) → r ≡ f (rest m (take e s) c) → r ≡ f (rest m (take to s) c)
 cut-at f m s c to h p = p ∙ ap (λ (l : List ℕ). f (rest m l c)) (rw h (take-least s to))
@@ -36,6 +39,17 @@ module _ {m : ℕ} (y : cuts m ≡ true) {A : Type 0} (F : List RawParameter →
 
   pub params-fault : r .there ≡ true → r .ok ≡ false → v ≡ F []
   params-fault h k = e ∙ ap F (param-fault a h k)
+
+-- the same as an edition reads them
+module _ (ed : Edition) {m : ℕ} (y : cuts m ≡ true) {A : Type 0} (F : List RawParameter → A) {v : A} {s : List ℕ} {c : ℕ} {r : ParamRead} (e : v ≡ F (paramsIn ed m s c)) (a : ParamOf nextParam m s c r) where
+  pub read-step : r .there ≡ true → r .ok ≡ true → v ≡ F (paramRead ed m s (r .name) (r .end) (r .first) ∷ paramsIn ed m s (r .next))
+  read-step h k = params-step y (λ (l : List RawParameter). F (map (decodedParameter ed) l)) e a h k
+
+  pub read-over : r .there ≡ false → v ≡ F []
+  read-over h = params-over y (λ (l : List RawParameter). F (map (decodedParameter ed) l)) e a h
+
+  pub read-fault : r .there ≡ true → r .ok ≡ false → v ≡ F []
+  read-fault h k = params-fault y (λ (l : List RawParameter). F (map (decodedParameter ed) l)) e a h k
 
 -- ---- values
 

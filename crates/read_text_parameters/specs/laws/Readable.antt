@@ -3,7 +3,7 @@
 --     single-.., amount-.., readable-..    for code
 use mathlib.Core.Path.{_≡_, refl, sym, ap, _∙_}
 use mathlib.Core.Bool.{Bool, true, false}
-use mathlib.Core.List.{List, [], _∷_}
+use mathlib.Core.List.{List, [], _∷_, map}
 use mathlib.Core.Option.{Option, none, some, Option·map}
 use Prim.Native.Nat.{ℕ}
 use Rattle.octets.specs.Ascii.{ascii}
@@ -12,6 +12,7 @@ use Rattle.octets.specs.laws.Pick.{or-take, or-skip}
 use Rattle.octets.specs.Class.{upper}
 use Rattle.octets.specs.Words.{same, isEmpty}
 use Rattle.octets.specs.Lists.{every}
+use Rattle.octets.specs.laws.Lists.{every-map}
 use Rattle.octets.specs.Reading.{isRead, andThen, consRead, readEach}
 use Rattle.calendar.specs.Calendar.{Value, Parameter}
 use Rattle.source.specs.Source.{rest, cuts}
@@ -19,15 +20,18 @@ use Rattle.names.specs.Table.{placeOf}
 use Rattle.schema.specs.Parameters.{ParameterRow, parameterNames, isListedParameter}
 use Rattle.schema.specs.Numbers.{parameterAt}
 use Rattle.schema.specs.laws.Numbers.{parameter-place}
+use Rattle.edition.specs.declared.Edition.{Edition}
 use Rattle.read_text_line.specs.ContentLine.{ParamValue, RawParameter, paramValue, nextValue}
 use Rattle.read_text_line.specs.Items.{items}
+use Rattle.read_text_line.specs.Decoded.{decodedValue}
+use Rattle.read_text_line.specs.laws.Decoded.{map-empty}
 use Rattle.read_text_line.specs.Cursor.{valuesAt}
 use Rattle.read_text_line.specs.Values.{ValueAt}
 use Rattle.read_text_line.specs.declared.ParamAt.{ParamAt}
 use Rattle.text.specs.Parameters.{readParamValue, isSingle, readParameter, isValueParameter, ownParameters, readParameters}
 use Rattle.read_text_parameters.specs.Cutting.{valueCut}
 use Rattle.read_text_parameters.specs.laws.Cutting.{values-first, values-none, values-step}
-use Rattle.read_text_parameters.specs.Typing.{isValueBy}
+use Rattle.read_text_parameters.specs.Typing.{isValueBy, isValueIn}
 use Rattle.read_text_parameters.specs.laws.Typing.{value-place}
 use Rattle.read_text_parameters.specs.laws.Steps.{every-go, every-halt}
 use Rattle.read_text_parameters.specs.Readable.{isReadBy, isReadable}
@@ -104,3 +108,13 @@ module _ (n : List ℕ) (vs : List ParamValue) {b : Bool} (e : b ≡ same (upper
 
   pub readable-other : {q : ℕ} {t : Bool} → b ≡ false → q ≡ placeOf (upper n) parameterNames → t ≡ isReadBy (parameterAt q) vs → t ≡ isReadable (record { name = n; values = vs })
   readable-other {q} {t} h k p = or-skip _ _ _ (sym e ∙ h) (p ∙ ap (λ (i : ℕ). isReadBy (parameterAt i) vs) k ∙ sym (parameter-read (record { name = n; values = vs })))
+
+-- ---- as an edition reads them
+
+single-decoded : (ed : Edition) (vs : List ParamValue) → isSingle (map (decodedValue ed) vs) ≡ isSingle vs
+single-decoded ed [] = refl
+single-decoded ed (v ∷ vs) = map-empty (decodedValue ed) vs
+
+-- by the values as they stand
+pub read-by : (ed : Edition) (p : ParameterRow) (vs : List ParamValue) → isReadBy p (map (decodedValue ed) vs) ≡ ((p .listed or isSingle vs) and every (isValueIn ed p) vs)
+read-by ed p vs = rw (single-decoded ed vs, every-map (isValueBy p) (decodedValue ed) vs)

@@ -2,24 +2,32 @@
 --     value-place    it is `readParamValue` of a name, by the name's number
 --     typed-.., chosen-.., by-..   for the code that reads one
 use mathlib.Core.Path.{_≡_, refl, sym, ap, _∙_}
-use mathlib.Core.Bool.{Bool, true, false, false≢true}
+use mathlib.Core.Bool.{Bool, true, false, not, false≢true}
 use mathlib.Core.List.{List}
 use mathlib.Core.Option.{Option, none, some}
 use Prim.Native.Nat.{ℕ}
-use borrow.Author.Tests.{eq-eqb, ne-eqb}
+use lib.Dec.{eqb}
+use borrow.Author.Tests.{eq-eqb, ne-eqb, not-true}
 use Rattle.octets.specs.Pick.{pick, _and_}
 use Rattle.octets.specs.Class.{upper}
+use Rattle.octets.specs.Lists.{every}
+use Rattle.octets.specs.Computing.{octets-compute}
 use Rattle.octets.specs.Words.{isOneOf}
 use Rattle.octets.specs.Reading.{isRead}
 use Rattle.calendar.specs.Calendar.{ical, ValueType, Value}
 use Rattle.names.specs.Table.{placeOf}
 use Rattle.schema.specs.Types.{typePlace, sameType}
 use Rattle.schema.specs.laws.Types.{place-type}
-use Rattle.schema.specs.Parameters.{ParameterRow, parameterNames}
+use Rattle.schema.specs.Parameters.{ParameterRow, parameterNames, parameterTable, unrecognisedParameter}
 use Rattle.schema.specs.Numbers.{typeAt, parameterAt}
 use Rattle.schema.specs.laws.Numbers.{parameter-place}
+use Rattle.schema.specs.laws.Cells.{at-passes}
 use Rattle.schema.specs.Sets.{isWordOf}
 use Rattle.values.specs.ReadValue.{readValue}
+use Rattle.values.specs.ValueAt.{valueRead, isReadAt}
+use Rattle.source.specs.Source.{cuts}
+use Rattle.values.specs.laws.ValueAt.{at-plain}
+use Rattle.values.specs.declared.ValueRead.{ValueRead}
 use Rattle.read_text_line.specs.ContentLine.{ParamValue}
 use Rattle.text.specs.Parameters.{readTyped, readWord, readParamValue}
 use Rattle.read_text_parameters.specs.Typing.{readBy}
@@ -29,6 +37,24 @@ unfolding readParamValue
 value-place w v = ap (λ (p : ParameterRow). readBy p v) (parameter-place w)
 
 -- ---- for code
+
+-- no parameter is a RECUR, 9
+rows-plain : every (λ r. not (eqb (typePlace (r .type)) 9)) parameterTable ≡ true
+unfolding octets-compute
+rows-plain = refl
+
+row-plain : (q : ℕ) → not (eqb (typePlace (parameterAt q .type)) 9) ≡ true
+row-plain q = at-passes (λ r. not (eqb (typePlace (r .type)) 9)) unrecognisedParameter parameterTable q rows-plain refl
+
+-- so that what `read_value` says holds in any encoding
+pub typed-there : {r : ValueRead} (q : ℕ) {t : ℕ} (m : ℕ) (l : List ℕ) → t ≡ typePlace (parameterAt q .type) → r ≡ valueRead t (isReadAt false m (typeAt t) l) →
+    r ≡ valueRead t (isRead (readValue ical (typeAt t) l))
+typed-there q {t} m l e p =
+    let h : eqb (typePlace (typeAt t)) 9 ≡ false = rw (e, place-type (parameterAt q .type)) (not-true _ (row-plain q)) in
+    p ∙ ap (valueRead t) (sym (at-plain false m (typeAt t) l h refl))
+
+pub no-rule : (q m : ℕ) {t : ℕ} → t ≡ typePlace (parameterAt q .type) → t ≡ 9 → cuts m ≡ true
+no-rule q m e h = absurd (false≢true (sym (not-true _ (row-plain q)) ∙ eq-eqb (typePlace (parameterAt q .type)) 9 (sym e ∙ h)))
 
 -- 10 is TEXT
 module _ (t : ValueType) (l : List ℕ) {n : ℕ} (e : n ≡ typePlace t) where

@@ -4,7 +4,7 @@
 --     Stepping         the same through a cursor;   step-start, step-again, step-bad, step-more, step-over ..: its laws
 use mathlib.Core.Path.{_≡_, refl, sym, ap, subst, _∙_}
 use mathlib.Core.Bool.{Bool, true, false, not, cond, false≢true}
-use mathlib.Core.List.{List, [], _∷_}
+use mathlib.Core.List.{List, [], _∷_, map}
 use mathlib.Core.Option.{Option, none, some, Option·map}
 use Prim.Native.Nat.{ℕ, suc, _+_, _^_, _≤_, _<_}
 use native.Mathlib.Omega.{arith}
@@ -37,12 +37,14 @@ use Rattle.text.specs.Parameters.{isWord, isValueParameter, typeIn}
 use Rattle.text.specs.Faults.{isEncoding, isSound, isFaulty, firstFaulty, placeOfFault}
 use Rattle.source.specs.Source.{cuts}
 use Rattle.read_text_line.specs.ContentLine.{nextParam}
-use Rattle.read_text_line.specs.Cursor.{valuesAt, paramsAt}
+use Rattle.edition.specs.declared.Edition.{Edition}
+use Rattle.read_text_line.specs.Decoded.{decodedParameter, valuesIn, paramsIn}
+use Rattle.read_text_line.specs.Cursor.{paramsAt}
 use Rattle.read_text_line.specs.Params.{ParamOf}
 use Rattle.read_text_line.specs.laws.Params.{param-less}
 use Rattle.read_text_line.specs.declared.ParamRead.{ParamRead}
-use Rattle.read_text_parameters.specs.Cutting.{nameCut, paramCut}
-use Rattle.read_text_parameters.specs.laws.Cutting.{params-step, params-over, params-fault}
+use Rattle.read_text_parameters.specs.Cutting.{nameCut, paramRead}
+use Rattle.read_text_parameters.specs.laws.Cutting.{read-step, read-over, read-fault}
 use Rattle.read_text_parameters.specs.Comparing.{namesOf}
 use Rattle.read_text_parameters.specs.Readable.{isReadBy}
 use Rattle.read_text_parameters.specs.laws.Readable.{parameter-read}
@@ -354,41 +356,52 @@ module _ {row : Row} {all : List RawParameter} {n : Noted} (i : Walked row all [
 
 -- ---- through a cursor
 
-pub record Stepping (row : Row) (m : ℕ) (s : List ℕ) (e c : ℕ) (n : Noted) : Type 0 where
-  pub walked : Walked row (paramsAt m s e) (paramsAt m s c) n
+-- decoding changes no name
+names-read : (ed : Edition) (rs : List RawParameter) → namesOf (map (decodedParameter ed) rs) ≡ namesOf rs
+names-read ed [] = refl
+names-read ed (r ∷ rs) = ap (λ (l : List (List ℕ)). upper (r .name) ∷ l) (names-read ed rs)
+
+pub record Stepping (ed : Edition) (row : Row) (m : ℕ) (s : List ℕ) (e c : ℕ) (n : Noted) : Type 0 where
+  pub walked : Walked row (paramsIn ed m s e) (paramsIn ed m s c) n
   pub past : n .count ≤ c
 
-pub step-start : (row : Row) (m : ℕ) (s : List ℕ) (e : ℕ) → Stepping row m s e e (record { count = 0; seen = 0; again = 0; «value_type» = row .default })
-step-start row m s e = record { walked = walked-start row (paramsAt m s e); past = omega arith }
+pub step-start : (ed : Edition) (row : Row) (m : ℕ) (s : List ℕ) (e : ℕ) → Stepping ed row m s e e (record { count = 0; seen = 0; again = 0; «value_type» = row .default })
+step-start ed row m s e = record { walked = walked-start row (paramsIn ed m s e); past = omega arith }
 
-module _ {row : Row} {m : ℕ} {s : List ℕ} {e c : ℕ} {n : Noted} {r : ParamRead} (y : cuts m ≡ true) (i : Stepping row m s e c n) (a : ParamOf nextParam m s c r) where
-  step-none : paramsAt m s c ≡ [] → Walked row (paramsAt m s e) [] n
-  step-none h = subst (λ (l : List RawParameter). Walked row (paramsAt m s e) l n) h (i .walked)
+module _ {ed : Edition} {row : Row} {m : ℕ} {s : List ℕ} {e c : ℕ} {n : Noted} {r : ParamRead} (y : cuts m ≡ true) (i : Stepping ed row m s e c n) (a : ParamOf nextParam m s c r) where
+  step-none : paramsIn ed m s c ≡ [] → Walked row (paramsIn ed m s e) [] n
+  step-none h = subst (λ (l : List RawParameter). Walked row (paramsIn ed m s e) l n) h (i .walked)
 
-  pub step-over : {p : ParametersRead} → r .there ≡ false → p ≡ endedBy n → ParametersAt row (paramsAt m s e) p
-  step-over h = walked-end (step-none (params-over y (λ (rs : List RawParameter). rs) refl a h))
+  pub step-over : {p : ParametersRead} → r .there ≡ false → p ≡ endedBy n → ParametersAt row (paramsIn ed m s e) p
+  step-over h = walked-end (step-none (read-over ed y (λ (rs : List RawParameter). rs) refl a h))
 
-  pub step-fault : {p : ParametersRead} → r .there ≡ true → r .ok ≡ false → p ≡ endedBy n → ParametersAt row (paramsAt m s e) p
-  step-fault h k = walked-end (step-none (params-fault y (λ (rs : List RawParameter). rs) refl a h k))
+  pub step-fault : {p : ParametersRead} → r .there ≡ true → r .ok ≡ false → p ≡ endedBy n → ParametersAt row (paramsIn ed m s e) p
+  step-fault h k = walked-end (step-none (read-fault ed y (λ (rs : List RawParameter). rs) refl a h k))
 
-  module _ {q : ℕ} {v : Noted} {b : Bool} (h : r .there ≡ true) (k : r .ok ≡ true) (f : q ≡ numberOf (nameCut m s (r .name) (r .end))) (g : v ≡ soughtBy n (namesOf (paramsAt m s e)))
-      (x : b ≡ comesAgain v q (nameCut m s (r .name) (r .end)) (namesOf (paramsAt m s e))) where
-    here : Walked row (paramsAt m s e) (paramCut m s (r .name) (r .end) (r .first) ∷ paramsAt m s (r .next)) n
-    here = subst (λ (l : List RawParameter). Walked row (paramsAt m s e) l n) (params-step y (λ (rs : List RawParameter). rs) refl a h k) (i .walked)
+  module _ {q : ℕ} {v : Noted} {b : Bool} (h : r .there ≡ true) (k : r .ok ≡ true) (f : q ≡ numberOf (nameCut m s (r .name) (r .end))) (g₀ : v ≡ soughtBy n (namesOf (paramsAt m s e)))
+      (x₀ : b ≡ comesAgain v q (nameCut m s (r .name) (r .end)) (namesOf (paramsAt m s e))) where
+    g : v ≡ soughtBy n (namesOf (paramsIn ed m s e))
+    g = g₀ ∙ ap (soughtBy n) (sym (names-read ed (paramsAt m s e)))
 
-    comes : b ≡ comesAgain (soughtBy n (namesOf (paramsAt m s e))) (numberOf (nameCut m s (r .name) (r .end))) (nameCut m s (r .name) (r .end)) (namesOf (paramsAt m s e))
-    comes = subst (λ (u : Noted). b ≡ comesAgain u (numberOf (nameCut m s (r .name) (r .end))) (nameCut m s (r .name) (r .end)) (namesOf (paramsAt m s e))) g
-        (subst (λ (j : ℕ). b ≡ comesAgain v j (nameCut m s (r .name) (r .end)) (namesOf (paramsAt m s e))) f x)
+    x : b ≡ comesAgain v q (nameCut m s (r .name) (r .end)) (namesOf (paramsIn ed m s e))
+    x = x₀ ∙ ap (comesAgain v q (nameCut m s (r .name) (r .end))) (sym (names-read ed (paramsAt m s e)))
 
-    pub step-again : b ≡ true → ParametersAt row (paramsAt m s e) (Faulty (n .count))
+    here : Walked row (paramsIn ed m s e) (paramRead ed m s (r .name) (r .end) (r .first) ∷ paramsIn ed m s (r .next)) n
+    here = subst (λ (l : List RawParameter). Walked row (paramsIn ed m s e) l n) (read-step ed y (λ (rs : List RawParameter). rs) refl a h k) (i .walked)
+
+    comes : b ≡ comesAgain (soughtBy n (namesOf (paramsIn ed m s e))) (numberOf (nameCut m s (r .name) (r .end))) (nameCut m s (r .name) (r .end)) (namesOf (paramsIn ed m s e))
+    comes = subst (λ (u : Noted). b ≡ comesAgain u (numberOf (nameCut m s (r .name) (r .end))) (nameCut m s (r .name) (r .end)) (namesOf (paramsIn ed m s e))) g
+        (subst (λ (j : ℕ). b ≡ comesAgain v j (nameCut m s (r .name) (r .end)) (namesOf (paramsIn ed m s e))) f x)
+
+    pub step-again : b ≡ true → ParametersAt row (paramsIn ed m s e) (Faulty (n .count))
     step-again z = walked-again here comes z
 
-    module _ {t : TypeRead} (o : NumberOf (behindAt row (statedBy v (paramsAt m s (r .next))) (v .«value_type») q (valuesAt m s (r .first))) t) where
-      behind : numberRead t ≡ behindAt row (statedBy n (paramsAt m s (r .next))) (n .«value_type») (numberOf (nameCut m s (r .name) (r .end))) (valuesAt m s (r .first))
-      behind = subst (λ (u : Noted). numberRead t ≡ behindAt row (statedBy u (paramsAt m s (r .next))) (u .«value_type») (numberOf (nameCut m s (r .name) (r .end))) (valuesAt m s (r .first))) g
-          (subst (λ (j : ℕ). numberRead t ≡ behindAt row (statedBy v (paramsAt m s (r .next))) (v .«value_type») j (valuesAt m s (r .first))) f (o .is))
+    module _ {t : TypeRead} (o : NumberOf (behindAt row (statedBy v (paramsIn ed m s (r .next))) (v .«value_type») q (valuesIn ed m s (r .first))) t) where
+      behind : numberRead t ≡ behindAt row (statedBy n (paramsIn ed m s (r .next))) (n .«value_type») (numberOf (nameCut m s (r .name) (r .end))) (valuesIn ed m s (r .first))
+      behind = subst (λ (u : Noted). numberRead t ≡ behindAt row (statedBy u (paramsIn ed m s (r .next))) (u .«value_type») (numberOf (nameCut m s (r .name) (r .end))) (valuesIn ed m s (r .first))) g
+          (subst (λ (j : ℕ). numberRead t ≡ behindAt row (statedBy v (paramsIn ed m s (r .next))) (v .«value_type») j (valuesIn ed m s (r .first))) f (o .is))
 
-      pub step-bad : t ≡ Bad → ParametersAt row (paramsAt m s e) (Faulty (n .count))
+      pub step-bad : t ≡ Bad → ParametersAt row (paramsIn ed m s e) (Faulty (n .count))
       step-bad z = walked-bad here (ap numberRead (sym z) ∙ behind)
 
       step-small : v .count + 1 ≤ r .next
@@ -397,10 +410,10 @@ module _ {row : Row} {m : ℕ} {s : List ℕ} {e c : ℕ} {n : Noted} {r : Param
       pub step-room : r .next < 2 ^ 64 → v .count + 1 < 2 ^ 64
       step-room b = let l = step-small in omega (arith, l, b)
 
-      pub step-more : {u : ℕ} {w : Noted} → b ≡ false → t ≡ Known u → Notes v q u w → Stepping row m s e (r .next) w
+      pub step-more : {u : ℕ} {w : Noted} → b ≡ false → t ≡ Known u → Notes v q u w → Stepping ed row m s e (r .next) w
       step-more {u} {w} z d p =
-          let p₁ : Notes (soughtBy n (namesOf (paramsAt m s e))) q u w = subst (λ (j : Noted). Notes j q u w) g p in
-          let p₂ : Notes (soughtBy n (namesOf (paramsAt m s e))) (numberOf (nameCut m s (r .name) (r .end))) u w = subst (λ (j : ℕ). Notes (soughtBy n (namesOf (paramsAt m s e))) j u w) f p₁ in
+          let p₁ : Notes (soughtBy n (namesOf (paramsIn ed m s e))) q u w = subst (λ (j : Noted). Notes j q u w) g p in
+          let p₂ : Notes (soughtBy n (namesOf (paramsIn ed m s e))) (numberOf (nameCut m s (r .name) (r .end))) u w = subst (λ (j : ℕ). Notes (soughtBy n (namesOf (paramsIn ed m s e))) j u w) f p₁ in
           let l = step-small in
           let k : w .count ≡ v .count + 1 = p .count in
           record { walked = walked-more here p₂ (sym (again-is here comes) ∙ z) (ap numberRead (sym d) ∙ behind); past = omega (arith, l, k) }

@@ -43,6 +43,7 @@ use Rattle.read_xml_nodes.specs.declared.Node.{Node}
 use Rattle.read_xml_nodes.specs.declared.NodeKind.the-variants.{None, Element, Literal, Referred}
 use Rattle.read_xml_nodes.specs.declared.Judged.{Judged}
 use Rattle.read_xml_nodes.specs.declared.Judged.the-variants.{Fine, Refused}
+use Rattle.edition.specs.declared.Edition.{Edition}
 use Rattle.read_xml.specs.Children.{nameOf}
 use Rattle.read_xml.specs.laws.Turning.{name-inside}
 use Rattle.read_xml.specs.Counting.{Counted}
@@ -118,8 +119,6 @@ module _ (k e : ℕ) (any : Bool) where
     unfolding pick _or_
     ends-empty y z = record { is = λ c o. ends-at c o ∙ rw (h, ne-eqb k 0 y, ne-eqb k 5 z) (sym (is-frame e)) }
 
-pub ruleset ending = (counts-good, counts-bad, end-bare, end-lacking, end-calendar, end-other, ends-any, ends-calendar, ends-timezone, ends-empty, needs)
-
 -- ---- which components have subcomponents
 
 subs-at : (k : ℕ) → not (isEmpty (componentAt k .subcomponents)) ≡ hasSubs k
@@ -149,8 +148,6 @@ module _ (m : List ℕ) {b r : Bool} where
   pub part-components : b ≡ false → r ≡ same m (ascii "components") → r ≡ same m (partName b)
   part-components h e = rw h e
 
-pub ruleset parting = (part-properties, part-components, length-take-le, needs)
-
 -- no element is both
 properties-only : (m : List ℕ) → same m (ascii "properties") ≡ true → same m (ascii "components") ≡ false
 unfolding octets-compute
@@ -179,8 +176,6 @@ module _ (k : ℕ) (m : List ℕ) {had b : Bool} (e : b ≡ same m (ascii "prope
       unfolding _and_
       which-lone z = record { is = (rw (← e, h), rw (← f, g, ← y, z)) }
 
-pub ruleset choosing = (which-again, which-properties, which-other, which-components, which-lone, needs)
-
 -- ---- what stands next before `components`
 
 -- before `components` only `properties` counts as come
@@ -203,155 +198,6 @@ second-not true false h = refl
 second-not true true h = absurd (false≢true h)
 second-not false had h = absurd (false≢true h)
 
-module _ (k : ℕ) (had : Bool) {s : List ℕ} {at : ℕ} {r : Node} (n : NodeAt s at r) where
-  as-nodes : {x : Nodes} → nodesAt s at ≡ x → (c : List ℕ) (l : ℕ) (b m : Bool) (e : ℕ) → componentVerdict (nodesAt s at) c l b (come had false m) e ≡ componentVerdict x c l b (come had false m) e
-  as-nodes h c l b m e = ap (λ (y : Nodes). componentVerdict y c l b (come had false m) e) h
-
-  pub met-end : r .kind ≡ None → MetAt k had s at End
-  unfolding componentVerdict insideOf
-  met-end q = record { is = λ c o. as-nodes (node-none n q) c; fits = ap (insideOf (ascii "components")) (node-none n q) }
-
-  pub met-referred : r .kind ≡ Referred → MetAt k had s at (Stops (Refused 6 at))
-  unfolding componentVerdict
-  met-referred q = record { is = λ c o l b m e. as-nodes (node-referred n q) c l b m e ∙ sym (is-frame at); fits = tt }
-
-  module _ (q : r .kind ≡ Literal) {b : Bool} (f : b ≡ isSpace (r .unit)) where
-    pub met-space : b ≡ true → MetAt k had s at (Past (r .next))
-    unfolding componentVerdict insideOf pick
-    met-space h = record { is = λ c o l b m e. as-nodes (node-literal n q) c l b m e ∙ rw (← f, h); fits = (literal-less n q, λ m. ap (insideOf m) (node-literal n q)) }
-
-    pub met-text : b ≡ false → MetAt k had s at (Stops (Refused 6 at))
-    unfolding componentVerdict pick
-    met-text h = record { is = λ c o l b m e. as-nodes (node-literal n q) c l b m e ∙ rw (← f, h) (sym (is-frame at)); fits = tt }
-
-  module _ (q : r .kind ≡ Element) {x : Which} (y : WhichAt k had (nameOf s r) x) where
-    at-child : (c : List ℕ) → k ≡ placeOf c componentNames → (l : ℕ) (b m : Bool) (e : ℕ) → componentVerdict (nodesAt s at) c l b (come had false m) e ≡
-        pick (same (nameOf s r) (ascii "properties") and not had)
-        (propertiesVerdict c (nodesAt s (r .inside)) otherwise componentVerdict (nodesAt s (r .next)) c l b (come true false (methodFor c (readProperties (nodesAt s (r .inside))) m)) e)
-        (pick (same (nameOf s r) (ascii "components") and hasSubs k)
-        (componentsVerdict (nodesAt s (r .inside)) c l m false (r .end) otherwise componentVerdict (nodesAt s (r .next)) c l b (come had true m) e)
-        (unexpected at (nameOf s r)))
-    unfolding componentVerdict
-    at-child c o l b m e =
-        as-nodes (node-element n q) c l b m e
-        ∙ not-yet (same (nameOf s r) (ascii "properties")) (not had) (same (nameOf s r) (ascii "components")) (not (isEmpty (subcomponentsOf c))) _ _ _
-        ∙ rw (subs-place c o)
-
-    which-is : {v : Which} → x ≡ v → WhichIs (same (nameOf s r) (ascii "properties") and not had) (same (nameOf s r) (ascii "components") and hasSubs k) v
-    which-is z = subst (WhichIs (same (nameOf s r) (ascii "properties") and not had) (same (nameOf s r) (ascii "components") and hasSubs k)) z (y .is)
-
-    pub met-other : {j : Judged} → x ≡ Other → unexpected at (nameOf s r) ≡ judgedAs j → MetAt k had s at (Stops j)
-    unfolding pick
-    met-other z u = record { is = λ c o l b m e. at-child c o l b m e ∙ rw (which-is z .0, which-is z .1) u; fits = tt }
-
-    pub met-components : x ≡ Components → MetAt k had s at (HasComponents (r .inside) (r .end) (r .next))
-    unfolding pick insideOf
-    met-components z = record {
-      is = λ c o l b m e. at-child c o l b m e ∙ rw (which-is z .0, which-is z .1);
-      fits = (inside-less n q, ap (insideOf (ascii "components")) (node-element n q) ∙ rw (first-of (same (nameOf s r) (ascii "components")) (hasSubs k) (which-is z .1)));
-    }
-
-    pub met-properties : x ≡ Properties → MetAt k had s at (HasProperties (r .inside) (r .next))
-    unfolding pick insideOf
-    met-properties z =
-        let first : same (nameOf s r) (ascii "properties") ≡ true = first-of (same (nameOf s r) (ascii "properties")) (not had) (which-is z) in record {
-          is = λ c o l b m e. at-child c o l b m e ∙ rw (which-is z);
-          fits = (
-            element-less n q,
-            second-not (same (nameOf s r) (ascii "properties")) had (which-is z),
-            ap (insideOf (ascii "properties")) (node-element n q) ∙ rw first,
-            ap (insideOf (ascii "components")) (node-element n q) ∙ rw (properties-only (nameOf s r) first),
-          );
-        }
-
-pub ruleset meeting = (met-end, met-referred, met-space, met-text, met-other, met-components, met-properties, name-inside, needs)
-
--- ---- up to `components`
-
-pub record Heading (k : ℕ) (method : Bool) (s : List ℕ) (from e at : ℕ) (had : Bool) (t : Kept) : Type 0 where
-  pub is : (c : List ℕ) → k ≡ placeOf c componentNames → (l : ℕ) (b : Bool) →
-      componentVerdict (nodesAt s from) c l b (come false false method) e ≡ componentVerdict (nodesAt s at) c l b (come had false (methodInside c method had (nodesAt s from))) e
-  pub low : length s - at ≤ length s - from
-  pub inner : insideOf (ascii "components") (nodesAt s from) ≡ insideOf (ascii "components") (nodesAt s at)
-  pub unread : had ≡ false → insideOf (ascii "properties") (nodesAt s from) ≡ insideOf (ascii "properties") (nodesAt s at)
-  pub counted : had ≡ true → Counted (readProperties (insideOf (ascii "properties") (nodesAt s from))) t
-
-pub head-start : (k : ℕ) (method : Bool) (s : List ℕ) (from e : ℕ) (t : Kept) → Heading k method s from e from false t
-unfolding pick
-head-start k method s from e t = record { is = λ c o l b. refl; low = omega arith; inner = refl; unread = λ h. refl; counted = λ h. absurd (false≢true h) }
-
-module _ {k : ℕ} {method : Bool} {s : List ℕ} {from e at : ℕ} {had : Bool} {t : Kept} (i : Heading k method s from e at had t) {x : Met} (y : MetAt k had s at x) where
-  met-is : {v : Met} → x ≡ v → MetAt k had s at v
-  met-is z = subst (MetAt k had s at) z y
-
-  as-met : {v : Met} → x ≡ v → (c : List ℕ) → k ≡ placeOf c componentNames → (l : ℕ) (b : Bool) →
-      componentVerdict (nodesAt s from) c l b (come false false method) e ≡ metOf c l b had (methodInside c method had (nodesAt s from)) s e v
-  as-met z c o l b = i .is c o l b ∙ met-is z .is c o l b (methodInside c method had (nodesAt s from)) e
-
-  pub head-end : {j : Judged} → x ≡ End → EndAt k t had false false method e j → HeadAt k method s from e (record { part = Ends j; kept = t })
-  unfolding hasElement
-  head-end z d = record {
-    is = λ c o l. as-met z c o l (isComplete c method (nodesAt s from))
-        ∙ d .is c o (isComplete c method (nodesAt s from)) (λ h. complete-is c o method (nodesAt s from) (i .counted h) (sym (ap hasElement (i .inner ∙ met-is z .fits))))
-        (methodInside c method had (nodesAt s from));
-    fits = tt;
-  }
-
-  pub head-stops : {j : Judged} → x ≡ Stops j → HeadAt k method s from e (record { part = Ends j; kept = t })
-  head-stops z = record { is = λ c o l. as-met z c o l (isComplete c method (nodesAt s from)); fits = tt }
-
-  pub head-opens : {q z d : ℕ} → x ≡ HasComponents q z d → HeadAt k method s from e (record { part = Opens q z d had; kept = t })
-  head-opens z = record {
-    is = λ c o l. as-met z c o l (isComplete c method (nodesAt s from));
-    fits = (omega (arith, i .low, met-is z .fits .0), i .inner ∙ met-is z .fits .1, i .counted);
-  }
-
-  module _ {d : ℕ} (z : x ≡ Past d) where
-    pub head-less : length s - d < length s - at
-    head-less = met-is z .fits .0
-
-    pub head-past : Heading k method s from e d had t
-    head-past = record {
-      is = as-met z;
-      low = omega (arith, i .low, head-less);
-      inner = i .inner ∙ met-is z .fits .1 (ascii "components");
-      unread = λ g. i .unread g ∙ met-is z .fits .1 (ascii "properties");
-      counted = i .counted;
-    }
-
-  module _ {q d : ℕ} (z : x ≡ HasProperties q d) where
-    pub listed-less : length s - d < length s - at
-    listed-less = met-is z .fits .0
-
-    module _ {l : Listed} (g : ListedAt k s q l) where
-      -- the first `properties`
-      first : insideOf (ascii "properties") (nodesAt s from) ≡ nodesAt s q
-      first = i .unread (met-is z .fits .1) ∙ met-is z .fits .2
-
-      pub head-good : l .judged ≡ Fine → Heading k method s from e d true (l .kept)
-      unfolding _otherwise_ pick
-      head-good h = record {
-        is = λ c o l b. as-met z c o l b ∙ rw (g .is c o, h, met-is z .fits .1, first);
-        low = omega (arith, i .low, listed-less);
-        inner = i .inner ∙ met-is z .fits .3;
-        unread = λ u. absurd (false≢true (sym u));
-        counted = λ u. rw first (g .counted h);
-      }
-
-      pub head-bad : {a b : ℕ} → l .judged ≡ Refused a b → HeadAt k method s from e (record { part = Ends (Refused a b); kept = t })
-      unfolding _otherwise_
-      head-bad h = record { is = λ c o l. as-met z c o l (isComplete c method (nodesAt s from)) ∙ rw (g .is c o, h); fits = tt }
-
-pub ruleset heading = (head-start, head-end, head-stops, head-opens, head-less, head-past, listed-less, head-good, head-bad, needs)
-
--- ---- behind `components`
-
-pub record Following (s : List ℕ) (from e at : ℕ) (had : Bool) : Type 0 where
-  pub is : (c : List ℕ) (l : ℕ) (b m : Bool) → componentVerdict (nodesAt s from) c l b (come had true m) e ≡ componentVerdict (nodesAt s at) c l b (come had true m) e
-
-pub follow-start : (s : List ℕ) (from e : ℕ) (had : Bool) → Following s from e from had
-follow-start s from e had = record { is = λ c l b m. refl }
-
 -- neither child may come behind `components`
 none-behind : (a b d g : Bool) (v w z : Verdict) → pick (a and (d and false)) v (pick (b and (false and g)) w z) ≡ z
 unfolding pick _and_
@@ -362,31 +208,188 @@ none-behind true false false g v w z = refl
 none-behind false true d g v w z = refl
 none-behind false false d g v w z = refl
 
-module _ (k : ℕ) (t : Kept) (inner method : Bool) {s : List ℕ} {from e at : ℕ} {had : Bool} {r : Node} (i : Following s from e at had) (n : NodeAt s at r) where
-  on-nodes : {x : Nodes} → nodesAt s at ≡ x → (c : List ℕ) (l : ℕ) (b m : Bool) → componentVerdict (nodesAt s from) c l b (come had true m) e ≡ componentVerdict x c l b (come had true m) e
-  on-nodes h c l b m = i .is c l b m ∙ ap (λ (y : Nodes). componentVerdict y c l b (come had true m) e) h
+module _ (ed : Edition) where
+  -- ---- up to `components`
 
-  pub follow-none : {j : Judged} → r .kind ≡ None → EndAt k t had true inner method e j → BehindAt k t had inner method s from e j
-  unfolding componentVerdict
-  follow-none q d = record { is = λ c o l b g m. on-nodes (node-none n q) c l b m ∙ d .is c o b g m }
+  pub record Heading (k : ℕ) (method : Bool) (s : List ℕ) (from e at : ℕ) (had : Bool) (t : Kept) : Type 0 where
+    pub is : (c : List ℕ) → k ≡ placeOf c componentNames → (l : ℕ) (b : Bool) →
+        componentVerdict ed (nodesAt s from) c l b (come false false method) e ≡ componentVerdict ed (nodesAt s at) c l b (come had false (methodInside c method had (nodesAt s from))) e
+    pub low : length s - at ≤ length s - from
+    pub inner : insideOf (ascii "components") (nodesAt s from) ≡ insideOf (ascii "components") (nodesAt s at)
+    pub unread : had ≡ false → insideOf (ascii "properties") (nodesAt s from) ≡ insideOf (ascii "properties") (nodesAt s at)
+    pub counted : had ≡ true → Counted (readProperties (insideOf (ascii "properties") (nodesAt s from))) t
 
-  pub follow-referred : r .kind ≡ Referred → BehindAt k t had inner method s from e (Refused 6 at)
-  unfolding componentVerdict
-  follow-referred q = record { is = λ c o l b g m. on-nodes (node-referred n q) c l b m ∙ sym (is-frame at) }
+  -- ---- behind `components`
 
-  module _ (q : r .kind ≡ Literal) {b : Bool} (f : b ≡ isSpace (r .unit)) where
-    pub follow-text : b ≡ false → BehindAt k t had inner method s from e (Refused 6 at)
-    unfolding componentVerdict pick
-    follow-text h = record { is = λ c o l b g m. on-nodes (node-literal n q) c l b m ∙ rw (← f, h) (sym (is-frame at)) }
+  pub record Following (s : List ℕ) (from e at : ℕ) (had : Bool) : Type 0 where
+    pub is : (c : List ℕ) (l : ℕ) (b m : Bool) → componentVerdict ed (nodesAt s from) c l b (come had true m) e ≡ componentVerdict ed (nodesAt s at) c l b (come had true m) e
 
-  pub follow-element : {j : Judged} → r .kind ≡ Element → unexpected at (nameOf s r) ≡ judgedAs j → BehindAt k t had inner method s from e j
-  unfolding componentVerdict
-  follow-element q u = record {
-    is = λ c o l b g m. on-nodes (node-element n q) c l b m ∙ none-behind (same (nameOf s r) (ascii "properties")) (same (nameOf s r) (ascii "components")) (not had) (not (isEmpty (subcomponentsOf c))) _ _ _ ∙ u;
-  }
+module _ {ed : Edition} where
+  module _ (k : ℕ) (had : Bool) {s : List ℕ} {at : ℕ} {r : Node} (n : NodeAt s at r) where
+    as-nodes : {x : Nodes} → nodesAt s at ≡ x → (c : List ℕ) (l : ℕ) (b m : Bool) (e : ℕ) → componentVerdict ed (nodesAt s at) c l b (come had false m) e ≡ componentVerdict ed x c l b (come had false m) e
+    as-nodes h c l b m e = ap (λ (y : Nodes). componentVerdict ed y c l b (come had false m) e) h
 
-pub follow-space : {s : List ℕ} {from e at : ℕ} {had : Bool} {r : Node} → Following s from e at had → NodeAt s at r → r .kind ≡ Literal → {b : Bool} → b ≡ isSpace (r .unit) → b ≡ true → Following s from e (r .next) had
-unfolding componentVerdict pick
-follow-space {s} {from} {e} {at} {had} i n q f h = record { is = λ c l b m. i .is c l b m ∙ ap (λ (y : Nodes). componentVerdict y c l b (come had true m) e) (node-literal n q) ∙ rw (← f, h) }
+    pub met-end : r .kind ≡ None → MetAt ed k had s at End
+    unfolding componentVerdict insideOf
+    met-end q = record { is = λ c o. as-nodes (node-none n q) c; fits = ap (insideOf (ascii "components")) (node-none n q) }
+
+    pub met-referred : r .kind ≡ Referred → MetAt ed k had s at (Stops (Refused 6 at))
+    unfolding componentVerdict
+    met-referred q = record { is = λ c o l b m e. as-nodes (node-referred n q) c l b m e ∙ sym (is-frame at); fits = tt }
+
+    module _ (q : r .kind ≡ Literal) {b : Bool} (f : b ≡ isSpace (r .unit)) where
+      pub met-space : b ≡ true → MetAt ed k had s at (Past (r .next))
+      unfolding componentVerdict insideOf pick
+      met-space h = record { is = λ c o l b m e. as-nodes (node-literal n q) c l b m e ∙ rw (← f, h); fits = (literal-less n q, λ m. ap (insideOf m) (node-literal n q)) }
+
+      pub met-text : b ≡ false → MetAt ed k had s at (Stops (Refused 6 at))
+      unfolding componentVerdict pick
+      met-text h = record { is = λ c o l b m e. as-nodes (node-literal n q) c l b m e ∙ rw (← f, h) (sym (is-frame at)); fits = tt }
+
+    module _ (q : r .kind ≡ Element) {x : Which} (y : WhichAt k had (nameOf s r) x) where
+      at-child : (c : List ℕ) → k ≡ placeOf c componentNames → (l : ℕ) (b m : Bool) (e : ℕ) → componentVerdict ed (nodesAt s at) c l b (come had false m) e ≡
+          pick (same (nameOf s r) (ascii "properties") and not had)
+          (propertiesVerdict ed c (nodesAt s (r .inside)) otherwise componentVerdict ed (nodesAt s (r .next)) c l b (come true false (methodFor c (readProperties (nodesAt s (r .inside))) m)) e)
+          (pick (same (nameOf s r) (ascii "components") and hasSubs k)
+          (componentsVerdict ed (nodesAt s (r .inside)) c l m false (r .end) otherwise componentVerdict ed (nodesAt s (r .next)) c l b (come had true m) e)
+          (unexpected at (nameOf s r)))
+      unfolding componentVerdict
+      at-child c o l b m e =
+          as-nodes (node-element n q) c l b m e
+          ∙ not-yet (same (nameOf s r) (ascii "properties")) (not had) (same (nameOf s r) (ascii "components")) (not (isEmpty (subcomponentsOf c))) _ _ _
+          ∙ rw (subs-place c o)
+
+      which-is : {v : Which} → x ≡ v → WhichIs (same (nameOf s r) (ascii "properties") and not had) (same (nameOf s r) (ascii "components") and hasSubs k) v
+      which-is z = subst (WhichIs (same (nameOf s r) (ascii "properties") and not had) (same (nameOf s r) (ascii "components") and hasSubs k)) z (y .is)
+
+      pub met-other : {j : Judged} → x ≡ Other → unexpected at (nameOf s r) ≡ judgedAs j → MetAt ed k had s at (Stops j)
+      unfolding pick
+      met-other z u = record { is = λ c o l b m e. at-child c o l b m e ∙ rw (which-is z .0, which-is z .1) u; fits = tt }
+
+      pub met-components : x ≡ Components → MetAt ed k had s at (HasComponents (r .inside) (r .end) (r .next))
+      unfolding pick insideOf
+      met-components z = record {
+        is = λ c o l b m e. at-child c o l b m e ∙ rw (which-is z .0, which-is z .1);
+        fits = (inside-less n q, ap (insideOf (ascii "components")) (node-element n q) ∙ rw (first-of (same (nameOf s r) (ascii "components")) (hasSubs k) (which-is z .1)));
+      }
+
+      pub met-properties : x ≡ Properties → MetAt ed k had s at (HasProperties (r .inside) (r .next))
+      unfolding pick insideOf
+      met-properties z =
+          let first : same (nameOf s r) (ascii "properties") ≡ true = first-of (same (nameOf s r) (ascii "properties")) (not had) (which-is z) in record {
+            is = λ c o l b m e. at-child c o l b m e ∙ rw (which-is z);
+            fits = (
+              element-less n q,
+              second-not (same (nameOf s r) (ascii "properties")) had (which-is z),
+              ap (insideOf (ascii "properties")) (node-element n q) ∙ rw first,
+              ap (insideOf (ascii "components")) (node-element n q) ∙ rw (properties-only (nameOf s r) first),
+            );
+          }
+
+  pub head-start : (k : ℕ) (method : Bool) (s : List ℕ) (from e : ℕ) (t : Kept) → Heading ed k method s from e from false t
+  unfolding pick
+  head-start k method s from e t = record { is = λ c o l b. refl; low = omega arith; inner = refl; unread = λ h. refl; counted = λ h. absurd (false≢true h) }
+
+  module _ {k : ℕ} {method : Bool} {s : List ℕ} {from e at : ℕ} {had : Bool} {t : Kept} (i : Heading ed k method s from e at had t) {x : Met} (y : MetAt ed k had s at x) where
+    met-is : {v : Met} → x ≡ v → MetAt ed k had s at v
+    met-is z = subst (MetAt ed k had s at) z y
+
+    as-met : {v : Met} → x ≡ v → (c : List ℕ) → k ≡ placeOf c componentNames → (l : ℕ) (b : Bool) →
+        componentVerdict ed (nodesAt s from) c l b (come false false method) e ≡ metOf ed c l b had (methodInside c method had (nodesAt s from)) s e v
+    as-met z c o l b = i .is c o l b ∙ met-is z .is c o l b (methodInside c method had (nodesAt s from)) e
+
+    pub head-end : {j : Judged} → x ≡ End → EndAt k t had false false method e j → HeadAt ed k method s from e (record { part = Ends j; kept = t })
+    unfolding hasElement
+    head-end z d = record {
+      is = λ c o l. as-met z c o l (isComplete c method (nodesAt s from))
+          ∙ d .is c o (isComplete c method (nodesAt s from)) (λ h. complete-is c o method (nodesAt s from) (i .counted h) (sym (ap hasElement (i .inner ∙ met-is z .fits))))
+          (methodInside c method had (nodesAt s from));
+      fits = tt;
+    }
+
+    pub head-stops : {j : Judged} → x ≡ Stops j → HeadAt ed k method s from e (record { part = Ends j; kept = t })
+    head-stops z = record { is = λ c o l. as-met z c o l (isComplete c method (nodesAt s from)); fits = tt }
+
+    pub head-opens : {q z d : ℕ} → x ≡ HasComponents q z d → HeadAt ed k method s from e (record { part = Opens q z d had; kept = t })
+    head-opens z = record {
+      is = λ c o l. as-met z c o l (isComplete c method (nodesAt s from));
+      fits = (omega (arith, i .low, met-is z .fits .0), i .inner ∙ met-is z .fits .1, i .counted);
+    }
+
+    module _ {d : ℕ} (z : x ≡ Past d) where
+      pub head-less : length s - d < length s - at
+      head-less = met-is z .fits .0
+
+      pub head-past : Heading ed k method s from e d had t
+      head-past = record {
+        is = as-met z;
+        low = omega (arith, i .low, head-less);
+        inner = i .inner ∙ met-is z .fits .1 (ascii "components");
+        unread = λ g. i .unread g ∙ met-is z .fits .1 (ascii "properties");
+        counted = i .counted;
+      }
+
+    module _ {q d : ℕ} (z : x ≡ HasProperties q d) where
+      pub listed-less : length s - d < length s - at
+      listed-less = met-is z .fits .0
+
+      module _ {l : Listed} (g : ListedAt ed k s q l) where
+        -- the first `properties`
+        first : insideOf (ascii "properties") (nodesAt s from) ≡ nodesAt s q
+        first = i .unread (met-is z .fits .1) ∙ met-is z .fits .2
+
+        pub head-good : l .judged ≡ Fine → Heading ed k method s from e d true (l .kept)
+        unfolding _otherwise_ pick
+        head-good h = record {
+          is = λ c o l b. as-met z c o l b ∙ rw (g .is c o, h, met-is z .fits .1, first);
+          low = omega (arith, i .low, listed-less);
+          inner = i .inner ∙ met-is z .fits .3;
+          unread = λ u. absurd (false≢true (sym u));
+          counted = λ u. rw first (g .counted h);
+        }
+
+        pub head-bad : {a b : ℕ} → l .judged ≡ Refused a b → HeadAt ed k method s from e (record { part = Ends (Refused a b); kept = t })
+        unfolding _otherwise_
+        head-bad h = record { is = λ c o l. as-met z c o l (isComplete c method (nodesAt s from)) ∙ rw (g .is c o, h); fits = tt }
+
+  pub follow-start : (s : List ℕ) (from e : ℕ) (had : Bool) → Following ed s from e from had
+  follow-start s from e had = record { is = λ c l b m. refl }
+
+  module _ (k : ℕ) (t : Kept) (inner method : Bool) {s : List ℕ} {from e at : ℕ} {had : Bool} {r : Node} (i : Following ed s from e at had) (n : NodeAt s at r) where
+    on-nodes : {x : Nodes} → nodesAt s at ≡ x → (c : List ℕ) (l : ℕ) (b m : Bool) → componentVerdict ed (nodesAt s from) c l b (come had true m) e ≡ componentVerdict ed x c l b (come had true m) e
+    on-nodes h c l b m = i .is c l b m ∙ ap (λ (y : Nodes). componentVerdict ed y c l b (come had true m) e) h
+
+    pub follow-none : {j : Judged} → r .kind ≡ None → EndAt k t had true inner method e j → BehindAt ed k t had inner method s from e j
+    unfolding componentVerdict
+    follow-none q d = record { is = λ c o l b g m. on-nodes (node-none n q) c l b m ∙ d .is c o b g m }
+
+    pub follow-referred : r .kind ≡ Referred → BehindAt ed k t had inner method s from e (Refused 6 at)
+    unfolding componentVerdict
+    follow-referred q = record { is = λ c o l b g m. on-nodes (node-referred n q) c l b m ∙ sym (is-frame at) }
+
+    module _ (q : r .kind ≡ Literal) {b : Bool} (f : b ≡ isSpace (r .unit)) where
+      pub follow-text : b ≡ false → BehindAt ed k t had inner method s from e (Refused 6 at)
+      unfolding componentVerdict pick
+      follow-text h = record { is = λ c o l b g m. on-nodes (node-literal n q) c l b m ∙ rw (← f, h) (sym (is-frame at)) }
+
+    pub follow-element : {j : Judged} → r .kind ≡ Element → unexpected at (nameOf s r) ≡ judgedAs j → BehindAt ed k t had inner method s from e j
+    unfolding componentVerdict
+    follow-element q u = record {
+      is = λ c o l b g m. on-nodes (node-element n q) c l b m ∙ none-behind (same (nameOf s r) (ascii "properties")) (same (nameOf s r) (ascii "components")) (not had) (not (isEmpty (subcomponentsOf c))) _ _ _ ∙ u;
+    }
+
+  pub follow-space : {s : List ℕ} {from e at : ℕ} {had : Bool} {r : Node} → Following ed s from e at had → NodeAt s at r → r .kind ≡ Literal → {b : Bool} → b ≡ isSpace (r .unit) → b ≡ true → Following ed s from e (r .next) had
+  unfolding componentVerdict pick
+  follow-space {s} {from} {e} {at} {had} i n q f h = record { is = λ c l b m. i .is c l b m ∙ ap (λ (y : Nodes). componentVerdict ed y c l b (come had true m) e) (node-literal n q) ∙ rw (← f, h) }
+
+pub ruleset ending = (counts-good, counts-bad, end-bare, end-lacking, end-calendar, end-other, ends-any, ends-calendar, ends-timezone, ends-empty, needs)
+
+pub ruleset parting = (part-properties, part-components, length-take-le, needs)
+
+pub ruleset choosing = (which-again, which-properties, which-other, which-components, which-lone, needs)
+
+pub ruleset meeting = (met-end, met-referred, met-space, met-text, met-other, met-components, met-properties, name-inside, needs)
+
+pub ruleset heading = (head-start, head-end, head-stops, head-opens, head-less, head-past, listed-less, head-good, head-bad, needs)
 
 pub ruleset following = (follow-start, follow-none, follow-referred, follow-space, follow-text, follow-element, literal-less, needs)

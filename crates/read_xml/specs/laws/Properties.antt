@@ -51,6 +51,7 @@ use Rattle.read_xml_nodes.specs.declared.NodeKind.the-variants.{None, Element, 
 use Rattle.read_xml_nodes.specs.declared.Judged.{Judged}
 use Rattle.read_xml_nodes.specs.declared.Judged.the-variants.{Fine, Refused}
 use Rattle.read_xml_value.specs.laws.ElementTypes.{number-of}
+use Rattle.edition.specs.declared.Edition.{Edition}
 use Rattle.read_xml.specs.Children.{nameOf, childWords, slotAt}
 use Rattle.read_xml.specs.laws.Children.{slots-place, slotted, slot-at, parameters-at}
 use Rattle.read_xml.specs.Turning.{Holder}
@@ -135,8 +136,6 @@ module _ {p : ℕ} {s : List ℕ} {from at : ℕ} {r : Node} (i : Seeking p s fr
       is = λ w o. at-element w o ∙ rw (before-slot w (rest 0 (take (r .«name_end») s) (r .name)) o e (ne-eqb slot 0 z), ne-eqb slot 0 z, le-ltb slot 4 l);
     }
 
-pub ruleset seeking = (seek-start, seek-none, seek-literal, seek-referred, seek-here, seek-stop, seek-past, name-inside, element-less, literal-less, referred-less, needs)
-
 -- ---- a value of type BINARY with no ENCODING
 
 module _ (p t : ℕ) (kids : Nodes) where
@@ -156,8 +155,6 @@ module _ (p t : ℕ) (kids : Nodes) where
     pub lacks-none : b ≡ false → LacksAt p t kids true
     unfolding _and_
     lacks-none y = record { is = λ w o h e. sym (rw (is-binary w h e, eq-eqb t 0 z, ← (f w o), ← g, y)) }
-
-pub ruleset lacking = (lacks-not, lacks-found, lacks-none, needs)
 
 -- ---- its name, and whether it may stand there
 
@@ -180,8 +177,6 @@ module _ (m : List ℕ) {b : Bool} (e : b ≡ hasCapital m) where
       unfolding _or_
       bad-end j q = q ∙ sym (rw (← e, h, ← f, g, ← i, j))
 
-pub ruleset naming = (bad-capital, bad-carried, bad-begin, bad-end, length-take-le, needs)
-
 module _ (k : ℕ) (row : Row) where
   off-at : (c w : List ℕ) → k ≡ placeOf c componentNames → row ≡ rowAt (placeOf w propertyNames) →
       (isKnownProperty w and not (mayStand c w)) ≡ (ltb (row .number) property.KNOWN and not (standsAt k row))
@@ -201,93 +196,101 @@ module _ (k : ℕ) (row : Row) where
     unfolding _and_
     off-not f = record { is = λ c w a o. sym (off-at c w a o ∙ rw (lt-ltb (row .number) property.KNOWN h, ← e, f)) }
 
-pub ruleset standing = (off-unknown, off-may, off-not, needs)
-
--- ---- the element
-
-module _ (k : ℕ) (s : List ℕ) (at : ℕ) (n : Node) {row : Row} {b : Bool} (e : b ≡ badName (nameOf s n)) where
-  pub property-bad : b ≡ true → row ≡ rowAt (placeOf (upper (nameOf s n)) propertyNames) → PropertyAt k s at n (Refused 5 at)
-  unfolding propertyVerdict pick
-  property-bad h o = record { is = λ c a. rw (← e, h) (sym (is-name at)) }
-
-  module _ (h : b ≡ false) {d : Bool} (f : OffAt k row d) where
-    pub property-off : d ≡ true → row ≡ rowAt (placeOf (upper (nameOf s n)) propertyNames) → PropertyAt k s at n (Refused 6 at)
-    unfolding propertyVerdict pick
-    property-off g o = record { is = λ c a. rw (← e, h, ← (f .is c (upper (nameOf s n)) a o), g) (sym (is-frame at)) }
-
-    module _ (g : d ≡ false) {t : ℕ} (y : (w : List ℕ) → row ≡ rowAt (placeOf w propertyNames) → (typeAt t ≡ typeOfNodes w (nodesAt s (n .inside))) × (t ≤ 14)) {x : Bool} (i : LacksAt (row .number) t (nodesAt s (n .inside)) x) where
-      pub property-lacks : x ≡ true → row ≡ rowAt (placeOf (upper (nameOf s n)) propertyNames) → PropertyAt k s at n (Refused 7 at)
-      unfolding propertyVerdict pick
-      property-lacks j o = record {
-        is = λ c a. rw (← e, h, ← (f .is c (upper (nameOf s n)) a o), g, ← (i .is (upper (nameOf s n)) (number-of (upper (nameOf s n)) o) (y (upper (nameOf s n)) o .1) (y (upper (nameOf s n)) o .0)), j) (sym (is-parameter at));
-      }
-
-      pub property-children : {v : Judged} → x ≡ false →
-          ((c w : List ℕ) → Holder (record { component = k; row = row; «value_type» = t }) c w → judgedAs v ≡ sequence (propertySlots w) (childVerdict c w (typeAt t)) (nodesAt s (n .inside)) 0 [] (n .end)) →
-          row ≡ rowAt (placeOf (upper (nameOf s n)) propertyNames) → PropertyAt k s at n v
-      unfolding propertyVerdict pick
-      property-children {v} j q o = record {
-        is = λ c a. rw (← e, h, ← (f .is c (upper (nameOf s n)) a o), g, ← (i .is (upper (nameOf s n)) (number-of (upper (nameOf s n)) o) (y (upper (nameOf s n)) o .1) (y (upper (nameOf s n)) o .0)), j, ← (y (upper (nameOf s n)) o .0))
-            (sym (q c (upper (nameOf s n)) (record { component = a; row = o; small = y (upper (nameOf s n)) o .1 })));
-      }
-
-pub ruleset propertying = (property-bad, property-off, property-lacks, property-children, length-take-le, needs)
-
 -- ---- the children of `properties`
 
 pub not-fine : {x y : ℕ} → Refused x y ≡ Fine → ⊥
 not-fine h = let z : _≡_ {A = Bool} false true = cc in absurd (false≢true z)
 
-pub record Listing (k : ℕ) (s : List ℕ) (from at : ℕ) (t : Kept) : Type 0 where
-  pub is : (c : List ℕ) → k ≡ placeOf c componentNames → propertiesVerdict c (nodesAt s from) ≡ propertiesVerdict c (nodesAt s at)
-  pub seen : List Property
-  pub counted : Counted seen t
-  pub agrees : readProperties (nodesAt s from) ≡ seen ⊕ readProperties (nodesAt s at)
+module _ (ed : Edition) where
+  pub record Listing (k : ℕ) (s : List ℕ) (from at : ℕ) (t : Kept) : Type 0 where
+    pub is : (c : List ℕ) → k ≡ placeOf c componentNames → propertiesVerdict ed c (nodesAt s from) ≡ propertiesVerdict ed c (nodesAt s at)
+    pub seen : List Property
+    pub counted : Counted seen t
+    pub agrees : readProperties (nodesAt s from) ≡ seen ⊕ readProperties (nodesAt s at)
 
-pub list-start : (k : ℕ) (s : List ℕ) (from : ℕ) {t : Kept} → Counted [] t → Listing k s from from t
-list-start k s from d = record { is = λ c a. refl; seen = []; counted = d; agrees = sym (append-empty (readProperties (nodesAt s from))) }
+module _ {ed : Edition} where
+  -- ---- the element
 
-module _ {k : ℕ} {s : List ℕ} {from at : ℕ} {t : Kept} {r : Node} (i : Listing k s from at t) (n : NodeAt s at r) where
-  verdict-on : {x : Nodes} → nodesAt s at ≡ x → (c : List ℕ) → k ≡ placeOf c componentNames → propertiesVerdict c (nodesAt s from) ≡ propertiesVerdict c x
-  verdict-on h c a = i .is c a ∙ ap (propertiesVerdict c) h
+  module _ (k : ℕ) (s : List ℕ) (at : ℕ) (n : Node) {row : Row} {b : Bool} (e : b ≡ badName (nameOf s n)) where
+    pub property-bad : b ≡ true → row ≡ rowAt (placeOf (upper (nameOf s n)) propertyNames) → PropertyAt ed k s at n (Refused 5 at)
+    unfolding propertyVerdict pick
+    property-bad h o = record { is = λ c a. rw (← e, h) (sym (is-name at)) }
 
-  read-on : {x : Nodes} → nodesAt s at ≡ x → readProperties (nodesAt s from) ≡ i .seen ⊕ readProperties x
-  read-on h = i .agrees ∙ ap (λ (y : Nodes). i .seen ⊕ readProperties y) h
+    module _ (h : b ≡ false) {d : Bool} (f : OffAt k row d) where
+      pub property-off : d ≡ true → row ≡ rowAt (placeOf (upper (nameOf s n)) propertyNames) → PropertyAt ed k s at n (Refused 6 at)
+      unfolding propertyVerdict pick
+      property-off g o = record { is = λ c a. rw (← e, h, ← (f .is c (upper (nameOf s n)) a o), g) (sym (is-frame at)) }
 
-  pub list-none : r .kind ≡ None → ListedAt k s from (record { judged = Fine; kept = t })
-  unfolding propertiesVerdict readProperties
-  list-none q = record {
-    is = verdict-on (node-none n q);
-    counted = λ h. rw (read-on (node-none n q), append-none (i .seen)) (i .counted);
-  }
-
-  pub list-referred : r .kind ≡ Referred → ListedAt k s from (record { judged = Refused 6 at; kept = t })
-  unfolding propertiesVerdict
-  list-referred q = record { is = λ c a. verdict-on (node-referred n q) c a ∙ sym (is-frame at); counted = λ h. absurd (not-fine h) }
-
-  module _ (q : r .kind ≡ Literal) {b : Bool} (e : b ≡ isSpace (r .unit)) where
-    pub list-space : b ≡ true → Listing k s from (r .next) t
-    unfolding propertiesVerdict readProperties pick
-    list-space h = record { is = λ c a. verdict-on (node-literal n q) c a ∙ rw (← e, h); seen = i .seen; counted = i .counted; agrees = read-on (node-literal n q) }
-
-    pub list-text : b ≡ false → ListedAt k s from (record { judged = Refused 6 at; kept = t })
-    unfolding propertiesVerdict pick
-    list-text h = record { is = λ c a. verdict-on (node-literal n q) c a ∙ rw (← e, h) (sym (is-frame at)); counted = λ h. absurd (not-fine h) }
-
-  module _ (q : r .kind ≡ Element) {row : Row} (o : row ≡ rowAt (placeOf (upper (nameOf s r)) propertyNames)) {j : Judged} (d : row ≡ rowAt (placeOf (upper (nameOf s r)) propertyNames) → PropertyAt k s at r j) where
-    pub list-good : {u : Kept} → j ≡ Fine → CountsOn (row .number) (nodesAt s (r .inside)) t u → Listing k s from (r .next) u
-    unfolding propertiesVerdict readProperties _otherwise_
-    list-good h m =
-        let x : Property = propertyIn (nameOf s r) (nodesAt s (r .inside)) in
-        let later : List Property = readProperties (nodesAt s (r .next)) in record {
-          is = λ c a. verdict-on (node-element n q) c a ∙ rw (d o .is c a, h);
-          seen = i .seen ⊕ (x ∷ []);
-          counted = m .is (i .seen) (nameOf s r) (number-of (upper (nameOf s r)) o) (i .counted);
-          agrees = read-on (node-element n q) ∙ sym (append-regroup (i .seen) (x ∷ []) later ∙ rw (append-cons x [] later, append-empty later));
+      module _ (g : d ≡ false) {t : ℕ} (y : (w : List ℕ) → row ≡ rowAt (placeOf w propertyNames) → (typeAt t ≡ typeOfNodes w (nodesAt s (n .inside))) × (t ≤ 14)) {x : Bool} (i : LacksAt (row .number) t (nodesAt s (n .inside)) x) where
+        pub property-lacks : x ≡ true → row ≡ rowAt (placeOf (upper (nameOf s n)) propertyNames) → PropertyAt ed k s at n (Refused 7 at)
+        unfolding propertyVerdict pick
+        property-lacks j o = record {
+          is = λ c a. rw (← e, h, ← (f .is c (upper (nameOf s n)) a o), g, ← (i .is (upper (nameOf s n)) (number-of (upper (nameOf s n)) o) (y (upper (nameOf s n)) o .1) (y (upper (nameOf s n)) o .0)), j) (sym (is-parameter at));
         }
 
-    pub list-bad : {x y : ℕ} → j ≡ Refused x y → ListedAt k s from (record { judged = Refused x y; kept = t })
-    unfolding propertiesVerdict _otherwise_
-    list-bad h = record { is = λ c a. verdict-on (node-element n q) c a ∙ rw (d o .is c a, h); counted = λ g. absurd (not-fine g) }
+        pub property-children : {v : Judged} → x ≡ false →
+            ((c w : List ℕ) → Holder (record { component = k; row = row; «value_type» = t }) c w → judgedAs v ≡ sequence (propertySlots w) (childVerdict ed c w (typeAt t)) (nodesAt s (n .inside)) 0 [] (n .end)) →
+            row ≡ rowAt (placeOf (upper (nameOf s n)) propertyNames) → PropertyAt ed k s at n v
+        unfolding propertyVerdict pick
+        property-children {v} j q o = record {
+          is = λ c a. rw (← e, h, ← (f .is c (upper (nameOf s n)) a o), g, ← (i .is (upper (nameOf s n)) (number-of (upper (nameOf s n)) o) (y (upper (nameOf s n)) o .1) (y (upper (nameOf s n)) o .0)), j, ← (y (upper (nameOf s n)) o .0))
+              (sym (q c (upper (nameOf s n)) (record { component = a; row = o; small = y (upper (nameOf s n)) o .1 })));
+        }
+
+  pub list-start : (k : ℕ) (s : List ℕ) (from : ℕ) {t : Kept} → Counted [] t → Listing ed k s from from t
+  list-start k s from d = record { is = λ c a. refl; seen = []; counted = d; agrees = sym (append-empty (readProperties (nodesAt s from))) }
+
+  module _ {k : ℕ} {s : List ℕ} {from at : ℕ} {t : Kept} {r : Node} (i : Listing ed k s from at t) (n : NodeAt s at r) where
+    verdict-on : {x : Nodes} → nodesAt s at ≡ x → (c : List ℕ) → k ≡ placeOf c componentNames → propertiesVerdict ed c (nodesAt s from) ≡ propertiesVerdict ed c x
+    verdict-on h c a = i .is c a ∙ ap (propertiesVerdict ed c) h
+
+    read-on : {x : Nodes} → nodesAt s at ≡ x → readProperties (nodesAt s from) ≡ i .seen ⊕ readProperties x
+    read-on h = i .agrees ∙ ap (λ (y : Nodes). i .seen ⊕ readProperties y) h
+
+    pub list-none : r .kind ≡ None → ListedAt ed k s from (record { judged = Fine; kept = t })
+    unfolding propertiesVerdict readProperties
+    list-none q = record {
+      is = verdict-on (node-none n q);
+      counted = λ h. rw (read-on (node-none n q), append-none (i .seen)) (i .counted);
+    }
+
+    pub list-referred : r .kind ≡ Referred → ListedAt ed k s from (record { judged = Refused 6 at; kept = t })
+    unfolding propertiesVerdict
+    list-referred q = record { is = λ c a. verdict-on (node-referred n q) c a ∙ sym (is-frame at); counted = λ h. absurd (not-fine h) }
+
+    module _ (q : r .kind ≡ Literal) {b : Bool} (e : b ≡ isSpace (r .unit)) where
+      pub list-space : b ≡ true → Listing ed k s from (r .next) t
+      unfolding propertiesVerdict readProperties pick
+      list-space h = record { is = λ c a. verdict-on (node-literal n q) c a ∙ rw (← e, h); seen = i .seen; counted = i .counted; agrees = read-on (node-literal n q) }
+
+      pub list-text : b ≡ false → ListedAt ed k s from (record { judged = Refused 6 at; kept = t })
+      unfolding propertiesVerdict pick
+      list-text h = record { is = λ c a. verdict-on (node-literal n q) c a ∙ rw (← e, h) (sym (is-frame at)); counted = λ h. absurd (not-fine h) }
+
+    module _ (q : r .kind ≡ Element) {row : Row} (o : row ≡ rowAt (placeOf (upper (nameOf s r)) propertyNames)) {j : Judged} (d : row ≡ rowAt (placeOf (upper (nameOf s r)) propertyNames) → PropertyAt ed k s at r j) where
+      pub list-good : {u : Kept} → j ≡ Fine → CountsOn (row .number) (nodesAt s (r .inside)) t u → Listing ed k s from (r .next) u
+      unfolding propertiesVerdict readProperties _otherwise_
+      list-good h m =
+          let x : Property = propertyIn (nameOf s r) (nodesAt s (r .inside)) in
+          let later : List Property = readProperties (nodesAt s (r .next)) in record {
+            is = λ c a. verdict-on (node-element n q) c a ∙ rw (d o .is c a, h);
+            seen = i .seen ⊕ (x ∷ []);
+            counted = m .is (i .seen) (nameOf s r) (number-of (upper (nameOf s r)) o) (i .counted);
+            agrees = read-on (node-element n q) ∙ sym (append-regroup (i .seen) (x ∷ []) later ∙ rw (append-cons x [] later, append-empty later));
+          }
+
+      pub list-bad : {x y : ℕ} → j ≡ Refused x y → ListedAt ed k s from (record { judged = Refused x y; kept = t })
+      unfolding propertiesVerdict _otherwise_
+      list-bad h = record { is = λ c a. verdict-on (node-element n q) c a ∙ rw (d o .is c a, h); counted = λ g. absurd (not-fine g) }
+
+pub ruleset seeking = (seek-start, seek-none, seek-literal, seek-referred, seek-here, seek-stop, seek-past, name-inside, element-less, literal-less, referred-less, needs)
+
+pub ruleset lacking = (lacks-not, lacks-found, lacks-none, needs)
+
+pub ruleset naming = (bad-capital, bad-carried, bad-begin, bad-end, length-take-le, needs)
+
+pub ruleset standing = (off-unknown, off-may, off-not, needs)
+
+pub ruleset propertying = (property-bad, property-off, property-lacks, property-children, length-take-le, needs)
 
 pub ruleset listing = (list-start, list-none, list-referred, list-space, list-text, list-good, list-bad, name-inside, content-inside, element-less, literal-less, referred-less, length-take-le, needs)

@@ -1,7 +1,7 @@
 -- Laws of what specs/Leaves.antt defines.
 --     Holding          the invariant of the look for a byte;   `search holding`
 --     chosen-..        a word of a closed set, or a value of the type
---     leaf-..          what a value's characters may not have
+--     leaf-..          a value is characters alone
 --     typeWords        the names of the types' elements, by the types' numbers;   type-word: compared by number
 --     value-..         an element that is a value
 use mathlib.Core.Path.{_≡_, refl, sym, _∙_}
@@ -88,26 +88,16 @@ module _ (q : ℕ) (l : List ℕ) {a : Bool} (e : a ≡ isRead (parameterWordsAt
       go none k = p ∙ rw (i, place-type (parameterAt q .type))
       go (some ws) k = absurd (false≢true (sym k))
 
--- ---- what a value's characters may not have
+-- ---- characters alone
 
 module _ (r : ParameterRow) (kids : Nodes) {a : Bool} (e : a ≡ hasElement kids) where
   pub leaf-inner : a ≡ true → false ≡ isRead (readLeaf r kids)
-  unfolding readLeaf pick _or_ isRead
+  unfolding readLeaf pick isRead
   leaf-inner h = rw (← e, h)
 
-  module _ {l : List ℕ} {b : Bool} (h : a ≡ false) (i : l ≡ charactersOf kids) (f : b ≡ holds 34 l) where
-    pub leaf-quote : b ≡ true → false ≡ isRead (readLeaf r kids)
-    unfolding readLeaf pick _or_ isRead
-    leaf-quote k = rw (← e, h, ← i, ← f, k)
-
-    module _ {c : Bool} (k : b ≡ false) (g : c ≡ holds 10 l) where
-      pub leaf-feed : c ≡ true → false ≡ isRead (readLeaf r kids)
-      unfolding readLeaf pick _or_ isRead
-      leaf-feed m = rw (← e, h, ← i, ← f, k, ← g, m)
-
-      pub leaf-chosen : {v : Bool} → c ≡ false → v ≡ isRead (readWordIn (r .words) (r .type) l) → v ≡ isRead (readLeaf r kids)
-      unfolding readLeaf pick _or_
-      leaf-chosen m p = p ∙ rw (← e, h, ← i, ← f, k, ← g, m)
+  pub leaf-chosen : {l : List ℕ} {v : Bool} → a ≡ false → l ≡ charactersOf kids → v ≡ isRead (readWordIn (r .words) (r .type) l) → v ≡ isRead (readLeaf r kids)
+  unfolding readLeaf pick
+  leaf-chosen h i p = p ∙ rw (← e, h, ← i)
 
 -- ---- the name of a value's element
 

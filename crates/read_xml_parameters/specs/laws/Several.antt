@@ -3,7 +3,7 @@
 --     amount-is                 one value at most
 --     good-is                   what `valuesGood` asks for
 --     first-is                  the first value's characters are a word
---     all-.., single-.., good-.., first-..    for code
+--     all-.., single-.., good-.., first-.., plain-.., spelled-..    for code
 use mathlib.Core.Path.{_≡_, refl, sym, ap, _∙_}
 use mathlib.Core.Bool.{Bool, true, false, not}
 use mathlib.Core.List.{List, []}
@@ -21,7 +21,9 @@ use Rattle.schema.specs.Types.{typeName}
 use Rattle.schema.specs.Parameters.{ParameterRow}
 use Rattle.schema.specs.Numbers.{parameterAt}
 use Rattle.xml.specs.Nodes.{Nodes, noNodes, element, literal, referred, charactersOf, hasElement}
-use Rattle.xcal.specs.ParameterNodes.{readWordIn, asMany, valuesGood, areBase64}
+use Rattle.edition.specs.declared.Edition.{Edition}
+use Rattle.edition.specs.declared.Edition.the-variants.{Rfc5545, Rfc6868}
+use Rattle.xcal.specs.ParameterNodes.{readWordIn, asMany, valuesGood, arePlain, areSpelled, areBase64}
 use Rattle.xml.specs.NodesAt.{nodesAt}
 use Rattle.read_xml_nodes.specs.NodeFound.{NodeAt}
 use Rattle.read_xml_nodes.specs.laws.NodeFound.{node-none, node-literal, node-referred, element-less, literal-less}
@@ -29,7 +31,7 @@ use Rattle.read_xml_nodes.specs.laws.Walks.{Passing, passing-start, Skips}
 use Rattle.read_xml_nodes.specs.declared.Node.{Node}
 use Rattle.read_xml_nodes.specs.declared.NodeKind.the-variants.{None, Element, Literal, Referred}
 use Rattle.read_xml_parameters.specs.Children.{ChildAt, nameOf}
-use Rattle.read_xml_parameters.specs.laws.Children.{node-named, children-none, children-some}
+use Rattle.read_xml_parameters.specs.laws.Children.{node-named, children-none, children-some, child-less}
 use Rattle.read_xml_parameters.specs.Rows.{rowAt, readLeaf, readLeaves}
 use Rattle.read_xml_parameters.specs.laws.Rows.{literal-read, element-read}
 use Rattle.read_xml_parameters.specs.Leaves.{isValue}
@@ -154,7 +156,7 @@ module _ (q : ℕ) (kids : Nodes) {a : Bool} (e : a ≡ allValues (rowAt q) kids
 -- a word of a closed set, as it was read
 word-read : (r : ParameterRow) (ws : List (List ℕ)) → r .words ≡ some ws → (kids : Nodes) (v : Value) → readLeaf r kids ≡ some v → text (charactersOf kids) ≡ v
 unfolding readLeaf pick
-word-read r ws k kids v h = go (hasElement kids or holds 34 (charactersOf kids) or holds 10 (charactersOf kids)) h
+word-read r ws k kids v h = go (hasElement kids) h
   where
     go : (t : Bool) → pick t none (readWordIn (r .words) (r .type) (charactersOf kids)) ≡ some v → text (charactersOf kids) ≡ v
     go true e = none-some e
@@ -182,3 +184,38 @@ module _ (w : List ℕ) {s : List ℕ} {at : ℕ} {r : Child} (n : ChildAt s at 
   pub first-here : {b : Bool} {l : List ℕ} → r .there ≡ true → l ≡ charactersOf (nodesAt s (r .inside)) → b ≡ same l w → b ≡ firstIs w (nodesAt s at)
   unfolding firstIs
   first-here h e q = sym (children-some (skips-first w) (passing-start (firstIs w) s at) n h ∙ rw (← e) (sym q))
+
+-- ---- no double quote and no LF
+
+skips-plain : Skips arePlain
+unfolding arePlain
+skips-plain = record { literals = λ p b more. refl; references = λ p bs more. refl }
+
+module _ {s : List ℕ} {from at : ℕ} {r : Child} (p : Passing arePlain s from at) (n : ChildAt s at r) where
+  pub plain-none : r .there ≡ false → true ≡ arePlain (nodesAt s from)
+  unfolding arePlain
+  plain-none h = sym (children-none skips-plain p n h)
+
+  module _ {l : List ℕ} (h : r .there ≡ true) (i : l ≡ charactersOf (nodesAt s (r .inside))) {b : Bool} (f : b ≡ holds 34 l) where
+    pub plain-quote : b ≡ true → false ≡ arePlain (nodesAt s from)
+    unfolding arePlain _or_ _and_
+    plain-quote k = sym (children-some skips-plain p n h ∙ rw (← i, ← f, k))
+
+    module _ {c : Bool} (k : b ≡ false) (g : c ≡ holds 10 l) where
+      pub plain-feed : c ≡ true → false ≡ arePlain (nodesAt s from)
+      unfolding arePlain _or_ _and_
+      plain-feed m = sym (children-some skips-plain p n h ∙ rw (← i, ← f, k, ← g, m))
+
+      pub plain-more : c ≡ false → Passing arePlain s from (r .next)
+      unfolding arePlain _or_ _and_
+      plain-more m = record { is = children-some skips-plain p n h ∙ rw (← i, ← f, k, ← g, m) }
+
+pub ruleset plains = (passing-start, plain-none, plain-quote, plain-feed, plain-more, child-less, needs)
+
+pub spelled-old : {ed : Edition} {b : Bool} (kids : Nodes) → ed ≡ Rfc5545 → b ≡ arePlain kids → b ≡ areSpelled ed kids
+unfolding areSpelled
+spelled-old kids h e = rw h e
+
+pub spelled-new : {ed : Edition} (kids : Nodes) → ed ≡ Rfc6868 → true ≡ areSpelled ed kids
+unfolding areSpelled
+spelled-new kids h = rw h

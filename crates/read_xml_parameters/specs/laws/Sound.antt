@@ -34,7 +34,8 @@ use Rattle.schema.specs.laws.Places.{type-back}
 use Rattle.read_text_line.specs.Names.{isCarriedName}
 use Rattle.xml.specs.Nodes.{Nodes}
 use Rattle.xcal.specs.Layout.{hasCapital}
-use Rattle.xcal.specs.ParameterNodes.{readParamNodes, valuesGood, encodes, areBase64, badName}
+use Rattle.xcal.specs.ParameterNodes.{areSpelled, readParamNodes, valuesGood, encodes, areBase64, badName}
+use Rattle.edition.specs.declared.Edition.{Edition}
 use Rattle.read_xml_parameters.specs.Rows.{rowAt, readLeaves}
 use Rattle.read_xml_parameters.specs.laws.Rows.{row-named, leaves-are}
 use Rattle.read_xml_parameters.specs.Several.{goodBy, firstIs}
@@ -78,22 +79,6 @@ module _ (q t : ℕ) (kids : Nodes) where
   unfolding encodedBy _and_ _or_
   encoded-binary h k e = e ∙ rw (eq-eqb q 6 h, eq-eqb t 0 k)
 
--- ---- all of it
-
-module _ (row : Row) (t q : ℕ) (kids : Nodes) {a : Bool} (e : a ≡ permitsAt row t q) where
-  pub sound-denied : a ≡ false → false ≡ soundBy row t q kids
-  unfolding soundBy _and_
-  sound-denied h = rw (← e, h)
-
-  module _ {b : Bool} (h : a ≡ true) (f : b ≡ goodBy (rowAt q) kids) where
-    pub sound-other : b ≡ false → false ≡ soundBy row t q kids
-    unfolding soundBy _and_
-    sound-other k = rw (← e, h, ← f, k)
-
-    pub sound-encoded : {c : Bool} → b ≡ true → c ≡ encodedBy q t kids → c ≡ soundBy row t q kids
-    unfolding soundBy _and_
-    sound-encoded k g = g ∙ rw (← e, h, ← f, k)
-
 -- ---- the same of names
 
 encoding-known : isOneOf (ascii "ENCODING") parameterNames ≡ true
@@ -136,16 +121,42 @@ module _ (n : List ℕ) (kids : Nodes) where
         go true false e = refl
         go true true e = base64 (eqb-true _ _ e)
 
--- a parameter that is not sound, as the verdict has it
-pub sound-is : (w n : List ℕ) (row : Row) (t : ℕ) (kids : Nodes) → row ≡ propertyRowAt (placeOf w propertyNames) → t ≤ 14 →
-    not (soundBy row t (placeOf n parameterNames) kids)
-    ≡ (not (permitsParameter w (typeAt t) n) or not (valuesGood (isListedParameter n) (readParamNodes n kids)) or not (encodes n (typeAt t) kids))
-unfolding soundBy _and_ _or_
-sound-is w n row t kids h k =
-    rw (permits-place w n (typeAt t), type-back t k, ← h, good-at n kids)
-    (go (permitsAt row t (placeOf n parameterNames)) (goodBy (rowAt (placeOf n parameterNames)) kids) (encodedBy (placeOf n parameterNames) t kids) (encodes n (typeAt t) kids) (λ g. encoded-is n kids t k g))
-  where
-    go : (a b c d : Bool) → (b ≡ true → c ≡ d) → not (a and b and c) ≡ (not a or not b or not d)
-    go false b c d f = refl
-    go true false c d f = refl
-    go true true c d f = ap not (f refl)
+module _ {ed : Edition} where
+  -- ---- all of it
+
+  module _ (row : Row) (t q : ℕ) (kids : Nodes) {a : Bool} (e : a ≡ permitsAt row t q) where
+    pub sound-denied : a ≡ false → false ≡ soundBy ed row t q kids
+    unfolding soundBy _and_
+    sound-denied h = rw (← e, h)
+
+    module _ {b : Bool} (h : a ≡ true) (f : b ≡ goodBy (rowAt q) kids) where
+      pub sound-other : b ≡ false → false ≡ soundBy ed row t q kids
+      unfolding soundBy _and_
+      sound-other k = rw (← e, h, ← f, k)
+
+      module _ {c : Bool} (k : b ≡ true) (g : c ≡ encodedBy q t kids) where
+        pub sound-uncoded : c ≡ false → false ≡ soundBy ed row t q kids
+        unfolding soundBy _and_
+        sound-uncoded l = rw (← e, h, ← f, k, ← g, l)
+
+        pub sound-spelled : {d : Bool} → c ≡ true → d ≡ areSpelled ed kids → d ≡ soundBy ed row t q kids
+        unfolding soundBy _and_
+        sound-spelled l i = i ∙ rw (← e, h, ← f, k, ← g, l)
+
+  -- a parameter that is not sound, as the verdict has it
+  pub sound-is : (w n : List ℕ) (row : Row) (t : ℕ) (kids : Nodes) → row ≡ propertyRowAt (placeOf w propertyNames) → t ≤ 14 →
+      not (soundBy ed row t (placeOf n parameterNames) kids)
+      ≡ (not (permitsParameter w (typeAt t) n) or not (valuesGood (isListedParameter n) (readParamNodes n kids)) or not (encodes n (typeAt t) kids) or not (areSpelled ed kids))
+  unfolding soundBy _and_ _or_
+  sound-is w n row t kids h k =
+      rw (permits-place w n (typeAt t), type-back t k, ← h, good-at n kids)
+      (go (permitsAt row t (placeOf n parameterNames)) (goodBy (rowAt (placeOf n parameterNames)) kids) (encodedBy (placeOf n parameterNames) t kids) (encodes n (typeAt t) kids) (areSpelled ed kids) (λ g. encoded-is n kids t k g))
+    where
+      both : (d s : Bool) → not (d and s) ≡ (not d or not s)
+      both true s = refl
+      both false s = refl
+
+      go : (a b c d s : Bool) → (b ≡ true → c ≡ d) → not (a and b and c and s) ≡ (not a or not b or not d or not s)
+      go false b c d s f = refl
+      go true false c d s f = refl
+      go true true c d s f = rw (f refl) (both d s)

@@ -37,6 +37,7 @@ use Rattle.read_xml_nodes.specs.declared.Judged.{Judged}
 use Rattle.read_xml_nodes.specs.declared.Judged.the-variants.{Fine, Refused}
 use Rattle.read_xml_nodes.specs.declared.Node.{Node}
 use Rattle.read_xml_nodes.specs.declared.NodeKind.the-variants.{None, Element, Literal, Referred}
+use Rattle.edition.specs.declared.Edition.{Edition}
 use Rattle.read_xml_parameters.specs.Children.{nameOf}
 use Rattle.read_xml_parameters.specs.laws.Children.{node-named}
 use Rattle.read_xml_parameters.specs.Seen.{isBefore}
@@ -45,25 +46,6 @@ use Rattle.read_xml_parameters.specs.laws.Fresh.{Fresh, fresh-start, fre
 use Rattle.read_xml_parameters.specs.Sound.{soundBy}
 use Rattle.read_xml_parameters.specs.laws.Sound.{sound-is}
 use Rattle.read_xml_parameters.specs.Told.{againstBy, judgedBy, verdictAt}
-
--- ---- one parameter
-
-module _ (row : Row) (t : ℕ) (m : List ℕ) (kids : Nodes) {a again : Bool} (e : a ≡ again) where
-  pub against-again : a ≡ true → true ≡ againstBy again row t m kids
-  unfolding againstBy _or_
-  against-again h = rw (← e, h)
-
-  module _ {q : ℕ} {b : Bool} (h : a ≡ false) (f : q ≡ placeOf (upper (rest 0 m 0)) parameterNames) (g : b ≡ soundBy row t q kids) where
-    named : b ≡ soundBy row t (placeOf (upper m) parameterNames) kids
-    named = g ∙ rw (f, rest-plain m)
-
-    pub against-not : b ≡ true → false ≡ againstBy again row t m kids
-    unfolding againstBy _or_
-    against-not k = rw (← e, h, ← named, k)
-
-    pub against-sound : b ≡ false → true ≡ againstBy again row t m kids
-    unfolding againstBy _or_
-    against-sound k = rw (← e, h, ← named, k)
 
 module _ (bad against some : Bool) (at x : ℕ) {a : Bool} (e : a ≡ bad) where
   pub judged-name : a ≡ true → judgedBy bad against some at x ≡ judgedAs (Refused 5 at)
@@ -88,95 +70,116 @@ module _ (bad against some : Bool) (at x : ℕ) {a : Bool} (e : a ≡ bad) where
       unfolding judgedBy pick
       judged-none z = rw (← e, h, ne-eqb at x k, ← f, l, ← g, z) (sym (is-frame x))
 
-pub ruleset judgements = (judged-name, judged-empty, judged-against, judged-fine, judged-none, needs)
+module _ (ed : Edition) where
+  -- ---- all of them
 
-pub verdict-is : (w : List ℕ) (row : Row) (t : ℕ) (s : List ℕ) (from at : ℕ) (m : List ℕ) (x : ℕ) (kids : Nodes) (seen : List (List ℕ)) → row ≡ rowAt (placeOf w propertyNames) → t ≤ 14 →
-    isBefore m at (nodesAt s from) ≡ isOneOf m seen → parameterVerdict w (typeAt t) seen at m x kids ≡ verdictAt row t s from at m x kids
-unfolding parameterVerdict judgedBy againstBy
-verdict-is w row t s from at m x kids seen h k e = rw (e, sound-is w (upper m) row t kids h k)
+  -- i elements stand before the place at
+  pub record Told (row : Row) (t : ℕ) (s : List ℕ) (from at i : ℕ) : Type 0 where
+    pub seen : List (List ℕ)
+    pub fresh : Fresh s from at i seen
+    pub known : (m : List ℕ) (k : ℕ) → at ≤ k → isBefore m k (nodesAt s from) ≡ (isOneOf m seen or isBefore m k (nodesAt s at))
+    pub is : (w : List ℕ) → row ≡ rowAt (placeOf w propertyNames) → t ≤ 14 → parametersVerdict ed w (typeAt t) (nodesAt s from) [] ≡ parametersVerdict ed w (typeAt t) (nodesAt s at) seen
 
--- ---- all of them
+  -- the contract of `parameters_verdict`
+  abbrev pub Judges : Row → ℕ → List ℕ → ℕ → Judged → Type 0
+  Judges row t s from j = (w : List ℕ) → row ≡ rowAt (placeOf w propertyNames) → t ≤ 14 → judgedAs j ≡ parametersVerdict ed w (typeAt t) (nodesAt s from) []
 
--- i elements stand before the place at
-pub record Told (row : Row) (t : ℕ) (s : List ℕ) (from at i : ℕ) : Type 0 where
-  pub seen : List (List ℕ)
-  pub fresh : Fresh s from at i seen
-  pub known : (m : List ℕ) (k : ℕ) → at ≤ k → isBefore m k (nodesAt s from) ≡ (isOneOf m seen or isBefore m k (nodesAt s at))
-  pub is : (w : List ℕ) → row ≡ rowAt (placeOf w propertyNames) → t ≤ 14 → parametersVerdict w (typeAt t) (nodesAt s from) [] ≡ parametersVerdict w (typeAt t) (nodesAt s at) seen
+module _ {ed : Edition} where
+  -- ---- one parameter
 
-pub told-start : (row : Row) (t : ℕ) (s : List ℕ) (from : ℕ) → Told row t s from from 0
-unfolding isOneOf _or_
-told-start row t s from = record { seen = []; fresh = fresh-start s from; known = λ m k h. refl; is = λ w h k. refl }
+  module _ (row : Row) (t : ℕ) (m : List ℕ) (kids : Nodes) {a again : Bool} (e : a ≡ again) where
+    pub against-again : a ≡ true → true ≡ againstBy ed again row t m kids
+    unfolding againstBy _or_
+    against-again h = rw (← e, h)
 
--- the contract of `parameters_verdict`
-abbrev pub Judges : Row → ℕ → List ℕ → ℕ → Judged → Type 0
-Judges row t s from j = (w : List ℕ) → row ≡ rowAt (placeOf w propertyNames) → t ≤ 14 → judgedAs j ≡ parametersVerdict w (typeAt t) (nodesAt s from) []
+    module _ {q : ℕ} {b : Bool} (h : a ≡ false) (f : q ≡ placeOf (upper (rest 0 m 0)) parameterNames) (g : b ≡ soundBy ed row t q kids) where
+      named : b ≡ soundBy ed row t (placeOf (upper m) parameterNames) kids
+      named = g ∙ rw (f, rest-plain m)
 
-module _ {row : Row} {t : ℕ} {s : List ℕ} {from at c : ℕ} {n : Node} (i : Told row t s from at c) (a : NodeAt s at n) where
-  pub told-none : n .kind ≡ None → Judges row t s from Fine
-  unfolding parametersVerdict
-  told-none q = λ w h k. sym (i .is w h k ∙ ap (λ (z : Nodes). parametersVerdict w (typeAt t) z (i .seen)) (node-none a q))
+      pub against-not : b ≡ true → false ≡ againstBy ed again row t m kids
+      unfolding againstBy _or_
+      against-not k = rw (← e, h, ← named, k)
 
-  pub told-referred : n .kind ≡ Referred → Judges row t s from (Refused 6 at)
-  unfolding parametersVerdict
-  told-referred q = λ w h k. is-frame at ∙ sym (i .is w h k ∙ ap (λ (z : Nodes). parametersVerdict w (typeAt t) z (i .seen)) (node-referred a q))
+      pub against-sound : b ≡ false → true ≡ againstBy ed again row t m kids
+      unfolding againstBy _or_
+      against-sound k = rw (← e, h, ← named, k)
 
-  module _ {b : Bool} (q : n .kind ≡ Literal) (e : b ≡ isSpace (n .unit)) where
-    pub told-space : b ≡ true → Told row t s from (n .next) c
-    unfolding parametersVerdict isBefore pick
-    told-space z = record {
-      seen = i .seen;
-      fresh = fresh-skip (i .fresh) at (n .unit) (n .next) (node-literal a q);
-      known = λ m k h. i .known m k (omega (arith, literal-onward a q, h)) ∙ ap (λ (x : Nodes). isOneOf m (i .seen) or isBefore m k x) (node-literal a q);
-      is = λ w h k. i .is w h k ∙ ap (λ (x : Nodes). parametersVerdict w (typeAt t) x (i .seen)) (node-literal a q) ∙ rw (← e, z);
-    }
+  pub verdict-is : (w : List ℕ) (row : Row) (t : ℕ) (s : List ℕ) (from at : ℕ) (m : List ℕ) (x : ℕ) (kids : Nodes) (seen : List (List ℕ)) → row ≡ rowAt (placeOf w propertyNames) → t ≤ 14 →
+      isBefore m at (nodesAt s from) ≡ isOneOf m seen → parameterVerdict ed w (typeAt t) seen at m x kids ≡ verdictAt ed row t s from at m x kids
+  unfolding parameterVerdict judgedBy againstBy
+  verdict-is w row t s from at m x kids seen h k e = rw (e, sound-is w (upper m) row t kids h k)
 
-    pub told-character : b ≡ false → Judges row t s from (Refused 6 at)
-    unfolding parametersVerdict pick
-    told-character z = λ w h k. is-frame at ∙ sym (i .is w h k ∙ ap (λ (x : Nodes). parametersVerdict w (typeAt t) x (i .seen)) (node-literal a q) ∙ rw (← e, z))
+  pub told-start : (row : Row) (t : ℕ) (s : List ℕ) (from : ℕ) → Told ed row t s from from 0
+  unfolding isOneOf _or_
+  told-start row t s from = record { seen = []; fresh = fresh-start s from; known = λ m k h. refl; is = λ w h k. refl }
 
-  module _ (q : n .kind ≡ Element) where
-    abbrev name : List ℕ
-    name = nameOf s (n .name) (n .«name_end»)
-
-    -- the names before this element are those seen
-    here : isBefore name at (nodesAt s from) ≡ isOneOf name (i .seen)
-    unfolding isBefore _and_ _or_
-    here = i .known name at (omega arith) ∙ ap (λ (x : Nodes). isOneOf name (i .seen) or isBefore name at x) (node-named a q) ∙ rw (le-ltb at at (omega arith)) (or-false (isOneOf name (i .seen)))
-
-    -- no element before this one has its name, where it is among the first whose names are distinct
-    pub told-fresh : (k : ℕ) → distinct (firstNames (nodesAt s from) k) ≡ true → ltb c k ≡ true → isBefore (nameOf s (n .name) (n .«name_end»)) at (nodesAt s from) ≡ false
-    told-fresh k h l = here ∙ fresh-here (i .fresh) (n .next) (node-named a q) k h (ltb-true c k l)
-
-    next : (w : List ℕ) → row ≡ rowAt (placeOf w propertyNames) → t ≤ 14 →
-        parametersVerdict w (typeAt t) (nodesAt s from) [] ≡ (parameterVerdict w (typeAt t) (i .seen) at name (n .end) (nodesAt s (n .inside)) otherwise parametersVerdict w (typeAt t) (nodesAt s (n .next)) (name ∷ i .seen))
+  module _ {row : Row} {t : ℕ} {s : List ℕ} {from at c : ℕ} {n : Node} (i : Told ed row t s from at c) (a : NodeAt s at n) where
+    pub told-none : n .kind ≡ None → Judges ed row t s from Fine
     unfolding parametersVerdict
-    next w h k = i .is w h k ∙ ap (λ (x : Nodes). parametersVerdict w (typeAt t) x (i .seen)) (node-named a q)
+    told-none q = λ w h k. sym (i .is w h k ∙ ap (λ (z : Nodes). (parametersVerdict ed) w (typeAt t) z (i .seen)) (node-none a q))
 
-    own : (w : List ℕ) → row ≡ rowAt (placeOf w propertyNames) → t ≤ 14 →
-        parameterVerdict w (typeAt t) (i .seen) at name (n .end) (nodesAt s (n .inside)) ≡ verdictAt row t s from at name (n .end) (nodesAt s (n .inside))
-    own w h k = verdict-is w row t s from at name (n .end) (nodesAt s (n .inside)) (i .seen) h k here
+    pub told-referred : n .kind ≡ Referred → Judges ed row t s from (Refused 6 at)
+    unfolding parametersVerdict
+    told-referred q = λ w h k. is-frame at ∙ sym (i .is w h k ∙ ap (λ (z : Nodes). (parametersVerdict ed) w (typeAt t) z (i .seen)) (node-referred a q))
 
-    module _ {j : Judged} (e : verdictAt row t s from at (nameOf s (n .name) (n .«name_end»)) (n .end) (nodesAt s (n .inside)) ≡ judgedAs j) where
-      pub told-refused : {c d : ℕ} → j ≡ Refused c d → Judges row t s from (Refused c d)
-      told-refused z = λ w h k. sym (next w h k ∙ after-refused _ (own w h k ∙ e) z)
-
-      pub told-next : j ≡ Fine → Told row t s from (n .next) (c + 1)
-      unfolding isBefore isOneOf _and_ _or_
-      told-next z = record {
-        seen = name ∷ i .seen;
-        fresh = fresh-next (i .fresh) (n .next) (node-named a q);
-        known = λ m k h.
-            i .known m k (omega (arith, element-onward a q, h))
-            ∙ ap (λ (x : Nodes). isOneOf m (i .seen) or isBefore m k x) (node-named a q)
-            ∙ rw (lt-ltb at k (omega (arith, element-onward a q, h)), same-either name m) (turned (isOneOf m (i .seen)) (same m name) (isBefore m k (nodesAt s (n .next))));
-        is = λ w h k. next w h k ∙ after-fine _ (own w h k ∙ e) z;
+    module _ {b : Bool} (q : n .kind ≡ Literal) (e : b ≡ isSpace (n .unit)) where
+      pub told-space : b ≡ true → Told ed row t s from (n .next) c
+      unfolding parametersVerdict isBefore pick
+      told-space z = record {
+        seen = i .seen;
+        fresh = fresh-skip (i .fresh) at (n .unit) (n .next) (node-literal a q);
+        known = λ m k h. i .known m k (omega (arith, literal-onward a q, h)) ∙ ap (λ (x : Nodes). isOneOf m (i .seen) or isBefore m k x) (node-literal a q);
+        is = λ w h k. i .is w h k ∙ ap (λ (x : Nodes). (parametersVerdict ed) w (typeAt t) x (i .seen)) (node-literal a q) ∙ rw (← e, z);
       }
-        where
-          turned : (x y z : Bool) → (x or (y or z)) ≡ ((y or x) or z)
-          turned true true z = refl
-          turned true false z = refl
-          turned false true z = refl
-          turned false false z = refl
+
+      pub told-character : b ≡ false → Judges ed row t s from (Refused 6 at)
+      unfolding parametersVerdict pick
+      told-character z = λ w h k. is-frame at ∙ sym (i .is w h k ∙ ap (λ (x : Nodes). (parametersVerdict ed) w (typeAt t) x (i .seen)) (node-literal a q) ∙ rw (← e, z))
+
+    module _ (q : n .kind ≡ Element) where
+      abbrev name : List ℕ
+      name = nameOf s (n .name) (n .«name_end»)
+
+      -- the names before this element are those seen
+      here : isBefore name at (nodesAt s from) ≡ isOneOf name (i .seen)
+      unfolding isBefore _and_ _or_
+      here = i .known name at (omega arith) ∙ ap (λ (x : Nodes). isOneOf name (i .seen) or isBefore name at x) (node-named a q) ∙ rw (le-ltb at at (omega arith)) (or-false (isOneOf name (i .seen)))
+
+      -- no element before this one has its name, where it is among the first whose names are distinct
+      pub told-fresh : (k : ℕ) → distinct (firstNames (nodesAt s from) k) ≡ true → ltb c k ≡ true → isBefore (nameOf s (n .name) (n .«name_end»)) at (nodesAt s from) ≡ false
+      told-fresh k h l = here ∙ fresh-here (i .fresh) (n .next) (node-named a q) k h (ltb-true c k l)
+
+      next : (w : List ℕ) → row ≡ rowAt (placeOf w propertyNames) → t ≤ 14 →
+          parametersVerdict ed w (typeAt t) (nodesAt s from) [] ≡ (parameterVerdict ed w (typeAt t) (i .seen) at name (n .end) (nodesAt s (n .inside)) otherwise parametersVerdict ed w (typeAt t) (nodesAt s (n .next)) (name ∷ i .seen))
+      unfolding parametersVerdict
+      next w h k = i .is w h k ∙ ap (λ (x : Nodes). (parametersVerdict ed) w (typeAt t) x (i .seen)) (node-named a q)
+
+      own : (w : List ℕ) → row ≡ rowAt (placeOf w propertyNames) → t ≤ 14 →
+          parameterVerdict ed w (typeAt t) (i .seen) at name (n .end) (nodesAt s (n .inside)) ≡ verdictAt ed row t s from at name (n .end) (nodesAt s (n .inside))
+      own w h k = verdict-is w row t s from at name (n .end) (nodesAt s (n .inside)) (i .seen) h k here
+
+      module _ {j : Judged} (e : verdictAt ed row t s from at (nameOf s (n .name) (n .«name_end»)) (n .end) (nodesAt s (n .inside)) ≡ judgedAs j) where
+        pub told-refused : {c d : ℕ} → j ≡ Refused c d → Judges ed row t s from (Refused c d)
+        told-refused z = λ w h k. sym (next w h k ∙ after-refused _ (own w h k ∙ e) z)
+
+        pub told-next : j ≡ Fine → Told ed row t s from (n .next) (c + 1)
+        unfolding isBefore isOneOf _and_ _or_
+        told-next z = record {
+          seen = name ∷ i .seen;
+          fresh = fresh-next (i .fresh) (n .next) (node-named a q);
+          known = λ m k h.
+              i .known m k (omega (arith, element-onward a q, h))
+              ∙ ap (λ (x : Nodes). isOneOf m (i .seen) or isBefore m k x) (node-named a q)
+              ∙ rw (lt-ltb at k (omega (arith, element-onward a q, h)), same-either name m) (turned (isOneOf m (i .seen)) (same m name) (isBefore m k (nodesAt s (n .next))));
+          is = λ w h k. next w h k ∙ after-fine _ (own w h k ∙ e) z;
+        }
+          where
+            turned : (x y z : Bool) → (x or (y or z)) ≡ ((y or x) or z)
+            turned true true z = refl
+            turned true false z = refl
+            turned false true z = refl
+            turned false false z = refl
+
+pub ruleset judgements = (judged-name, judged-empty, judged-against, judged-fine, judged-none, needs)
 
 pub ruleset telling = (told-start, told-none, told-referred, told-space, told-character, told-refused, told-next, element-less, literal-less, needs)

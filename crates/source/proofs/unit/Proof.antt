@@ -1,5 +1,5 @@
 -- `source::unit` meets its contract.
-use Rattle.source.specs.laws.Facts.{stepping}
+use Rattle.source.specs.laws.Facts.{stepping, over-plain, over-folded}
 use Rattle.source.proofs.unit.Statement.{statement}
 use Rattle.source.proofs.unit.Tie as tie
 
@@ -11,6 +11,10 @@ unit-spec = tie.close (tie.spec
     (λ c. search stepping)  -- returns-2
     (λ c κs. search stepping)  -- folded-unit-requires
     (λ c. search stepping)  -- returns-3
-    (λ c κs. search stepping)  -- no-unit-requires
+    (λ c κs. rw (c .if4 .taken) over-plain)  -- caret-unit-requires
     (λ c. search stepping)  -- returns-4
+    (λ c κs. rw (c .if5 .taken) over-folded)  -- caret-unit-requires-2
+    (λ c. search stepping)  -- returns-5
+    (λ c κs. search stepping)  -- no-unit-requires
+    (λ c. search stepping)  -- returns-6
     )

@@ -7,10 +7,11 @@
 --     rest-past                 past the end nothing stands;   reach-end: the end is reached from the start
 --     rest-cut, cut-is          what stands from a cursor on, cut in two at a cursor that is reached from it
 --     folded-byte, folded-end   the step over a text with its folds
+--     caret-other, caret-end, caret-letter, caret-itself, caret-last    the step over carets;   decodes-as: the encoding of a value in an edition
 use mathlib.Core.Path.{_≡_, refl, sym, ap, _∙_}
 use mathlib.Core.Bool.{Bool, true, false, false≢true}
 use mathlib.Core.List.{List, [], _∷_, append-cancel-right}
-use Prim.Native.Nat.{ℕ, zero, suc, _+_, _-_, _^_, max, _≤_, _<_}
+use Prim.Native.Nat.{ℕ, zero, suc, _+_, _-_, _/_, _^_, max, _≤_, _<_}
 use native.Mathlib.Omega.{arith}
 use lib.Dec.{eqb, ltb}
 use lib.ListN.{length, take, drop, getD, length-drop, drop-of-length-le, take-append-drop}
@@ -23,7 +24,11 @@ use Rattle.octets.specs.Append.{_⊕_}
 use Rattle.folding.specs.Unfold.{unfolded, foldAt, keptFrom}
 use Rattle.folding.specs.Cut.{skipAfter, Passed, Behind}
 use Rattle.folding.specs.laws.Cut.{skip-none, skip-on, skip-take, skip-all, kept-cut, kept-byte}
-use Rattle.source.specs.Source.{rest, spell, cuts, skipping, Reach, Reads, Settled}
+use Rattle.edition.specs.Edition.{isLetter, meant, decoding, decode}
+use Rattle.edition.specs.laws.Carets.{decoded-other, decoded-last, decoded-letter, decoded-caret}
+use Rattle.edition.specs.declared.Edition.{Edition}
+use Rattle.edition.specs.declared.Edition.the-variants.{Rfc5545, Rfc6868}
+use Rattle.source.specs.Source.{rest, spell, cuts, skipping, Reach, Reads, Settled, Over, Decodes}
 use Rattle.source.specs.declared.Step.{Step}
 
 pub spell-byte : (u : ℕ) (r : List ℕ) → (u ≡ 256 → ⊥) → spell u r ≡ u ∷ r
@@ -129,10 +134,11 @@ pub plain-end : (s : List ℕ) (c : ℕ) → length s ≤ c → c < 2 ^ 64 → R
 unfolding rest spell pick
 plain-end s c h f = record { is = drop-of-length-le s h; small = omega arith; moved = omega arith; inside = omega arith; plain = λ z b. absurd (b refl); reach = reach-here 0 s c }
 
-pub none-end : (m : ℕ) (s : List ℕ) (c : ℕ) → (m ≡ 0 → ⊥) → (m ≡ 1 → ⊥) → (m ≡ 2 → ⊥) → c < 2 ^ 64 → Reads m s c (record { u = 256; next = c })
+pub none-end : (m : ℕ) (s : List ℕ) (c : ℕ) → (m ≡ 0 → ⊥) → (m ≡ 1 → ⊥) → (m ≡ 2 → ⊥) → (m ≡ 4 → ⊥) → (m ≡ 5 → ⊥) → c < 2 ^ 64 →
+    Reads m s c (record { u = 256; next = c })
 unfolding rest spell pick
-none-end m s c h g k f = record {
-  is = rw (ne-eqb m 0 h, ne-eqb m 1 g, ne-eqb m 2 k);
+none-end m s c h g k d e f = record {
+  is = rw (ne-eqb m 0 h, ne-eqb m 1 g, ne-eqb m 2 k, ne-eqb m 4 d, ne-eqb m 5 e);
   small = omega arith;
   moved = omega arith;
   inside = omega arith;
@@ -273,5 +279,117 @@ pub settled-as : {m k : ℕ} {s : List ℕ} {c r : ℕ} → m ≡ k → Settled 
 settled-as e p = rw e p
 
 pub ruleset settling = (settled-here, settled-past, settled-behind, settled-as, needs)
+
+-- ---- carets
+
+pub cuts-two : (m : ℕ) → cuts m ≡ true → (m ≡ 0 → ⊥) → m ≡ 2
+cuts-two zero y n = absurd (n refl)
+cuts-two (suc zero) y n = absurd (false≢true y)
+cuts-two (suc (suc zero)) y n = refl
+cuts-two (suc (suc (suc m))) y n = absurd (false≢true y)
+
+meant-small : (b : ℕ) → meant b < 256
+unfolding pick
+meant-small b = go (eqb b 110) (eqb b 39)
+  where
+    go : (t u : Bool) → pick t 10 (pick u 34 94) < 256
+    go true u = omega arith
+    go false true = omega arith
+    go false false = omega arith
+
+pub over-plain : Over 0 4
+unfolding rest pick
+over-plain = record { decodes = λ s c. refl; uncut = refl; base = refl; unfolded = refl }
+
+pub over-folded : Over 2 5
+unfolding rest pick
+over-folded = record { decodes = λ s c. refl; uncut = refl; base = refl; unfolded = refl }
+
+-- what a value begins with, and what its decoding begins with
+other-is : (l r : List ℕ) (u : ℕ) → l ≡ u ∷ r → (u ≡ 256 → ⊥) → (u ≡ 94 → ⊥) → decoding l false ≡ spell u (decoding r false)
+other-is l r u e n h = rw e (decoded-other u r (ne-eqb u 94 h) ∙ sym (spell-byte u (decoding r false) n))
+
+none-is : (l r : List ℕ) (u : ℕ) → l ≡ [] → u ≡ 256 → decoding l false ≡ spell u r
+unfolding decoding
+none-is l r u e h = rw e (sym (spell-end u r h))
+
+letter-is : (l r : List ℕ) (b u : ℕ) → l ≡ 94 ∷ b ∷ r → isLetter b ≡ true → u ≡ meant b → (u ≡ 256 → ⊥) → decoding l false ≡ spell u (decoding r false)
+letter-is l r b u e h m n = rw e (decoded-letter b r h ∙ rw (← m) (sym (spell-byte u (decoding r false) n)))
+
+itself-is : (l r : List ℕ) (b u : ℕ) → l ≡ 94 ∷ b ∷ r → isLetter b ≡ false → u ≡ 94 → (u ≡ 256 → ⊥) → decoding l false ≡ spell u (decoding (b ∷ r) false)
+itself-is l r b u e h m n = rw e (decoded-caret b r h ∙ rw (← m) (sym (spell-byte u (decoding (b ∷ r) false) n)))
+
+last-is : (l r : List ℕ) (u : ℕ) → l ≡ 94 ∷ [] → r ≡ [] → u ≡ 94 → (u ≡ 256 → ⊥) → decoding l false ≡ spell u r
+last-is l r u e f m n = rw (e, f) (decoded-last ∙ rw (← m) (sym (spell-byte u [] n)))
+
+module _ {b v : ℕ} {s : List ℕ} {c : ℕ} {r : Step} (o : Over b v) (p : Reads b s c r) where
+  -- the same step in the encoding with carets, where it reads the same byte
+  step-same : decoding (rest b s c) false ≡ spell (r .u) (rest v s (r .next)) → Reads v s c r
+  step-same h = record {
+    is = o .decodes s c ∙ h;
+    small = p .small;
+    moved = p .moved;
+    inside = p .inside;
+    plain = λ y. absurd (false≢true (sym (o .uncut) ∙ y));
+    reach = reach-other v s c (r .next) (o .unfolded);
+  }
+
+  -- any other byte
+  pub caret-other : (r .u ≡ 256 → ⊥) → (r .u ≡ 94 → ⊥) → Reads v s c r
+  caret-other n h = step-same (other-is _ _ (r .u) (rest-byte p n) n h ∙ ap (spell (r .u)) (sym (o .decodes s (r .next))))
+
+  pub caret-end : r .u ≡ 256 → Reads v s c r
+  caret-end h = step-same (none-is _ _ (r .u) (rest-end p h) h)
+
+  module _ (h : r .u ≡ 94) {t : Step} (q : Reads b s (r .next) t) where
+    caret-byte : r .u ≡ 256 → ⊥
+    caret-byte e = let z : _≡_ {A = ℕ} 94 256 = sym h ∙ e in omega arith
+
+    first : (l : List ℕ) → rest b s (r .next) ≡ l → rest b s c ≡ 94 ∷ l
+    first l e = rest-byte p caret-byte ∙ rw (h, e)
+
+    -- a caret and a letter
+    pub caret-letter : (t .u ≡ 256 → ⊥) → isLetter (t .u) ≡ true → (u : ℕ) → u ≡ meant (t .u) → Reads v s c (record { u = u; next = t .next })
+    caret-letter n l u e =
+        let k : u < 256 = rw e (meant-small (t .u)) in
+        let w : u ≡ 256 → ⊥ = λ z. omega arith in
+        let d : t .u / 256 ≡ 0 = let f = byte-small q n in omega arith in
+        let g : r .u / 256 ≡ 0 = rw h in
+        let f : u / 256 ≡ 0 = omega arith in
+        let a = rw g at (p .moved) in
+        let x = rw d at (q .moved) in
+        let y = rw d at (q .inside) in
+        record {
+          is = o .decodes s c ∙ letter-is _ _ (t .u) u (first _ (rest-byte q n)) l e w ∙ ap (spell u) (sym (o .decodes s (t .next)));
+          small = omega arith;
+          moved = rw f (omega arith);
+          inside = rw f (omega arith);
+          plain = λ y. absurd (false≢true (sym (o .uncut) ∙ y));
+          reach = reach-other v s c (t .next) (o .unfolded);
+        }
+
+    -- any other caret
+    pub caret-itself : (t .u ≡ 256 → ⊥) → isLetter (t .u) ≡ false → Reads v s c r
+    caret-itself n l =
+        step-same (itself-is _ _ (t .u) (r .u) (first _ (rest-byte q n)) l h caret-byte ∙ ap (λ (l : List ℕ). spell (r .u) (decoding l false)) (sym (rest-byte q n)) ∙ ap (spell (r .u)) (sym (o .decodes s (r .next))))
+
+    pub caret-last : t .u ≡ 256 → Reads v s c r
+    caret-last e = step-same (last-is _ _ (r .u) (first _ (rest-end q e)) (o .decodes s (r .next) ∙ none-is _ [] 256 (rest-end q e) refl ∙ spell-end 256 [] refl) h caret-byte)
+
+-- the encoding of a value in an edition
+pub decodes-same : (m : ℕ) → Decodes Rfc5545 m m
+unfolding decode
+decodes-same m = record { is = λ s c. refl }
+
+pub decodes-plain : Decodes Rfc6868 0 4
+unfolding decode
+decodes-plain = record { is = over-plain .decodes }
+
+pub decodes-folded : Decodes Rfc6868 2 5
+unfolding decode
+decodes-folded = record { is = over-folded .decodes }
+
+pub decodes-as : {e : Edition} {m k v : ℕ} → m ≡ k → Decodes e k v → Decodes e m v
+decodes-as q p = rw q p
 
 pub ruleset stepping = (plain-byte, plain-end, none-end, folded-byte, folded-end, folded-past, reads-as, needs)

@@ -20,7 +20,7 @@ use Rattle.octets.specs.Class.{isNameChar, isVisible, upper}
 use Rattle.octets.specs.laws.Class.{name-char-visible}
 use Rattle.octets.specs.Words.{same, isOneOf, cutAt, eachAfter, joinedBy}
 use Rattle.octets.specs.Lists.{every}
-use Rattle.octets.specs.laws.Lists.{every-both}
+use Rattle.octets.specs.laws.Lists.{every-both, every-weaker, every-map}
 use Rattle.octets.specs.Reading.{readOr, readEach}
 use Rattle.octets.specs.laws.Reading.{none-some, provided-some, andThen-some, each-accepted-of}
 use Rattle.calendar.specs.Calendar.{ical, ValueType, TEXT, Value, text, typeOf, Parameter}
@@ -44,6 +44,8 @@ use Rattle.read_text_line.specs.ContentLine.{ParamValue, RawParameter, ContentL
 use Rattle.read_text_line.specs.Names.{isCarriedName}
 use Rattle.read_text_line.specs.laws.Names.{carried-name-upper}
 use Rattle.read_text_line.specs.Write.{writeParamValue, writeParameter, writeContentLine}
+use Rattle.edition.specs.declared.Edition.{Edition}
+use Rattle.read_text_line.specs.Decoded.{decodedValue, decodedParameter, decodedLine}
 use Rattle.read_text_line.specs.Carried.{carriesName}
 use Rattle.validity.specs.ValidCalendar.{isPermitted}
 use Rattle.validity.specs.laws.ValidCalendar.{name-visible}
@@ -52,6 +54,7 @@ use Rattle.text.specs.Values.{oneValue, readListed, readChosen, readValu
 use Rattle.text.specs.Statement.{propertyFault, propertyOf}
 use Rattle.text.specs.laws.AcceptedProperty.{parameter-read, no-fault}
 use Rattle.text.specs.laws.Faults.{own-every}
+use Rattle.text.specs.laws.Carets.{decode-good}
 use Rattle.text.specs.laws.AcceptedLine.{alone-is, text-made, unknown-is, status-parts}
 use Rattle.text.specs.laws.GoodPieces.{split-good, cut-good}
 use Rattle.text.specs.laws.WrittenLine.{isGoodChars, comma-ascii}
@@ -262,12 +265,19 @@ values-good k n t s vs c h =
 
 -- ---- the property
 
-pub property-good : (k : List ℕ) (l : ContentLine) → isContentLine l ≡ true → firstBad (writeContentLine l) ≡ none → every carriesName (l .parameters) ≡ true → propertyFault k l ≡ none →
-    (every isGoodParameter (propertyOf k l .parameters) ≡ true) × (every isPermitted (propertyOf k l .values) ≡ true)
+value-decoded : (ed : Edition) (v : ParamValue) → isGoodChars v ≡ true → isGoodChars (decodedValue ed v) ≡ true
+value-decoded ed v h = good-well-formed _ (decode-good ed (v .chars) (well-formed-good (v .chars) h))
+
+raw-decoded : (ed : Edition) (r : RawParameter) → isGoodRaw r ≡ true → isGoodRaw (decodedParameter ed r) ≡ true
+raw-decoded ed r h = every-map isGoodChars (decodedValue ed) (r .values) ∙ every-weaker isGoodChars (λ v. isGoodChars (decodedValue ed v)) (value-decoded ed) (r .values) h
+
+pub property-good : (ed : Edition) (k : List ℕ) (l : ContentLine) → isContentLine l ≡ true → firstBad (writeContentLine l) ≡ none → every carriesName (decodedLine ed l .parameters) ≡ true →
+    propertyFault k (decodedLine ed l) ≡ none → (every isGoodParameter (propertyOf k (decodedLine ed l) .parameters) ≡ true) × (every isPermitted (propertyOf k (decodedLine ed l) .values) ≡ true)
 unfolding propertyOf readOr
-property-good k l q g c h =
+property-good ed k l q g c h =
     let a = line-parts l q g in
-    let f = no-fault k l h in (
-      rw (f .parametersRead) (parameters-good (l .parameters) (f .parameters) (both-raw (l .parameters) c (a .0)) (f .parametersRead)),
+    let f = no-fault k (decodedLine ed l) h in
+    let d : every isGoodRaw (map (decodedParameter ed) (l .parameters)) ≡ true = every-map isGoodRaw (decodedParameter ed) (l .parameters) ∙ every-weaker isGoodRaw (λ r. isGoodRaw (decodedParameter ed r)) (raw-decoded ed) (l .parameters) (a .0) in (
+      rw (f .parametersRead) (parameters-good (map (decodedParameter ed) (l .parameters)) (f .parameters) (both-raw (map (decodedParameter ed) (l .parameters)) c d) (f .parametersRead)),
       rw (f .stated, f .valuesRead) (values-good k (upper (l .name)) (f .type) (l .value) (f .values) (a .1) (f .valuesRead)),
     )

@@ -12,10 +12,10 @@ use Rattle.octets.specs.laws.Pick.{pick-second, and-yes, and-both}
 use Rattle.octets.specs.Scan.{allOf}
 use Rattle.octets.specs.Class.{upper}
 use Rattle.octets.specs.Ascii.{ascii}
-use Rattle.octets.specs.Words.{same, isOneOf, holds, cutAt, noneHolds}
+use Rattle.octets.specs.Words.{same, isOneOf, holds, cutAt, noneHolds, isEmpty}
 use Rattle.octets.specs.laws.Words.{none-split, all-without}
 use Rattle.octets.specs.Lists.{every}
-use Rattle.octets.specs.laws.Lists.{every-weaker}
+use Rattle.octets.specs.laws.Lists.{every-weaker, every-map}
 use Rattle.octets.specs.Reading.{readOr, readEach}
 use Rattle.octets.specs.laws.Reading.{none-some, provided-some, andThen-some, each-accepted-of}
 use Rattle.texts.specs.Text.{splitText, alone, readText}
@@ -35,11 +35,17 @@ use Rattle.values.specs.ReadValue.{readValue}
 use Rattle.values.specs.ReadBack.{isTyped}
 use Rattle.values.specs.laws.ReadBack.{value-accepted}
 use Rattle.values.specs.Valid.{isProperty}
-use Rattle.values.specs.Characters.{freeIn, isValueText, isParameterText}
+use Rattle.values.specs.Characters.{freeIn, isValueText}
 use Rattle.values.specs.laws.Characters.{free-or-shown}
+use Rattle.edition.specs.declared.Edition.{Edition}
+use Rattle.edition.specs.declared.Edition.the-variants.{Rfc5545, Rfc6868}
 use Rattle.read_text_line.specs.ContentLine.{ParamValue, RawParameter, ContentLine, isValueChar, isQSafeChar, isSafeChar, isName, isParamValue, isRawParameter, isContentLine}
 use Rattle.read_text_line.specs.laws.Chars.{safe-qsafe}
+use Rattle.read_text_line.specs.Decoded.{decodedValue, decodedParameter, decodedLine}
+use Rattle.read_text_line.specs.laws.Decoded.{isUnbroken, isSpelled, decoded-spelled, map-empty}
 use Rattle.read_text_line.specs.laws.Names.{name-upper}
+use Rattle.validity.specs.ValidCalendar.{isParameterText}
+use Rattle.validity.specs.laws.ValidCalendar.{nothing-free}
 use Rattle.text.specs.Parameters.{readWord, readParamValue, readParameter, ownParameters, readParameters}
 use Rattle.text.specs.Values.{oneValue, readListed, readChosen, readValues}
 use Rattle.text.specs.Statement.{propertyFault, propertyOf}
@@ -54,12 +60,13 @@ none-one : (x : ℕ) (s : List ℕ) → holds x s ≡ false → noneHolds x (s �
 unfolding noneHolds pick
 none-one x s h = rw h
 
-nothing-free : (v : Value) → freeIn v ≡ [] → isParameterText v ≡ true
-unfolding noneHolds _and_
-nothing-free v e = rw e
+nothing-value : (v : Value) → freeIn v ≡ [] → isValueText v ≡ true
+unfolding noneHolds
+nothing-value v e = rw e
 
-value-text : (v : Value) → isParameterText v ≡ true → isValueText v ≡ true
-value-text v h = and-both _ _ h .0
+word-whole : (s : List ℕ) → allOf isWordChar s ≡ true → isValueText (text s) ≡ true
+unfolding _or_ _and_
+word-whole s h = none-one 13 s (all-without isWordChar 13 refl s h)
 
 pub alone-is : (ps : List (List ℕ)) (s : List ℕ) → alone ps ≡ some s → ps ≡ s ∷ []
 alone-is [] s h = none-some h
@@ -90,42 +97,27 @@ unfolding readValue
 typed-free t s v n h =
     let a = value-accepted ical t s v h in
     free-or-shown (λ v. isTyped v ≡ true → typeOf v ≡ t → readValue ical t s ≡ some v → isValueText v ≡ true)
-    (λ v e k y u h. value-text v (nothing-free v e))
+    (λ v e k y u h. nothing-value v e)
     (λ x y u h. text-free s x n (text-made (readText s) x (rw (← u) at h)))
     (λ x k y u h. rw (← (unknown-is t s x u h)) (none-one 13 s n))
     (λ c d x y u h. absurd (false≢true y))
     v (a .0) (a .1) (a .2) h
 
--- ---- parameters
+-- ---- the characters of a parameter's value in an edition
 
-word-free : (s : List ℕ) → allOf isWordChar s ≡ true → isParameterText (text s) ≡ true
+word-free : (ed : Edition) (s : List ℕ) → allOf isWordChar s ≡ true → isParameterText ed (text s) ≡ true
 unfolding _or_ _and_
-word-free s h = and-yes _ _ (none-one 13 s (all-without isWordChar 13 refl s h)) (and-yes _ _ (none-one 10 s (all-without isWordChar 10 refl s h)) (none-one 34 s (all-without isWordChar 34 refl s h)))
+word-free Rfc5545 s h = and-yes _ _ (word-whole s h) (and-yes _ _ (none-one 10 s (all-without isWordChar 10 refl s h)) (none-one 34 s (all-without isWordChar 34 refl s h)))
+word-free Rfc6868 s h = word-whole s h
 
-qsafe-free : (s : List ℕ) → allOf isQSafeChar s ≡ true → isParameterText (text s) ≡ true
+spelled-free : (ed : Edition) (s : List ℕ) → allOf (isSpelled ed) s ≡ true → isParameterText ed (text s) ≡ true
 unfolding _or_ pick
-qsafe-free s h = and-yes _ _ (none-one 13 s (all-without isQSafeChar 13 refl s h)) (and-yes _ _ (none-one 10 s (all-without isQSafeChar 10 refl s h)) (none-one 34 s (all-without isQSafeChar 34 refl s h)))
+spelled-free Rfc5545 s h = and-yes _ _ (none-one 13 s (all-without isQSafeChar 13 refl s h)) (and-yes _ _ (none-one 10 s (all-without isQSafeChar 10 refl s h)) (none-one 34 s (all-without isQSafeChar 34 refl s h)))
+spelled-free Rfc6868 s h = none-one 13 s (all-without isUnbroken 13 refl s h)
 
-other-free : (t : ValueType) (s : List ℕ) (v : Value) → sameType t TEXT ≡ false → allOf isQSafeChar s ≡ true → readValue ical t s ≡ some v → isParameterText v ≡ true
-other-free t s v n q h =
-    let a = value-accepted ical t s v h in
-    free-or-shown (λ v. isTyped v ≡ true → typeOf v ≡ t → readValue ical t s ≡ some v → isParameterText v ≡ true)
-    (λ v e k y u h. nothing-free v e)
-    (λ x y u h. absurd (false≢true (sym n ∙ rw (← u) (same-type-self TEXT))))
-    (λ x k y u h. rw (← (unknown-is t s x u h)) (qsafe-free s q))
-    (λ c d x y u h. absurd (false≢true y))
-    v (a .0) (a .1) (a .2) h
-
-word-read-free : (n : List ℕ) (o : Option (List (List ℕ))) (t : ValueType) (s : List ℕ) (v : Value) → parameterWords n ≡ o → allOf isQSafeChar s ≡ true → readWord o t s ≡ some v → isParameterText v ≡ true
-unfolding pick
-word-read-free n none t s v e q h = go (sameType t TEXT) refl h
-  where
-    go : (b : Bool) → sameType t TEXT ≡ b → pick b (some (text s)) (readValue ical t s) ≡ some v → isParameterText v ≡ true
-    go true e k = let u : text s ≡ v = cc in rw (← u) (qsafe-free s q)
-    go false e k = other-free t s v e q k
-word-read-free n (some words) t s v e q h =
-    let p = provided-some (isOneOf (upper s) words) (text (upper s)) v h in
-    rw (← (p .1)) (word-free (upper s) (and-both _ _ (and-both _ _ (parameter-words-plain n words (upper s) e (p .0)) .1) .0))
+unknown-free : (ed : Edition) (s : List ℕ) → allOf (isSpelled ed) s ≡ true → isParameterText ed (unknown s) ≡ true
+unknown-free Rfc5545 s h = spelled-free Rfc5545 s h
+unknown-free Rfc6868 s h = spelled-free Rfc6868 s h
 
 value-qsafe : (r : ParamValue) → isParamValue r ≡ true → allOf isQSafeChar (r .chars) ≡ true
 unfolding isParamValue pick
@@ -134,29 +126,6 @@ value-qsafe r h = go (r .quoted) h
     go : (b : Bool) → pick b (allOf isQSafeChar (r .chars)) (allOf isSafeChar (r .chars)) ≡ true → allOf isQSafeChar (r .chars) ≡ true
     go true k = k
     go false k = safe-qsafe (r .chars) k
-
-param-value-free : (n : List ℕ) (r : ParamValue) (v : Value) → isParamValue r ≡ true → readParamValue n r ≡ some v → isParameterText v ≡ true
-unfolding readParamValue pick
-param-value-free n r v q h = go (not (r .quoted) and isQuotedParameter n) h
-  where
-    go : (b : Bool) → pick b none (readWord (parameterWords n) (parameterType n) (r .chars)) ≡ some v → isParameterText v ≡ true
-    go true k = none-some k
-    go false k = word-read-free n (parameterWords n) (parameterType n) (r .chars) v refl (value-qsafe r q) k
-
--- what a line says of a parameter: its name is a name, and a line can have the free characters
-abbrev pub isLineParameter : Parameter → Bool
-isLineParameter p = isName (p .name) and every isParameterText (p .values)
-
-parameter-line : (r : RawParameter) (p : Parameter) → isRawParameter r ≡ true → readParameter r ≡ some p → isLineParameter p ≡ true
-unfolding isRawParameter
-parameter-line r p q h =
-    let d = parameter-read r p h in
-    let a = and-both (isName (r .name)) _ q in
-    and-yes _ _ (rw (d .named) (name-upper (r .name) (a .0)))
-    (each-accepted-of (readParamValue (upper (r .name))) isParameterText isParamValue (λ v x k e. param-value-free (upper (r .name)) v x k e) (r .values) (p .values) (pick-second _ _ (a .1) .1) (d .each))
-
-parameters-line : (rs : List RawParameter) (ps : List Parameter) → every isRawParameter rs ≡ true → readParameters rs ≡ some ps → every isLineParameter ps ≡ true
-parameters-line rs ps q h = each-accepted-of readParameter isLineParameter isRawParameter parameter-line (ownParameters rs) ps (own-every isRawParameter rs q) h
 
 -- ---- values
 
@@ -212,7 +181,7 @@ chosen-free : (k n : List ℕ) (o : Option (List (List ℕ))) (t : ValueType) (s
 chosen-free k n none t s v e c h = typed-free t s v c h
 chosen-free k n (some words) t s v e c h =
     let p = provided-some (isOneOf (upper s) words) (text (upper s)) v h in
-    rw (← (p .1)) (value-text (text (upper s)) (word-free (upper s) (and-both _ _ (and-both _ _ (property-words-plain k n words (upper s) e (p .0)) .1) .0)))
+    rw (← (p .1)) (word-whole (upper s) (and-both _ _ (and-both _ _ (property-words-plain k n words (upper s) e (p .0)) .1) .0))
 
 values-free : (k n : List ℕ) (t : ValueType) (s : List ℕ) (vs : List Value) → holds 13 s ≡ false → readValues k n t s ≡ some vs → every isValueText vs ≡ true
 unfolding readValues pick
@@ -227,27 +196,92 @@ values-free k n t s vs c h =
     go true false false true h = listed-free t s vs c h
     go true false false false h = one-free (readChosen (propertyWords k n) t s) vs (λ v e. chosen-free k n (propertyWords k n) t s v refl c e) h
 
--- ---- the line
+module _ (ed : Edition) where
+  -- what is read in an edition
+  abbrev isStatedValue : ParamValue → Bool
+  isStatedValue v = allOf (isSpelled ed) (v .chars)
 
-pub line-accepted : (k : List ℕ) (l : ContentLine) → isContentLine l ≡ true → propertyFault k l ≡ none →
-    (isName (upper (l .name)) ≡ true) × (every isLineParameter (propertyOf k l .parameters) ≡ true) × (every isValueText (propertyOf k l .values) ≡ true)
-unfolding isContentLine propertyOf readOr pick _or_
-line-accepted k l q h =
-    let a = and-both (isName (l .name)) _ q in
-    let b = and-both (every isRawParameter (l .parameters)) _ (a .1) in
-    let f = no-fault k l h in
-    rw (f .stated, f .parametersRead, f .valuesRead) (
-      name-upper (l .name) (a .0),
-      parameters-line (l .parameters) (f .parameters) (b .0) (f .parametersRead),
-      values-free k (upper (l .name)) (f .type) (l .value) (f .values) (all-without isValueChar 13 refl (l .value) (b .1)) (f .valuesRead),
-    )
+  abbrev isStated : RawParameter → Bool
+  isStated r = isName (r .name) and pick (isEmpty (r .values)) false (every isStatedValue (r .values))
 
--- every parameter of a content line has a value
-raw-has-value : (r : RawParameter) → isRawParameter r ≡ true → hasValue r ≡ true
-unfolding isRawParameter
-raw-has-value r h = rw (pick-second _ _ (and-both _ _ h .1) .0)
+  value-stated : (v : ParamValue) → isParamValue v ≡ true → isStatedValue (decodedValue ed v) ≡ true
+  value-stated v h = decoded-spelled ed (v .chars) (value-qsafe v h)
 
--- what such a line states is a property
-pub line-property : (k : List ℕ) (l : ContentLine) → isContentLine l ≡ true → propertyFault k l ≡ none → isProperty k (propertyOf k l) ≡ true
-unfolding isContentLine
-line-property k l q h = property-accepted k l (every-weaker isRawParameter hasValue raw-has-value (l .parameters) (and-both _ _ (and-both _ _ q .1) .0)) h
+  raw-stated : (r : RawParameter) → isRawParameter r ≡ true → isStated (decodedParameter ed r) ≡ true
+  unfolding isRawParameter pick
+  raw-stated r h =
+      let a = and-both (isName (r .name)) _ h in
+      let b = pick-second (isEmpty (r .values)) _ (a .1) in
+      and-yes _ _ (a .0) (rw (map-empty (decodedValue ed) (r .values), b .0) (every-map isStatedValue (decodedValue ed) (r .values) ∙ every-weaker isParamValue (λ v. isStatedValue (decodedValue ed v)) value-stated (r .values) (b .1)))
+
+  raws-stated : (rs : List RawParameter) → every isRawParameter rs ≡ true → every isStated (map (decodedParameter ed) rs) ≡ true
+  raws-stated rs h = every-map isStated (decodedParameter ed) rs ∙ every-weaker isRawParameter (λ r. isStated (decodedParameter ed r)) raw-stated rs h
+
+  -- ---- parameters
+
+  other-free : (t : ValueType) (s : List ℕ) (v : Value) → sameType t TEXT ≡ false → allOf (isSpelled ed) s ≡ true → readValue ical t s ≡ some v → isParameterText ed v ≡ true
+  other-free t s v n q h =
+      let a = value-accepted ical t s v h in
+      free-or-shown (λ v. isTyped v ≡ true → typeOf v ≡ t → readValue ical t s ≡ some v → isParameterText ed v ≡ true)
+      (λ v e k y u h. nothing-free ed v e)
+      (λ x y u h. absurd (false≢true (sym n ∙ rw (← u) (same-type-self TEXT))))
+      (λ x k y u h. rw (← (unknown-is t s x u h)) (unknown-free ed s q))
+      (λ c d x y u h. absurd (false≢true y))
+      v (a .0) (a .1) (a .2) h
+
+  word-read-free : (n : List ℕ) (o : Option (List (List ℕ))) (t : ValueType) (s : List ℕ) (v : Value) → parameterWords n ≡ o → allOf (isSpelled ed) s ≡ true → readWord o t s ≡ some v → isParameterText ed v ≡ true
+  unfolding pick
+  word-read-free n none t s v e q h = go (sameType t TEXT) refl h
+    where
+      go : (b : Bool) → sameType t TEXT ≡ b → pick b (some (text s)) (readValue ical t s) ≡ some v → isParameterText ed v ≡ true
+      go true e k = let u : text s ≡ v = cc in rw (← u) (spelled-free ed s q)
+      go false e k = other-free t s v e q k
+  word-read-free n (some words) t s v e q h =
+      let p = provided-some (isOneOf (upper s) words) (text (upper s)) v h in
+      rw (← (p .1)) (word-free ed (upper s) (and-both _ _ (and-both _ _ (parameter-words-plain n words (upper s) e (p .0)) .1) .0))
+
+  param-value-free : (n : List ℕ) (r : ParamValue) (v : Value) → isStatedValue r ≡ true → readParamValue n r ≡ some v → isParameterText ed v ≡ true
+  unfolding readParamValue pick
+  param-value-free n r v q h = go (not (r .quoted) and isQuotedParameter n) h
+    where
+      go : (b : Bool) → pick b none (readWord (parameterWords n) (parameterType n) (r .chars)) ≡ some v → isParameterText ed v ≡ true
+      go true k = none-some k
+      go false k = word-read-free n (parameterWords n) (parameterType n) (r .chars) v refl q k
+
+  -- what a line says of a parameter: its name is a name, and a line can have the free characters
+  abbrev pub isLineParameter : Parameter → Bool
+  isLineParameter p = isName (p .name) and every (isParameterText ed) (p .values)
+
+  parameter-line : (r : RawParameter) (p : Parameter) → isStated r ≡ true → readParameter r ≡ some p → isLineParameter p ≡ true
+  parameter-line r p q h =
+      let d = parameter-read r p h in
+      let a = and-both (isName (r .name)) _ q in
+      and-yes _ _ (rw (d .named) (name-upper (r .name) (a .0)))
+      (each-accepted-of (readParamValue (upper (r .name))) (isParameterText ed) isStatedValue (λ v x k e. param-value-free (upper (r .name)) v x k e) (r .values) (p .values) (pick-second _ _ (a .1) .1) (d .each))
+
+  parameters-line : (rs : List RawParameter) (ps : List Parameter) → every isStated rs ≡ true → readParameters rs ≡ some ps → every isLineParameter ps ≡ true
+  parameters-line rs ps q h = each-accepted-of readParameter isLineParameter isStated parameter-line (ownParameters rs) ps (own-every isStated rs q) h
+
+  -- ---- the line
+
+  pub line-accepted : (k : List ℕ) (l : ContentLine) → isContentLine l ≡ true → propertyFault k (decodedLine ed l) ≡ none →
+      (isName (upper (l .name)) ≡ true) × (every isLineParameter (propertyOf k (decodedLine ed l) .parameters) ≡ true) × (every isValueText (propertyOf k (decodedLine ed l) .values) ≡ true)
+  unfolding isContentLine propertyOf readOr pick _or_
+  line-accepted k l q h =
+      let a = and-both (isName (l .name)) _ q in
+      let b = and-both (every isRawParameter (l .parameters)) _ (a .1) in
+      let f = no-fault k (decodedLine ed l) h in
+      rw (f .stated, f .parametersRead, f .valuesRead) (
+        name-upper (l .name) (a .0),
+        parameters-line (map (decodedParameter ed) (l .parameters)) (f .parameters) (raws-stated (l .parameters) (b .0)) (f .parametersRead),
+        values-free k (upper (l .name)) (f .type) (l .value) (f .values) (all-without isValueChar 13 refl (l .value) (b .1)) (f .valuesRead),
+      )
+
+  -- every parameter of a content line has a value
+  raw-has-value : (r : RawParameter) → isStated r ≡ true → hasValue r ≡ true
+  raw-has-value r h = rw (pick-second (isEmpty (r .values)) _ (and-both _ _ h .1) .0)
+
+  -- what such a line states is a property
+  pub line-property : (k : List ℕ) (l : ContentLine) → isContentLine l ≡ true → propertyFault k (decodedLine ed l) ≡ none → isProperty k (propertyOf k (decodedLine ed l)) ≡ true
+  unfolding isContentLine
+  line-property k l q h = property-accepted k (decodedLine ed l) (every-weaker isStated hasValue raw-has-value _ (raws-stated (l .parameters) (and-both _ _ (and-both _ _ q .1) .0))) h

@@ -23,6 +23,7 @@ use Rattle.utf8.specs.laws.Utf8.{good-well-formed, good-split}
 use Rattle.folding.specs.Unfold.{crlf, unfolded}
 use Rattle.folding.specs.Lines.{Line, whole, loose, longer, lineStep, linesAfter, lines, noneLoose}
 use Rattle.validity.specs.ValidCalendar.{isValid}
+use Rattle.edition.specs.declared.Edition.{Edition}
 use Rattle.text.specs.Nesting.{Open, Move, move, onward, nesting}
 use Rattle.text.specs.Tree.{calendarOf}
 use Rattle.text.specs.ReadText.{linesVerdict, keptVerdict, placed, textVerdict, readCalendar}
@@ -94,12 +95,6 @@ unfolding onward
 moved-whole (Move.on u) p s f b k h = k u h
 moved-whole (Move.stop r) p s f b k h = fault-not r p s h
 
-nesting-whole : (ls : List Line) (e : ℕ) (st : List Open) → nesting e ls st ≡ fine → noneLoose ls ≡ true
-unfolding nesting noneLoose
-nesting-whole [] e st h = refl
-nesting-whole (loose p ∷ ls) e st h = refused-not _ _ h
-nesting-whole (whole p s ∷ ls) e st h = moved-whole (move s st) p s (nesting e ls) (noneLoose ls) (λ u k. nesting-whole ls e u k) h
-
 -- ---- what an answer says
 
 answered : (v : Verdict) (d c : Components) → answer v d ≡ accepted c → (v ≡ fine) × (d ≡ c)
@@ -122,21 +117,30 @@ unfolding _otherwise_
 both-fine none w h = (refl, h)
 both-fine (some p) w h = refused-not _ _ h
 
-lines-valid : (ls : List Line) (e : ℕ) → (noneLoose ls ≡ true → every isGoodOne ls ≡ true) → linesVerdict e ls ≡ fine → isValid (calendarOf ls) ≡ true
-unfolding linesVerdict isValid
-lines-valid [] e g h = refused-not _ _ h
-lines-valid (l ∷ ls) e g h = and-yes _ _ (tree-some l ls e h) (tree-accepted (l ∷ ls) e (g (nesting-whole (l ∷ ls) e [] h)) h)
+module _ (ed : Edition) where
+  -- ---- in an edition
 
--- ---- the text
+  nesting-whole : (ls : List Line) (e : ℕ) (st : List Open) → nesting ed e ls st ≡ fine → noneLoose ls ≡ true
+  unfolding nesting noneLoose
+  nesting-whole [] e st h = refl
+  nesting-whole (loose p ∷ ls) e st h = refused-not _ _ h
+  nesting-whole (whole p s ∷ ls) e st h = moved-whole (move ed s st) p s (nesting ed e ls) (noneLoose ls) (λ u k. nesting-whole ls e u k) h
 
-pub accepted-valid : (s : List ℕ) (room : ℕ) (c : Components) → readCalendar s room ≡ accepted c → isValid c ≡ true
-unfolding readCalendar textVerdict keptVerdict
-accepted-valid s room c h =
-    let a = answered (textVerdict s room) (calendarOf (lines (unfolded s))) c h in
-    let k = kept (leb (length s) limit) (leb (length s) room) s (keptVerdict (unfolded s)) (a .0) in
-    let b = both-fine (firstBad (unfolded s)) (linesVerdict (length (unfolded s)) (lines (unfolded s))) k in
-    rw (a .1) at (lines-valid (lines (unfolded s)) (length (unfolded s)) (text-lines-good (unfolded s) (b .0)) (b .1))
+  lines-valid : (ls : List Line) (e : ℕ) → (noneLoose ls ≡ true → every isGoodOne ls ≡ true) → linesVerdict ed e ls ≡ fine → isValid ed (calendarOf ed ls) ≡ true
+  unfolding linesVerdict isValid
+  lines-valid [] e g h = refused-not _ _ h
+  lines-valid (l ∷ ls) e g h = and-yes _ _ (tree-some ed l ls e h) (tree-accepted ed (l ∷ ls) e (g (nesting-whole (l ∷ ls) e [] h)) h)
 
-pub accepted-back : (s : List ℕ) (room : ℕ) (c : Components) → readCalendar s room ≡ accepted c → (again : ℕ) → length (writeCalendar c) ≤ limit → length (writeCalendar c) ≤ again →
-    readCalendar (writeCalendar c) again ≡ accepted c
-accepted-back s room c h again l r = text-back c again (accepted-valid s room c h) l r
+  -- ---- the text
+
+  pub accepted-valid : (s : List ℕ) (room : ℕ) (c : Components) → readCalendar ed s room ≡ accepted c → isValid ed c ≡ true
+  unfolding readCalendar textVerdict keptVerdict
+  accepted-valid s room c h =
+      let a = answered (textVerdict ed s room) (calendarOf ed (lines (unfolded s))) c h in
+      let k = kept (leb (length s) limit) (leb (length s) room) s (keptVerdict ed (unfolded s)) (a .0) in
+      let b = both-fine (firstBad (unfolded s)) (linesVerdict ed (length (unfolded s)) (lines (unfolded s))) k in
+      rw (a .1) at (lines-valid (lines (unfolded s)) (length (unfolded s)) (text-lines-good (unfolded s) (b .0)) (b .1))
+
+  pub accepted-back : (s : List ℕ) (room : ℕ) (c : Components) → readCalendar ed s room ≡ accepted c → (again : ℕ) → length (writeCalendar ed c) ≤ limit → length (writeCalendar ed c) ≤ again →
+      readCalendar ed (writeCalendar ed c) again ≡ accepted c
+  accepted-back s room c h again l r = text-back ed c again (accepted-valid s room c h) l r

@@ -7,7 +7,9 @@ use mathlib.Core.Option.{Option, none, some}
 use Prim.Native.Nat.{ℕ}
 use Rattle.octets.specs.Pick.{pick}
 use Rattle.calendar.specs.Calendar.{Property}
-use Rattle.read_text_line.specs.ContentLine.{ContentLine, contentLine}
+use Rattle.edition.specs.declared.Edition.{Edition}
+use Rattle.read_text_line.specs.ContentLine.{ContentLine}
+use Rattle.read_text_line.specs.Decoded.{readLine}
 use Rattle.text.specs.Faults.{Fault}
 use Rattle.text.specs.Nesting.{Open, on, hasLevel, begins, ends, states, told, moveBy, moveOf, move}
 use Rattle.text.specs.LineKind.{LineKind, heldBy, kindBy, kindOf, lineKind, step}
@@ -30,5 +32,5 @@ unfolding moveOf kindOf
 move-by none f st = unfold step in refl
 move-by (some l) f st = unfold moveBy kindBy begins ends states in simp (step-pick, step-held) (unfold step in refl)
 
-pub move-is : (s : List ℕ) (f : Open) (st : List Open) → move s (f ∷ st) ≡ step (lineKind (f .name) (hasLevel (f ∷ st)) (f .inner) s) f st
-move-is s f st = move-by (contentLine s) f st
+pub move-is : (ed : Edition) (s : List ℕ) (f : Open) (st : List Open) → move ed s (f ∷ st) ≡ step (lineKind ed (f .name) (hasLevel (f ∷ st)) (f .inner) s) f st
+move-is ed s f st = move-by (readLine ed s) f st

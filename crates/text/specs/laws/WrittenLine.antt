@@ -36,11 +36,14 @@ use Rattle.values.specs.Valid.{isChosen, isPropertyValue, areValuesOf}
 use Rattle.values.specs.laws.Valid.{text-in, chosen-valid, property-value-valid}
 use Rattle.read_text_line.specs.ContentLine.{ParamValue, RawParameter, ContentLine, isValueChar, isQSafeChar, isSafeChar, isName, isParamValue, isRawParameter, isContentLine}
 use Rattle.read_text_line.specs.Write.{writeParamValue, writeParameter, writeContentLine}
+use Rattle.edition.specs.declared.Edition.{Edition}
+use Rattle.read_text_line.specs.Decoded.{encodedValue, encodedParameter, encodedLine}
 use Rattle.validity.specs.ValidCalendar.{isPermitted, isValidParameter, isValidProperty}
 use Rattle.validity.specs.laws.ValidCalendar.{kept-parts, name-visible, valid-parameter, ValidProperty, valid-property}
 use Rattle.text.specs.WriteText.{paramChars, paramValueOf, rawOf, valueParameter, withValue, contentLineOf}
 use Rattle.text.specs.laws.LineLaws.{line-is-line}
 use Rattle.text.specs.laws.EscapedCharacters.{joined-good, value-good}
+use Rattle.text.specs.laws.Carets.{encode-good}
 use Rattle.text.specs.laws.TreeBack.{beginOf, endOf, lineOf, begin-name, end-name}
 
 -- ---- what holds of a line
@@ -149,13 +152,22 @@ chars-good n (v ∷ vs) h g =
     let b = every-both isPermitted v vs g in
     and-yes _ _ (good-well-formed _ (param-chars-good v (chosen-valid (parameterWords n) (parameterType n) v (a .0)) (b .0))) (chars-good n vs (a .1) (b .1))
 
-raw-good : (p : Parameter) → isValidParameter p ≡ true → isGoodRaw (rawOf p) ≡ true
-raw-good p h =
-    let v = valid-parameter p h in
+raw-good : (ed : Edition) (p : Parameter) → isValidParameter ed p ≡ true → isGoodRaw (rawOf p) ≡ true
+raw-good ed p h =
+    let v = valid-parameter ed p h in
     and-yes _ _ (kept-parts (p .name) (v .kept) .1) (chars-good (p .name) (p .values) (v .chosen) (v .permitted))
 
-raws-good : (ps : List Parameter) → every isValidParameter ps ≡ true → every isGoodRaw (map rawOf ps) ≡ true
-raws-good ps h = every-map isGoodRaw rawOf ps ∙ every-weaker isValidParameter (λ p. isGoodRaw (rawOf p)) raw-good ps h
+raws-good : (ed : Edition) (ps : List Parameter) → every (isValidParameter ed) ps ≡ true → every isGoodRaw (map rawOf ps) ≡ true
+raws-good ed ps h = every-map isGoodRaw rawOf ps ∙ every-weaker (isValidParameter ed) (λ p. isGoodRaw (rawOf p)) (raw-good ed) ps h
+
+-- and where its values are encoded
+value-encoded : (ed : Edition) (v : ParamValue) → isGoodChars v ≡ true → isGoodChars (encodedValue ed v) ≡ true
+value-encoded ed v h = good-well-formed _ (encode-good ed (v .chars) (well-formed-good (v .chars) h))
+
+raw-encoded : (ed : Edition) (r : RawParameter) → isGoodRaw r ≡ true → isGoodRaw (encodedParameter ed r) ≡ true
+raw-encoded ed r h =
+    let a = and-both (isName (r .name)) _ h in
+    and-yes _ _ (a .0) (every-map isGoodChars (encodedValue ed) (r .values) ∙ every-weaker isGoodChars (λ v. isGoodChars (encodedValue ed v)) (value-encoded ed) (r .values) (a .1))
 
 value-name : isName (ascii "VALUE") ≡ true
 unfolding octets-compute isName
@@ -181,11 +193,11 @@ pub comma-ascii : isAscii 44 ≡ true
 unfolding _and_ _or_
 comma-ascii = refl
 
-line-good : (k : List ℕ) (p : Property) → ValidProperty k p → firstBad (lineOf p) ≡ none
+line-good : (ed : Edition) (k : List ℕ) (p : Property) → ValidProperty ed k p → firstBad (lineOf ed p) ≡ none
 unfolding areValuesOf contentLineOf writeValues
-line-good k p s =
-    line-passes (λ s. firstBad s ≡ none) visible-good good-append isGoodChars (λ v h. well-formed-good (v .chars) h) (contentLineOf p) (kept-parts (p .name) (s .kept) .1)
-    (with-value-good (p .name) _ _ (raws-good (p .parameters) (s .parameters)))
+line-good ed k p s =
+    line-passes (λ s. firstBad s ≡ none) visible-good good-append isGoodChars (λ v h. well-formed-good (v .chars) h) (encodedLine ed (contentLineOf p)) (kept-parts (p .name) (s .kept) .1)
+    (every-map isGoodRaw (encodedParameter ed) _ ∙ every-weaker isGoodRaw (λ r. isGoodRaw (encodedParameter ed r)) (raw-encoded ed) _ (with-value-good (p .name) _ _ (raws-good ed (p .parameters) (s .parameters))))
     (joined-good 44 (map writeValue (p .values)) comma-ascii (values-good k (p .name) (typeOfAll (p .values)) (p .values) (and-both _ _ (and-both _ _ (s .values) .1) .1) (s .permitted)))
 
 -- ---- lines
@@ -211,9 +223,9 @@ pub end-good : (k : List ℕ) → allOf isVisible k ≡ true → isGoodLine (end
 unfolding _⊕_
 end-good k h = shown-good (ascii "END") k end-name h
 
-pub property-good : (k : List ℕ) (p : Property) → isValidProperty k p ≡ true → isGoodLine (lineOf p) ≡ true
+pub property-good : (ed : Edition) (k : List ℕ) (p : Property) → isValidProperty ed k p ≡ true → isGoodLine (lineOf ed p) ≡ true
 unfolding isContentLine writeContentLine
-property-good k p h =
-    let s = valid-property k p h in
-    let l = line-is-line k p s in
-    good-line (lineOf p) (line-no-return (contentLineOf p) l) (name-no-blank (contentLineOf p .name) _ (and-both _ _ l .0)) (line-good k p s)
+property-good ed k p h =
+    let s = valid-property ed k p h in
+    let l = line-is-line ed k p s in
+    good-line (lineOf ed p) (line-no-return (encodedLine ed (contentLineOf p)) l) (name-no-blank (contentLineOf p .name) _ (and-both _ _ l .0)) (line-good ed k p s)

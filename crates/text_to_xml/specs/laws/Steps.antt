@@ -2,7 +2,7 @@
 use mathlib.Core.Path.{_≡_, refl, sym, ap, _∙_}
 use mathlib.Core.Bool.{true, false}
 use mathlib.Core.List.{List}
-use mathlib.Core.Option.{none, some}
+use mathlib.Core.Option.{Option, none, some}
 use Prim.Native.Nat.{ℕ, _+_, _^_, _≤_, _<_}
 use native.Mathlib.Omega.{arith}
 use lib.Dec.{leb}
@@ -23,52 +23,55 @@ use Rattle.text.specs.Tree.{calendarOf}
 use Rattle.text.specs.ReadText.{linesVerdict, keptVerdict, placed, textVerdict, readCalendar}
 use Rattle.read_text.specs.Answers.{Checks}
 use Rattle.refusals.specs.declared.Refusal.the-variants.{Length, Work, Character}
+use Rattle.refusals.specs.declared.Refusal.the-variants.{Edition as EditionRefused}
 use Rattle.read_text.specs.declared.Checked.the-variants as checked
 use Rattle.xcal.specs.WriteXml.{writeDocument}
 use Rattle.lengths_xml.specs.laws.Documents.{xml-short}
 use Rattle.calls.specs.Conversion.{converted, refusal, outcome, contents}
-use Rattle.calls.specs.ToXml.{toXml, toXmlOutcome, toXmlOutput, toXmlWork}
+use Rattle.calls.specs.ToXml.{toXml, unfoldedIn, toXmlOutcome, toXmlOutput, toXmlWork}
 use Rattle.calls.specs.Answered.{outcomeOf, answerAt, Done}
 use Rattle.calls.specs.laws.Answered.{answer-refusal, done-fault}
 use Rattle.calls.specs.declared.Answer.{Answer}
 use Rattle.calls.specs.declared.Answer.the-variants.{Refused}
+use Rattle.edition.specs.Edition.{editionOf}
+use Rattle.edition.specs.declared.Edition.{Edition}
 use Rattle.text_to_xml.specs.Steps.{keptGives}
 
 -- the contract of the call: all that it answers, and leaves in the output and in the work room
-abbrev pub Converts : List ℕ → List ℕ → List ℕ → List ℕ → List ℕ → Answer → Type 0
-Converts s w w′ d d′ r = (outcomeOf r ≡ toXmlOutcome s w d) × (d′ ≡ toXmlOutput s w d) × (w′ ≡ toXmlWork s w)
+abbrev pub Converts : List ℕ → List ℕ → List ℕ → List ℕ → List ℕ → ℕ → Answer → Type 0
+Converts s w w′ d d′ edition r = (outcomeOf r ≡ toXmlOutcome s w d edition) × (d′ ≡ toXmlOutput s w d edition) × (w′ ≡ toXmlWork s w edition)
 
 -- ---- the check and the writer read the unfolded text as bytes as they stand
 
-module _ {u : List ℕ} where
-  pub check-fine : Checks 0 u checked.Fine → linesVerdict (length u) (lines u) ≡ fine
+module _ {ed : Edition} {u : List ℕ} where
+  pub check-fine : Checks ed 0 u checked.Fine → linesVerdict ed (length u) (lines u) ≡ fine
   check-fine k = rw (rest-plain u) at (k .is)
 
-  pub check-refused : {n p : ℕ} → Checks 0 u (checked.Refused n p) → linesVerdict (length u) (lines u) ≡ refuse (refusalAt n) p
+  pub check-refused : {n p : ℕ} → Checks ed 0 u (checked.Refused n p) → linesVerdict ed (length u) (lines u) ≡ refuse (refusalAt n) p
   check-refused {n} {p} k = (rw (rest-plain u) at (k .is)) ∙ ap (refuse (refusalAt n)) (index-plain u p (k .place))
 
-pub put-kept : (u : List ℕ) {d e : List ℕ} {o r : ℕ} → Put d e o r (writeDocument (calendarOf (lines (rest 0 u 0)))) → Put d e o r (writeDocument (calendarOf (lines u)))
+pub put-kept : {ed : Edition} (u : List ℕ) {d e : List ℕ} {o r : ℕ} → Put d e o r (writeDocument (calendarOf ed (lines (rest 0 u 0)))) → Put d e o r (writeDocument (calendarOf ed (lines u)))
 put-kept u w = rw (rest-plain u) at w
 
 -- ---- the steps
 
-module _ (s u d : List ℕ) where
+module _ {ed : Edition} (s u d : List ℕ) where
   -- a refused line
-  pub lines-refused : (n : ℕ) {p q : ℕ} {r : Answer} → linesVerdict (length u) (lines u) ≡ refuse (refusalAt n) p → q ≡ origin s p → r ≡ answerAt n q →
-      Done (keptGives s u (linesVerdict (length u) (lines u))) d d r
+  pub lines-refused : (n : ℕ) {p q : ℕ} {r : Answer} → linesVerdict ed (length u) (lines u) ≡ refuse (refusalAt n) p → q ≡ origin s p → r ≡ answerAt n q →
+      Done (keptGives ed s u (linesVerdict ed (length u) (lines u))) d d r
   unfolding placed
   lines-refused n {p} {q} h e f = rw h (done-fault d (ap outcomeOf f ∙ answer-refusal n q ∙ ap (λ (x : ℕ). refusal (refusalAt n) x) e))
 
-  pub lines-fine : {e : List ℕ} {r : Answer} → linesVerdict (length u) (lines u) ≡ fine → Done (converted writeDocument (answer fine (calendarOf (lines u)))) d e r → Done (keptGives s u (linesVerdict (length u) (lines u))) d e r
+  pub lines-fine : {e : List ℕ} {r : Answer} → linesVerdict ed (length u) (lines u) ≡ fine → Done (converted writeDocument (answer fine (calendarOf ed (lines u)))) d e r → Done (keptGives ed s u (linesVerdict ed (length u) (lines u))) d e r
   unfolding placed
   lines-fine h g = rw h g
 
   -- all characters are there, or not
-  pub kept-good : {e : List ℕ} {r : Answer} → firstBad u ≡ none → Done (keptGives s u (linesVerdict (length u) (lines u))) d e r → Done (keptGives s u (keptVerdict u)) d e r
+  pub kept-good : {e : List ℕ} {r : Answer} → firstBad u ≡ none → Done (keptGives ed s u (linesVerdict ed (length u) (lines u))) d e r → Done (keptGives ed s u (keptVerdict ed u)) d e r
   unfolding keptVerdict _otherwise_
   kept-good h g = rw h g
 
-  pub kept-bad : {p q : ℕ} → firstBad u ≡ some p → q ≡ origin s p → Done (keptGives s u (keptVerdict u)) d d (Refused Character q)
+  pub kept-bad : {p q : ℕ} → firstBad u ≡ some p → q ≡ origin s p → Done (keptGives ed s u (keptVerdict ed u)) d d (Refused Character q)
   unfolding keptVerdict _otherwise_ placed
   kept-bad h e = rw h (done-fault d (rw e))
 
@@ -87,27 +90,51 @@ module _ {s w w′ : List ℕ} {n : ℕ} (u : Unfolds s w w′ n) (k : length s 
   pub kept-limit : length s ≤ 65535 → length (take n w′) ≤ 65535
   kept-limit h = rw kept-is (omega (arith, length-unfolded s))
 
-module _ (s w d : List ℕ) where
-  pub too-long : 65535 < length s → Converts s w w d d (Refused Length 0)
+module _ (s w d : List ℕ) (edition : ℕ) where
+  -- whatever the edition
+  pub too-long : 65535 < length s → Converts s w w d d edition (Refused Length 0)
   unfolding toXml toXmlWork readCalendar textVerdict outcome contents pick
-  too-long h = let e : leb (length s) 65535 ≡ false = lt-leb (length s) 65535 h in (rw e, rw e, rw e)
+  too-long h = go (editionOf edition)
+    where
+      e : leb (length s) 65535 ≡ false
+      e = lt-leb (length s) 65535 h
 
-  pub no-room : length s ≤ 65535 → length w < length s → Converts s w w d d (Refused Work 0)
-  unfolding toXml toXmlWork readCalendar textVerdict outcome contents pick
-  no-room h k =
-      let e : leb (length s) 65535 ≡ true = le-leb (length s) 65535 h in
-      let f : leb (length s) (length w) ≡ false = lt-leb (length s) (length w) k in
-      (rw (e, f), rw (e, f), rw (e, f))
+      go : (o : Option Edition) → (outcomeOf (Refused Length 0) ≡ outcome (toXml o s (length w)) (length d)) × (d ≡ contents (toXml o s (length w)) d)
+          × (w ≡ pick (leb (length s) 65535) (pick (leb (length s) (length w)) (unfoldedIn o s w) w) w)
+      go (some ed) = (rw e, rw e, rw e)
+      go none = (rw e, rw e, rw e)
 
-  pub unfolded-done : {w′ e : List ℕ} {n : ℕ} {r : Answer} → length s ≤ 65535 → length s ≤ length w → Unfolds s w w′ n →
-      Done (keptGives s (take n w′) (keptVerdict (take n w′))) d e r → Converts s w w′ d e r
-  unfolding toXml toXmlWork readCalendar textVerdict pick
-  unfolded-done h k u g₀ =
-      let g = rw (kept-is u k) at g₀ in
-      let e : leb (length s) 65535 ≡ true = le-leb (length s) 65535 h in
-      let f : leb (length s) (length w) ≡ true = le-leb (length s) (length w) k in
-      (g .answer ∙ rw (e, f), g .left ∙ rw (e, f), u .is ∙ rw (e, f))
+  module _ (h : length s ≤ 65535) where
+    within : leb (length s) 65535 ≡ true
+    within = le-leb (length s) 65535 h
+
+    pub no-room : length w < length s → Converts s w w d d edition (Refused Work 0)
+    unfolding toXml toXmlWork readCalendar textVerdict outcome contents pick
+    no-room k = go (editionOf edition)
+      where
+        f : leb (length s) (length w) ≡ false
+        f = lt-leb (length s) (length w) k
+
+        go : (o : Option Edition) → (outcomeOf (Refused Work 0) ≡ outcome (toXml o s (length w)) (length d)) × (d ≡ contents (toXml o s (length w)) d)
+            × (w ≡ pick (leb (length s) 65535) (pick (leb (length s) (length w)) (unfoldedIn o s w) w) w)
+        go (some ed) = (rw (within, f), rw (within, f), rw (within, f))
+        go none = (rw (within, f), rw (within, f), rw (within, f))
+
+    module _ (k : length s ≤ length w) where
+      room : leb (length s) (length w) ≡ true
+      room = le-leb (length s) (length w) k
+
+      pub no-edition : none ≡ editionOf edition → Converts s w w d d edition (Refused EditionRefused 0)
+      unfolding toXml toXmlWork outcome contents pick
+      no-edition n = (rw (← n, within, room), rw (← n, within, room), rw (← n, within, room))
+
+      pub unfolded-done : {ed : Edition} {w′ e : List ℕ} {n : ℕ} {r : Answer} → some ed ≡ editionOf edition → Unfolds s w w′ n →
+          Done (keptGives ed s (take n w′) (keptVerdict ed (take n w′))) d e r → Converts s w w′ d e edition r
+      unfolding toXml toXmlWork readCalendar textVerdict pick
+      unfolded-done i u g₀ =
+          let g = rw (kept-is u k) at g₀ in
+          (g .answer ∙ rw (← i, within, room), g .left ∙ rw (← i, within, room), u .is ∙ rw (← i, within, room))
 
 -- an index of the sink counts the XML of a text within the limit
-pub xml-counted : (u : List ℕ) → length u ≤ 65535 → length (writeDocument (calendarOf (lines u))) < 2 ^ 63
-xml-counted u h = omega (arith, xml-short u h)
+pub xml-counted : (ed : Edition) (u : List ℕ) → length u ≤ 65535 → length (writeDocument (calendarOf ed (lines u))) < 2 ^ 63
+xml-counted ed u h = omega (arith, xml-short ed u h)

@@ -30,6 +30,7 @@ use Rattle.xcal.specs.laws.WrittenContents.{document-written}
 use Rattle.xcal.specs.laws.ComponentsBack.{components-back}
 use Rattle.xcal.specs.laws.SoundContent.{sound-writable}
 use Rattle.xcal.specs.laws.SoundCalendar.{calendar-sound}
+use Rattle.edition.specs.declared.Edition.{Edition}
 
 -- ---- a document and what follows it
 
@@ -46,17 +47,6 @@ marks-root : (p : ℕ) (n : List ℕ) (r : List ℕ) (s : List ℕ) → document
 unfolding documentNodes rootNode
 marks-root p n r s e = ap (λ (ms : List Mark). readRoot (rootNode ms)) e
 
-pub document-front : (c : Calendar) (x : List ℕ) → isValid c ≡ true → readBytes (writeDocument c ⊕ x) ≡ c
-unfolding rootBy readRoot
-document-front c x h =
-    let v = valid-parts c h .1 in
-    ap (λ (s : List ℕ). readBytes (s ⊕ x)) (document-written c)
-    ∙ ap readBytes (regrouped declarationLine rootStart (written (calendarContent c)) (endTag (ascii "icalendar")) (ascii "\n") x)
-    ∙ marks-root 39 (ascii "icalendar") (written (calendarContent c) ⊕ (endTag (ascii "icalendar") ⊕ (ascii "\n" ⊕ x))) _ (root-front _)
-    ∙ ap (λ (ns : Nodes). shallow levels (readComponents ns)) (content-nodes (calendarContent c) 31 (ascii "icalendar") (ascii "\n" ⊕ x) 95 (sound-writable (calendarContent c) 31 (calendar-sound c v)) (unfold xml-compute in refl))
-    ∙ ap (shallow levels) (components-back c levels atTop false v 95)
-    ∙ valid-shallow c levels atTop false v
-
 -- ---- one document
 
 rest-same : (a x y : List ℕ) → a ⊕ x ≡ a ⊕ y → x ≡ y
@@ -67,19 +57,6 @@ rest-same (b ∷ a) x y e = rest-same a x y (cons-rest b (a ⊕ x) (a ⊕ y) e)
     cons-rest : (b : ℕ) (s t : List ℕ) → b ∷ s ≡ b ∷ t → s ≡ t
     cons-rest b s t e = cc
 
-pub document-unique : (c d : Calendar) (x y : List ℕ) → isValid c ≡ true → isValid d ≡ true → writeDocument c ⊕ x ≡ writeDocument d ⊕ y → (c ≡ d) × (x ≡ y)
-document-unique c d x y h k e =
-    let z : c ≡ d = sym (document-front c x h) ∙ ap readBytes e ∙ document-front d y k in
-    (z, rest-same (writeDocument c) x y (e ∙ ap (λ (b : Calendar). writeDocument b ⊕ y) (sym z)))
-
--- the same with nothing behind them
-pub document-same : (c d : Calendar) → isValid c ≡ true → isValid d ≡ true → writeDocument c ≡ writeDocument d → c ≡ d
-document-same c d h k e = document-unique c d [] [] h k (ap (λ (s : List ℕ). s ⊕ []) e) .0
-
--- no document is a proper beginning of another
-pub document-whole : (c d : Calendar) (x : List ℕ) → isValid c ≡ true → isValid d ≡ true → writeDocument c ⊕ x ≡ writeDocument d → x ≡ []
-document-whole c d x h k e = document-unique c d x [] h k (e ∙ sym (append-none (writeDocument d))) .1
-
 -- ---- documents one after another
 
 cons-some : (b : ℕ) (s : List ℕ) → b ∷ s ≡ [] → ⊥
@@ -89,15 +66,40 @@ pub document-some : (c : Calendar) (x : List ℕ) → writeDocument c ⊕ x ≡ 
 unfolding _⊕_
 document-some c x e = cons-some 60 _ (ap (λ (s : List ℕ). s ⊕ x) (sym (document-written c)) ∙ e)
 
-pub documents-unique : (cs ds : List Calendar) → every isValid cs ≡ true → every isValid ds ≡ true → joined (map writeDocument cs) ≡ joined (map writeDocument ds) → cs ≡ ds
-unfolding joined
-documents-unique [] [] h k e = refl
-documents-unique [] (d ∷ ds) h k e = absurd (document-some d _ (sym e))
-documents-unique (c ∷ cs) [] h k e = absurd (document-some c _ e)
-documents-unique (c ∷ cs) (d ∷ ds) h k e =
-    let a = every-both isValid c cs h in
-    let b = every-both isValid d ds k in
-    let u = document-unique c d (joined (map writeDocument cs)) (joined (map writeDocument ds)) (a .0) (b .0) e in
-    let v : cs ≡ ds = documents-unique cs ds (a .1) (b .1) (u .1) in
-    let w : c ≡ d = u .0 in
-    rw (w, v)
+module _ (ed : Edition) where
+  pub document-front : (c : Calendar) (x : List ℕ) → isValid ed c ≡ true → readBytes (writeDocument c ⊕ x) ≡ c
+  unfolding rootBy readRoot
+  document-front c x h =
+      let v = valid-parts ed c h .1 in
+      ap (λ (s : List ℕ). readBytes (s ⊕ x)) (document-written c)
+      ∙ ap readBytes (regrouped declarationLine rootStart (written (calendarContent c)) (endTag (ascii "icalendar")) (ascii "\n") x)
+      ∙ marks-root 39 (ascii "icalendar") (written (calendarContent c) ⊕ (endTag (ascii "icalendar") ⊕ (ascii "\n" ⊕ x))) _ (root-front _)
+      ∙ ap (λ (ns : Nodes). shallow levels (readComponents ns)) (content-nodes (calendarContent c) 31 (ascii "icalendar") (ascii "\n" ⊕ x) 95 (sound-writable (calendarContent c) 31 (calendar-sound ed c v)) (unfold xml-compute in refl))
+      ∙ ap (shallow levels) (components-back ed c levels atTop false v 95)
+      ∙ valid-shallow ed c levels atTop false v
+
+  pub document-unique : (c d : Calendar) (x y : List ℕ) → isValid ed c ≡ true → isValid ed d ≡ true → writeDocument c ⊕ x ≡ writeDocument d ⊕ y → (c ≡ d) × (x ≡ y)
+  document-unique c d x y h k e =
+      let z : c ≡ d = sym (document-front c x h) ∙ ap readBytes e ∙ document-front d y k in
+      (z, rest-same (writeDocument c) x y (e ∙ ap (λ (b : Calendar). writeDocument b ⊕ y) (sym z)))
+
+  -- the same with nothing behind them
+  pub document-same : (c d : Calendar) → isValid ed c ≡ true → isValid ed d ≡ true → writeDocument c ≡ writeDocument d → c ≡ d
+  document-same c d h k e = document-unique c d [] [] h k (ap (λ (s : List ℕ). s ⊕ []) e) .0
+
+  -- no document is a proper beginning of another
+  pub document-whole : (c d : Calendar) (x : List ℕ) → isValid ed c ≡ true → isValid ed d ≡ true → writeDocument c ⊕ x ≡ writeDocument d → x ≡ []
+  document-whole c d x h k e = document-unique c d x [] h k (e ∙ sym (append-none (writeDocument d))) .1
+
+  pub documents-unique : (cs ds : List Calendar) → every (isValid ed) cs ≡ true → every (isValid ed) ds ≡ true → joined (map writeDocument cs) ≡ joined (map writeDocument ds) → cs ≡ ds
+  unfolding joined
+  documents-unique [] [] h k e = refl
+  documents-unique [] (d ∷ ds) h k e = absurd (document-some d _ (sym e))
+  documents-unique (c ∷ cs) [] h k e = absurd (document-some c _ e)
+  documents-unique (c ∷ cs) (d ∷ ds) h k e =
+      let a = every-both (isValid ed) c cs h in
+      let b = every-both (isValid ed) d ds k in
+      let u = document-unique c d (joined (map writeDocument cs)) (joined (map writeDocument ds)) (a .0) (b .0) e in
+      let v : cs ≡ ds = documents-unique cs ds (a .1) (b .1) (u .1) in
+      let w : c ≡ d = u .0 in
+      rw (w, v)

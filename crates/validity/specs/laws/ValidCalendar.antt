@@ -1,11 +1,11 @@
 -- Laws of what specs/ValidCalendar.antt defines.
 --     kept-parts, name-visible    what a kept name is;   component-name: as BEGIN has it
 --     valid-parameter, valid-property, valid-component    what a valid one is;   valid-parts: of a calendar;   component-valid: and back
---     parameter-value             the value of a parameter, by cases
+--     parameter-value             the value of a parameter, by cases;   parameter-text, nothing-free: its free characters
 --     valid-shallow               nothing in valid components stands too deep
 use mathlib.Core.Path.{_≡_, refl}
 use mathlib.Core.Bool.{Bool, true, false, not, false≢true}
-use mathlib.Core.List.{List}
+use mathlib.Core.List.{List, []}
 use mathlib.Core.Option.{Option, none, some}
 use Prim.Native.Nat.{ℕ, _-_}
 use lib.Dec.{ltb}
@@ -17,7 +17,7 @@ use Rattle.octets.specs.Scan.{allOf}
 use Rattle.octets.specs.laws.Scan.{all-weaker}
 use Rattle.octets.specs.Class.{isNameChar, isVisible, upper}
 use Rattle.octets.specs.laws.Class.{name-char-visible}
-use Rattle.octets.specs.Words.{same}
+use Rattle.octets.specs.Words.{same, noneHolds}
 use Rattle.octets.specs.laws.Words.{same-true}
 use Rattle.octets.specs.Lists.{every}
 use Rattle.calendar.specs.Calendar.{Value, binary, boolean, calAddress, date, dateTime, duration, float, integer, periodExplicit, periodStart, recur, text, time, uri, utcOffset, unknown, geo, requestStatus, typeOf, textIn, Parameter, Property, Components, noMore, component}
@@ -35,10 +35,12 @@ use Rattle.values.specs.WriteValue.{typeOfAll}
 use Rattle.values.specs.ReadBack.{isValue, isTyped}
 use Rattle.values.specs.Valid.{isAmount, isWordIn, isChosen, isParameter, arePropertyValues, areParameters, isProperty}
 use Rattle.values.specs.laws.Valid.{text-in}
-use Rattle.values.specs.Characters.{isValueText, isParameterText}
+use Rattle.values.specs.Characters.{freeIn, isValueText}
 use Rattle.read_text_line.specs.ContentLine.{isName}
 use Rattle.read_text_line.specs.Names.{isCarriedName, isComponentName}
-use Rattle.validity.specs.ValidCalendar.{isKeptName, isPermitted, isValidParameter, isValidProperty, hasComponents, areValid, atTop, isValid}
+use Rattle.edition.specs.declared.Edition.{Edition}
+use Rattle.edition.specs.declared.Edition.the-variants.{Rfc5545, Rfc6868}
+use Rattle.validity.specs.ValidCalendar.{isKeptName, isPermitted, isParameterText, isValidParameter, isValidProperty, hasComponents, areValid, atTop, isValid}
 
 -- ---- names
 
@@ -57,26 +59,6 @@ pub component-name : (k : List ℕ) → isKeptName k ≡ true → (upper k ≡ k
 component-name k h = let n = kept-parts k h in (n .0, name-visible k (n .1), and-yes _ _ (n .1) (n .2))
 
 -- ---- parameters
-
-pub record ValidParameter (p : Parameter) : Type 0 where
-  pub kept : isKeptName (p .name) ≡ true
-  pub typed : isParameter p ≡ true
-  pub other : same (p .name) (ascii "VALUE") ≡ false
-  pub amount : isAmount (isListedParameter (p .name)) (p .values) ≡ true
-  pub chosen : every (isChosen (parameterWords (p .name)) (parameterType (p .name))) (p .values) ≡ true
-  pub plain : every isParameterText (p .values) ≡ true
-  pub permitted : every isPermitted (p .values) ≡ true
-
-pub valid-parameter : (p : Parameter) → isValidParameter p ≡ true → ValidParameter p
-unfolding isValidParameter isParameter
-valid-parameter p h =
-    let a = and-both (isKeptName (p .name)) _ h in
-    let b = and-both (isParameter p) _ (a .1) in
-    let c = and-both (every isParameterText (p .values)) _ (b .1) in
-    let d = and-both (same (upper (p .name)) (p .name)) _ (b .0) in
-    let e = and-both (not (same (p .name) (ascii "VALUE"))) _ (d .1) in
-    let f = and-both (isAmount (isListedParameter (p .name)) (p .values)) _ (e .1) in
-    record { kept = a .0; typed = b .0; other = not-true _ (e .0); amount = f .0; chosen = f .1; plain = c .0; permitted = c .1 }
 
 -- a value of a parameter is a truth value, a URI, or free characters
 typed-value : (P : Value → Type 0) → ((b : Bool) → P (boolean b)) → ((s : List ℕ) → isUri s ≡ true → P (calAddress s)) → ((s : List ℕ) → isUri s ≡ true → P (uri s)) →
@@ -116,82 +98,113 @@ parameter-value P b a u x r n v h = go (parameterWords n) h
         typed-value P b a u x r v (d .0) (d .1) (rw (same-type-true (typeOf v) (parameterType n) (c .0)) (parameter-type n))
     go (some words) k = word words (textIn v) refl k
 
--- ---- properties
+-- the free characters of a parameter's value
+pub parameter-text : (ed : Edition) (v : Value) → isParameterText ed v ≡ true → isValueText v ≡ true
+parameter-text Rfc5545 v h = and-both _ _ h .0
+parameter-text Rfc6868 v h = h
 
-pub record ValidProperty (k : List ℕ) (p : Property) : Type 0 where
-  pub kept : isKeptName (p .name) ≡ true
-  pub begins : same (p .name) (ascii "BEGIN") ≡ false
-  pub ends : same (p .name) (ascii "END") ≡ false
-  pub stands : (not (isKnownProperty (p .name)) or mayStand k (p .name)) ≡ true
-  pub typed : isProperty k p ≡ true
-  pub agree : areParameters (p .name) (typeOfAll (p .values)) (p .parameters) ≡ true
-  pub values : arePropertyValues k (p .name) (p .values) ≡ true
-  pub parameters : every isValidParameter (p .parameters) ≡ true
-  pub plain : every isValueText (p .values) ≡ true
-  pub permitted : every isPermitted (p .values) ≡ true
+pub nothing-free : (ed : Edition) (v : Value) → freeIn v ≡ [] → isParameterText ed v ≡ true
+unfolding noneHolds _and_
+nothing-free Rfc5545 v e = rw e
+nothing-free Rfc6868 v e = rw e
 
-pub valid-property : (k : List ℕ) (p : Property) → isValidProperty k p ≡ true → ValidProperty k p
-unfolding isValidProperty isProperty
-valid-property k p h =
-    let a = and-both (isKeptName (p .name)) _ h in
-    let b = and-both (not (same (p .name) (ascii "BEGIN"))) _ (a .1) in
-    let c = and-both (not (same (p .name) (ascii "END"))) _ (b .1) in
-    let d = and-both (not (isKnownProperty (p .name)) or mayStand k (p .name)) _ (c .1) in
-    let e = and-both (isProperty k p) _ (d .1) in
-    let f = and-both (every isValidParameter (p .parameters)) _ (e .1) in
-    let g = and-both (every isValueText (p .values)) _ (f .1) in
-    let i = and-both (areParameters (p .name) (typeOfAll (p .values)) (p .parameters)) _ (and-both (same (upper (p .name)) (p .name)) _ (e .0) .1) in
-    record {
-      kept = a .0;
-      begins = not-true _ (b .0);
-      ends = not-true _ (c .0);
-      stands = d .0;
-      typed = e .0;
-      agree = i .0;
-      values = i .1;
-      parameters = f .0;
-      plain = g .0;
-      permitted = g .1;
-    }
+module _ (ed : Edition) where
+  pub record ValidParameter (p : Parameter) : Type 0 where
+    pub kept : isKeptName (p .name) ≡ true
+    pub typed : isParameter p ≡ true
+    pub other : same (p .name) (ascii "VALUE") ≡ false
+    pub amount : isAmount (isListedParameter (p .name)) (p .values) ≡ true
+    pub chosen : every (isChosen (parameterWords (p .name)) (parameterType (p .name))) (p .values) ≡ true
+    pub plain : every (isParameterText ed) (p .values) ≡ true
+    pub permitted : every isPermitted (p .values) ≡ true
 
--- ---- components
+  pub valid-parameter : (p : Parameter) → isValidParameter ed p ≡ true → ValidParameter p
+  unfolding isValidParameter isParameter
+  valid-parameter p h =
+      let a = and-both (isKeptName (p .name)) _ h in
+      let b = and-both (isParameter p) _ (a .1) in
+      let c = and-both (every (isParameterText ed) (p .values)) _ (b .1) in
+      let d = and-both (same (upper (p .name)) (p .name)) _ (b .0) in
+      let e = and-both (not (same (p .name) (ascii "VALUE"))) _ (d .1) in
+      let f = and-both (isAmount (isListedParameter (p .name)) (p .values)) _ (e .1) in
+      record { kept = a .0; typed = b .0; other = not-true _ (e .0); amount = f .0; chosen = f .1; plain = c .0; permitted = c .1 }
 
-pub record ValidComponent (l : ℕ) (may : List ℕ → Bool) (m : Bool) (k : List ℕ) (ps : List Property) (inner next : Components) : Type 0 where
-  pub level : ltb 0 l ≡ true
-  pub kept : isKeptName k ≡ true
-  pub named : may k ≡ true
-  pub properties : every (isValidProperty k) ps ≡ true
-  pub counts : complete k ps (record { inner = hasComponents inner; method = m }) ≡ true
-  pub inside : areValid (l - 1) (mayContain k) (methodFor k ps m) inner ≡ true
-  pub after : areValid l may m next ≡ true
+  -- ---- properties
 
-pub valid-component : (l : ℕ) (may : List ℕ → Bool) (m : Bool) (k : List ℕ) (ps : List Property) (inner next : Components) → areValid l may m (component k ps inner next) ≡ true →
-    ValidComponent l may m k ps inner next
-unfolding areValid
-valid-component l may m k ps inner next h =
-    let a = and-both (ltb 0 l and isKeptName k and may k) _ h in
-    let s = and-both (ltb 0 l) _ (a .0) in
-    let t = and-both (isKeptName k) (may k) (s .1) in
-    let b = and-both (every (isValidProperty k) ps) _ (a .1) in
-    let c = and-both (complete k ps (record { inner = hasComponents inner; method = m })) _ (b .1) in
-    let d = and-both (areValid (l - 1) (mayContain k) (methodFor k ps m) inner) _ (c .1) in
-    record { level = s .0; kept = t .0; named = t .1; properties = b .0; counts = c .0; inside = d .0; after = d .1 }
+  pub record ValidProperty (k : List ℕ) (p : Property) : Type 0 where
+    pub kept : isKeptName (p .name) ≡ true
+    pub begins : same (p .name) (ascii "BEGIN") ≡ false
+    pub ends : same (p .name) (ascii "END") ≡ false
+    pub stands : (not (isKnownProperty (p .name)) or mayStand k (p .name)) ≡ true
+    pub typed : isProperty k p ≡ true
+    pub agree : areParameters (p .name) (typeOfAll (p .values)) (p .parameters) ≡ true
+    pub values : arePropertyValues k (p .name) (p .values) ≡ true
+    pub parameters : every (isValidParameter ed) (p .parameters) ≡ true
+    pub plain : every isValueText (p .values) ≡ true
+    pub permitted : every isPermitted (p .values) ≡ true
 
-pub component-valid : (l : ℕ) (may : List ℕ → Bool) (m : Bool) (k : List ℕ) (ps : List Property) (inner next : Components) → ValidComponent l may m k ps inner next →
-    areValid l may m (component k ps inner next) ≡ true
-unfolding areValid
-component-valid l may m k ps inner next v =
-    and-yes _ _ (and-yes _ _ (v .level) (and-yes _ _ (v .kept) (v .named))) (and-yes _ _ (v .properties) (and-yes _ _ (v .counts) (and-yes _ _ (v .inside) (v .after))))
+  pub valid-property : (k : List ℕ) (p : Property) → isValidProperty ed k p ≡ true → ValidProperty k p
+  unfolding isValidProperty isProperty
+  valid-property k p h =
+      let a = and-both (isKeptName (p .name)) _ h in
+      let b = and-both (not (same (p .name) (ascii "BEGIN"))) _ (a .1) in
+      let c = and-both (not (same (p .name) (ascii "END"))) _ (b .1) in
+      let d = and-both (not (isKnownProperty (p .name)) or mayStand k (p .name)) _ (c .1) in
+      let e = and-both (isProperty k p) _ (d .1) in
+      let f = and-both (every (isValidParameter ed) (p .parameters)) _ (e .1) in
+      let g = and-both (every isValueText (p .values)) _ (f .1) in
+      let i = and-both (areParameters (p .name) (typeOfAll (p .values)) (p .parameters)) _ (and-both (same (upper (p .name)) (p .name)) _ (e .0) .1) in
+      record {
+        kept = a .0;
+        begins = not-true _ (b .0);
+        ends = not-true _ (c .0);
+        stands = d .0;
+        typed = e .0;
+        agree = i .0;
+        values = i .1;
+        parameters = f .0;
+        plain = g .0;
+        permitted = g .1;
+      }
 
-pub valid-parts : (c : Components) → isValid c ≡ true → (hasComponents c ≡ true) × (areValid levels atTop false c ≡ true)
-unfolding isValid
-valid-parts c h = and-both (hasComponents c) (areValid levels atTop false c) h
+  -- ---- components
 
--- ---- levels
+  pub record ValidComponent (l : ℕ) (may : List ℕ → Bool) (m : Bool) (k : List ℕ) (ps : List Property) (inner next : Components) : Type 0 where
+    pub level : ltb 0 l ≡ true
+    pub kept : isKeptName k ≡ true
+    pub named : may k ≡ true
+    pub properties : every (isValidProperty ed k) ps ≡ true
+    pub counts : complete k ps (record { inner = hasComponents inner; method = m }) ≡ true
+    pub inside : areValid ed (l - 1) (mayContain k) (methodFor k ps m) inner ≡ true
+    pub after : areValid ed l may m next ≡ true
 
-pub valid-shallow : (c : Components) (l : ℕ) (may : List ℕ → Bool) (m : Bool) → areValid l may m c ≡ true → shallow l c ≡ c
-unfolding shallow pick
-valid-shallow noMore l may m h = refl
-valid-shallow (component k ps inner next) l may m h =
-    let v = valid-component l may m k ps inner next h in
-    rw (v .level, valid-shallow inner (l - 1) (mayContain k) (methodFor k ps m) (v .inside), valid-shallow next l may m (v .after))
+  pub valid-component : (l : ℕ) (may : List ℕ → Bool) (m : Bool) (k : List ℕ) (ps : List Property) (inner next : Components) → areValid ed l may m (component k ps inner next) ≡ true →
+      ValidComponent l may m k ps inner next
+  unfolding areValid
+  valid-component l may m k ps inner next h =
+      let a = and-both (ltb 0 l and isKeptName k and may k) _ h in
+      let s = and-both (ltb 0 l) _ (a .0) in
+      let t = and-both (isKeptName k) (may k) (s .1) in
+      let b = and-both (every (isValidProperty ed k) ps) _ (a .1) in
+      let c = and-both (complete k ps (record { inner = hasComponents inner; method = m })) _ (b .1) in
+      let d = and-both (areValid ed (l - 1) (mayContain k) (methodFor k ps m) inner) _ (c .1) in
+      record { level = s .0; kept = t .0; named = t .1; properties = b .0; counts = c .0; inside = d .0; after = d .1 }
+
+  pub component-valid : (l : ℕ) (may : List ℕ → Bool) (m : Bool) (k : List ℕ) (ps : List Property) (inner next : Components) → ValidComponent l may m k ps inner next →
+      areValid ed l may m (component k ps inner next) ≡ true
+  unfolding areValid
+  component-valid l may m k ps inner next v =
+      and-yes _ _ (and-yes _ _ (v .level) (and-yes _ _ (v .kept) (v .named))) (and-yes _ _ (v .properties) (and-yes _ _ (v .counts) (and-yes _ _ (v .inside) (v .after))))
+
+  pub valid-parts : (c : Components) → isValid ed c ≡ true → (hasComponents c ≡ true) × (areValid ed levels atTop false c ≡ true)
+  unfolding isValid
+  valid-parts c h = and-both (hasComponents c) (areValid ed levels atTop false c) h
+
+  -- ---- levels
+
+  pub valid-shallow : (c : Components) (l : ℕ) (may : List ℕ → Bool) (m : Bool) → areValid ed l may m c ≡ true → shallow l c ≡ c
+  unfolding shallow pick
+  valid-shallow noMore l may m h = refl
+  valid-shallow (component k ps inner next) l may m h =
+      let v = valid-component l may m k ps inner next h in
+      rw (v .level, valid-shallow inner (l - 1) (mayContain k) (methodFor k ps m) (v .inside), valid-shallow next l may m (v .after))

@@ -16,7 +16,7 @@ use borrow.Author.Tests.{eq-eqb, ne-eqb}
 use Rattle.octets.specs.Pick.{pick, _and_, _or_}
 use Rattle.octets.specs.laws.Pick.{or-right}
 use Rattle.octets.specs.Reading.{isRead}
-use Rattle.calendar.specs.Calendar.{Format, formatOf, ValueType, BINARY, BOOLEAN, CAL-ADDRESS, DATE, DATE-TIME, DURATION, FLOAT, INTEGER, PERIOD, RECUR, TEXT, TIME, URI, UTC-OFFSET, UNKNOWN}
+use Rattle.calendar.specs.Calendar.{ical, Format, formatOf, ValueType, BINARY, BOOLEAN, CAL-ADDRESS, DATE, DATE-TIME, DURATION, FLOAT, INTEGER, PERIOD, RECUR, TEXT, TIME, URI, UTC-OFFSET, UNKNOWN}
 use Rattle.source.specs.Source.{rest, cuts}
 use Rattle.schema.specs.Types.{typePlace}
 use Rattle.schema.specs.Numbers.{typeAt}
@@ -135,6 +135,28 @@ pub at-cut : (x : Bool) (m : ℕ) (t : ValueType) (l : List ℕ) → (x ≡ fals
 unfolding isReadAt _and_ _or_
 at-cut true m t l h = refl
 at-cut false m t l h = rw (h refl)
+
+-- another than RECUR, by its number
+not-rule : (t : ℕ) → (t ≡ 9 → ⊥) → eqb (typePlace (typeAt t)) 9 ≡ false
+not-rule zero n = refl
+not-rule (suc zero) n = refl
+not-rule (suc (suc zero)) n = refl
+not-rule (suc (suc (suc zero))) n = refl
+not-rule (suc (suc (suc (suc zero)))) n = refl
+not-rule (suc (suc (suc (suc (suc zero))))) n = refl
+not-rule (suc (suc (suc (suc (suc (suc zero)))))) n = refl
+not-rule (suc (suc (suc (suc (suc (suc (suc zero))))))) n = refl
+not-rule (suc (suc (suc (suc (suc (suc (suc (suc zero)))))))) n = refl
+not-rule (suc (suc (suc (suc (suc (suc (suc (suc (suc zero))))))))) n = absurd (n refl)
+not-rule (suc (suc (suc (suc (suc (suc (suc (suc (suc (suc zero)))))))))) n = refl
+not-rule (suc (suc (suc (suc (suc (suc (suc (suc (suc (suc (suc zero))))))))))) n = refl
+not-rule (suc (suc (suc (suc (suc (suc (suc (suc (suc (suc (suc (suc zero)))))))))))) n = refl
+not-rule (suc (suc (suc (suc (suc (suc (suc (suc (suc (suc (suc (suc (suc zero))))))))))))) n = refl
+not-rule (suc (suc (suc (suc (suc (suc (suc (suc (suc (suc (suc (suc (suc (suc t)))))))))))))) n = refl
+
+-- what `read_value` says of it, in any encoding
+pub value-plain : {r : ValueRead} (t m : ℕ) (l : List ℕ) → (t ≡ 9 → ⊥) → r ≡ valueRead t (isReadAt false m (typeAt t) l) → r ≡ valueRead t (isRead (readValue ical (typeAt t) l))
+value-plain t m l n e = e ∙ ap (valueRead t) (sym (at-plain false m (typeAt t) l (not-rule t n) refl))
 
 -- what `read_value` says, where the encoding is XML's or can be cut
 pub value-there : {r : ValueRead} (t : ℕ) (x : Bool) (m : ℕ) (u : ValueType) (l : List ℕ) → r ≡ valueRead t (isReadAt x m u l) → (x ≡ false → cuts m ≡ true) → r ≡ valueRead t (isRead (readValue (formatOf x) u l))

@@ -30,26 +30,21 @@ use Rattle.schema.specs.Property as property
 use Rattle.values.specs.WriteValue.{writeValues, typeOfAll}
 use Rattle.read_text_line.specs.ContentLine.{RawParameter}
 use Rattle.read_text_line.specs.Write.{writeParamValue, writeParameter, writeContentLine}
+use Rattle.read_text_line.specs.Decoded.{encodedParameter}
+use Rattle.edition.specs.Edition.{encode}
+use Rattle.text.specs.laws.Carets.{type-encoded}
 use Rattle.text.specs.WriteText.{rawOf, valueParameter, withValue, contentLineOf}
 use Rattle.xml.specs.Nodes.{Nodes}
 use Rattle.xcal.specs.ValueNodes.{readValueNodes}
 use Rattle.xcal.specs.ParameterNodes.{readParameterNodes}
 use Rattle.xcal.specs.PropertyNodes.{parametersIn}
 use Rattle.xml.specs.NodesAt.{nodesAt}
+use Rattle.edition.specs.declared.Edition.{Edition}
 use Rattle.write_text.specs.Parameters.{ParametersAt}
 use Rattle.write_text.specs.laws.Parameters.{geo-at, status-at}
 use Rattle.write_text.specs.Typing.{valueAt}
 use Rattle.write_text.specs.laws.Typing.{valueOf, value-at}
 use Rattle.write_text.specs.Content.{lineText, parametersText}
-
-abbrev writtenParameters : List ℕ → Nodes → List ℕ
-writtenParameters w kids = joined (map writeParameter (map rawOf (readParameterNodes (parametersIn w kids))))
-
--- ---- laws
-
-value-written : (t : ValueType) → writeParameter (valueParameter t) ≡ ascii ";VALUE=" ⊕ typeName t
-unfolding writeParameter writeParamValue joinedBy eachAfter pick _⊕_
-value-written t = ap (λ (l : List ℕ). ascii ";VALUE=" ⊕ l) (append-none (typeName t))
 
 -- of a property's name only its number matters to its values
 no-name : (w : List ℕ) (kids : Nodes) → isOneOf w propertyNames ≡ false → readValueNodes [] kids ≡ readValueNodes w kids
@@ -66,42 +61,53 @@ values-named w kids e = rw (e, placed w propertyNames) (go (isOneOf w propertyNa
     go true h = refl
     go false h = no-name w kids h
 
-with-value : (w : List ℕ) (t : ValueType) (ps : List RawParameter) → joined (map writeParameter (withValue w t ps)) ≡ valueOf w t ⊕ joined (map writeParameter ps)
-unfolding withValue pick joined
-with-value w t ps = go (sameType t (defaultType w))
-  where
-    go : (b : Bool) → joined (map writeParameter (pick b ps (valueParameter t ∷ ps))) ≡ pick b [] (ascii ";VALUE=" ⊕ typeName t) ⊕ joined (map writeParameter ps)
-    go true = sym (append-empty _)
-    go false = ap (λ (l : List ℕ). l ⊕ joined (map writeParameter ps)) (value-written t)
+module _ (ed : Edition) where
+  abbrev writtenParameters : List ℕ → Nodes → List ℕ
+  writtenParameters w kids = joined (map writeParameter (map (encodedParameter ed) (map rawOf (readParameterNodes (parametersIn w kids)))))
 
-module _ (s : List ℕ) (inside : ℕ) where
-  module _ {p : ℕ} where
-    pub values-put : {d e f : List ℕ} {o a r : ℕ} → Put d e o a (ascii ":") → Put e f a r (writeValues (readValueNodes (propertyName p) (nodesAt s inside))) →
-        (w : List ℕ) → p ≡ placeOf w propertyNames → Put d f o r (58 ∷ writeValues (readValueNodes w (nodesAt s inside)))
-    unfolding _⊕_
-    values-put {e = e} {f} {a = a} {r} u v w q = u ▷ subst (λ (vs : List Value). Put e f a r (writeValues vs)) (values-named w (nodesAt s inside) q) v
+module _ {ed : Edition} where
+  -- ---- laws
 
-  module _ {row : Row} where
-    number-of : (w : List ℕ) → row ≡ rowAt (placeOf w propertyNames) → row .number ≡ placeOf w propertyNames
-    number-of w e = ap (λ (r : Row). r .number) e ∙ number-place w
+  value-written : (t : ValueType) → writeParameter (encodedParameter ed (valueParameter t)) ≡ ascii ";VALUE=" ⊕ typeName t
+  unfolding writeParameter writeParamValue joinedBy eachAfter pick _⊕_
+  value-written t = ap (λ (l : List ℕ). ascii ";VALUE=" ⊕ l) (append-none (encode ed (typeName t)) ∙ type-encoded ed t)
 
-    default-of : (w : List ℕ) → row ≡ rowAt (placeOf w propertyNames) → row .default ≡ typePlace (defaultType w)
-    default-of w e = ap (λ (r : Row). r .default) e ∙ default-place w
+  with-value : (w : List ℕ) (t : ValueType) (ps : List RawParameter) → joined (map writeParameter (map (encodedParameter ed) (withValue w t ps))) ≡ valueOf w t ⊕ joined (map writeParameter (map (encodedParameter ed) ps))
+  unfolding withValue pick joined
+  with-value w t ps = go (sameType t (defaultType w))
+    where
+      go : (b : Bool) → joined (map writeParameter (map (encodedParameter ed) (pick b ps (valueParameter t ∷ ps)))) ≡ pick b [] (ascii ";VALUE=" ⊕ typeName t) ⊕ joined (map writeParameter (map (encodedParameter ed) ps))
+      go true = sym (append-empty _)
+      go false = ap (λ (l : List ℕ). l ⊕ joined (map writeParameter (map (encodedParameter ed) ps))) (value-written t)
 
-    pub parameters-put : {d e f : List ℕ} {o a r t q : ℕ} →
-        (typeAt t ≡ typeOfAll (readValueNodes (propertyName (row .number)) (nodesAt s inside))) × (t ≤ 14) → ParametersAt (row .number) s inside q →
-        Put d e o a (valueAt (row .default) t) → Put e f a r (joined (map writeParameter (map rawOf (readParameterNodes (nodesAt s q))))) →
-        (w : List ℕ) → row ≡ rowAt (placeOf w propertyNames) → Put d f o r (parametersText w (nodesAt s inside))
-    unfolding parametersText
-    parameters-put {d} {f = f} {o} {r = r} {t} {q} y i u v w e =
-        subst (Put d f o r)
-        (rw (value-at w t (default-of w e) (y .1), y .0, values-named w (nodesAt s inside) (number-of w e), ← (i .is w (number-of w e)))
-        (sym (with-value w (typeOfAll (readValueNodes w (nodesAt s inside))) (map rawOf (readParameterNodes (parametersIn w (nodesAt s inside)))))))
-        (u ▷ v)
+  module _ (s : List ℕ) (inside : ℕ) where
+    module _ {p : ℕ} where
+      pub values-put : {d e f : List ℕ} {o a r : ℕ} → Put d e o a (ascii ":") → Put e f a r (writeValues (readValueNodes (propertyName p) (nodesAt s inside))) →
+          (w : List ℕ) → p ≡ placeOf w propertyNames → Put d f o r (58 ∷ writeValues (readValueNodes w (nodesAt s inside)))
+      unfolding _⊕_
+      values-put {e = e} {f} {a = a} {r} u v w q = u ▷ subst (λ (vs : List Value). Put e f a r (writeValues vs)) (values-named w (nodesAt s inside) q) v
 
-    pub line-put : {d e f g : List ℕ} {o a b r : ℕ} (m : List ℕ) → row ≡ rowAt (placeOf (upper m) propertyNames) → Put d e o a (upper m) →
-        ((w : List ℕ) → row ≡ rowAt (placeOf w propertyNames) → Put e f a b (parametersText w (nodesAt s inside))) →
-        ((w : List ℕ) → row .number ≡ placeOf w propertyNames → Put f g b r (58 ∷ writeValues (readValueNodes w (nodesAt s inside)))) →
-        Put d g o r (lineText m (nodesAt s inside))
-    unfolding lineText parametersText writeContentLine contentLineOf
-    line-put m e u v w = u ▷ v (upper m) e ▷ w (upper m) (number-of (upper m) e)
+    module _ {row : Row} where
+      number-of : (w : List ℕ) → row ≡ rowAt (placeOf w propertyNames) → row .number ≡ placeOf w propertyNames
+      number-of w e = ap (λ (r : Row). r .number) e ∙ number-place w
+
+      default-of : (w : List ℕ) → row ≡ rowAt (placeOf w propertyNames) → row .default ≡ typePlace (defaultType w)
+      default-of w e = ap (λ (r : Row). r .default) e ∙ default-place w
+
+      pub parameters-put : {d e f : List ℕ} {o a r t q : ℕ} →
+          (typeAt t ≡ typeOfAll (readValueNodes (propertyName (row .number)) (nodesAt s inside))) × (t ≤ 14) → ParametersAt (row .number) s inside q →
+          Put d e o a (valueAt (row .default) t) → Put e f a r (joined (map writeParameter (map (encodedParameter ed) (map rawOf (readParameterNodes (nodesAt s q)))))) →
+          (w : List ℕ) → row ≡ rowAt (placeOf w propertyNames) → Put d f o r (parametersText ed w (nodesAt s inside))
+      unfolding parametersText
+      parameters-put {d} {f = f} {o} {r = r} {t} {q} y i u v w e =
+          subst (Put d f o r)
+          (rw (value-at w t (default-of w e) (y .1), y .0, values-named w (nodesAt s inside) (number-of w e), ← (i .is w (number-of w e)))
+          (sym (with-value w (typeOfAll (readValueNodes w (nodesAt s inside))) (map rawOf (readParameterNodes (parametersIn w (nodesAt s inside)))))))
+          (u ▷ v)
+
+      pub line-put : {d e f g : List ℕ} {o a b r : ℕ} (m : List ℕ) → row ≡ rowAt (placeOf (upper m) propertyNames) → Put d e o a (upper m) →
+          ((w : List ℕ) → row ≡ rowAt (placeOf w propertyNames) → Put e f a b (parametersText ed w (nodesAt s inside))) →
+          ((w : List ℕ) → row .number ≡ placeOf w propertyNames → Put f g b r (58 ∷ writeValues (readValueNodes w (nodesAt s inside)))) →
+          Put d g o r (lineText ed m (nodesAt s inside))
+      unfolding lineText parametersText writeContentLine contentLineOf
+      line-put m e u v w = u ▷ v (upper m) e ▷ w (upper m) (number-of (upper m) e)

@@ -11,12 +11,14 @@ use Rattle.read_xml_nodes.specs.laws.NodeFound.{node-element}
 use Rattle.read_xml_nodes.specs.declared.Node.{Node}
 use Rattle.read_xml_nodes.specs.declared.NodeKind.the-variants.{Element}
 use Rattle.lengths_text.specs.laws.Documents as lengths
+use Rattle.edition.specs.declared.Edition.{Edition}
 use Rattle.write_text.specs.Children.{nameIn}
 use Rattle.write_text.specs.Content.{lineText}
 
-pub line-fits : {s : List ℕ} {at : ℕ} {r : Node} → NodeAt s at r → r .kind ≡ Element → length s ≤ 65535 →
-    length (lineText (nameIn s (r .name) (r .«name_end»)) (nodesAt s (r .inside))) ≤ 262144
-unfolding nodesAt marksAt lineText
-line-fits {s} {at} {r} n q h =
-    let k : length (lineText (nameIn s (r .name) (r .«name_end»)) (nodesAt s (r .inside))) < 262144 = lengths.line-fits s at at _ _ _ _ h (node-element n q) in
-    omega (arith, k)
+module _ {ed : Edition} where
+  pub line-fits : {s : List ℕ} {at : ℕ} {r : Node} → NodeAt s at r → r .kind ≡ Element → length s ≤ 65535 →
+      length (lineText ed (nameIn s (r .name) (r .«name_end»)) (nodesAt s (r .inside))) ≤ 262144
+  unfolding nodesAt marksAt lineText
+  line-fits {s} {at} {r} n q h =
+      let k : length (lineText ed (nameIn s (r .name) (r .«name_end»)) (nodesAt s (r .inside))) < 262144 = lengths.line-fits s at at _ _ _ _ h (node-element n q) in
+      omega (arith, k)

@@ -4,7 +4,7 @@
 use mathlib.Core.Path.{_≡_, refl, sym, ap, subst, _∙_}
 use mathlib.Core.Bool.{Bool, true, false}
 use mathlib.Core.List.{List, [], _∷_, map}
-use mathlib.Core.Option.{Option, none, some}
+use mathlib.Core.Option.{Option, none, some, Option·map}
 use Prim.Native.Nat.{ℕ, zero, suc, _-_, _<_}
 use native.Mathlib.Omega.{arith}
 use lib.Dec.{eqb}
@@ -29,7 +29,9 @@ use Rattle.read_text_line.specs.laws.Ready.{line-next, line-low, line-end-insid
 use Rattle.read_text_line.specs.declared.LineCursors.{LineCursors}
 use Rattle.read_text_line.specs.declared.Ending.the-variants.{Loose}
 use Rattle.read_text_line.specs.ContentLine.{ContentLine, RawParameter, withValue, contentLine}
-use Rattle.text.specs.Tree.{property, nothing, entryBy, entryOf}
+use Rattle.read_text_line.specs.Decoded.{decodedLine, readLine}
+use Rattle.text.specs.Tree.{begin, end, property, nothing, entryBy, entryOf}
+use Rattle.edition.specs.declared.Edition.{Edition}
 use Rattle.write_xml.specs.declared.entry.Found.{Found}
 use Rattle.write_xml.specs.declared.entry.Kind.{Kind}
 use Rattle.write_xml.specs.declared.entry.Kind.the-variants.{Begin, End, Property, Nothing}
@@ -37,21 +39,6 @@ use Rattle.write_xml.specs.Entries.{entriesAt, FoundBy, FoundAt}
 use Rattle.write_xml.specs.laws.Entries.{found-loose}
 use Rattle.write_xml.specs.Walks.{isAside}
 use Rattle.write_xml.specs.Bounds.{opensBound, opens, BoundBy, BoundAt}
-
--- what was found, of the kind that it has
-pub bound-kind : {mode : ℕ} {s : List ℕ} {at : ℕ} {r : Found} → BoundAt mode s at r → (k : Kind) → r .kind ≡ k → BoundBy k mode s at (r .line .value) (r .end) (r .next)
-bound-kind {mode} {s} {at} {r} f k q = subst (λ (x : Kind). BoundBy x mode s at (r .line .value) (r .end) (r .next)) q (f .found)
-
--- ---- a line that is read whole
-
-found-by : (k : Kind) (mode : ℕ) (s : List ℕ) (at : ℕ) (l : LineCursors) (e next : ℕ) → FoundBy k mode s at l e next → BoundBy k mode s at (l .value) e next
-found-by Begin mode s at l e next h = h
-found-by End mode s at l e next h = h
-found-by Property mode s at l e next h = record { entry = property (h .line); aside = refl; first = h .first }
-found-by Nothing mode s at l e next h = record { entry = nothing; aside = refl; first = h }
-
-pub found-bound : {mode : ℕ} {s : List ℕ} {at : ℕ} {r : Found} → FoundAt mode s at r → BoundAt mode s at r
-found-bound {mode} {s} {at} {r} f = record { onward = f .onward; ready = f .ready; ends = f .ends; found = found-by (r .kind) mode s at (r .line) (r .end) (r .next) (f .found) }
 
 -- ---- a line by its first byte
 
@@ -110,19 +97,46 @@ opens-not {mode} {s} {at} {n} p q h = rw (p .is) (go (eqb (n .u) 256))
     go true = unfold pick in refl
     go false = unfold pick in sym q ∙ h
 
-module _ {mode : ℕ} {s : List ℕ} {at : ℕ} (r : Ready mode s at) where
-  pub loose-aside : at < length s → EndsLine mode s at Loose → BoundAt mode s at (record { kind = Nothing; line = record { name = at; parameters = at; value = at }; end = at; next = length s })
-  loose-aside h f = found-bound (found-loose r _ h f)
+-- decoding leaves the name as it is
+decoded-aside : (ed : Edition) (o : Option ContentLine) → isAside (entryBy (Option·map (decodedLine ed) o)) ≡ isAside (entryBy o)
+unfolding entryBy pick
+decoded-aside ed none = refl
+decoded-aside ed (some l) = go (same (upper (l .name)) (ascii "BEGIN")) (same (upper (l .name)) (ascii "END"))
+  where
+    go : (a b : Bool) → isAside (pick a (begin (upper (l .value))) (pick b end (property (decodedLine ed l)))) ≡ isAside (pick a (begin (upper (l .value))) (pick b end (property l)))
+    go true b = refl
+    go false true = refl
+    go false false = refl
 
-  pub whole-aside : {e next : ℕ} → LineEnds mode s at e next → opens (rest mode s at) ≡ false → BoundAt mode s at (record { kind = Nothing; line = record { name = at; parameters = e; value = e }; end = e; next = next })
-  unfolding entriesAt entryOf
-  whole-aside {e} {next} f q = record {
-    onward = line-low r f;
-    ready = line-next r f;
-    ends = line-end-inside r f;
-    found = record {
-      entry = entryBy (contentLine (rest mode (take e s) at));
-      aside = content-aside _ (opens-front (rest mode (take e s) at) _ (sym (ap opens (f .is (r .cut))) ∙ q));
-      first = ap (map entryOf) (line-first (r .cut) (r .to) f);
-    };
-  }
+module _ {ed : Edition} where
+  -- what was found, of the kind that it has
+  pub bound-kind : {mode : ℕ} {s : List ℕ} {at : ℕ} {r : Found} → BoundAt ed mode s at r → (k : Kind) → r .kind ≡ k → BoundBy ed k mode s at (r .line .value) (r .end) (r .next)
+  bound-kind {mode} {s} {at} {r} f k q = subst (λ (x : Kind). (BoundBy ed) x mode s at (r .line .value) (r .end) (r .next)) q (f .found)
+
+  -- ---- a line that is read whole
+
+  found-by : (k : Kind) (mode : ℕ) (s : List ℕ) (at : ℕ) (l : LineCursors) (e next : ℕ) → FoundBy ed k mode s at l e next → BoundBy ed k mode s at (l .value) e next
+  found-by Begin mode s at l e next h = h
+  found-by End mode s at l e next h = h
+  found-by Property mode s at l e next h = record { entry = property (h .line); aside = refl; first = h .first }
+  found-by Nothing mode s at l e next h = record { entry = nothing; aside = refl; first = h }
+
+  pub found-bound : {mode : ℕ} {s : List ℕ} {at : ℕ} {r : Found} → FoundAt ed mode s at r → BoundAt ed mode s at r
+  found-bound {mode} {s} {at} {r} f = record { onward = f .onward; ready = f .ready; ends = f .ends; found = found-by (r .kind) mode s at (r .line) (r .end) (r .next) (f .found) }
+
+  module _ {mode : ℕ} {s : List ℕ} {at : ℕ} (r : Ready mode s at) where
+    pub loose-aside : at < length s → EndsLine mode s at Loose → BoundAt ed mode s at (record { kind = Nothing; line = record { name = at; parameters = at; value = at }; end = at; next = length s })
+    loose-aside h f = found-bound (found-loose r _ h f)
+
+    pub whole-aside : {e next : ℕ} → LineEnds mode s at e next → opens (rest mode s at) ≡ false → BoundAt ed mode s at (record { kind = Nothing; line = record { name = at; parameters = e; value = e }; end = e; next = next })
+    unfolding entriesAt entryOf
+    whole-aside {e} {next} f q = record {
+      onward = line-low r f;
+      ready = line-next r f;
+      ends = line-end-inside r f;
+      found = record {
+        entry = entryBy (readLine ed (rest mode (take e s) at));
+        aside = decoded-aside ed (contentLine (rest mode (take e s) at)) ∙ content-aside _ (opens-front (rest mode (take e s) at) _ (sym (ap opens (f .is (r .cut))) ∙ q));
+        first = ap (map (entryOf ed)) (line-first (r .cut) (r .to) f);
+      };
+    }

@@ -4,7 +4,7 @@
 use mathlib.Core.Path.{_≡_, refl, sym, ap, subst, _∙_}
 use mathlib.Core.Bool.{Bool, true, false}
 use mathlib.Core.List.{List, [], _∷_, map}
-use mathlib.Core.Option.{Option, none, some}
+use mathlib.Core.Option.{Option, none, some, Option·map}
 use Prim.Native.Nat.{ℕ, _≤_, _<_}
 use native.Mathlib.Omega.{arith}
 use lib.ListN.{length, take}
@@ -15,7 +15,8 @@ use Rattle.octets.specs.Class.{upper}
 use Rattle.octets.specs.Words.{same}
 use Rattle.source.specs.Source.{rest, cuts, Settled}
 use Rattle.folding.specs.Lines.{lines}
-use Rattle.read_text_line.specs.ContentLine.{ContentLine, contentLine}
+use Rattle.read_text_line.specs.ContentLine.{ContentLine}
+use Rattle.read_text_line.specs.Decoded.{decodedLine, readLine}
 use Rattle.read_text_line.specs.laws.Params.{name-chars}
 use Rattle.read_text_line.specs.Line.{named, LineAt}
 use Rattle.read_text_line.specs.LineEnd.{LineEnds, EndsLine}
@@ -29,78 +30,80 @@ use Rattle.read_text_line.specs.declared.LineRead.the-variants.{Line as LineThe
 use Rattle.write_xml_property.specs.laws.Property.{name-inside}
 use Rattle.calendar.specs.Levels.{levels, shallow}
 use Rattle.text.specs.Tree.{Entry, nothing, entryBy, entryOf, innerOf, calendarOf}
+use Rattle.edition.specs.declared.Edition.{Edition}
 use Rattle.write_xml.specs.Entries.{entriesAt, kindNamed, First, FoundBy, FoundAt}
 use Rattle.write_xml.specs.declared.entry.Found.{Found}
 use Rattle.write_xml.specs.declared.entry.Kind.{Kind}
 use Rattle.write_xml.specs.declared.entry.Kind.the-variants.{Begin, End, Property, Nothing}
 
--- what was found, of the kind that it has
-pub by-kind : {mode : ℕ} {s : List ℕ} {at : ℕ} {r : Found} → FoundAt mode s at r → (k : Kind) → r .kind ≡ k → FoundBy k mode s at (r .line) (r .end) (r .next)
-by-kind {mode} {s} {at} {r} f k q = subst (λ (x : Kind). FoundBy x mode s at (r .line) (r .end) (r .next)) q (f .found)
+module _ {ed : Edition} where
+  -- what was found, of the kind that it has
+  pub by-kind : {mode : ℕ} {s : List ℕ} {at : ℕ} {r : Found} → FoundAt ed mode s at r → (k : Kind) → r .kind ≡ k → FoundBy ed k mode s at (r .line) (r .end) (r .next)
+  by-kind {mode} {s} {at} {r} f k q = subst (λ (x : Kind). (FoundBy ed) x mode s at (r .line) (r .end) (r .next)) q (f .found)
 
--- ---- from the start, and past the end
+  -- ---- from the start, and past the end
 
-pub entries-start : {mode : ℕ} {s : List ℕ} {at : ℕ} → Settled mode s 0 at → shallow levels (innerOf (entriesAt mode s at) 0) ≡ calendarOf (lines (rest mode s 0))
-unfolding entriesAt calendarOf
-entries-start p = rw (lines-start p)
+  pub entries-start : {mode : ℕ} {s : List ℕ} {at : ℕ} → Settled mode s 0 at → shallow levels (innerOf (entriesAt ed mode s at) 0) ≡ calendarOf ed (lines (rest mode s 0))
+  unfolding entriesAt calendarOf
+  entries-start p = rw (lines-start p)
 
-pub entries-past : (mode : ℕ) (s : List ℕ) (at : ℕ) → cuts mode ≡ true → length s ≤ at → entriesAt mode s at ≡ []
-unfolding entriesAt
-entries-past mode s at y h = ap (map entryOf) (lines-past mode s at y h)
+  pub entries-past : (mode : ℕ) (s : List ℕ) (at : ℕ) → cuts mode ≡ true → length s ≤ at → entriesAt ed mode s at ≡ []
+  unfolding entriesAt
+  entries-past mode s at y h = ap (map (entryOf ed)) (lines-past mode s at y h)
 
--- ---- what is found
+  -- ---- what is found
 
-module _ {mode : ℕ} {s : List ℕ} {at : ℕ} (r : Ready mode s at) where
-  pub found-loose : (l : LineCursors) → at < length s → EndsLine mode s at Loose → FoundAt mode s at (record { kind = Nothing; line = l; end = at; next = length s })
-  unfolding entriesAt entryOf
-  found-loose l h f = record {
-    onward = h;
-    ready = ready-end mode s (r .cut);
-    ends = omega arith;
-    found =
-        ap (map entryOf) (line-none mode s at (λ e. let k = r .some-byte e in omega arith) f)
-        ∙ ap (λ (l : List Entry). nothing ∷ l) (sym (entries-past mode s (length s) (r .cut) (omega arith)));
-  }
-
-  module _ {e next : ℕ} (f : LineEnds mode s at e next) where
-    whole-line : (o : Option ContentLine) → contentLine (rest mode (take e s) at) ≡ o → First mode s at (entryBy o) next
+  module _ {mode : ℕ} {s : List ℕ} {at : ℕ} (r : Ready mode s at) where
+    pub found-loose : (l : LineCursors) → at < length s → EndsLine mode s at Loose → FoundAt ed mode s at (record { kind = Nothing; line = l; end = at; next = length s })
     unfolding entriesAt entryOf
-    whole-line o k = ap (map entryOf) (line-first (r .cut) (r .to) f) ∙ rw k
+    found-loose l h f = record {
+      onward = h;
+      ready = ready-end mode s (r .cut);
+      ends = omega arith;
+      found =
+          ap (map (entryOf ed)) (line-none mode s at (λ e. let k = r .some-byte e in omega arith) f)
+          ∙ ap (λ (l : List Entry). nothing ∷ l) (sym (entries-past mode s (length s) (r .cut) (omega arith)));
+    }
 
-    pub found-whole : (k : Kind) (l : LineCursors) → FoundBy k mode s at l e next → FoundAt mode s at (record { kind = k; line = l; end = e; next = next })
-    found-whole k l h = record { onward = line-low r f; ready = line-next r f; ends = line-end-inside r f; found = h }
+    module _ {e next : ℕ} (f : LineEnds mode s at e next) where
+      whole-line : (o : Option ContentLine) → readLine ed (rest mode (take e s) at) ≡ o → First ed mode s at (entryBy o) next
+      unfolding entriesAt entryOf
+      whole-line o k = ap (map (entryOf ed)) (line-first (r .cut) (r .to) f) ∙ rw k
 
-    -- what is found by the two tests of the name
-    by-name : (w : List ℕ) (l : LineCursors) (x : ContentLine) → w ≡ upper (x .name) → x .value ≡ rest mode (take e s) (l .value) → contentLine (rest mode (take e s) at) ≡ some x →
-        LineAt mode (take e s) at (LineThere l) → FoundBy (kindNamed w) mode s at l e next
-    unfolding entryBy pick
-    by-name w l x q z k g = go (same w (ascii "BEGIN")) refl (same w (ascii "END")) refl
-      where
-        go : (t : Bool) → same w (ascii "BEGIN") ≡ t → (u : Bool) → same w (ascii "END") ≡ u → FoundBy (pick t Begin (pick u End Property)) mode s at l e next
-        go true b u y = subst (λ m. First mode s at m next) (rw (← q, b, z)) (whole-line (some x) k)
-        go false b true y = subst (λ m. First mode s at m next) (rw (← q, b, y)) (whole-line (some x) k)
-        go false b false y = record { line = x; is = k; parts = g; first = subst (λ m. First mode s at m next) (rw (← q, b, y)) (whole-line (some x) k) }
+      pub found-whole : (k : Kind) (l : LineCursors) → FoundBy ed k mode s at l e next → FoundAt ed mode s at (record { kind = k; line = l; end = e; next = next })
+      found-whole k l h = record { onward = line-low r f; ready = line-next r f; ends = line-end-inside r f; found = h }
 
-    module _ {y : LineRead} (a : LineAt mode (take e s) at y) where
-      pub found-bad : (l : LineCursors) → y ≡ Bad → FoundAt mode s at (record { kind = Nothing; line = l; end = e; next = next })
-      unfolding entryBy
-      found-bad l z = found-whole Nothing l (whole-line none (subst (LineAt mode (take e s) at) z a .is))
+      -- what is found by the two tests of the name
+      by-name : (w : List ℕ) (l : LineCursors) (x : ContentLine) → w ≡ upper (x .name) → x .value ≡ rest mode (take e s) (l .value) → readLine ed (rest mode (take e s) at) ≡ some x →
+          LineAt mode (take e s) at (LineThere l) → FoundBy ed (kindNamed w) mode s at l e next
+      unfolding entryBy pick
+      by-name w l x q z k g = go (same w (ascii "BEGIN")) refl (same w (ascii "END")) refl
+        where
+          go : (t : Bool) → same w (ascii "BEGIN") ≡ t → (u : Bool) → same w (ascii "END") ≡ u → FoundBy ed (pick t Begin (pick u End Property)) mode s at l e next
+          go true b u y = subst (λ m. First ed mode s at m next) (rw (← q, b, z)) (whole-line (some x) k)
+          go false b true y = subst (λ m. First ed mode s at m next) (rw (← q, b, y)) (whole-line (some x) k)
+          go false b false y = record { line = x; is = k; parts = g; first = subst (λ m. First ed mode s at m next) (rw (← q, b, y)) (whole-line (some x) k) }
 
-      module _ {l : LineCursors} (z : y ≡ LineThere l) where
-        there : LineAt mode (take e s) at (LineThere l)
-        there = subst (LineAt mode (take e s) at) z a
+      module _ {y : LineRead} (a : LineAt mode (take e s) at y) where
+        pub found-bad : (l : LineCursors) → y ≡ Bad → FoundAt ed mode s at (record { kind = Nothing; line = l; end = e; next = next })
+        unfolding entryBy
+        found-bad l z = found-whole Nothing l (whole-line none (ap (Option·map (decodedLine ed)) (subst (LineAt mode (take e s) at) z a .is)))
 
-        pub name-within : l .parameters ≤ e
-        name-within = let b = line-count r f in omega (arith, b, there .parts .1 .name .plain (r .cut) (omega (arith, b, f .line .onward, there .parts .0)))
+        module _ {l : LineCursors} (z : y ≡ LineThere l) where
+          there : LineAt mode (take e s) at (LineThere l)
+          there = subst (LineAt mode (take e s) at) z a
 
-        pub name-count : l .parameters ≡ length (take (l .parameters) s)
-        name-count = sym (length-take-le (l .parameters) s (omega (arith, name-within, line-end-inside r f)))
+          pub name-within : l .parameters ≤ e
+          name-within = let b = line-count r f in omega (arith, b, there .parts .1 .name .plain (r .cut) (omega (arith, b, f .line .onward, there .parts .0)))
 
-        pub found-named : {k : Kind} → k ≡ kindNamed (upper (rest mode (take (l .parameters) s) (l .name))) → FoundAt mode s at (record { kind = k; line = l; end = e; next = next })
-        found-named {k} h =
-            found-whole k l (rw h (by-name _ l (named mode (take e s) l)
-            (ap upper (ap (λ (x : List ℕ). rest mode x (l .name)) (sym (take-take (l .parameters) e s name-within)) ∙ name-chars (r .cut) (there .parts .1 .name))) refl (there .is) there))
+          pub name-count : l .parameters ≡ length (take (l .parameters) s)
+          name-count = sym (length-take-le (l .parameters) s (omega (arith, name-within, line-end-inside r f)))
 
--- where a property's name ends
-pub property-inside : {mode : ℕ} {s : List ℕ} {at : ℕ} {r : Found} → FoundAt mode s at r → r .kind ≡ Property → r .line .parameters ≤ length (take (r .end) s)
-property-inside f q = name-inside (f .ready .cut) (by-kind f Property q .parts)
+          pub found-named : {k : Kind} → k ≡ kindNamed (upper (rest mode (take (l .parameters) s) (l .name))) → FoundAt ed mode s at (record { kind = k; line = l; end = e; next = next })
+          found-named {k} h =
+              found-whole k l (rw h (by-name _ l (decodedLine ed (named mode (take e s) l))
+              (ap upper (ap (λ (x : List ℕ). rest mode x (l .name)) (sym (take-take (l .parameters) e s name-within)) ∙ name-chars (r .cut) (there .parts .1 .name))) refl (ap (Option·map (decodedLine ed)) (there .is)) there))
+
+  -- where a property's name ends
+  pub property-inside : {mode : ℕ} {s : List ℕ} {at : ℕ} {r : Found} → FoundAt ed mode s at r → r .kind ≡ Property → r .line .parameters ≤ length (take (r .end) s)
+  property-inside f q = name-inside (f .ready .cut) (by-kind f Property q .parts)

@@ -23,6 +23,7 @@ use Rattle.calendar.specs.Levels.{shallow}
 use Rattle.xml.specs.Escape.{startTag, endTag, elementOf}
 use Rattle.text.specs.Tree.{Entry, begin, innerOf}
 use Rattle.xcal.specs.WriteXml.{isNoMore, propertiesXml, componentsElement, componentsXml}
+use Rattle.edition.specs.declared.Edition.{Edition}
 use Rattle.write_xml.specs.declared.properties.Walked.{Walked}
 use Rattle.write_xml.specs.Entries.{entriesAt}
 use Rattle.write_xml.specs.Walks.{ownXml, innerXml, behind}
@@ -51,18 +52,19 @@ pub component-parts : (l : ℕ) (n : List ℕ) (es : List Entry) → 1 ≤ l →
 unfolding innerOf shallow pick componentsXml
 component-parts l n es h = rw (lt-ltb 0 l h, element-parts n (shallow (l - 1) (innerOf es 0)), inner-deeper es 0) (regroup (startTag (lower n)) (elementOf (ascii "properties") (ownXml n es)) _ _ _ _ _)
 
--- ---- for code
-
--- n is the name as it stands
-pub head-put : (n : List ℕ) (mode : ℕ) (s : List ℕ) {h : Components → Components} {from : ℕ} {w : Walked} {there : Bool} {d e f g : List ℕ} {o a r : ℕ} (k : ℕ) → k ≡ placeOf (upper n) componentNames → Put d e o a (startTag (lower n)) →
-    PropertiesPut h e f a (elementOf (ascii "properties") (ownXml (componentName k) (entriesAt mode s from))) mode s from w → there ≡ hasComponents (upper n) (w .bare) →
-    Put f g (w .to) r (pick there (startTag (ascii "components")) []) →
-    PropertiesPut h d g o (headXml (upper n) (w .bare) (entriesAt mode s from)) mode s from (record { to = r; inner = w .inner; bare = w .bare; next = w .next })
-head-put n mode s {from = from} {d = d} {e = e} {o = o} {a = a} k q u v y z =
-    let es : List Entry = entriesAt mode s from in
-    let q′ : ownXml (componentName k) es ≡ ownXml (upper n) es = ap (λ (k : ℕ). ownXml (componentName k) es) q ∙ ap propertiesXml (own-place (upper n) es 0) in
-    record { put = subst (λ (m : List ℕ). Put d e o a (startTag m)) (sym (lower-any-case n)) u ▷ (rw q′ at v .put) ▷ (rw y at z); ahead = v .ahead }
-
 pub tail-put : (n : List ℕ) (empty : Bool) {there : Bool} {d e f : List ℕ} {o a r : ℕ} → there ≡ hasComponents (upper n) empty →
     Put d e o a (pick there (endTag (ascii "components")) []) → Put e f a r (endTag (lower n)) → Put d f o r (tailXml (upper n) empty)
 tail-put n empty {e = e} {f = f} {a = a} {r = r} h u v = (rw h at u) ▷ subst (λ (m : List ℕ). Put e f a r (endTag m)) (sym (lower-any-case n)) v
+
+module _ {ed : Edition} where
+  -- ---- for code
+
+  -- n is the name as it stands
+  pub head-put : (n : List ℕ) (mode : ℕ) (s : List ℕ) {h : Components → Components} {from : ℕ} {w : Walked} {there : Bool} {d e f g : List ℕ} {o a r : ℕ} (k : ℕ) → k ≡ placeOf (upper n) componentNames → Put d e o a (startTag (lower n)) →
+      PropertiesPut ed h e f a (elementOf (ascii "properties") (ownXml (componentName k) (entriesAt ed mode s from))) mode s from w → there ≡ hasComponents (upper n) (w .bare) →
+      Put f g (w .to) r (pick there (startTag (ascii "components")) []) →
+      PropertiesPut ed h d g o (headXml (upper n) (w .bare) (entriesAt ed mode s from)) mode s from (record { to = r; inner = w .inner; bare = w .bare; next = w .next })
+  head-put n mode s {from = from} {d = d} {e = e} {o = o} {a = a} k q u v y z =
+      let es : List Entry = entriesAt ed mode s from in
+      let q′ : ownXml (componentName k) es ≡ ownXml (upper n) es = ap (λ (k : ℕ). ownXml (componentName k) es) q ∙ ap propertiesXml (own-place (upper n) es 0) in
+      record { put = subst (λ (m : List ℕ). Put d e o a (startTag m)) (sym (lower-any-case n)) u ▷ (rw q′ at v .put) ▷ (rw y at z); ahead = v .ahead }

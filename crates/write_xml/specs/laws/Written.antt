@@ -14,6 +14,7 @@ use Rattle.calendar.specs.Levels.{levels, shallow}
 use Rattle.text.specs.Tree.{innerOf, calendarOf}
 use Rattle.xml.specs.Escape.{rootStart}
 use Rattle.xcal.specs.WriteXml.{componentsXml, declaration, rootEnd, writeDocument}
+use Rattle.edition.specs.declared.Edition.{Edition}
 use Rattle.write_xml.specs.Entries.{entriesAt}
 use Rattle.write_xml.specs.laws.Entries.{entries-start}
 use Rattle.write_xml.specs.Walks.{innerXml}
@@ -25,7 +26,8 @@ written-is : (c : Components) → (declaration ⊕ (10 ∷ []) ⊕ rootStart) �
 unfolding writeDocument
 written-is c = regroup declaration (10 ∷ []) rootStart (componentsXml c ⊕ rootEnd ⊕ (10 ∷ []))
 
-pub document-put : {mode : ℕ} {s : List ℕ} {from : ℕ} → Settled mode s 0 from → {d e f g : List ℕ} {o a b r : ℕ} → Put d e o a (declaration ⊕ (10 ∷ []) ⊕ rootStart) →
-    Put e f a b (innerXml levels (entriesAt mode s from)) → Put f g b r (rootEnd ⊕ (10 ∷ [])) → Put d g o r (writeDocument (calendarOf (lines (rest mode s 0))))
-document-put {mode} {s} {from} p {d} {g = g} {o} {r = r} u v w =
-    subst (Put d g o r) (written-is (shallow levels (innerOf (entriesAt mode s from) 0)) ∙ ap writeDocument (entries-start p)) (u ▷ v ▷ w)
+module _ {ed : Edition} where
+  pub document-put : {mode : ℕ} {s : List ℕ} {from : ℕ} → Settled mode s 0 from → {d e f g : List ℕ} {o a b r : ℕ} → Put d e o a (declaration ⊕ (10 ∷ []) ⊕ rootStart) →
+      Put e f a b (innerXml levels (entriesAt ed mode s from)) → Put f g b r (rootEnd ⊕ (10 ∷ [])) → Put d g o r (writeDocument (calendarOf ed (lines (rest mode s 0))))
+  document-put {mode} {s} {from} p {d} {g = g} {o} {r = r} u v w =
+      subst (Put d g o r) (written-is (shallow levels (innerOf (entriesAt ed mode s from) 0)) ∙ ap writeDocument (entries-start p)) (u ▷ v ▷ w)

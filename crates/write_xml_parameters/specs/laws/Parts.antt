@@ -4,7 +4,7 @@
 --     put-parameter, put-value-name, put-other-name     a parameter
 --     least-value, least-own            a slice cut at its length, or before
 --     put-unread, put-only, put-shown   the element `parameters`, or nothing
-use mathlib.Core.Path.{_≡_, refl, sym, _∙_, subst}
+use mathlib.Core.Path.{_≡_, refl, sym, ap, _∙_, subst}
 use mathlib.Core.Bool.{Bool, true, false, false≢true}
 use mathlib.Core.List.{List, [], _∷_, map}
 use mathlib.Core.Option.{Option, none, some}
@@ -13,7 +13,7 @@ use lib.ListN.{length, take}
 use borrow.Author.Tests.{eq-eqb, ne-eqb}
 use Rattle.octets.specs.Ascii.{ascii}
 use Rattle.octets.specs.laws.Scan.{take-least}
-use Rattle.octets.specs.Append.{joined}
+use Rattle.octets.specs.Append.{_⊕_, joined}
 use Rattle.octets.specs.Class.{upper, lower}
 use Rattle.octets.specs.Words.{same, isEmpty}
 use Rattle.octets.specs.Reading.{isRead, readOr, orNothing}
@@ -21,7 +21,9 @@ use Rattle.octets.specs.laws.Reading.{each-empty}
 use Rattle.calendar.specs.Calendar.{ical, text, Parameter}
 use Rattle.sink.specs.Sink.{Put}
 use Rattle.sink.specs.laws.Sink.{put-none, put-yes, put-no, _▷_}
-use Rattle.source.specs.Source.{rest, cuts}
+use Rattle.edition.specs.Edition.{decode}
+use Rattle.edition.specs.declared.Edition.{Edition}
+use Rattle.source.specs.Source.{rest, cuts, Decodes}
 use Rattle.names.specs.Table.{placeOf}
 use Rattle.schema.specs.Types.{sameType, typePlace}
 use Rattle.schema.specs.laws.Types.{place-type}
@@ -32,6 +34,7 @@ use Rattle.schema.specs.Sets.{parameterWordsAt}
 use Rattle.values.specs.ReadValue.{readValue}
 use Rattle.read_text_line.specs.ContentLine.{ParamValue, RawParameter, paramValue, nextValue}
 use Rattle.read_text_line.specs.Items.{items}
+use Rattle.read_text_line.specs.Decoded.{decodedValue}
 use Rattle.read_text_line.specs.Cursor.{valuesOf, valuesAt}
 use Rattle.read_text_line.specs.laws.Repeating.{item-bad}
 use Rattle.read_text_line.specs.Values.{ValueAt}
@@ -40,8 +43,8 @@ use Rattle.read_text_line.specs.declared.ParamAt.{ParamAt}
 use Rattle.xml.specs.Escape.{startTag, endTag, elementOf}
 use Rattle.text.specs.Parameters.{readParameter, ownParameters, readParameters}
 use Rattle.xcal.specs.WriteXml.{valueXml, parametersXml, parametersElement}
-use Rattle.read_text_parameters.specs.Cutting.{paramCut}
-use Rattle.write_xml_parameters.specs.Shown.{valueShown, charsShown, shown, ownShown, parametersShown}
+use Rattle.read_text_parameters.specs.Cutting.{paramRead}
+use Rattle.write_xml_parameters.specs.Shown.{valueShown, charsShown, shown, ownShown, parametersShown, charsIn}
 use Rattle.write_xml_parameters.specs.laws.Shown.{shown-is}
 use Rattle.write_xml_parameters.specs.Parts.{rowAt}
 
@@ -63,23 +66,28 @@ module _ {d e : List ℕ} {o r : ℕ} (q : ℕ) (l : List ℕ) {t : Bool} (h : t
 
 -- ---- the values of a parameter
 
-module _ (p : ParameterRow) {m : ℕ} {s : List ℕ} {c : ℕ} {r : ParamAt} (y : cuts m ≡ true) (v : ValueAt paramValue m s c r) {d : List ℕ} {o : ℕ} where
-  pub put-first : {e f : List ℕ} {a n : ℕ} → r .ok ≡ true → Put d e o a (valueShown p (rest m (take (r .to) s) (r .from))) →
-      Put e f a n (joined (map (charsShown p) (items nextValue (rest m s (r .next))))) → Put d f o n (joined (map (charsShown p) (valuesAt m s c)))
+module _ {ed : Edition} (p : ParameterRow) {m : ℕ} {s : List ℕ} {c : ℕ} {r : ParamAt} (y : cuts m ≡ true) (v : ValueAt paramValue m s c r) {d : List ℕ} {o : ℕ} where
+  pub put-first : {e f : List ℕ} {a n : ℕ} → r .ok ≡ true → Put d e o a (valueShown p (decode ed (rest m (take (r .to) s) (r .from)))) →
+      Put e f a n (joined (map (charsIn ed p) (items nextValue (rest m s (r .next))))) → Put d f o n (joined (map (charsIn ed p) (valuesAt m s c)))
   unfolding joined
-  put-first {e} {f} {a} {n} h x w = rw (value-first v h) (subst (λ (l : List ℕ). Put d e o a (valueShown p l)) (value-chars y v (value-there v)) x ▷ w)
+  put-first {e} {f} {a} {n} h x w = rw (value-first v h) (subst (λ (l : List ℕ). Put d e o a (valueShown p (decode ed l))) (value-chars y v (value-there v)) x ▷ w)
 
-  pub put-no-first : r .ok ≡ false → length d * 1 < 2 ^ 63 → Put d d o o (joined (map (charsShown p) (valuesAt m s c)))
+  pub put-no-first : r .ok ≡ false → length d * 1 < 2 ^ 63 → Put d d o o (joined (map (charsIn ed p) (valuesAt m s c)))
   unfolding joined valuesOf
   put-no-first h z = rw (item-bad (v .item) (value-there v) h) (put-none d o z)
 
 -- ---- a parameter
 
-pub put-parameter : {d e f g : List ℕ} {o a b r q : ℕ} (n : List ℕ) (vs : List ParamValue) → q ≡ placeOf (upper n) parameterNames →
-    Put d e o a (startTag (lower n)) → Put e f a b (joined (map (charsShown (rowAt q)) vs)) → Put f g b r (endTag (lower n)) →
-    Put d g o r (shown (record { name = n; values = vs }))
+chars-in : (ed : Edition) (p : ParameterRow) (vs : List ParamValue) → joined (map (charsIn ed p) vs) ≡ joined (map (charsShown p) (map (decodedValue ed) vs))
+unfolding joined
+chars-in ed p [] = refl
+chars-in ed p (v ∷ vs) = ap (λ (l : List ℕ). charsIn ed p v ⊕ l) (chars-in ed p vs)
+
+pub put-parameter : {ed : Edition} {d e f g : List ℕ} {o a b r q : ℕ} (n : List ℕ) (vs : List ParamValue) → q ≡ placeOf (upper n) parameterNames →
+    Put d e o a (startTag (lower n)) → Put e f a b (joined (map (charsIn ed (rowAt q)) vs)) → Put f g b r (endTag (lower n)) →
+    Put d g o r (shown (record { name = n; values = map (decodedValue ed) vs }))
 unfolding rowAt
-put-parameter n vs h x y z = x ▷ rw (parameter-place (upper n), ← h) y ▷ z
+put-parameter {ed} {q = q} n vs h x y z = x ▷ rw (parameter-place (upper n), ← h, ← (chars-in ed (rowAt q) vs)) y ▷ z
 
 module _ {d : List ℕ} {o : ℕ} (n : List ℕ) (vs : List ParamValue) {t : Bool} (h : t ≡ same (upper n) (ascii "VALUE")) where
   pub put-value-name : t ≡ true → length d * 1 < 2 ^ 63 → Put d d o o (ownShown (record { name = n; values = vs }))
@@ -91,10 +99,10 @@ module _ {d : List ℕ} {o : ℕ} (n : List ℕ) (vs : List ParamValue) {t : Boo
 -- ---- a slice cut at its length, or before
 
 module _ {d f : List ℕ} {o r e : ℕ} (m : ℕ) (s : List ℕ) (c to : ℕ) (h : e ≡ min to (length s)) where
-  pub least-value : (p : ParameterRow) → Put d f o r (valueShown p (rest m (take e s) c)) → Put d f o r (valueShown p (rest m (take to s) c))
-  least-value p w = rw (← (take-least s to), ← h) w
+  pub least-value : {ed : Edition} {u : ℕ} (p : ParameterRow) → Decodes ed m u → Put d f o r (valueShown p (rest u (take e s) c)) → Put d f o r (valueShown p (decode ed (rest m (take to s) c)))
+  least-value p k w = rw (← (k .is (take to s) c), ← (take-least s to), ← h) w
 
-  pub least-own : (first : ℕ) → Put d f o r (ownShown (paramCut m s c e first)) → Put d f o r (ownShown (paramCut m s c to first))
+  pub least-own : {ed : Edition} (first : ℕ) → Put d f o r (ownShown (paramRead ed m s c e first)) → Put d f o r (ownShown (paramRead ed m s c to first))
   least-own first w = rw (← (take-least s to), ← h) w
 
 -- ---- all parameters

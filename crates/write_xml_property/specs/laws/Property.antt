@@ -3,7 +3,7 @@
 use mathlib.Core.Path.{_≡_, refl, sym, ap, subst, _∙_}
 use mathlib.Core.Bool.{true}
 use mathlib.Core.List.{List, []}
-use mathlib.Core.Option.{none}
+use mathlib.Core.Option.{Option, none, Option·map}
 use Prim.Native.Nat.{ℕ, _≤_}
 use native.Mathlib.Omega.{arith}
 use native.Mathlib.Decide.{decLe}
@@ -25,7 +25,9 @@ use Rattle.schema.specs.Numbers.{typeAt, componentName}
 use Rattle.schema.specs.Coded.{rowAt}
 use Rattle.schema.specs.laws.Columns.{default-place}
 use Rattle.schema.specs.declared.table.Row.{Row}
-use Rattle.read_text_line.specs.ContentLine.{contentLine}
+use Rattle.edition.specs.declared.Edition.{Edition}
+use Rattle.read_text_line.specs.ContentLine.{ContentLine, contentLine}
+use Rattle.read_text_line.specs.Decoded.{decodedLine, readLine}
 use Rattle.read_text_line.specs.laws.Params.{name-chars}
 use Rattle.read_text_line.specs.Line.{LineAt}
 use Rattle.read_text_line.specs.declared.LineCursors.{LineCursors}
@@ -54,10 +56,10 @@ module _ {m : ℕ} {s : List ℕ} {c : ℕ} {l : LineCursors} (y : cuts m ≡ tr
           let z : rest m s c ≡ [] = rest-past m s c y k in
           none-some (sym (ap contentLine z ∙ no-line) ∙ a .is)
 
-  pub property-xml : (k : ℕ) → orNothing (λ x. propertyXml (propertyOf (componentName k) x)) (contentLine (rest m s c)) ≡ partsXml k m s l
+  pub property-xml : (ed : Edition) (k : ℕ) → orNothing (λ x. propertyXml (propertyOf (componentName k) x)) (readLine ed (rest m s c)) ≡ partsXml ed k m s l
   unfolding propertyXml propertyOf
-  property-xml k =
-      ap (orNothing (λ x. propertyXml (propertyOf (componentName k) x))) (a .is)
+  property-xml ed k =
+      ap (λ (o : Option ContentLine). orNothing (λ x. propertyXml (propertyOf (componentName k) x)) (Option·map (decodedLine ed) o)) (a .is)
       ∙ rw (name-chars y (a .parts .1 .name), lower-any-case (runOf isNameChar (rest m s (l .name))))
 
 -- ---- for the code
@@ -74,12 +76,12 @@ default-of : {row : Row} (w : List ℕ) → row ≡ rowAt (placeOf w propertyNam
 default-of w h = ap (λ (x : Row). x .default) h ∙ default-place w
 
 -- the values, by the row of the line's name and by the type that was found
-module _ {d f : List ℕ} {at o : ℕ} (k : ℕ) {row : Row} {m : ℕ} {s : List ℕ} (c : ℕ) {e : ℕ} (v : ℕ) {r : TypeRead}
-    (h : row ≡ rowAt (placeOf (upper (nameIn m s (cursors c e v))) propertyNames)) (a : StatedAt (row .default) m s e r) where
-  pub put-typed : (t : ℕ) → r ≡ Typed t → ((w : List ℕ) → row ≡ rowAt (placeOf w propertyNames) → Put d f at o (valuesOf k m s v w t)) → Put d f at o (statedXml k m s (cursors c e v))
+module _ {ed : Edition} {d f : List ℕ} {at o : ℕ} (k : ℕ) {row : Row} {m : ℕ} {s : List ℕ} (c : ℕ) {e : ℕ} (v : ℕ) {r : TypeRead}
+    (h : row ≡ rowAt (placeOf (upper (nameIn m s (cursors c e v))) propertyNames)) (a : StatedAt ed (row .default) m s e r) where
+  pub put-typed : (t : ℕ) → r ≡ Typed t → ((w : List ℕ) → row ≡ rowAt (placeOf w propertyNames) → Put d f at o (valuesOf k m s v w t)) → Put d f at o (statedXml ed k m s (cursors c e v))
   unfolding readOr
   put-typed t z w = let n : List ℕ = upper (nameIn m s (cursors c e v)) in rw (stated-names a n (default-of n h) z .0) (w n h)
 
-  pub put-untyped : r ≡ NoType → ((w : List ℕ) → row ≡ rowAt (placeOf w propertyNames) → Put d f at o (valuesOf k m s v w 10)) → Put d f at o (statedXml k m s (cursors c e v))
+  pub put-untyped : r ≡ NoType → ((w : List ℕ) → row ≡ rowAt (placeOf w propertyNames) → Put d f at o (valuesOf k m s v w 10)) → Put d f at o (statedXml ed k m s (cursors c e v))
   unfolding readOr
   put-untyped z w = let n : List ℕ = upper (nameIn m s (cursors c e v)) in rw (stated-none a n (default-of n h) z) (w n h)

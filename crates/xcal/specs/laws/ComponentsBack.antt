@@ -16,6 +16,7 @@ use Rattle.validity.specs.ValidCalendar.{hasComponents, areValid}
 use Rattle.validity.specs.laws.ValidCalendar.{valid-component}
 use Rattle.xml.specs.Nodes.{noNodes, hasElement}
 use Rattle.xml.specs.Content.{Content, nothing, child, placed}
+use Rattle.edition.specs.declared.Edition.{Edition}
 use Rattle.xcal.specs.WriteXml.{isNoMore}
 use Rattle.xcal.specs.laws.Contents.{componentsPart, componentInside, calendarContent}
 use Rattle.xcal.specs.ComponentNodes.{insideOf, readComponents, readInner}
@@ -56,14 +57,15 @@ inner-back n ps inner ih q =
     by-part (λ d. (r : ℕ) → readInner (placed d r noNodes) ≡ inner) n (isNoMore inner) (calendarContent inner)
     (λ h r. ih _) (λ h e r. sym (no-more inner e)) _
 
-pub components-back : (c : Components) (l : ℕ) (may : List ℕ → Bool) (m : Bool) → areValid l may m c ≡ true → (q : ℕ) → readComponents (placed (calendarContent c) q noNodes) ≡ c
-unfolding octets-compute calendarContent placed readComponents readInner insideOf
-components-back noMore l may m h q = refl
-components-back (component n ps inner next) l may m h q =
-    let v = valid-component l may m n ps inner next h in
-    rw (
-      kept-back n (v .kept),
-      properties-back n ps (v .properties),
-      inner-back n ps inner (components-back inner (l - 1) (mayContain n) (methodFor n ps m) (v .inside)),
-      components-back next l may m (v .after),
-    )
+module _ (ed : Edition) where
+  pub components-back : (c : Components) (l : ℕ) (may : List ℕ → Bool) (m : Bool) → areValid ed l may m c ≡ true → (q : ℕ) → readComponents (placed (calendarContent c) q noNodes) ≡ c
+  unfolding octets-compute calendarContent placed readComponents readInner insideOf
+  components-back noMore l may m h q = refl
+  components-back (component n ps inner next) l may m h q =
+      let v = valid-component ed l may m n ps inner next h in
+      rw (
+        kept-back n (v .kept),
+        properties-back ed n ps (v .properties),
+        inner-back n ps inner (components-back inner (l - 1) (mayContain n) (methodFor n ps m) (v .inside)),
+        components-back next l may m (v .after),
+      )

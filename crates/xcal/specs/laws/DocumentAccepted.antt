@@ -28,6 +28,7 @@ use Rattle.xml.specs.Token.{Token, STag, EmptyElemTag, namespaceAttribute, root
 use Rattle.xml.specs.Marks.{Mark, opens, closes, char, refers, fault, marksBy, scan, rootMarks, documentMarks}
 use Rattle.xml.specs.WellFormed.{move, followed, check, xmlVerdict}
 use Rattle.xml.specs.Nodes.{nodes, rootBy, rootNode, documentNodes}
+use Rattle.edition.specs.declared.Edition.{Edition}
 use Rattle.xcal.specs.WriteXml.{writeDocument}
 use Rattle.xcal.specs.ComponentNodes.{rootVerdict, readComponents, readRoot}
 use Rattle.xcal.specs.ReadDocument.{documentVerdict, readDocument}
@@ -104,18 +105,6 @@ later : (p : ℕ) (nm : List ℕ) (ms : List Mark) → areGoodMarks (opens p nm 
 unfolding areGoodMarks
 later p nm ms h = and-both (isGoodMark (opens p nm) (runOf ms)) _ h .1
 
-valid-root : (ms : List Mark) (e : ℕ) → areGoodMarks ms ≡ true → isRooted ms ≡ true → check ms e false [] ≡ fine → rootVerdict (rootNode ms) ≡ fine → isValid (readRoot (rootNode ms)) ≡ true
-unfolding rootNode rootBy rootVerdict readRoot isValid check move followed _and_ _or_
-valid-root [] e g r x h = absurd (false≢true (test-fine false fine XML e x .0))
-valid-root (opens p nm ∷ ms) e g r x h =
-    let a = one-fine (same nm (ascii "icalendar")) _ p nm h in
-    let c = stream-accepted (nodes ms 0) false _ (good-nodes ms 0 (later p nm ms g)) (a .1) in
-    rw (valid-shallow (readComponents (nodes ms 0)) levels atTop false (c .valid)) (and-yes _ _ (c .there) (c .valid))
-valid-root (closes p nm ∷ ms) e g r x h = absurd (false≢true r)
-valid-root (char p b ∷ ms) e g r x h = absurd (false≢true r)
-valid-root (refers p bs ∷ ms) e g r x h = absurd (false≢true r)
-valid-root (fault p ∷ ms) e g r x h = refused-not XML p x
-
 -- ---- the document
 
 none-bad : (o : Option ℕ) → characters o ≡ fine → o ≡ none
@@ -126,16 +115,29 @@ answered : (v : Verdict) (d c : Calendar) → answer v d ≡ accepted c → (v �
 answered fine d c h = (refl, cc)
 answered (refuse r p) d c h = let z : _≡_ {A = ℕ} 0 1 = cc in absurd (omega arith)
 
-pub document-accepted : (s : List ℕ) (c : Calendar) → readDocument s ≡ accepted c → isValid c ≡ true
-unfolding readDocument documentVerdict xmlVerdict documentNodes documentMarks from tails
-document-accepted s c h =
-    let a = answered (documentVerdict s) (readRoot (documentNodes s)) c h in
-    let b = test-fine (leb (length s) 65535) _ LENGTH 0 (a .0) in
-    let d = both-fine (characters (firstBad s)) _ (b .1) in
-    let e = both-fine (xmlVerdict s) _ (d .1) in
-    let st : State s = record { pending = 0; at = 0; least = 0x80; most = 0x80; last = false; above = omega arith; tail = refl; good = none-bad (firstBad s) (d .0) } in
-    let g = root-good (prolog s) (drop (prolog s) s) (drop-state (prolog s) s st) in
-    rw (← (a .1)) (valid-root (documentMarks s) (length s) (g .0) (g .1) (e .0) (e .1))
+module _ (ed : Edition) where
+  valid-root : (ms : List Mark) (e : ℕ) → areGoodMarks ms ≡ true → isRooted ms ≡ true → check ms e false [] ≡ fine → rootVerdict ed (rootNode ms) ≡ fine → isValid ed (readRoot (rootNode ms)) ≡ true
+  unfolding rootNode rootBy rootVerdict readRoot isValid check move followed _and_ _or_
+  valid-root [] e g r x h = absurd (false≢true (test-fine false fine XML e x .0))
+  valid-root (opens p nm ∷ ms) e g r x h =
+      let a = one-fine (same nm (ascii "icalendar")) _ p nm h in
+      let c = stream-accepted ed (nodes ms 0) false _ (good-nodes ms 0 (later p nm ms g)) (a .1) in
+      rw (valid-shallow ed (readComponents (nodes ms 0)) levels atTop false (c .valid)) (and-yes _ _ (c .there) (c .valid))
+  valid-root (closes p nm ∷ ms) e g r x h = absurd (false≢true r)
+  valid-root (char p b ∷ ms) e g r x h = absurd (false≢true r)
+  valid-root (refers p bs ∷ ms) e g r x h = absurd (false≢true r)
+  valid-root (fault p ∷ ms) e g r x h = refused-not XML p x
 
-pub document-again : (s : List ℕ) (c : Calendar) → readDocument s ≡ accepted c → length (writeDocument c) ≤ 65535 → readDocument (writeDocument c) ≡ accepted c
-document-again s c h l = document-back c (document-accepted s c h) l
+  pub document-accepted : (s : List ℕ) (c : Calendar) → readDocument ed s ≡ accepted c → isValid ed c ≡ true
+  unfolding readDocument documentVerdict xmlVerdict documentNodes documentMarks from tails
+  document-accepted s c h =
+      let a = answered (documentVerdict ed s) (readRoot (documentNodes s)) c h in
+      let b = test-fine (leb (length s) 65535) _ LENGTH 0 (a .0) in
+      let d = both-fine (characters (firstBad s)) _ (b .1) in
+      let e = both-fine (xmlVerdict s) _ (d .1) in
+      let st : State s = record { pending = 0; at = 0; least = 0x80; most = 0x80; last = false; above = omega arith; tail = refl; good = none-bad (firstBad s) (d .0) } in
+      let g = root-good (prolog s) (drop (prolog s) s) (drop-state (prolog s) s st) in
+      rw (← (a .1)) (valid-root (documentMarks s) (length s) (g .0) (g .1) (e .0) (e .1))
+
+  pub document-again : (s : List ℕ) (c : Calendar) → readDocument ed s ≡ accepted c → length (writeDocument c) ≤ 65535 → readDocument ed (writeDocument c) ≡ accepted c
+  document-again s c h l = document-back ed c (document-accepted s c h) l

@@ -23,6 +23,7 @@ use Rattle.xml.specs.Escape.{declarationLine, rootStart, endTag, documentOf}
 use Rattle.xml.specs.Nodes.{noNodes, element, documentNodes}
 use Rattle.xml.specs.Content.{written, placed}
 use Rattle.xml.specs.laws.DocumentBack.{document-read-back, document-well-formed}
+use Rattle.edition.specs.declared.Edition.{Edition}
 use Rattle.xcal.specs.WriteXml.{writeDocument}
 use Rattle.xcal.specs.ComponentNodes.{rootVerdict, readRoot}
 use Rattle.xcal.specs.ReadDocument.{documentVerdict, readDocument}
@@ -52,29 +53,30 @@ document-good s h =
     good-append declarationLine (rootStart ⊕ s ⊕ endTag (ascii "icalendar") ⊕ ascii "\n") start-good
     (good-append rootStart (s ⊕ endTag (ascii "icalendar") ⊕ ascii "\n") root-good (good-append s (endTag (ascii "icalendar") ⊕ ascii "\n") h end-good))
 
--- ---- the document
+module _ (ed : Edition) where
+  -- ---- the document
 
-module _ (c : Components) (there : hasComponents c ≡ true) (valid : areValid levels atTop false c ≡ true) (sound : isSound (calendarContent c) 31 ≡ true) where
-  nodes-back : documentNodes (documentOf (written (calendarContent c)))
-      ≡ element 39 (ascii "icalendar") (95 + length (written (calendarContent c))) (placed (calendarContent c) 95 noNodes) noNodes
-  nodes-back = document-read-back (calendarContent c) 31 (sound-writable (calendarContent c) 31 sound)
+  module _ (c : Components) (there : hasComponents c ≡ true) (valid : areValid ed levels atTop false c ≡ true) (sound : isSound (calendarContent c) 31 ≡ true) where
+    nodes-back : documentNodes (documentOf (written (calendarContent c)))
+        ≡ element 39 (ascii "icalendar") (95 + length (written (calendarContent c))) (placed (calendarContent c) 95 noNodes) noNodes
+    nodes-back = document-read-back (calendarContent c) 31 (sound-writable (calendarContent c) 31 sound)
 
-  root-fine : rootVerdict (documentNodes (documentOf (written (calendarContent c)))) ≡ fine
-  unfolding rootVerdict pick _or_
-  root-fine = rw (nodes-back, same-self (ascii "icalendar")) (stream-fine c false _ 95 valid there)
+    root-fine : rootVerdict ed (documentNodes (documentOf (written (calendarContent c)))) ≡ fine
+    unfolding rootVerdict pick _or_
+    root-fine = rw (nodes-back, same-self (ascii "icalendar")) (stream-fine ed c false _ 95 valid there)
 
-  root-back : readRoot (documentNodes (documentOf (written (calendarContent c)))) ≡ c
-  unfolding readRoot
-  root-back = rw (nodes-back, components-back c levels atTop false valid 95) (valid-shallow c levels atTop false valid)
+    root-back : readRoot (documentNodes (documentOf (written (calendarContent c)))) ≡ c
+    unfolding readRoot
+    root-back = rw (nodes-back, components-back ed c levels atTop false valid 95) (valid-shallow ed c levels atTop false valid)
 
-  document-fine : length (documentOf (written (calendarContent c))) ≤ 65535 → documentVerdict (documentOf (written (calendarContent c))) ≡ fine
-  unfolding documentVerdict pick _otherwise_
-  document-fine l =
-      rw (le-leb _ _ l, document-good (written (calendarContent c)) (sound-good (calendarContent c) 31 sound), document-well-formed (calendarContent c) (sound-writable (calendarContent c) 31 sound)) root-fine
+    document-fine : length (documentOf (written (calendarContent c))) ≤ 65535 → documentVerdict ed (documentOf (written (calendarContent c))) ≡ fine
+    unfolding documentVerdict pick _otherwise_
+    document-fine l =
+        rw (le-leb _ _ l, document-good (written (calendarContent c)) (sound-good (calendarContent c) 31 sound), document-well-formed (calendarContent c) (sound-writable (calendarContent c) 31 sound)) root-fine
 
-  content-back : length (writeDocument c) ≤ 65535 → readDocument (writeDocument c) ≡ accepted c
-  unfolding readDocument
-  content-back l = rw (document-written c, document-fine (rw (document-written c) at l), root-back)
+    content-back : length (writeDocument c) ≤ 65535 → readDocument ed (writeDocument c) ≡ accepted c
+    unfolding readDocument
+    content-back l = rw (document-written c, document-fine (rw (document-written c) at l), root-back)
 
-pub document-back : (c : Components) → isValid c ≡ true → length (writeDocument c) ≤ 65535 → readDocument (writeDocument c) ≡ accepted c
-document-back c h l = let v = valid-parts c h in content-back c (v .0) (v .1) (calendar-sound c (v .1)) l
+  pub document-back : (c : Components) → isValid ed c ≡ true → length (writeDocument c) ≤ 65535 → readDocument ed (writeDocument c) ≡ accepted c
+  document-back c h l = let v = valid-parts ed c h in content-back c (v .0) (v .1) (calendar-sound ed c (v .1)) l

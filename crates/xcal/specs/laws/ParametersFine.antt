@@ -31,10 +31,11 @@ use Rattle.validity.specs.ValidCalendar.{isKeptName, isValidParameter}
 use Rattle.validity.specs.laws.ValidCalendar.{ValidParameter, valid-parameter}
 use Rattle.xml.specs.Nodes.{noNodes}
 use Rattle.xml.specs.Content.{Content, nothing, endTagPlace, placed}
+use Rattle.edition.specs.declared.Edition.{Edition}
 use Rattle.xcal.specs.laws.ElementNames.{lower-same, no-capital, kept-upper, kept-back, kept-carried}
 use Rattle.xcal.specs.laws.Contents.{valuesBefore, parametersBefore}
-use Rattle.xcal.specs.ParameterNodes.{readParamNodes, valuesGood, areBase64, encodes, hasEncoding, badName, parameterVerdict, parametersVerdict}
-use Rattle.xcal.specs.laws.ParametersBack.{values-in, has-element}
+use Rattle.xcal.specs.ParameterNodes.{areSpelled, readParamNodes, valuesGood, areBase64, encodes, hasEncoding, badName, parameterVerdict, parametersVerdict}
+use Rattle.xcal.specs.laws.ParametersBack.{spelled-in, values-in, has-element}
 
 abbrev pub nameIn : Parameter → List ℕ
 nameIn p = p .name
@@ -120,87 +121,89 @@ others-encoded t (p ∷ ps) h = and-yes _ _ (or-left _ _ (rw (and-no-right (same
 all-encoded : (t : ValueType) (ps : List Parameter) → distinct (map nameIn ps) ≡ true → (not (sameType t BINARY) or anyOne isBase64Encoding ps) ≡ true → every (isEncoded t) ps ≡ true
 all-encoded t ps d h = or-cases (not (sameType t BINARY)) _ h (λ e. others-encoded t ps (not-true _ e)) (each-encoded t ps d)
 
--- ---- the verdict
-
--- a parameter of the property n whose values have type t
-module _ (n : List ℕ) (t : ValueType) (p : Parameter) (c : ValidParameter p) (permitted : permitsParameter n t (p .name) ≡ true) (enc : isEncoded t p ≡ true) where
-  good-parameter : (seen : List (List ℕ)) (r : ℕ) → isOneOf (lower (p .name)) seen ≡ false →
-      (isOneOf (lower (p .name)) seen or not (permitsParameter n t (upper (lower (p .name))))
-      or not (valuesGood (isListedParameter (upper (lower (p .name)))) (readParamNodes (upper (lower (p .name))) (placed (valuesBefore (p .values) nothing) r noNodes)))
-      or not (encodes (upper (lower (p .name))) t (placed (valuesBefore (p .values) nothing) r noNodes))) ≡ false
-  unfolding readOr
-  good-parameter seen r u =
-      rw (kept-back (p .name) (c .kept), values-in p c r)
-      (or-no _ _ u (or-no _ _ (rw permitted) (or-no _ _ (rw (good-amount (isListedParameter (p .name)) (p .values) (c .amount))) (rw enc))))
-
-  parameter-fine : (seen : List (List ℕ)) (a x r : ℕ) → isOneOf (lower (p .name)) seen ≡ false → eqb a x ≡ false →
-      parameterVerdict n t seen a (lower (p .name)) x (placed (valuesBefore (p .values) nothing) r noNodes) ≡ fine
-  unfolding parameterVerdict pick
-  parameter-fine seen a x r u e =
-      rw (good-name (p .name) (c .kept) (c .other), e, good-parameter seen r u, has-element (p .name) (isListedParameter (p .name)) (p .values) (c .amount) (c .chosen) r)
-
 -- none of the parameters has come
 abbrev unseen : List (List ℕ) → List Parameter → Bool
 unseen seen ps = every (λ (p : Parameter). not (isOneOf (lower (p .name)) seen)) ps
-
-unseen-more : (m : List ℕ) (seen : List (List ℕ)) (ps : List Parameter) → upper m ≡ m → every isValidParameter ps ≡ true → isOneOf m (map nameIn ps) ≡ false → unseen seen ps ≡ true →
-    unseen (lower m ∷ seen) ps ≡ true
-unfolding isOneOf every
-unseen-more m seen [] u h o k = refl
-unseen-more m seen (p ∷ ps) u h o k =
-    let a = every-both isValidParameter p ps h in
-    let b = or-neither (same m (p .name)) _ o in
-    let d = and-both (not (isOneOf (lower (p .name)) seen)) _ k in
-    and-yes _ _
-    (rw (or-no _ _ (lower-same (p .name) m (kept-upper (p .name) (valid-parameter p (a .0) .kept)) u ∙ same-swap m (p .name) (b .0)) (not-true _ (d .0))))
-    (unseen-more m seen ps u (a .1) (b .1) (d .1))
-
-pub parameters-fine : (n : List ℕ) (t : ValueType) (ps : List Parameter) (seen : List (List ℕ)) → every isValidParameter ps ≡ true → distinct (map nameIn ps) ≡ true →
-    every (λ (p : Parameter). permitsParameter n t (p .name)) ps ≡ true → every (isEncoded t) ps ≡ true → unseen seen ps ≡ true →
-    (q : ℕ) → parametersVerdict n t (placed (parametersBefore ps nothing) q noNodes) seen ≡ fine
-unfolding parametersBefore placed parametersVerdict distinct _otherwise_
-parameters-fine n t [] seen h d m e u q = refl
-parameters-fine n t (p ∷ ps) seen h d m e u q =
-    let a = every-both isValidParameter p ps h in
-    let c = valid-parameter p (a .0) in
-    let o = pick-second (isOneOf (p .name) (map nameIn ps)) (distinct (map nameIn ps)) d in
-    let b = every-both (λ (p : Parameter). permitsParameter n t (p .name)) p ps m in
-    let k = every-both (isEncoded t) p ps e in
-    let w = every-both (λ (p : Parameter). not (isOneOf (lower (p .name)) seen)) p ps u in
-    rw (parameter-fine n t p c (b .0) (k .0) seen q _ _ (not-true _ (w .0)) (tags-apart (lower (p .name)) (valuesBefore (p .values) nothing) q))
-    (parameters-fine n t ps (lower (p .name) ∷ seen) (a .1) (o .1) (b .1) (k .1) (unseen-more (p .name) seen ps (kept-upper (p .name) (c .kept)) (a .1) (o .0) (w .1)) _)
 
 unseen-none : (ps : List Parameter) → unseen [] ps ≡ true
 unfolding every isOneOf
 unseen-none [] = refl
 unseen-none (p ∷ ps) = and-yes _ _ refl (unseen-none ps)
 
--- the parameters of a property n whose values have type t
-pub parameters-good : (n : List ℕ) (t : ValueType) (ps : List Parameter) → areParameters n t ps ≡ true → every isValidParameter ps ≡ true →
-    (q : ℕ) → parametersVerdict n t (placed (parametersBefore ps nothing) q noNodes) [] ≡ fine
-unfolding areParameters
-parameters-good n t ps h c q =
-    let a = and-both (every isParameter ps) _ h in
-    let b = and-both (distinct (map nameIn ps)) _ (a .1) in
-    let d = and-both (every (λ (p : Parameter). permitsParameter n t (p .name)) ps) _ (b .1) in
-    parameters-fine n t ps [] c (b .0) (d .0) (all-encoded t ps (b .0) (d .1)) (unseen-none ps) q
+module _ (ed : Edition) where
+  -- ---- the verdict
 
--- ---- ENCODING among the parameters
+  -- a parameter of the property n whose values have type t
+  module _ (n : List ℕ) (t : ValueType) (p : Parameter) (c : ValidParameter ed p) (permitted : permitsParameter n t (p .name) ≡ true) (enc : isEncoded t p ≡ true) where
+    good-parameter : (seen : List (List ℕ)) (r : ℕ) → isOneOf (lower (p .name)) seen ≡ false →
+        (isOneOf (lower (p .name)) seen or not (permitsParameter n t (upper (lower (p .name))))
+        or not (valuesGood (isListedParameter (upper (lower (p .name)))) (readParamNodes (upper (lower (p .name))) (placed (valuesBefore (p .values) nothing) r noNodes)))
+        or not (encodes (upper (lower (p .name))) t (placed (valuesBefore (p .values) nothing) r noNodes))
+        or not (areSpelled ed (placed (valuesBefore (p .values) nothing) r noNodes))) ≡ false
+    unfolding readOr
+    good-parameter seen r u =
+        rw (kept-back (p .name) (c .kept), values-in ed p c r)
+        (or-no _ _ u (or-no _ _ (rw permitted) (or-no _ _ (rw (good-amount (isListedParameter (p .name)) (p .values) (c .amount))) (or-no _ _ (rw enc) (rw (spelled-in ed p c r))))))
 
-encoding-in : (ps : List Parameter) → every isValidParameter ps ≡ true → isOneOf (ascii "ENCODING") (map nameIn ps) ≡ true → (q : ℕ) → hasEncoding (placed (parametersBefore ps nothing) q noNodes) ≡ true
-unfolding parametersBefore placed hasEncoding isOneOf lower pick _and_
-encoding-in [] h o q = absurd (false≢true o)
-encoding-in (p ∷ ps) h o q =
-    let a = every-both isValidParameter p ps h in
-    or-cases (same (ascii "ENCODING") (p .name)) _ o
-    (λ e. or-left _ _ (ap (λ (n : List ℕ). same (lower n) (ascii "encoding")) (sym (same-true _ _ e)) ∙ same-self (ascii "encoding")))
-    (λ e. or-right _ _ (encoding-in ps (a .1) e _))
+    parameter-fine : (seen : List (List ℕ)) (a x r : ℕ) → isOneOf (lower (p .name)) seen ≡ false → eqb a x ≡ false →
+        parameterVerdict ed n t seen a (lower (p .name)) x (placed (valuesBefore (p .values) nothing) r noNodes) ≡ fine
+    unfolding parameterVerdict pick
+    parameter-fine seen a x r u e =
+        rw (good-name (p .name) (c .kept) (c .other), e, good-parameter seen r u, has-element (p .name) (isListedParameter (p .name)) (p .values) (c .amount) (c .chosen) r)
 
-pub has-encoding : (n : List ℕ) (t : ValueType) (ps : List Parameter) → areParameters n t ps ≡ true → every isValidParameter ps ≡ true → (q : ℕ) →
-    (sameType t BINARY and not (hasEncoding (placed (parametersBefore ps nothing) q noNodes))) ≡ false
-unfolding areParameters
-has-encoding n t ps h c q =
-    let a = and-both (every isParameter ps) _ h in
-    let b = and-both (distinct (map nameIn ps)) _ (a .1) in
-    let d = and-both (every (λ (p : Parameter). permitsParameter n t (p .name)) ps) _ (b .1) in
-    or-cases (not (sameType t BINARY)) _ (d .1) (λ e. and-no-left _ _ (not-true _ e)) (λ e. and-no-right _ _ (rw (encoding-in ps c (any-encoding ps e) q)))
+  unseen-more : (m : List ℕ) (seen : List (List ℕ)) (ps : List Parameter) → upper m ≡ m → every (isValidParameter ed) ps ≡ true → isOneOf m (map nameIn ps) ≡ false → unseen seen ps ≡ true →
+      unseen (lower m ∷ seen) ps ≡ true
+  unfolding isOneOf every
+  unseen-more m seen [] u h o k = refl
+  unseen-more m seen (p ∷ ps) u h o k =
+      let a = every-both (isValidParameter ed) p ps h in
+      let b = or-neither (same m (p .name)) _ o in
+      let d = and-both (not (isOneOf (lower (p .name)) seen)) _ k in
+      and-yes _ _
+      (rw (or-no _ _ (lower-same (p .name) m (kept-upper (p .name) (valid-parameter ed p (a .0) .kept)) u ∙ same-swap m (p .name) (b .0)) (not-true _ (d .0))))
+      (unseen-more m seen ps u (a .1) (b .1) (d .1))
+
+  pub parameters-fine : (n : List ℕ) (t : ValueType) (ps : List Parameter) (seen : List (List ℕ)) → every (isValidParameter ed) ps ≡ true → distinct (map nameIn ps) ≡ true →
+      every (λ (p : Parameter). permitsParameter n t (p .name)) ps ≡ true → every (isEncoded t) ps ≡ true → unseen seen ps ≡ true →
+      (q : ℕ) → parametersVerdict ed n t (placed (parametersBefore ps nothing) q noNodes) seen ≡ fine
+  unfolding parametersBefore placed parametersVerdict distinct _otherwise_
+  parameters-fine n t [] seen h d m e u q = refl
+  parameters-fine n t (p ∷ ps) seen h d m e u q =
+      let a = every-both (isValidParameter ed) p ps h in
+      let c = valid-parameter ed p (a .0) in
+      let o = pick-second (isOneOf (p .name) (map nameIn ps)) (distinct (map nameIn ps)) d in
+      let b = every-both (λ (p : Parameter). permitsParameter n t (p .name)) p ps m in
+      let k = every-both (isEncoded t) p ps e in
+      let w = every-both (λ (p : Parameter). not (isOneOf (lower (p .name)) seen)) p ps u in
+      rw (parameter-fine n t p c (b .0) (k .0) seen q _ _ (not-true _ (w .0)) (tags-apart (lower (p .name)) (valuesBefore (p .values) nothing) q))
+      (parameters-fine n t ps (lower (p .name) ∷ seen) (a .1) (o .1) (b .1) (k .1) (unseen-more (p .name) seen ps (kept-upper (p .name) (c .kept)) (a .1) (o .0) (w .1)) _)
+
+  -- the parameters of a property n whose values have type t
+  pub parameters-good : (n : List ℕ) (t : ValueType) (ps : List Parameter) → areParameters n t ps ≡ true → every (isValidParameter ed) ps ≡ true →
+      (q : ℕ) → parametersVerdict ed n t (placed (parametersBefore ps nothing) q noNodes) [] ≡ fine
+  unfolding areParameters
+  parameters-good n t ps h c q =
+      let a = and-both (every isParameter ps) _ h in
+      let b = and-both (distinct (map nameIn ps)) _ (a .1) in
+      let d = and-both (every (λ (p : Parameter). permitsParameter n t (p .name)) ps) _ (b .1) in
+      parameters-fine n t ps [] c (b .0) (d .0) (all-encoded t ps (b .0) (d .1)) (unseen-none ps) q
+
+  -- ---- ENCODING among the parameters
+
+  encoding-in : (ps : List Parameter) → every (isValidParameter ed) ps ≡ true → isOneOf (ascii "ENCODING") (map nameIn ps) ≡ true → (q : ℕ) → hasEncoding (placed (parametersBefore ps nothing) q noNodes) ≡ true
+  unfolding parametersBefore placed hasEncoding isOneOf lower pick _and_
+  encoding-in [] h o q = absurd (false≢true o)
+  encoding-in (p ∷ ps) h o q =
+      let a = every-both (isValidParameter ed) p ps h in
+      or-cases (same (ascii "ENCODING") (p .name)) _ o
+      (λ e. or-left _ _ (ap (λ (n : List ℕ). same (lower n) (ascii "encoding")) (sym (same-true _ _ e)) ∙ same-self (ascii "encoding")))
+      (λ e. or-right _ _ (encoding-in ps (a .1) e _))
+
+  pub has-encoding : (n : List ℕ) (t : ValueType) (ps : List Parameter) → areParameters n t ps ≡ true → every (isValidParameter ed) ps ≡ true → (q : ℕ) →
+      (sameType t BINARY and not (hasEncoding (placed (parametersBefore ps nothing) q noNodes))) ≡ false
+  unfolding areParameters
+  has-encoding n t ps h c q =
+      let a = and-both (every isParameter ps) _ h in
+      let b = and-both (distinct (map nameIn ps)) _ (a .1) in
+      let d = and-both (every (λ (p : Parameter). permitsParameter n t (p .name)) ps) _ (b .1) in
+      or-cases (not (sameType t BINARY)) _ (d .1) (λ e. and-no-left _ _ (not-true _ e)) (λ e. and-no-right _ _ (rw (encoding-in ps c (any-encoding ps e) q)))

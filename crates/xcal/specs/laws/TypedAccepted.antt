@@ -25,6 +25,7 @@ use Rattle.schema.specs.Computing.{schema-compute}
 use Rattle.values.specs.Valid.{isAmount, isChosen}
 use Rattle.xml.specs.Reads.{isName}
 use Rattle.xml.specs.Nodes.{Nodes, noNodes, element, literal, referred}
+use Rattle.edition.specs.declared.Edition.{Edition}
 use Rattle.xcal.specs.Layout.{slotOf, lacks, sequence}
 use Rattle.xcal.specs.ValueNodes.{may, typeElements, elementType, asTyped, typedVerdict, valueVerdict, oneOf, typedValues}
 use Rattle.xcal.specs.PropertyNodes.{childVerdict}
@@ -89,108 +90,109 @@ nothing-come : anyOne (λ w. isOneOf w []) typeElements ≡ false
 unfolding schema-compute
 nothing-come = refl
 
-module _ (k n : List ℕ) (g : same n (ascii "GEO") ≡ false) (s : same n (ascii "REQUEST-STATUS") ≡ false) (t : ValueType) (l : Bool) where
-  -- the verdict on the children, from the slot `next` on
-  abbrev From : Nodes → ℕ → List (List ℕ) → ℕ → Type 0
-  From kids next seen x = sequence (typedSlots l) (childVerdict k n t) kids next seen x ≡ fine
+module _ (ed : Edition) where
+  module _ (k n : List ℕ) (g : same n (ascii "GEO") ≡ false) (s : same n (ascii "REQUEST-STATUS") ≡ false) (t : ValueType) (l : Bool) where
+    -- the verdict on the children, from the slot `next` on
+    abbrev From : Nodes → ℕ → List (List ℕ) → ℕ → Type 0
+    From kids next seen x = sequence (typedSlots l) (childVerdict ed k n t) kids next seen x ≡ fine
 
-  -- ---- one child
+    -- ---- one child
 
-  -- `parameters`, or an element of the type
-  child-type : (m : List ℕ) (p x : ℕ) (kids : Nodes) → same m (ascii "parameters") ≡ false → childVerdict k n t p m x kids ≡ fine →
-      (elementType m ≡ some t) × (isTypeOf t (permittedTypes n) ≡ true) × (typedVerdict k n t p x kids ≡ fine)
-  unfolding valueVerdict pick
-  child-type m p x kids o h = go (elementType m) refl (rw (o, g, s) at h)
-    where
-      go : (w : Option ValueType) → elementType m ≡ w → asTyped w k n t p x kids ≡ fine → (elementType m ≡ some t) × (isTypeOf t (permittedTypes n) ≡ true) × (typedVerdict k n t p x kids ≡ fine)
-      go none e h = refused-not VALUE p h
-      go (some u) e h =
-          let a = test-fine (isTypeOf u (permittedTypes n) and sameType u t) _ VALUE p h in
-          let b = and-both (isTypeOf u (permittedTypes n)) _ (a .0) in
-          let z : u ≡ t = same-type-true u t (b .1) in
-          (e ∙ ap (λ (w : ValueType). some w) z, rw z at (b .0), rw z at (a .1))
+    -- `parameters`, or an element of the type
+    child-type : (m : List ℕ) (p x : ℕ) (kids : Nodes) → same m (ascii "parameters") ≡ false → childVerdict ed k n t p m x kids ≡ fine →
+        (elementType m ≡ some t) × (isTypeOf t (permittedTypes n) ≡ true) × (typedVerdict k n t p x kids ≡ fine)
+    unfolding valueVerdict pick
+    child-type m p x kids o h = go (elementType m) refl (rw (o, g, s) at h)
+      where
+        go : (w : Option ValueType) → elementType m ≡ w → asTyped w k n t p x kids ≡ fine → (elementType m ≡ some t) × (isTypeOf t (permittedTypes n) ≡ true) × (typedVerdict k n t p x kids ≡ fine)
+        go none e h = refused-not VALUE p h
+        go (some u) e h =
+            let a = test-fine (isTypeOf u (permittedTypes n) and sameType u t) _ VALUE p h in
+            let b = and-both (isTypeOf u (permittedTypes n)) _ (a .0) in
+            let z : u ≡ t = same-type-true u t (b .1) in
+            (e ∙ ap (λ (w : ValueType). some w) z, rw z at (b .0), rw z at (a .1))
 
-  -- ---- the values
+    -- ---- the values
 
-  record Read (vs : List Value) : Type 0 where
-    chosen : every (isChosen (propertyWords k n) t) vs ≡ true
-    clean : every isCleanValue vs ≡ true
-    permitted : isEmpty vs ≡ false → isTypeOf t (permittedTypes n) ≡ true
+    record Read (vs : List Value) : Type 0 where
+      chosen : every (isChosen (propertyWords k n) t) vs ≡ true
+      clean : every isCleanValue vs ≡ true
+      permitted : isEmpty vs ≡ false → isTypeOf t (permittedTypes n) ≡ true
 
-  all-read : (kids : Nodes) (next : ℕ) (seen : List (List ℕ)) (x : ℕ) → isGood kids ≡ true → From kids next seen x → Read (typedValues kids)
-  unfolding sequence typedValues isGood every
-  all-read noNodes next seen x c h = record { chosen = refl; clean = refl; permitted = λ e. absurd (false≢true (sym e)) }
-  all-read (literal p b more) next seen x c h = all-read more next seen x c (test-fine (isSpace b) _ FRAME p h .1)
-  all-read (referred p bs more) next seen x c h = refused-not FRAME p h
-  all-read (element p m y kids more) next seen x c h =
-      let a = admitted-fine (slotOf m (typedSlots l) 0) next p m (childVerdict k n t p m y kids) _ h in
-      let b = and-both (isName m) _ c in
-      let d = and-both (isCleanContent kids) _ (b .1) in
-      let f = and-both (isGood kids) _ (d .1) in
-      go (same m (ascii "parameters")) refl (a .3) (d .0) (all-read more _ (m ∷ seen) x (f .1) (a .4))
-    where
-      go : (w : Bool) → same m (ascii "parameters") ≡ w → childVerdict k n t p m y kids ≡ fine → isCleanContent kids ≡ true → Read (typedValues more) → Read (oneOf (elementType m) kids (typedValues more))
-      go true e v i r = rw (same-true m (ascii "parameters") e, no-type) r
-      go false e v i r =
-          let a = child-type m p y kids e v in
-          rw (a .0) (record {
-            chosen = and-yes _ _ (typed-accepted k n t p y kids (of-text k n t (a .1)) (a .2)) (r .chosen);
-            clean = and-yes _ _ (value-clean k n t p y kids (a .2) i) (r .clean);
-            permitted = λ e. a .1;
-          })
+    all-read : (kids : Nodes) (next : ℕ) (seen : List (List ℕ)) (x : ℕ) → isGood kids ≡ true → From kids next seen x → Read (typedValues kids)
+    unfolding sequence typedValues isGood every
+    all-read noNodes next seen x c h = record { chosen = refl; clean = refl; permitted = λ e. absurd (false≢true (sym e)) }
+    all-read (literal p b more) next seen x c h = all-read more next seen x c (test-fine (isSpace b) _ FRAME p h .1)
+    all-read (referred p bs more) next seen x c h = refused-not FRAME p h
+    all-read (element p m y kids more) next seen x c h =
+        let a = admitted-fine (slotOf m (typedSlots l) 0) next p m (childVerdict ed k n t p m y kids) _ h in
+        let b = and-both (isName m) _ c in
+        let d = and-both (isCleanContent kids) _ (b .1) in
+        let f = and-both (isGood kids) _ (d .1) in
+        go (same m (ascii "parameters")) refl (a .3) (d .0) (all-read more _ (m ∷ seen) x (f .1) (a .4))
+      where
+        go : (w : Bool) → same m (ascii "parameters") ≡ w → childVerdict ed k n t p m y kids ≡ fine → isCleanContent kids ≡ true → Read (typedValues more) → Read (oneOf (elementType m) kids (typedValues more))
+        go true e v i r = rw (same-true m (ascii "parameters") e, no-type) r
+        go false e v i r =
+            let a = child-type m p y kids e v in
+            rw (a .0) (record {
+              chosen = and-yes _ _ (typed-accepted k n t p y kids (of-text k n t (a .1)) (a .2)) (r .chosen);
+              clean = and-yes _ _ (value-clean k n t p y kids (a .2) i) (r .clean);
+              permitted = λ e. a .1;
+            })
 
-  -- after the values nothing is left
-  none-left : (kids : Nodes) (next : ℕ) (seen : List (List ℕ)) (x : ℕ) → 1 < next → From kids next seen x → typedValues kids ≡ []
-  unfolding sequence typedValues
-  none-left noNodes next seen x u h = refl
-  none-left (literal p b more) next seen x u h = none-left more next seen x u (test-fine (isSpace b) _ FRAME p h .1)
-  none-left (referred p bs more) next seen x u h = refused-not FRAME p h
-  none-left (element p m y kids more) next seen x u h =
-      let a = admitted-fine (slotOf m (typedSlots l) 0) next p m (childVerdict k n t p m y kids) _ h in
-      let w = slot-small m l (a .0) (a .1) in
-      let v = ltb-false (a .0 .0) next (a .2) in
-      absurd (omega arith)
+    -- after the values nothing is left
+    none-left : (kids : Nodes) (next : ℕ) (seen : List (List ℕ)) (x : ℕ) → 1 < next → From kids next seen x → typedValues kids ≡ []
+    unfolding sequence typedValues
+    none-left noNodes next seen x u h = refl
+    none-left (literal p b more) next seen x u h = none-left more next seen x u (test-fine (isSpace b) _ FRAME p h .1)
+    none-left (referred p bs more) next seen x u h = refused-not FRAME p h
+    none-left (element p m y kids more) next seen x u h =
+        let a = admitted-fine (slotOf m (typedSlots l) 0) next p m (childVerdict ed k n t p m y kids) _ h in
+        let w = slot-small m l (a .0) (a .1) in
+        let v = ltb-false (a .0 .0) next (a .2) in
+        absurd (omega arith)
 
-  one-only : l ≡ false → (kids : Nodes) (next : ℕ) (seen : List (List ℕ)) (x : ℕ) → From kids next seen x → atMostOne (typedValues kids) ≡ true
-  unfolding sequence typedValues pick
-  one-only f noNodes next seen x h = refl
-  one-only f (literal p b more) next seen x h = one-only f more next seen x (test-fine (isSpace b) _ FRAME p h .1)
-  one-only f (referred p bs more) next seen x h = refused-not FRAME p h
-  one-only f (element p m y kids more) next seen x h =
-      let a = admitted-fine (slotOf m (typedSlots l) 0) next p m (childVerdict k n t p m y kids) _ h in
-      go (same m (ascii "parameters")) refl (a .3) (a .0) (a .1) (a .4) (one-only f more _ (m ∷ seen) x (a .4))
-    where
-      go : (w : Bool) → same m (ascii "parameters") ≡ w → childVerdict k n t p m y kids ≡ fine → (z : ℕ × Bool) → slotOf m (typedSlots l) 0 ≡ some z → From more (pick (z .1) (z .0) (suc (z .0))) (m ∷ seen) x →
-          atMostOne (typedValues more) ≡ true → atMostOne (oneOf (elementType m) kids (typedValues more)) ≡ true
-      go true e v z o r ih = rw (same-true m (ascii "parameters") e, no-type) ih
-      go false e v z o r ih =
-          let a = child-type m p y kids e v in
-          let q : z ≡ (1, false) = slot-second m l z e o ∙ ap (λ (b : Bool). (1, b)) f in
-          rw (a .0) (ap isEmpty (none-left more 2 (m ∷ seen) x (omega arith) (rw q at r)))
+    one-only : l ≡ false → (kids : Nodes) (next : ℕ) (seen : List (List ℕ)) (x : ℕ) → From kids next seen x → atMostOne (typedValues kids) ≡ true
+    unfolding sequence typedValues pick
+    one-only f noNodes next seen x h = refl
+    one-only f (literal p b more) next seen x h = one-only f more next seen x (test-fine (isSpace b) _ FRAME p h .1)
+    one-only f (referred p bs more) next seen x h = refused-not FRAME p h
+    one-only f (element p m y kids more) next seen x h =
+        let a = admitted-fine (slotOf m (typedSlots l) 0) next p m (childVerdict ed k n t p m y kids) _ h in
+        go (same m (ascii "parameters")) refl (a .3) (a .0) (a .1) (a .4) (one-only f more _ (m ∷ seen) x (a .4))
+      where
+        go : (w : Bool) → same m (ascii "parameters") ≡ w → childVerdict ed k n t p m y kids ≡ fine → (z : ℕ × Bool) → slotOf m (typedSlots l) 0 ≡ some z → From more (pick (z .1) (z .0) (suc (z .0))) (m ∷ seen) x →
+            atMostOne (typedValues more) ≡ true → atMostOne (oneOf (elementType m) kids (typedValues more)) ≡ true
+        go true e v z o r ih = rw (same-true m (ascii "parameters") e, no-type) ih
+        go false e v z o r ih =
+            let a = child-type m p y kids e v in
+            let q : z ≡ (1, false) = slot-second m l z e o ∙ ap (λ (b : Bool). (1, b)) f in
+            rw (a .0) (ap isEmpty (none-left more 2 (m ∷ seen) x (omega arith) (rw q at r)))
 
-  -- a value must have come
-  some-come : (kids : Nodes) (next : ℕ) (seen : List (List ℕ)) (x : ℕ) → From kids next seen x → (anyOne (λ w. isOneOf w seen) typeElements or not (isEmpty (typedValues kids))) ≡ true
-  unfolding sequence typedValues
-  some-come noNodes next seen x h = or-left _ _ (was-filled typeElements l seen (past-fine (lacks (typedSlots l) seen) fine FRAME x h .0))
-  some-come (literal p b more) next seen x h = some-come more next seen x (test-fine (isSpace b) _ FRAME p h .1)
-  some-come (referred p bs more) next seen x h = refused-not FRAME p h
-  some-come (element p m y kids more) next seen x h =
-      let a = admitted-fine (slotOf m (typedSlots l) 0) next p m (childVerdict k n t p m y kids) _ h in
-      go (same m (ascii "parameters")) refl (a .3) (some-come more _ (m ∷ seen) x (a .4))
-    where
-      go : (w : Bool) → same m (ascii "parameters") ≡ w → childVerdict k n t p m y kids ≡ fine → (anyOne (λ w. isOneOf w (m ∷ seen)) typeElements or not (isEmpty (typedValues more))) ≡ true →
-          (anyOne (λ w. isOneOf w seen) typeElements or not (isEmpty (oneOf (elementType m) kids (typedValues more)))) ≡ true
-      go true e v ih = rw (same-true m (ascii "parameters") e, no-type) (other-come seen (not (isEmpty (typedValues more))) (subst (λ (w : List ℕ). (anyOne (λ v. isOneOf v (w ∷ seen)) typeElements or not (isEmpty (typedValues more))) ≡ true) (same-true m (ascii "parameters") e) ih))
-      go false e v ih = rw (child-type m p y kids e v .0) (or-right _ _ refl)
+    -- a value must have come
+    some-come : (kids : Nodes) (next : ℕ) (seen : List (List ℕ)) (x : ℕ) → From kids next seen x → (anyOne (λ w. isOneOf w seen) typeElements or not (isEmpty (typedValues kids))) ≡ true
+    unfolding sequence typedValues
+    some-come noNodes next seen x h = or-left _ _ (was-filled typeElements l seen (past-fine (lacks (typedSlots l) seen) fine FRAME x h .0))
+    some-come (literal p b more) next seen x h = some-come more next seen x (test-fine (isSpace b) _ FRAME p h .1)
+    some-come (referred p bs more) next seen x h = refused-not FRAME p h
+    some-come (element p m y kids more) next seen x h =
+        let a = admitted-fine (slotOf m (typedSlots l) 0) next p m (childVerdict ed k n t p m y kids) _ h in
+        go (same m (ascii "parameters")) refl (a .3) (some-come more _ (m ∷ seen) x (a .4))
+      where
+        go : (w : Bool) → same m (ascii "parameters") ≡ w → childVerdict ed k n t p m y kids ≡ fine → (anyOne (λ w. isOneOf w (m ∷ seen)) typeElements or not (isEmpty (typedValues more))) ≡ true →
+            (anyOne (λ w. isOneOf w seen) typeElements or not (isEmpty (oneOf (elementType m) kids (typedValues more)))) ≡ true
+        go true e v ih = rw (same-true m (ascii "parameters") e, no-type) (other-come seen (not (isEmpty (typedValues more))) (subst (λ (w : List ℕ). (anyOne (λ v. isOneOf v (w ∷ seen)) typeElements or not (isEmpty (typedValues more))) ≡ true) (same-true m (ascii "parameters") e) ih))
+        go false e v ih = rw (child-type m p y kids e v .0) (or-right _ _ refl)
 
-  pub typed-values-accepted : (kids : Nodes) (x : ℕ) → isGood kids ≡ true → From kids 0 [] x →
-      (isAmount l (typedValues kids) ≡ true) × (every (isChosen (propertyWords k n) t) (typedValues kids) ≡ true) × (isTypeOf t (permittedTypes n) ≡ true) × (every isCleanValue (typedValues kids) ≡ true)
-  typed-values-accepted kids x c h =
-      let r = all-read kids 0 [] x c h in
-      let e : isEmpty (typedValues kids) ≡ false = not-true _ (or-cases _ _ (some-come kids 0 [] x h) (λ f. absurd (false≢true (sym nothing-come ∙ f))) (λ f. f)) in
-      (amount l refl (typedValues kids) e (λ f. one-only f kids 0 [] x h), r .chosen, r .permitted e, r .clean)
-    where
-      amount : (b : Bool) → l ≡ b → (vs : List Value) → isEmpty vs ≡ false → (l ≡ false → atMostOne vs ≡ true) → isAmount b vs ≡ true
-      amount b z [] e f = absurd (false≢true (sym e))
-      amount true z (v ∷ vs) e f = or-left _ _ refl
-      amount false z (v ∷ vs) e f = or-right _ _ (f z)
+    pub typed-values-accepted : (kids : Nodes) (x : ℕ) → isGood kids ≡ true → From kids 0 [] x →
+        (isAmount l (typedValues kids) ≡ true) × (every (isChosen (propertyWords k n) t) (typedValues kids) ≡ true) × (isTypeOf t (permittedTypes n) ≡ true) × (every isCleanValue (typedValues kids) ≡ true)
+    typed-values-accepted kids x c h =
+        let r = all-read kids 0 [] x c h in
+        let e : isEmpty (typedValues kids) ≡ false = not-true _ (or-cases _ _ (some-come kids 0 [] x h) (λ f. absurd (false≢true (sym nothing-come ∙ f))) (λ f. f)) in
+        (amount l refl (typedValues kids) e (λ f. one-only f kids 0 [] x h), r .chosen, r .permitted e, r .clean)
+      where
+        amount : (b : Bool) → l ≡ b → (vs : List Value) → isEmpty vs ≡ false → (l ≡ false → atMostOne vs ≡ true) → isAmount b vs ≡ true
+        amount b z [] e f = absurd (false≢true (sym e))
+        amount true z (v ∷ vs) e f = or-left _ _ refl
+        amount false z (v ∷ vs) e f = or-right _ _ (f z)

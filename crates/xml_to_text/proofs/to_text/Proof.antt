@@ -1,20 +1,20 @@
--- `xml_to_text::to_text` meets its contract. Assumes nothing.
-use Rattle.xml_to_text.specs.laws.Steps.{too-long, bad-character, good-characters}
-use Rattle.utf8.specs.Automaton.{foundOf}
-use native.Mathlib.Omega.{arith}
+-- `xml_to_text::to_text` meets its contract.
 use mathlib.Core.Path.{sym, ap, _∙_}
+use native.Mathlib.Omega.{arith}
 use borrow.Author.Needs.{needs}
+use Rattle.edition.specs.Edition.{known}
+use Rattle.xml_to_text.specs.laws.Steps.{too-long, no-edition, in-edition}
 use Rattle.xml_to_text.proofs.to_text.Statement.{statement}
 use Rattle.xml_to_text.proofs.to_text.Tie as tie
 
 pub to-text-spec : {M : Type 1} → statement M
 to-text-spec = tie.close (tie.spec
-    (λ c κs. search needs)  -- first-bad-requires
-    (λ c. search needs)  -- enum-known-p
-    (λ c. bad-character (c .before .before .before .before .before .before .before .args .input .now) (c .before .before .before .before .before .before .before .args .out .now) (omega (arith, c .before .before .before .before .if1 .taken)) (sym (c .before .before .before .first-bad .ensures) ∙ ap foundOf (c .before .p .given .1)))  -- returns
-    (λ c. search needs)  -- enum-told
-    (λ c κs. omega (arith, c .before .before .before .before .if1 .taken))  -- formed-requires
+    (λ c κs. search needs)  -- edition-of-requires
+    (λ c. search needs)  -- enum-known-e
+    (λ c κs. omega (arith, c .before .before .before .before .if1 .taken))  -- in-edition-requires
     (λ c. search needs)  -- same-length
-    (λ c. good-characters (c .before .before .before .before .before .before .before .before .before .before .args .input .now) (c .before .before .before .before .before .before .before .before .before .before .args .out .now) (omega (arith, c .before .before .before .before .before .before .before .if1 .taken)) (sym (c .before .before .before .before .before .before .first-bad .ensures) ∙ ap foundOf (c .before .before .before .before .enum-told .given .1)) (c .before .before .formed .ensures))  -- returns-2
-    (λ c. too-long (c .before .before .before .args .input .now) (c .before .before .before .args .out .now) (omega (arith, c .if1 .left)))  -- returns-3
+    (λ c. in-edition (c .before .before .before .before .before .before .before .before .before .before .args .input .now) (c .before .before .before .before .before .before .before .before .before .before .args .out .now) (c .before .before .before .before .before .before .before .before .before .before .args .edition) (omega (arith, c .before .before .before .before .before .before .before .if1 .taken)) (sym (ap known (c .before .before .before .before .e .given .1)) ∙ c .before .before .before .before .before .before .edition-of .ensures) (c .before .before .in-edition .ensures))  -- returns
+    (λ c. search needs)  -- enum-told
+    (λ c. no-edition (c .before .before .before .before .before .before .before .args .input .now) (c .before .before .before .before .before .before .before .args .out .now) (c .before .before .before .before .before .before .before .args .edition) (omega (arith, c .before .before .before .before .if1 .taken)) (sym (ap known (c .before .enum-told .given .1)) ∙ c .before .before .before .edition-of .ensures))  -- returns-2
+    (λ c. too-long (c .before .before .before .args .input .now) (c .before .before .before .args .out .now) (c .before .before .before .args .edition) (omega (arith, c .if1 .left)))  -- returns-3
     )

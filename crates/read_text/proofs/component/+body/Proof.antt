@@ -23,7 +23,7 @@ use Rattle.read_text.proofs.component.+body.{statement}
 use Rattle.read_text.proofs.component.+body.Tie.{close}
 
 abbrev μ-body : Measures 2 body-kinds.ps ℕ
-μ-body κs a = a .1 .1 .1 .1 .1 .1 .0
+μ-body κs a = a .1 .1 .1 .1 .1 .1 .1 .0
 
 abbrev body-at : ℕ → In 2 body-kinds.ps
 body-at t = and 2 body-kinds.ps (is 2 body-kinds.ps μ-body t) body.Pre
@@ -36,11 +36,11 @@ abbrev claims : ℕ → body-lts.Claims
 claims t = (next-line-reads.Asked, next-line-reads.Learnt, method-for-reads.Asked, method-for-reads.Learnt, body-below t, body.Post, complete-counts-reads.Asked, complete-counts-reads.Learnt, bump-reads.Asked, bump-reads.Learnt, action-after-reads.Asked, action-after-reads.Learnt)
 
 abbrev body-Inv-loop : body-lts.InvT-loop
-body-Inv-loop mode s from k name v left method at₀ counts₀ action₀ inner₀ at counts action inner =
-    Reached (upper (rest mode name v)) left method mode s from at counts action inner
+body-Inv-loop edition mode s from k name v left method at₀ counts₀ action₀ inner₀ at counts action inner =
+    Reached edition (upper (rest mode name v)) left method mode s from at counts action inner
 
 abbrev body-μ-loop : body-lts.MeasureT-loop
-body-μ-loop mode s from k name v left method at₀ counts₀ action₀ inner₀ at counts action inner = length s - at
+body-μ-loop edition mode s from k name v left method at₀ counts₀ action₀ inner₀ at counts action inner = length s - at
 
 pub +body-spec : {M : Type 1} → statement M
 +body-spec = close μ-body
@@ -58,10 +58,10 @@ pub +body-spec : {M : Type 1} → statement M
     (λ c. starts-left (c .before .before .before .before .before .before .loop .inv) refl (c .before .before .before .before .next-line .ensures) (c .before .before .kind .given .1))  -- sub-body
     (λ c κs. (omega (arith, (c .before .before .before .before .before .before .before .before .before .pre), starts-left (c .before .before .before .before .before .before .loop .inv) refl (c .before .before .before .before .next-line .ensures) (c .before .before .kind .given .1)), ((c .before .before .before .before .next-line .ensures) .high, starts-number (c .before .before .before .before .before .before .loop .inv) refl (c .before .before .before .before .next-line .ensures) (c .before .before .kind .given .1))))  -- body-requires
     (λ c. search needs)  -- enum-known-next
-    (λ c. let b = (subst (Body _ _ _ _ _ _) (c .before .next .given .1) (c .before .before .before .body .ensures)) in omega (arith, b .ends .0, b .ends .1 .most, (c .before .before .before .before .before .before .before .before .next-line .ensures) .low))  -- loop-less
-    (λ c. reached-inner (c .before .before .before .before .before .before .before .before .before .before .loop .inv) refl (c .before .before .before .before .before .before .before .before .next-line .ensures) (c .before .before .before .before .before .before .kind .given .1) (c .before .before .before .before .before .before .before .before .before .before .before .before .before .pre .1 .1) (c .before .before .before .before .method-for .ensures) (subst (Body _ _ _ _ _ _) (c .before .next .given .1) (c .before .before .before .body .ensures)))  -- loop-again
+    (λ c. let b = (subst (Body _ _ _ _ _ _ _) (c .before .next .given .1) (c .before .before .before .body .ensures)) in omega (arith, b .ends .0, b .ends .1 .most, (c .before .before .before .before .before .before .before .before .next-line .ensures) .low))  -- loop-less
+    (λ c. reached-inner (c .before .before .before .before .before .before .before .before .before .before .loop .inv) refl (c .before .before .before .before .before .before .before .before .next-line .ensures) (c .before .before .before .before .before .before .kind .given .1) (c .before .before .before .before .before .before .before .before .before .before .before .before .before .pre .1 .1) (c .before .before .before .before .method-for .ensures) (subst (Body _ _ _ _ _ _ _) (c .before .next .given .1) (c .before .before .before .body .ensures)))  -- loop-again
     (λ c. search needs)  -- enum-known-r
-    (λ c. body-inner (c .before .before .before .before .before .before .before .before .before .before .loop .inv) refl (c .before .before .before .before .before .before .before .before .next-line .ensures) (c .before .before .before .before .before .before .kind .given .1) (c .before .before .before .before .before .before .before .before .before .before .before .before .before .pre .1 .1) (c .before .before .before .before .method-for .ensures) (subst (Body _ _ _ _ _ _) (c .before .r .given .1) (c .before .before .before .body .ensures)))  -- returns
+    (λ c. body-inner (c .before .before .before .before .before .before .before .before .before .before .loop .inv) refl (c .before .before .before .before .before .before .before .before .next-line .ensures) (c .before .before .before .before .before .before .kind .given .1) (c .before .before .before .before .before .before .before .before .before .before .before .before .before .pre .1 .1) (c .before .before .before .before .method-for .ensures) (subst (Body _ _ _ _ _ _ _) (c .before .r .given .1) (c .before .before .before .body .ensures)))  -- returns
     (λ c. search needs)  -- enum-told
     (λ c κs. search needs)  -- complete-counts-requires
     (λ c. body-closed (c .before .before .before .before .before .before .loop .inv) refl (c .before .before .before .before .next-line .ensures) (c .before .before .enum-told .given .1) (c .before .before .before .before .before .before .before .before .before .pre .1 .1) (c .before .complete-counts .ensures) (c .if1 .taken))  -- returns-2

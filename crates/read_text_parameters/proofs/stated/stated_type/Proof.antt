@@ -8,16 +8,16 @@ use Rattle.read_text_parameters.proofs.stated.stated_type.Statement.{st
 use Rattle.read_text_parameters.proofs.stated.stated_type.Tie as tie
 
 abbrev Inv-loop : tie.InvT-loop
-Inv-loop default mode s e c₀ c = Stating default mode s e c
+Inv-loop edition default mode s e c₀ c = Stating edition default mode s e c
 
 abbrev μ-loop : tie.MeasureT-loop
-μ-loop default mode s e c₀ c = 4 * length s - c
+μ-loop edition default mode s e c₀ c = 4 * length s - c
 
 pub stated-type-spec : {M : Type 1} → statement M
 stated-type-spec = tie.close (tie.spec
     Inv-loop
     μ-loop
-    (λ c. stated-start _ _ _ _)  -- loop-holds
+    (λ c. stated-start _ _ _ _ _)  -- loop-holds
     (λ c κs. search needs)  -- next-param-requires
     (λ c κs. search needs)  -- is-value-name-requires
     (λ c κs. search needs)  -- type-in-requires

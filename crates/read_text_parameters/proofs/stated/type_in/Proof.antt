@@ -8,8 +8,9 @@ pub type-in-spec : {M : Type 1} → statement M
 type-in-spec = tie.close (tie.spec
     (λ c κs. search needs)  -- param-value-requires
     (λ c κs. search needs)  -- is-last-requires
+    (λ c κs. search needs)  -- value-mode-requires
     (λ c κs. search needs)  -- named-type-requires
-    (λ c. value-single (c .before .before .before .before .before .before .pre) (c .before .before .before .before .param-value .ensures) (c .before .before .before .if1 .taken) (c .before .before .is-last .ensures) (c .before .if2 .taken) (c .named-type .ensures))  -- returns
-    (λ c. value-several (c .before .before .before .before .before .pre) (c .before .before .before .param-value .ensures) (c .before .before .if1 .taken) (c .before .is-last .ensures) (c .if2 .left))  -- returns-2
-    (λ c. value-none (c .before .before .before .pre) (c .before .param-value .ensures) (c .if1 .left))  -- returns-3
+    (λ c. value-single _ (c .before .before .before .before .before .before .before .pre) (c .before .before .before .before .before .param-value .ensures) (c .before .before .before .before .if1 .taken) (c .before .before .before .is-last .ensures) (c .before .value-mode .ensures) (c .before .before .if2 .taken) (c .named-type .ensures))  -- returns
+    (λ c. value-several _ (c .before .before .before .before .before .pre) (c .before .before .before .param-value .ensures) (c .before .before .if1 .taken) (c .before .is-last .ensures) (c .if2 .left))  -- returns-2
+    (λ c. value-none _ (c .before .before .before .pre) (c .before .param-value .ensures) (c .if1 .left))  -- returns-3
     )

@@ -9,16 +9,16 @@ use Rattle.read_text_parameters.proofs.walk.read_parameters.Statement.{
 use Rattle.read_text_parameters.proofs.walk.read_parameters.Tie as tie
 
 abbrev Inv-loop : tie.InvT-loop
-Inv-loop row mode s e c₀ n₀ c n = Stepping row mode s e c n
+Inv-loop edition row mode s e c₀ n₀ c n = Stepping edition row mode s e c n
 
 abbrev μ-loop : tie.MeasureT-loop
-μ-loop row mode s e c₀ n₀ c n = 4 * length s - c
+μ-loop edition row mode s e c₀ n₀ c n = 4 * length s - c
 
 pub read-parameters-spec : {M : Type 1} → statement M
 read-parameters-spec = tie.close (tie.spec
     Inv-loop
     μ-loop
-    (λ c. step-start _ _ _ _)  -- loop-holds
+    (λ c. step-start _ _ _ _ _)  -- loop-holds
     (λ c κs. search needs)  -- next-param-requires
     (λ c κs. search needs)  -- number-at-requires
     (λ c κs. search needs)  -- sought-requires

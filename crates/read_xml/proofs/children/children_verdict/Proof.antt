@@ -6,10 +6,10 @@ use Rattle.read_xml.proofs.children.children_verdict.Statement.{stateme
 use Rattle.read_xml.proofs.children.children_verdict.Tie as tie
 
 abbrev Inv-loop : tie.InvT-loop
-Inv-loop context s inside e at₀ next₀ first₀ second₀ at next first second = Walking context s inside e at next first second
+Inv-loop edition context s inside e at₀ next₀ first₀ second₀ at next first second = Walking edition context s inside e at next first second
 
 abbrev μ-loop : tie.MeasureT-loop
-μ-loop context s inside e at₀ next₀ first₀ second₀ at next first second = length s - at
+μ-loop edition context s inside e at₀ next₀ first₀ second₀ at next first second = length s - at
 
 pub children-verdict-spec : {M : Type 1} → statement M
 children-verdict-spec = tie.close (tie.spec

@@ -6,10 +6,10 @@ use Rattle.read_xml.proofs.component.head.Statement.{statement}
 use Rattle.read_xml.proofs.component.head.Tie as tie
 
 abbrev Inv-loop : tie.InvT-loop
-Inv-loop k method s inside e at₀ had₀ kept₀ at had kept = Heading k method s inside e at had kept
+Inv-loop edition k method s inside e at₀ had₀ kept₀ at had kept = Heading edition k method s inside e at had kept
 
 abbrev μ-loop : tie.MeasureT-loop
-μ-loop k method s inside e at₀ had₀ kept₀ at had kept = length s - at
+μ-loop edition k method s inside e at₀ had₀ kept₀ at had kept = length s - at
 
 pub head-spec : {M : Type 1} → statement M
 head-spec = tie.close (tie.spec

@@ -6,10 +6,10 @@ use Rattle.read_xml.proofs.properties.properties_verdict.Statement.{sta
 use Rattle.read_xml.proofs.properties.properties_verdict.Tie as tie
 
 abbrev Inv-loop : tie.InvT-loop
-Inv-loop k s inside at₀ kept₀ at kept = Listing k s inside at kept
+Inv-loop edition k s inside at₀ kept₀ at kept = Listing edition k s inside at kept
 
 abbrev μ-loop : tie.MeasureT-loop
-μ-loop k s inside at₀ kept₀ at kept = length s - at
+μ-loop edition k s inside at₀ kept₀ at kept = length s - at
 
 pub properties-verdict-spec : {M : Type 1} → statement M
 properties-verdict-spec = tie.close (tie.spec

@@ -6,10 +6,10 @@ use Rattle.read_xml.proofs.root.stream_verdict.Statement.{statement}
 use Rattle.read_xml.proofs.root.stream_verdict.Tie as tie
 
 abbrev Inv-loop : tie.InvT-loop
-Inv-loop s inside e at₀ any₀ at any = Streaming s inside e at any
+Inv-loop edition s inside e at₀ any₀ at any = Streaming edition s inside e at any
 
 abbrev μ-loop : tie.MeasureT-loop
-μ-loop s inside e at₀ any₀ at any = length s - at
+μ-loop edition s inside e at₀ any₀ at any = length s - at
 
 pub stream-verdict-spec : {M : Type 1} → statement M
 stream-verdict-spec = tie.close (tie.spec

@@ -18,7 +18,7 @@ use Rattle.read_xml.proofs.subcomponents.+component_verdict+components_
 use Rattle.read_xml.proofs.subcomponents.+component_verdict+components_verdict.Tie.{close}
 
 abbrev μ-component-verdict : Measures 1 component-verdict-kinds.ps ℕ
-μ-component-verdict κs a = 2 * (a .1 .1 .1 .0) + 1
+μ-component-verdict κs a = 2 * (a .1 .1 .1 .1 .0) + 1
 
 abbrev component-verdict-at : ℕ → In 1 component-verdict-kinds.ps
 component-verdict-at t = and 1 component-verdict-kinds.ps (is 1 component-verdict-kinds.ps μ-component-verdict t) component-verdict.Pre
@@ -27,7 +27,7 @@ abbrev component-verdict-below : ℕ → In 1 component-verdict-kinds.ps
 component-verdict-below t = and 1 component-verdict-kinds.ps (falls 1 component-verdict-kinds.ps _<_ μ-component-verdict t) component-verdict.Pre
 
 abbrev μ-components-verdict : Measures 1 components-verdict-kinds.ps ℕ
-μ-components-verdict κs a = 2 * (a .1 .1 .1 .0)
+μ-components-verdict κs a = 2 * (a .1 .1 .1 .1 .0)
 
 abbrev components-verdict-at : ℕ → In 1 components-verdict-kinds.ps
 components-verdict-at t = and 1 components-verdict-kinds.ps (is 1 components-verdict-kinds.ps μ-components-verdict t) components-verdict.Pre
@@ -43,10 +43,10 @@ abbrev components-verdict-claims : ℕ → components-verdict-lts.Claims
 components-verdict-claims t = (sub-at-reads.Asked, sub-at-reads.Learnt, component-verdict-below t, component-verdict.Post)
 
 abbrev components-verdict-Inv-loop : components-verdict-lts.InvT-loop
-components-verdict-Inv-loop s inside k left method e at₀ any₀ at any = Among k left method s inside e at any
+components-verdict-Inv-loop edition s inside k left method e at₀ any₀ at any = Among edition k left method s inside e at any
 
 abbrev components-verdict-μ-loop : components-verdict-lts.MeasureT-loop
-components-verdict-μ-loop s inside k left method e at₀ any₀ at any = length s - at
+components-verdict-μ-loop edition s inside k left method e at₀ any₀ at any = length s - at
 
 pub +component-verdict+components-verdict-spec : {M : Type 1} → statement M
 +component-verdict+components-verdict-spec = close μ-component-verdict μ-components-verdict

@@ -17,10 +17,10 @@ use Rattle.read_xml_parameters.proofs.verdict.parameters_verdict.Statem
 use Rattle.read_xml_parameters.proofs.verdict.parameters_verdict.Tie as tie
 
 abbrev Inv-loop : tie.InvT-loop
-Inv-loop row t s inside c₀ i₀ fresh₀ c i fresh = Told row t s inside c i × (i ≤ c) × (distinct (firstNames (nodesAt s inside) fresh) ≡ true)
+Inv-loop edition row t s inside c₀ i₀ fresh₀ c i fresh = Told edition row t s inside c i × (i ≤ c) × (distinct (firstNames (nodesAt s inside) fresh) ≡ true)
 
 abbrev μ-loop : tie.MeasureT-loop
-μ-loop row t s inside c₀ i₀ fresh₀ c i fresh = length s - c
+μ-loop edition row t s inside c₀ i₀ fresh₀ c i fresh = length s - c
 
 pub parameters-verdict-spec : {M : Type 1} → statement M
 parameters-verdict-spec = tie.close (tie.spec

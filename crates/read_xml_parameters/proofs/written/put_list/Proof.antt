@@ -12,10 +12,10 @@ use Rattle.read_xml_parameters.proofs.written.put_list.Statement.{state
 use Rattle.read_xml_parameters.proofs.written.put_list.Tie as tie
 
 abbrev Inv-loop : tie.InvT-loop
-Inv-loop out₀ o q s at p₀ later₀ c₀ out p later c = Emits out₀ o (listShown (rowAt q) false (nodesAt s at)) out p (listShown (rowAt q) later (nodesAt s c))
+Inv-loop out₀ o edition q s at p₀ later₀ c₀ out p later c = Emits out₀ o (listShown edition (rowAt q) false (nodesAt s at)) out p (listShown edition (rowAt q) later (nodesAt s c))
 
 abbrev μ-loop : tie.MeasureT-loop
-μ-loop out₀ o q s at p₀ later₀ c₀ out p later c = length s - c
+μ-loop out₀ o edition q s at p₀ later₀ c₀ out p later c = length s - c
 
 pub put-list-spec : {M : Type 1} → statement M
 put-list-spec = tie.close (tie.spec

@@ -9,10 +9,10 @@ use Rattle.read_xml_parameters.proofs.written.put_parameters.Statement.
 use Rattle.read_xml_parameters.proofs.written.put_parameters.Tie as tie
 
 abbrev Inv-loop : tie.InvT-loop
-Inv-loop out₀ o s inside p₀ c₀ out p c = Emits out₀ o (parametersShown (nodesAt s inside)) out p (parametersShown (nodesAt s c))
+Inv-loop out₀ o edition s inside p₀ c₀ out p c = Emits out₀ o (parametersShown edition (nodesAt s inside)) out p (parametersShown edition (nodesAt s c))
 
 abbrev μ-loop : tie.MeasureT-loop
-μ-loop out₀ o s inside p₀ c₀ out p c = length s - c
+μ-loop out₀ o edition s inside p₀ c₀ out p c = length s - c
 
 pub put-parameters-spec : {M : Type 1} → statement M
 put-parameters-spec = tie.close (tie.spec

@@ -17,7 +17,7 @@ use Rattle.write_text.proofs.components.+put_components.{statement}
 use Rattle.write_text.proofs.components.+put_components.Tie.{close}
 
 abbrev μ-put-components : Measures 3 put-components-kinds.ps ℕ
-μ-put-components κs a = a .1 .1 .1 .1 .1 .0
+μ-put-components κs a = a .1 .1 .1 .1 .1 .1 .0
 
 abbrev put-components-at : ℕ → In 3 put-components-kinds.ps
 put-components-at t =
@@ -36,10 +36,10 @@ abbrev claims : ℕ → put-components-lts.Claims
 claims t = (next-node-reads.Asked, next-node-reads.Learnt, put-head-reads.Asked, put-head-reads.Learnt, components-inside-reads.Asked, components-inside-reads.Learnt, put-components-below t, put-components.Post, put-tail-reads.Asked, put-tail-reads.Learnt)
 
 abbrev put-components-Inv-loop : put-components-lts.InvT-loop
-put-components-Inv-loop out₀ o line₀ s from left p₀ at₀ out line p at = Walking (inner left) s from out₀ o line₀ out p line at
+put-components-Inv-loop out₀ o edition line₀ s from left p₀ at₀ out line p at = Walking edition (inner left) s from out₀ o line₀ out p line at
 
 abbrev put-components-μ-loop : put-components-lts.MeasureT-loop
-put-components-μ-loop out₀ o line₀ s from left p₀ at₀ out line p at = length s - at
+put-components-μ-loop out₀ o edition line₀ s from left p₀ at₀ out line p at = length s - at
 
 pub +put-components-spec : {M : Type 1} → statement M
 +put-components-spec = close μ-put-components

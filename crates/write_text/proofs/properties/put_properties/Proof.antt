@@ -6,10 +6,10 @@ use Rattle.write_text.proofs.properties.put_properties.Statement.{state
 use Rattle.write_text.proofs.properties.put_properties.Tie as tie
 
 abbrev Inv-loop : tie.InvT-loop
-Inv-loop out₀ o line₀ s from p₀ at₀ out line p at = Walking own s from out₀ o line₀ out p line at
+Inv-loop out₀ o edition line₀ s from p₀ at₀ out line p at = Walking edition own s from out₀ o line₀ out p line at
 
 abbrev μ-loop : tie.MeasureT-loop
-μ-loop out₀ o line₀ s from p₀ at₀ out line p at = length s - at
+μ-loop out₀ o edition line₀ s from p₀ at₀ out line p at = length s - at
 
 pub put-properties-spec : {M : Type 1} → statement M
 put-properties-spec = tie.close (tie.spec

@@ -17,7 +17,7 @@ use Rattle.write_xml.proofs.components.+put_components.{statement}
 use Rattle.write_xml.proofs.components.+put_components.Tie.{close}
 
 abbrev μ-put-components : Measures 2 put-components-kinds.ps ℕ
-μ-put-components κs a = a .1 .1 .1 .1 .1 .0
+μ-put-components κs a = a .1 .1 .1 .1 .1 .1 .0
 
 abbrev put-components-at : ℕ → In 2 put-components-kinds.ps
 put-components-at t =
@@ -40,10 +40,10 @@ abbrev claims : ℕ → put-components-lts.Claims
 claims t = (bound-at-reads.Asked, bound-at-reads.Learnt, put-head-reads.Asked, put-head-reads.Learnt, put-tail-reads.Asked, put-tail-reads.Learnt, put-components-below t, put-components.Post)
 
 abbrev put-components-Inv-loop : put-components-lts.InvT-loop
-put-components-Inv-loop out₀ o mode s from left p₀ at₀ out p at = Walking (inner left) mode s from out₀ o out p at
+put-components-Inv-loop out₀ o edition mode s from left p₀ at₀ out p at = Walking edition (inner left) mode s from out₀ o out p at
 
 abbrev put-components-μ-loop : put-components-lts.MeasureT-loop
-put-components-μ-loop out₀ o mode s from left p₀ at₀ out p at = length s - at
+put-components-μ-loop out₀ o edition mode s from left p₀ at₀ out p at = length s - at
 
 pub +put-components-spec : {M : Type 1} → statement M
 +put-components-spec = close μ-put-components

@@ -6,10 +6,10 @@ use Rattle.write_xml.proofs.passing.pass_component.Statement.{statement
 use Rattle.write_xml.proofs.passing.pass_component.Tie as tie
 
 abbrev Inv-loop : tie.InvT-loop
-Inv-loop mode s from at₀ depth₀ at depth = Passing mode s from at depth
+Inv-loop edition mode s from at₀ depth₀ at depth = Passing edition mode s from at depth
 
 abbrev μ-loop : tie.MeasureT-loop
-μ-loop mode s from at₀ depth₀ at depth = length s - at
+μ-loop edition mode s from at₀ depth₀ at depth = length s - at
 
 pub pass-component-spec : {M : Type 1} → statement M
 pass-component-spec = tie.close (tie.spec

@@ -1,7 +1,7 @@
 -- `write_xml_parameters::line::put_each` meets its contract.
 use Prim.Native.Nat.{_*_, _-_}
 use lib.ListN.{length}
-use Rattle.read_text_line.specs.Cursor.{paramsAt}
+use Rattle.read_text_line.specs.Decoded.{paramsIn}
 use Rattle.read_text_line.specs.laws.Params.{param-less}
 use Rattle.write_xml_parameters.specs.Shown.{ownShown}
 use Rattle.write_xml_parameters.specs.laws.Walk.{Writing, writing-start, param-written, params-over, params-fault}
@@ -10,10 +10,10 @@ use Rattle.write_xml_parameters.proofs.line.put_each.Statement.{stateme
 use Rattle.write_xml_parameters.proofs.line.put_each.Tie as tie
 
 abbrev Inv-loop : tie.InvT-loop
-Inv-loop out₀ o mode s at q₀ c₀ out q c = Writing ownShown out₀ o (paramsAt mode s at) out q (paramsAt mode s c)
+Inv-loop out₀ o edition mode s at q₀ c₀ out q c = Writing ownShown out₀ o (paramsIn edition mode s at) out q (paramsIn edition mode s c)
 
 abbrev μ-loop : tie.MeasureT-loop
-μ-loop out₀ o mode s at q₀ c₀ out q c = 4 * length s - c
+μ-loop out₀ o edition mode s at q₀ c₀ out q c = 4 * length s - c
 
 pub put-each-spec : {M : Type 1} → statement M
 put-each-spec = tie.close (tie.spec

@@ -9,6 +9,7 @@ use Rattle.write_xml_parameters.proofs.value.put_cut_value.Tie as tie
 pub put-cut-value-spec : {M : Type 1} → statement M
 put-cut-value-spec = tie.close (tie.spec
     (λ c κs. search writing)  -- smaller-requires
+    (λ c κs. search writing)  -- value-mode-requires
     (λ c. simp length-take (omega arith))  -- slice-aggregate-put-value
     (λ c κs. search writing)  -- put-value-requires
     (λ c. search writing)  -- same-length

@@ -5,7 +5,7 @@ use Rattle.source.specs.Source.{rest}
 use Rattle.read_text_line.specs.ContentLine.{nextValue}
 use Rattle.read_text_line.specs.Items.{items}
 use Rattle.read_text_line.specs.laws.Values.{value-less}
-use Rattle.write_xml_parameters.specs.Shown.{charsShown}
+use Rattle.write_xml_parameters.specs.Shown.{charsIn}
 use Rattle.write_xml_parameters.specs.Parts.{rowAt}
 use Rattle.write_xml_parameters.specs.laws.Walk.{Writing, writing-start, value-written, values-over, values-fault}
 use Rattle.sink.specs.laws.Sink.{writing}
@@ -13,10 +13,10 @@ use Rattle.write_xml_parameters.proofs.value.put_next_values.Statement.
 use Rattle.write_xml_parameters.proofs.value.put_next_values.Tie as tie
 
 abbrev Inv-loop : tie.InvT-loop
-Inv-loop out₀ o q mode s at p₀ c₀ out p c = Writing (charsShown (rowAt q)) out₀ o (items nextValue (rest mode s at)) out p (items nextValue (rest mode s c))
+Inv-loop out₀ o edition q mode s at p₀ c₀ out p c = Writing (charsIn edition (rowAt q)) out₀ o (items nextValue (rest mode s at)) out p (items nextValue (rest mode s c))
 
 abbrev μ-loop : tie.MeasureT-loop
-μ-loop out₀ o q mode s at p₀ c₀ out p c = 4 * length s - c
+μ-loop out₀ o edition q mode s at p₀ c₀ out p c = 4 * length s - c
 
 pub put-next-values-spec : {M : Type 1} → statement M
 put-next-values-spec = tie.close (tie.spec

@@ -1,0 +1,3 @@
+-- Laws. The editions of iCalendar text.
+--     Carets       what is encoded is decoded; lengths; what the bytes pass
+pub mod Carets
