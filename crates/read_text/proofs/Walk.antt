@@ -73,6 +73,11 @@ module _ (ed : Edition) where
     pub high : Ready m s at
     pub agrees : linesVerdict ed (length (rest m s 0)) (lines (rest m s 0)) ≡ onFrom ed m s at []
 
+lines-verdict : (ed : Edition) (e : ℕ) (ls : List Line) → 0 < length ls → linesVerdict ed e ls ≡ nesting ed e ls []
+unfolding linesVerdict
+lines-verdict ed e [] h = absurd (omega arith)
+lines-verdict ed e (l ∷ ls) h = refl
+
 module _ {ed : Edition} where
   pub reached-none : (c : List ℕ) (left : ℕ) (method : Bool) (m : ℕ) (s : List ℕ) (from : ℕ) → Ready m s from → Reached ed c left method m s from from (replicate property.KNOWN 0) 3 false
   unfolding tallies actionOf
@@ -160,11 +165,6 @@ module _ {ed : Edition} where
         unfolding onward pick refusalAt offset
         body-short f = record { ends = r .high .most; agrees = λ st i j. let z : index m s at + 0 ≡ index m s at = omega arith in stopped st i j ∙ rw f (ap (refuse COUNT) z) }
 
-  lines-verdict : (e : ℕ) (ls : List Line) → 0 < length ls → linesVerdict ed e ls ≡ nesting ed e ls []
-  unfolding linesVerdict
-  lines-verdict e [] h = absurd (omega arith)
-  lines-verdict e (l ∷ ls) h = refl
-
   -- the first line begins behind folds
   pub between-none : {m : ℕ} {s : List ℕ} {c : ℕ} → cuts m ≡ true → Settled m s 0 c → c < length s → Between ed m s c
   between-none {m} {s} {c} y p h = record {
@@ -174,7 +174,7 @@ module _ {ed : Edition} where
     where
       some : (l : List ℕ) → (l ≡ [] → ⊥) → linesVerdict ed (length l) (lines l) ≡ nesting ed (length l) (lines l) []
       some [] h = absurd (h refl)
-      some (a ∷ l) h = lines-verdict (length (a ∷ l)) (lines (a ∷ l)) (lines-some a l 0)
+      some (a ∷ l) h = lines-verdict ed (length (a ∷ l)) (lines (a ∷ l)) (lines-some a l 0)
 
   module _ {m : ℕ} {s : List ℕ} {at : ℕ} (r : Between ed m s at) where
     pub between-more : {next : ℕ} → Outer ed m s at (Closed next) → Between ed m s next

@@ -7,6 +7,7 @@ use mathlib.Core.Bool.{Bool, true, false, not}
 use mathlib.Core.List.{List}
 use mathlib.Core.Option.{Option}
 use Prim.Native.Nat.{ℕ, _≤_, _<_}
+use native.Mathlib.Omega.{arith}
 use lib.Dec.{eqb, ltb}
 use lib.ListN.{length, length-map}
 use borrow.Author.Tests.{eq-eqb, lt-ltb, le-ltb}
@@ -80,7 +81,7 @@ module _ {k : ℕ} {row : Row} (inner : Bool) (c w : List ℕ) (o : k ≡ placeO
   unfolding _and_ _or_
   hold-other f u = u ∙ sym (hold-at ∙ rw (le-ltb (row .number) property.KNOWN f))
 
-module _ {ed : Edition} where
+module _ (ed : Edition) where
   -- ---- its line
 
   module _ (v : Bool) (m : ℕ) (s : List ℕ) (c : LineCursors) (w n : List ℕ) {row : Row} (inner : Bool) {b : Bool} (e : row ≡ rowAt (placeOf (upper w) propertyNames)) (q : b ≡ mayHold (upper w) (openAs n inner)) where
@@ -101,7 +102,7 @@ module _ {ed : Edition} where
       property-parameter {i} z x = record {
         place = parameterName i;
         is = kind-as (Parameter i) z;
-        there = x (let n = length-map (paramsAt m s (c .parameters)) (decodedParameter ed) in let v = fault-within n (decodedLine ed (lineFrom w m s c)) i (fault-as (Parameter i) z) in omega (arith, n, v));
+        there = x (let j = length-map (paramsAt m s (c .parameters)) (decodedParameter ed) in let y = fault-within n (decodedLine ed (lineFrom w m s c)) i (fault-as (Parameter i) z) in omega (arith, j, y));
       }
 
       pub property-encoding : f ≡ Encoding → KindIs (PlaceOf m s c) v m s (propertyKind n inner (decodedLine ed (lineFrom w m s c))) (Faulty 7 (c .value))

@@ -82,10 +82,27 @@ some-params (r ∷ rs) h = omega arith
 pub name-within : {m : ℕ} {s : List ℕ} {at : ℕ} {l : LineCursors} → LineAt m s at (Line l) → at ≤ length s → l .name ≤ length s
 name-within {s = s} a h = subst (λ (n : ℕ). n ≤ length s) (sym (a .parts .0)) h
 
-module _ {ed : Edition} where
+-- its name
+module _ {m : ℕ} {s : List ℕ} {l : LineCursors} (y : cuts m ≡ true) (p : Parts m s l) where
+  -- cut out
+  pub name-cut : rest m (take (l .parameters) s) (l .name) ≡ runOf isNameChar (rest m s (l .name))
+  name-cut = name-chars y (p .name)
+
+  pub name-count : l .name ≤ length s → l .parameters ≡ length (take (l .parameters) s)
+  name-count h = sym (length-take-le (l .parameters) s (p .name .plain y h))
+
+  -- compared
+  pub name-is : (w : List ℕ) {t : Bool} → t ≡ same (upper (rest m (take (l .parameters) s) (l .name))) w → t ≡ same (upper (runOf isNameChar (rest m s (l .name)))) w
+  name-is w q = q ∙ ap (λ (n : List ℕ). same (upper n) w) name-cut
+
+  -- and looked up
+  pub name-row : {row : Row} → row ≡ rowAt (placeOf (upper (rest m (take (l .parameters) s) (l .name))) propertyNames) → row ≡ rowAt (placeOf (upper (runOf isNameChar (rest m s (l .name)))) propertyNames)
+  name-row q = q ∙ ap (λ (n : List ℕ). rowAt (placeOf (upper n) propertyNames)) name-cut
+
+module _ (ed : Edition) where
   -- ---- decoding keeps the names and the count of the parameters
 
-  module _ {m : ℕ} {s : List ℕ} {e : ℕ} {b : Bool} where
+  module _ (m : ℕ) (s : List ℕ) (e : ℕ) {b : Bool} where
     pub bare-in : isEmpty (paramsAt m s e) ≡ b → isEmpty (paramsIn ed m s e) ≡ b
     bare-in h = map-empty (decodedParameter ed) (paramsAt m s e) ∙ h
 
@@ -116,14 +133,14 @@ module _ {ed : Edition} where
 
         module _ (g : v ≡ true) {p : Bool} (z : p ≡ isEmpty (paramsAt m s (y .parameters))) where
           pub begin-starts : p ≡ true → KindIs (PlaceOf m s y) v m s (beginKind c v (decodedLine ed (lineFrom w m s y))) (Starts n (y .value))
-          begin-starts x = (pick-yes _ _ _ good ∙ pick-yes _ _ _ (and-yes _ _ (contains ∙ f) g) ∙ pick-yes _ _ _ (bare-in (sym z ∙ x)), e, g)
+          begin-starts x = (pick-yes _ _ _ good ∙ pick-yes _ _ _ (and-yes _ _ (contains ∙ f) g) ∙ pick-yes _ _ _ (bare-in m s (y .parameters) (sym z ∙ x)), e, g)
 
           pub begin-parameters : {i : ℕ} → p ≡ false → (0 < length (paramsAt m s (y .parameters)) → NameAt m s (y .parameters) 0 i) →
               KindIs (PlaceOf m s y) v m s (beginKind c v (decodedLine ed (lineFrom w m s y))) (Faulty 7 i)
           unfolding refusalAt
           begin-parameters x u = record {
             place = parameterName 0;
-            is = pick-yes _ _ _ good ∙ pick-yes _ _ _ (and-yes _ _ (contains ∙ f) g) ∙ pick-no _ _ _ (bare-in (sym z ∙ x));
+            is = pick-yes _ _ _ good ∙ pick-yes _ _ _ (and-yes _ _ (contains ∙ f) g) ∙ pick-no _ _ _ (bare-in m s (y .parameters) (sym z ∙ x));
             there = u (some-params (paramsAt m s (y .parameters)) (sym z ∙ x));
           }
 
@@ -136,53 +153,38 @@ module _ {ed : Edition} where
 
     module _ (h : a ≡ true) {p : Bool} (z : p ≡ isEmpty (paramsAt m s (y .parameters))) where
       pub end-stops : p ≡ true → KindIs (PlaceOf m s y) v m s (endKind c (decodedLine ed (lineFrom w m s y))) Stops
-      end-stops x = pick-yes _ _ _ (sym d ∙ h) ∙ pick-yes _ _ _ (bare-in (sym z ∙ x))
+      end-stops x = pick-yes _ _ _ (sym d ∙ h) ∙ pick-yes _ _ _ (bare-in m s (y .parameters) (sym z ∙ x))
 
       pub end-parameters : {i : ℕ} → p ≡ false → (0 < length (paramsAt m s (y .parameters)) → NameAt m s (y .parameters) 0 i) →
           KindIs (PlaceOf m s y) v m s (endKind c (decodedLine ed (lineFrom w m s y))) (Faulty 7 i)
       unfolding refusalAt
       end-parameters x u = record {
         place = parameterName 0;
-        is = pick-yes _ _ _ (sym d ∙ h) ∙ pick-no _ _ _ (bare-in (sym z ∙ x));
+        is = pick-yes _ _ _ (sym d ∙ h) ∙ pick-no _ _ _ (bare-in m s (y .parameters) (sym z ∙ x));
         there = u (some-params (paramsAt m s (y .parameters)) (sym z ∙ x));
       }
 
   -- ---- a line
 
   module _ {m : ℕ} {s : List ℕ} {l : LineCursors} (y : cuts m ≡ true) (p : Parts m s l) where
-    -- its name, cut out
-    pub name-cut : rest m (take (l .parameters) s) (l .name) ≡ runOf isNameChar (rest m s (l .name))
-    name-cut = name-chars y (p .name)
-
-    pub name-count : l .name ≤ length s → l .parameters ≡ length (take (l .parameters) s)
-    name-count h = sym (length-take-le (l .parameters) s (p .name .plain y h))
-
-    -- its name compared
-    pub name-is : (w : List ℕ) {t : Bool} → t ≡ same (upper (rest m (take (l .parameters) s) (l .name))) w → t ≡ same (upper (runOf isNameChar (rest m s (l .name)))) w
-    name-is w q = q ∙ ap (λ (n : List ℕ). same (upper n) w) name-cut
-
-    -- and looked up
-    pub name-row : {row : Row} → row ≡ rowAt (placeOf (upper (rest m (take (l .parameters) s) (l .name))) propertyNames) → row ≡ rowAt (placeOf (upper (runOf isNameChar (rest m s (l .name)))) propertyNames)
-    name-row q = q ∙ ap (λ (n : List ℕ). rowAt (placeOf (upper n) propertyNames)) name-cut
-
     module _ (n : List ℕ) (v inner : Bool) {c : Bool} (q : c ≡ (isCarriedName (runOf isNameChar (rest m s (l .name))) and every carriesName (paramsAt m s (l .parameters)))) where
       pub kind-uncarried : c ≡ false → KindIs (PlaceOf m s l) v m s (kindBy n v inner (decodedLine ed (named m s l))) (Faulty 5 (l .name))
       unfolding kindBy namesCarried refusalAt
-      kind-uncarried f = record { place = lineStart; is = pick-no _ _ _ (sym (carried-in _ q) ∙ f); there = refl }
+      kind-uncarried f = record { place = lineStart; is = pick-no _ _ _ (sym (carried-in m s (l .parameters) _ q) ∙ f); there = refl }
 
       module _ (r : Kind) {b : Bool} (f : c ≡ true) (i : b ≡ same (upper (rest m (take (l .parameters) s) (l .name))) (ascii "BEGIN")) where
         pub kind-begin : b ≡ true → KindIs (PlaceOf m s l) v m s (beginKind n v (decodedLine ed (named m s l))) r → KindIs (PlaceOf m s l) v m s (kindBy n v inner (decodedLine ed (named m s l))) r
         unfolding kindBy namesCarried
-        kind-begin g x = kind-yes _ v m s r _ _ _ (sym (carried-in _ q) ∙ f) (kind-yes _ v m s r _ _ _ (sym (name-is (ascii "BEGIN") i) ∙ g) x)
+        kind-begin g x = kind-yes _ v m s r _ _ _ (sym (carried-in m s (l .parameters) _ q) ∙ f) (kind-yes _ v m s r _ _ _ (sym (name-is y p (ascii "BEGIN") i) ∙ g) x)
 
         module _ {d : Bool} (g : b ≡ false) (j : d ≡ same (upper (rest m (take (l .parameters) s) (l .name))) (ascii "END")) where
           pub kind-end : d ≡ true → KindIs (PlaceOf m s l) v m s (endKind n (decodedLine ed (named m s l))) r → KindIs (PlaceOf m s l) v m s (kindBy n v inner (decodedLine ed (named m s l))) r
           unfolding kindBy namesCarried
-          kind-end z x = kind-yes _ v m s r _ _ _ (sym (carried-in _ q) ∙ f) (kind-no _ v m s r _ _ _ (sym (name-is (ascii "BEGIN") i) ∙ g) (kind-yes _ v m s r _ _ _ (sym (name-is (ascii "END") j) ∙ z) x))
+          kind-end z x = kind-yes _ v m s r _ _ _ (sym (carried-in m s (l .parameters) _ q) ∙ f) (kind-no _ v m s r _ _ _ (sym (name-is y p (ascii "BEGIN") i) ∙ g) (kind-yes _ v m s r _ _ _ (sym (name-is y p (ascii "END") j) ∙ z) x))
 
           pub kind-property : d ≡ false → KindIs (PlaceOf m s l) v m s (propertyKind n inner (decodedLine ed (named m s l))) r → KindIs (PlaceOf m s l) v m s (kindBy n v inner (decodedLine ed (named m s l))) r
           unfolding kindBy namesCarried
-          kind-property z x = kind-yes _ v m s r _ _ _ (sym (carried-in _ q) ∙ f) (kind-no _ v m s r _ _ _ (sym (name-is (ascii "BEGIN") i) ∙ g) (kind-no _ v m s r _ _ _ (sym (name-is (ascii "END") j) ∙ z) x))
+          kind-property z x = kind-yes _ v m s r _ _ _ (sym (carried-in m s (l .parameters) _ q) ∙ f) (kind-no _ v m s r _ _ _ (sym (name-is y p (ascii "BEGIN") i) ∙ g) (kind-no _ v m s r _ _ _ (sym (name-is y p (ascii "END") j) ∙ z) x))
 
   module _ (n : List ℕ) (v inner : Bool) (m : ℕ) (s : List ℕ) (at : ℕ) where
     pub kind-bad : LineAt m s at Bad → KindIs (OffsetAt m s at) v m s (lineKind ed n v inner (rest m s at)) (Faulty 4 at)

@@ -51,7 +51,7 @@ later : {m : ℕ} {s : List ℕ} {at e n : ℕ} → Ready m s at → LineEnds m 
 later q f (Closed next) z = let l = line-low q f in (omega (arith, l, z .0), z .1)
 later q f (Failed i p) z = z
 
-module _ {ed : Edition} where
+module _ (ed : Edition) where
   -- ---- BEGIN
 
   module _ (m : ℕ) (s : List ℕ) (l : LineCursors) {d : Bool} (q : d ≡ isComponentName (rest m s (l .value))) where
@@ -75,32 +75,32 @@ module _ {ed : Edition} where
         unfolding begins refusalAt
         outer-parameters g x = record {
           place = parameterName 0;
-          is = pick-yes _ _ _ good ∙ pick-yes _ _ _ (is-calendar ∙ eq-eqb n 0 f) ∙ pick-no _ _ _ (bare-in {ed} (sym p ∙ g));
+          is = pick-yes _ _ _ good ∙ pick-yes _ _ _ (is-calendar ∙ eq-eqb n 0 f) ∙ pick-no _ _ _ (bare-in ed m s (l .parameters) (sym p ∙ g));
           there = x (some-params (paramsAt m s (l .parameters)) (sym p ∙ g));
         }
 
         pub outer-begins : b ≡ true → OpeningIs (PlaceOf m s l) m s (beginsOuter ed m s l) (Begins (l .value))
         unfolding begins
-        outer-begins g = (pick-yes _ _ _ good ∙ pick-yes _ _ _ (is-calendar ∙ eq-eqb n 0 f) ∙ pick-yes _ _ _ (bare-in {ed} (sym p ∙ g)), sym f ∙ e)
+        outer-begins g = (pick-yes _ _ _ good ∙ pick-yes _ _ _ (is-calendar ∙ eq-eqb n 0 f) ∙ pick-yes _ _ _ (bare-in ed m s (l .parameters) (sym p ∙ g)), sym f ∙ e)
 
   -- ---- a line
 
   module _ {m : ℕ} {s : List ℕ} {l : LineCursors} (y : cuts m ≡ true) (p : Parts m s l) {c : Bool} (q : c ≡ (isCarriedName (runOf isNameChar (rest m s (l .name))) and every carriesName (paramsAt m s (l .parameters)))) where
     pub outer-uncarried : c ≡ false → OpeningIs (PlaceOf m s l) m s (moveBy (decodedLine ed (named m s l)) []) (Faulty 5 (l .name))
     unfolding moveBy namesCarried pick refusalAt
-    outer-uncarried f = record { place = lineStart; is = rw (sym (carried-in {ed} _ q) ∙ f); there = refl }
+    outer-uncarried f = record { place = lineStart; is = rw (sym (carried-in ed m s (l .parameters) _ q) ∙ f); there = refl }
 
     module _ {b : Bool} (f : c ≡ true) (i : b ≡ same (upper (rest m (take (l .parameters) s) (l .name))) (ascii "BEGIN")) where
       pub outer-begin : (r : Opening) → b ≡ true → OpeningIs (PlaceOf m s l) m s (beginsOuter ed m s l) r → OpeningIs (PlaceOf m s l) m s (moveBy (decodedLine ed (named m s l)) []) r
       unfolding moveBy namesCarried
-      outer-begin r g x = subst (λ (z : Move). OpeningIs (PlaceOf m s l) m s z r) (sym (pick-yes _ _ _ (sym (carried-in _ q) ∙ f) ∙ pick-yes _ _ _ (sym (name-is y p (ascii "BEGIN") i) ∙ g))) x
+      outer-begin r g x = subst (λ (z : Move). OpeningIs (PlaceOf m s l) m s z r) (sym (pick-yes _ _ _ (sym (carried-in ed m s (l .parameters) _ q) ∙ f) ∙ pick-yes _ _ _ (sym (name-is y p (ascii "BEGIN") i) ∙ g))) x
 
       pub outer-stray : b ≡ false → OpeningIs (PlaceOf m s l) m s (moveBy (decodedLine ed (named m s l)) []) (Faulty 6 (l .name))
       unfolding moveBy namesCarried
       outer-stray g = record {
         place = lineStart;
         is =
-            pick-yes _ _ _ (sym (carried-in _ q) ∙ f) ∙ pick-no _ _ _ (sym (name-is y p (ascii "BEGIN") i) ∙ g)
+            pick-yes _ _ _ (sym (carried-in ed m s (l .parameters) _ q) ∙ f) ∙ pick-no _ _ _ (sym (name-is y p (ascii "BEGIN") i) ∙ g)
             ∙ pick-either (λ (x : Move). x ≡ stop (fault (refusalAt 6) lineStart)) _ _ _ stray-end stray-property;
         there = refl;
       }
@@ -128,7 +128,7 @@ module _ {ed : Edition} where
 
   pub outer-loose : {m : ℕ} {s : List ℕ} {at : ℕ} → Ready m s at → at < length s → EndsLine m s at Loose → Outer ed m s at (Failed 4 at)
   unfolding refusalAt
-  outer-loose {m} {s} {at} q h f = record { ends = q .most; agrees = loose-stops m s at [] q h f }
+  outer-loose {m} {s} {at} q h f = record { ends = q .most; agrees = loose-stops ed m s at [] q h f }
 
   module _ {m : ℕ} {s : List ℕ} {at e n : ℕ} (r : Opening) (q : Ready m s at) (f : LineEnds m s at e n) (x : OpeningIs (OffsetAt m (take e s) at) m (take e s) (move ed (rest m (take e s) at) []) r) where
     opening-as : (o : Opening) → r ≡ o → OpeningIs (OffsetAt m (take e s) at) m (take e s) (move ed (rest m (take e s) at) []) o
@@ -139,11 +139,11 @@ module _ {ed : Edition} where
     outer-fault {i} {c} h =
         let z = opening-as (Faulty i c) h in
         let p = place-in-text q f (z .there) in
-        record { ends = p .most; agrees = line-moves q f [] ∙ rw (z .is) (ap (refuse (refusalAt i)) (sym (p .is))) }
+        record { ends = p .most; agrees = line-moves ed q f [] ∙ rw (z .is) (ap (refuse (refusalAt i)) (sym (p .is))) }
 
     pub outer-number : {v : ℕ} → r ≡ Begins v → 0 ≡ placeOf (upper (rest m (take e s) v)) componentNames
     outer-number {v} h = opening-as (Begins v) h .1
 
     pub outer-body : {v : ℕ} (t : Step) → r ≡ Begins v → Body ed (upper (rest m (take e s) v)) 8 false m s n t → Outer ed m s at t
     unfolding onward
-    outer-body {v} t h b = record { ends = later q f t (b .ends); agrees = line-moves q f [] ∙ rw (opening-as (Begins v) h .0) (b .agrees [] refl refl) }
+    outer-body {v} t h b = record { ends = later q f t (b .ends); agrees = line-moves ed q f [] ∙ rw (opening-as (Begins v) h .0) (b .agrees [] refl refl) }

@@ -25,7 +25,7 @@ use Rattle.read_text.specs.Turns.{onFrom, openIn, Turned}
 use Rattle.read_text.specs.declared.Kind.{Kind}
 use Rattle.read_text.specs.declared.Kind.the-variants.{Starts, Stops, Holds, Faulty}
 
-module _ {ed : Edition} where
+module _ (ed : Edition) where
   -- ---- a line
 
   module _ {m : ℕ} {s : List ℕ} {at e n : ℕ} (r : Ready m s at) (f : LineEnds m s at e n) where

@@ -62,7 +62,7 @@ module _ (ed : Edition) where
   unfoldable pub parametersShown : Nodes → List ℕ
   parametersShown kids = joined (map writeParameter (map (encodedParameter ed) (map rawOf (readParameterNodes kids))))
 
-module _ {ed : Edition} where
+module _ (ed : Edition) where
   -- ---- the values of a parameter
 
   skips-list : (r : ParameterRow) (later : Bool) → Skips (listShown ed r later)

@@ -189,7 +189,7 @@ module _ (w : List ℕ) {s : List ℕ} {at : ℕ} {r : Child} (n : ChildAt s at 
 
 skips-plain : Skips arePlain
 unfolding arePlain
-skips-plain = record { literals = λ p b more. refl; references = λ p bs more. refl }
+skips-plain = record { over-literal = λ p b more. refl; over-referred = λ p bs more. refl }
 
 module _ {s : List ℕ} {from at : ℕ} {r : Child} (p : Passing arePlain s from at) (n : ChildAt s at r) where
   pub plain-none : r .there ≡ false → true ≡ arePlain (nodesAt s from)

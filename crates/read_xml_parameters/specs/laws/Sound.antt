@@ -121,7 +121,7 @@ module _ (n : List ℕ) (kids : Nodes) where
         go true false e = refl
         go true true e = base64 (eqb-true _ _ e)
 
-module _ {ed : Edition} where
+module _ (ed : Edition) where
   -- ---- all of it
 
   module _ (row : Row) (t q : ℕ) (kids : Nodes) {a : Bool} (e : a ≡ permitsAt row t q) where

@@ -84,7 +84,7 @@ module _ (ed : Edition) where
   abbrev pub Judges : Row → ℕ → List ℕ → ℕ → Judged → Type 0
   Judges row t s from j = (w : List ℕ) → row ≡ rowAt (placeOf w propertyNames) → t ≤ 14 → judgedAs j ≡ parametersVerdict ed w (typeAt t) (nodesAt s from) []
 
-module _ {ed : Edition} where
+module _ (ed : Edition) where
   -- ---- one parameter
 
   module _ (row : Row) (t : ℕ) (m : List ℕ) (kids : Nodes) {a again : Bool} (e : a ≡ again) where
@@ -107,7 +107,7 @@ module _ {ed : Edition} where
   pub verdict-is : (w : List ℕ) (row : Row) (t : ℕ) (s : List ℕ) (from at : ℕ) (m : List ℕ) (x : ℕ) (kids : Nodes) (seen : List (List ℕ)) → row ≡ rowAt (placeOf w propertyNames) → t ≤ 14 →
       isBefore m at (nodesAt s from) ≡ isOneOf m seen → parameterVerdict ed w (typeAt t) seen at m x kids ≡ verdictAt ed row t s from at m x kids
   unfolding parameterVerdict judgedBy againstBy
-  verdict-is w row t s from at m x kids seen h k e = rw (e, sound-is w (upper m) row t kids h k)
+  verdict-is w row t s from at m x kids seen h k e = rw (e, sound-is ed w (upper m) row t kids h k)
 
   pub told-start : (row : Row) (t : ℕ) (s : List ℕ) (from : ℕ) → Told ed row t s from from 0
   unfolding isOneOf _or_

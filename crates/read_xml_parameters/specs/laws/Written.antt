@@ -122,11 +122,18 @@ module _ (q : ℕ) (l : List ℕ) {a : Bool} (e : a ≡ parameterAt q .quoted) w
       unfolding quotedAt rowAt
       quoted-comma m p = or-skip _ _ _ (sym e ∙ h) (or-skip _ _ _ (sym f ∙ k) (or-skip _ _ _ (sym g ∙ m) p))
 
+pub truth-put : {d e : List ℕ} {o n : ℕ} (l : List ℕ) {r : BooleanRead} {b : Bool} → readBoolean xcal l ≡ truthOf r → r ≡ Truth b → Put d e o n (writeBoolean ical b) → Put d e o n (truthShown l)
+unfolding truthShown
+truth-put l k h p = rw (k, h) p
+
 pub truth-none : {d : List ℕ} {o : ℕ} (l : List ℕ) {r : BooleanRead} → readBoolean xcal l ≡ truthOf r → r ≡ Bad → length d * 1 < 2 ^ 63 → Put d d o o (truthShown l)
 unfolding truthShown
 truth-none {d} {o} l k h z = rw (k, h) (put-none d o z)
 
-module _ {ed : Edition} where
+read : (q : ℕ) (kids : Nodes) {a : Bool} → a ≡ allValues (rowAt q) kids → a ≡ isRead (readLeaves (rowAt q) kids)
+read q kids e = e ∙ sym (all-read (rowAt q) kids)
+
+module _ (ed : Edition) where
   module _ (l : List ℕ) (v : Value) where
     -- a type whose characters are kept
     kept : (z t : Bool) (make : List ℕ → Value) → paramChars (make l) ≡ l → Option·map make (pick t (some l) none) ≡ some v → plainShown ed z l ≡ writeParamValue (encodedValue ed (record { quoted = z or needsQuotes (paramChars v); chars = paramChars v }))
@@ -192,10 +199,6 @@ module _ {ed : Edition} where
     unfolding quotedAt
     plain-put h p = rw h at p
 
-    pub truth-put : {r : BooleanRead} {b : Bool} → readBoolean xcal l ≡ truthOf r → r ≡ Truth b → Put d e o n (writeBoolean ical b) → Put d e o n (truthShown l)
-    unfolding truthShown
-    truth-put k h p = rw (k, h) p
-
     module _ (kids : Nodes) {t : ℕ} (i : l ≡ charactersOf kids) (h : t ≡ typePlace (parameterAt q .type)) where
       pub value-truth : t ≡ 1 → Put d e o n (truthShown l) → Put d e o n (valueShown ed (rowAt q) (charactersOf kids))
       unfolding valueShown rowAt sameType
@@ -215,12 +218,9 @@ module _ {ed : Edition} where
     item-first h x = rw (h, append-empty (valueShown ed r l)) x
 
   module _ (q : ℕ) (kids : Nodes) {a : Bool} (e : a ≡ allValues (rowAt q) kids) where
-    read : a ≡ isRead (readLeaves (rowAt q) kids)
-    read = e ∙ sym (all-read (rowAt q) kids)
-
     pub values-put : {d f : List ℕ} {o n : ℕ} → a ≡ true → Put d f o n (listShown ed (rowAt q) false kids) → Put d f o n (valuesShown ed (rowAt q) kids)
     unfolding valuesShown isRead readOr
-    values-put {d} {f} {o} {n} h p = go (readLeaves (rowAt q) kids) refl (sym read ∙ h)
+    values-put {d} {f} {o} {n} h p = go (readLeaves (rowAt q) kids) refl (sym (read q kids e) ∙ h)
       where
         go : (v : Option (List Value)) → readLeaves (rowAt q) kids ≡ v → isRead v ≡ true → Put d f o n (joinedBy 44 (texts ed (rowAt q) (readOr [] v)))
         go none i k = absurd (false≢true k)
@@ -228,7 +228,7 @@ module _ {ed : Edition} where
 
     pub values-unread : {d : List ℕ} {o : ℕ} → a ≡ false → length d * 1 < 2 ^ 63 → Put d d o o (valuesShown ed (rowAt q) kids)
     unfolding valuesShown isRead readOr joinedBy
-    values-unread {d} {o} h z = go (readLeaves (rowAt q) kids) (sym read ∙ h)
+    values-unread {d} {o} h z = go (readLeaves (rowAt q) kids) (sym (read q kids e) ∙ h)
       where
         go : (v : Option (List Value)) → isRead v ≡ false → Put d d o o (joinedBy 44 (texts ed (rowAt q) (readOr [] v)))
         go none k = put-none d o z

@@ -183,7 +183,7 @@ none-unknown : isKnownProperty [] ≡ false
 unfolding octets-compute isKnownProperty
 none-unknown = refl
 
-stand-outside : (c w : List ℕ) → isOneOf c componentNames ≡ false → mayStand c w ≡ mayStand [] w
+pub stand-outside : (c w : List ℕ) → isOneOf c componentNames ≡ false → mayStand c w ≡ mayStand [] w
 unfolding octets-compute mayStand componentRow
 stand-outside c w u = go (isAlarm c) (same-swap (ascii "VALARM") c (same-apart (λ v. isOneOf v componentNames) (ascii "VALARM") c alarm-known u)) (componentRow c) (outside-row c u)
   where
@@ -298,9 +298,9 @@ unfolding octets-compute componentRow
 none-stands c = sym (not-true _ (row-any-passes (λ r. r .name) c (λ r. not (isOneOf [] (r .subcomponents))) unknownComponent componentTable refl refl))
 
 -- which of the schema's components
-listed-place : (c w : List ℕ) → isOneOf w (subcomponentsOf c) ≡ isOneOf (componentName (placeOf w componentNames)) (componentAt (placeOf c componentNames) .subcomponents)
+sub-place : (c w : List ℕ) → isOneOf w (subcomponentsOf c) ≡ isOneOf (componentName (placeOf w componentNames)) (componentAt (placeOf c componentNames) .subcomponents)
 unfolding pick
-listed-place c w = rw (← (component-place c), placed w componentNames) (go (isOneOf w componentNames) refl (isOneOf w (subcomponentsOf c)) refl)
+sub-place c w = rw (← (component-place c), placed w componentNames) (go (isOneOf w componentNames) refl (isOneOf w (subcomponentsOf c)) refl)
   where
     go : (b : Bool) → isOneOf w componentNames ≡ b → (a : Bool) → isOneOf w (subcomponentsOf c) ≡ a → a ≡ isOneOf (pick b w []) (subcomponentsOf c)
     go true e a f = sym f
@@ -313,7 +313,7 @@ known-place c = one-of-place c componentNames
 
 pub begin-place : (c w : List ℕ) → mayContain c w ≡ mayBegin (placeOf c componentNames) (placeOf w componentNames)
 unfolding mayContain
-begin-place c w = rw (listed-place c w, known-place c, known-place w, calendar-place c)
+begin-place c w = rw (sub-place c w, known-place c, known-place w, calendar-place c)
 
 pub alarm-place : (c : List ℕ) → isAlarm c ≡ eqb (placeOf c componentNames) 8
 alarm-place c = same-place c (ascii "VALARM") componentNames alarm-known ∙ rw alarm-at

@@ -12,7 +12,7 @@ content-opens-spec = tie.close (tie.spec
     (λ c. search needs)  -- slice-aggregate-is-word-any-case-2
     (λ c κs. search needs)  -- is-word-any-case-requires
     (λ c κs. search needs)  -- begin-opens-requires
-    (λ c. outer-begin (c .before .before .before .before .before .before .before .before .pre .2) (c .before .before .before .before .before .before .before .before .pre .1) (c .before .before .before .before .before .before .names-carried .ensures) (c .before .before .before .before .before .if1 .taken) (c .before .before .is-word-any-case .ensures) (c .begin-opens .result) (c .before .if2 .taken) (c .begin-opens .ensures))  -- returns
-    (λ c. outer-stray (c .before .before .before .before .before .before .before .pre .2) (c .before .before .before .before .before .before .before .pre .1) (c .before .before .before .before .before .names-carried .ensures) (c .before .before .before .before .if1 .taken) (c .before .is-word-any-case .ensures) (c .if2 .left))  -- returns-2
-    (λ c. outer-uncarried (c .before .before .before .pre .2) (c .before .before .before .pre .1) (c .before .names-carried .ensures) (c .if1 .left))  -- returns-3
+    (λ c. outer-begin _ (c .before .before .before .before .before .before .before .before .pre .2) (c .before .before .before .before .before .before .before .before .pre .1) (c .before .before .before .before .before .before .names-carried .ensures) (c .before .before .before .before .before .if1 .taken) (c .before .before .is-word-any-case .ensures) (c .begin-opens .result) (c .before .if2 .taken) (c .begin-opens .ensures))  -- returns
+    (λ c. outer-stray _ (c .before .before .before .before .before .before .before .pre .2) (c .before .before .before .before .before .before .before .pre .1) (c .before .before .before .before .before .names-carried .ensures) (c .before .before .before .before .if1 .taken) (c .before .is-word-any-case .ensures) (c .if2 .left))  -- returns-2
+    (λ c. outer-uncarried _ (c .before .before .before .pre .2) (c .before .before .before .pre .1) (c .before .names-carried .ensures) (c .if1 .left))  -- returns-3
     )

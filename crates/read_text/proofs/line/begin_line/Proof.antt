@@ -11,10 +11,10 @@ begin-line-spec = tie.close (tie.spec
     (λ c κs. search needs)  -- component-number-requires
     (λ c κs. search needs)  -- may-begin-requires
     (λ c κs. search needs)  -- no-params-requires
-    (λ c. λ n w o. begin-starts _ (c .before .before .before .before .before .before .before .before .before .args .mode) (c .before .before .before .before .before .before .before .before .before .args .s .now) w (c .before .before .before .before .before .before .before .before .before .args .l) n (c .before .before .before .before .before .before .before .is-component-name .ensures) (c .before .before .before .before .before .before .if1 .taken) o (c .before .before .before .before .before .component-number .ensures) (c .before .before .before .before .may-begin .ensures) (c .before .before .before .if2 .taken) (lt-ltb 0 _ (c .before .before .if3 .taken)) (c .before .no-params .ensures) (c .if4 .taken))  -- returns
+    (λ c. λ n w o. begin-starts _ _ (c .before .before .before .before .before .before .before .before .before .args .mode) (c .before .before .before .before .before .before .before .before .before .args .s .now) w (c .before .before .before .before .before .before .before .before .before .args .l) n (c .before .before .before .before .before .before .before .is-component-name .ensures) (c .before .before .before .before .before .before .if1 .taken) o (c .before .before .before .before .before .component-number .ensures) (c .before .before .before .before .may-begin .ensures) (c .before .before .before .if2 .taken) (lt-ltb 0 _ (c .before .before .if3 .taken)) (c .before .no-params .ensures) (c .if4 .taken))  -- returns
     (λ c κs. search needs)  -- parameter-cursor-requires
-    (λ c. λ n w o. begin-parameters _ (c .before .before .before .before .before .before .before .before .before .before .args .mode) (c .before .before .before .before .before .before .before .before .before .before .args .s .now) w (c .before .before .before .before .before .before .before .before .before .before .args .l) n (c .before .before .before .before .before .before .before .before .is-component-name .ensures) (c .before .before .before .before .before .before .before .if1 .taken) o (c .before .before .before .before .before .before .component-number .ensures) (c .before .before .before .before .before .may-begin .ensures) (c .before .before .before .before .if2 .taken) (lt-ltb 0 _ (c .before .before .before .if3 .taken)) (c .before .before .no-params .ensures) (c .before .if4 .left) (c .parameter-cursor .ensures))  -- returns-2
-    (λ c. λ n w o. begin-deep _ (c .before .before .before .before .before .before .before .args .mode) (c .before .before .before .before .before .before .before .args .s .now) w (c .before .before .before .before .before .before .before .args .l) n (c .before .before .before .before .before .is-component-name .ensures) (c .before .before .before .before .if1 .taken) o (c .before .before .before .component-number .ensures) (c .before .before .may-begin .ensures) (c .before .if2 .taken) (le-ltb 0 _ (c .if3 .left)))  -- returns-3
-    (λ c. λ n w o. begin-not _ (c .before .before .before .before .before .before .args .mode) (c .before .before .before .before .before .before .args .s .now) w (c .before .before .before .before .before .before .args .l) n (c .before .before .before .before .is-component-name .ensures) (c .before .before .before .if1 .taken) o (c .before .before .component-number .ensures) (c .before .may-begin .ensures) (c .if2 .left))  -- returns-4
-    (λ c. λ n w o. begin-unnamed _ (c .before .before .before .args .mode) (c .before .before .before .args .s .now) w (c .before .before .before .args .l) n (c .before .is-component-name .ensures) (c .if1 .left))  -- returns-5
+    (λ c. λ n w o. begin-parameters _ _ (c .before .before .before .before .before .before .before .before .before .before .args .mode) (c .before .before .before .before .before .before .before .before .before .before .args .s .now) w (c .before .before .before .before .before .before .before .before .before .before .args .l) n (c .before .before .before .before .before .before .before .before .is-component-name .ensures) (c .before .before .before .before .before .before .before .if1 .taken) o (c .before .before .before .before .before .before .component-number .ensures) (c .before .before .before .before .before .may-begin .ensures) (c .before .before .before .before .if2 .taken) (lt-ltb 0 _ (c .before .before .before .if3 .taken)) (c .before .before .no-params .ensures) (c .before .if4 .left) (c .parameter-cursor .ensures))  -- returns-2
+    (λ c. λ n w o. begin-deep _ _ (c .before .before .before .before .before .before .before .args .mode) (c .before .before .before .before .before .before .before .args .s .now) w (c .before .before .before .before .before .before .before .args .l) n (c .before .before .before .before .before .is-component-name .ensures) (c .before .before .before .before .if1 .taken) o (c .before .before .before .component-number .ensures) (c .before .before .may-begin .ensures) (c .before .if2 .taken) (le-ltb 0 _ (c .if3 .left)))  -- returns-3
+    (λ c. λ n w o. begin-not _ _ (c .before .before .before .before .before .before .args .mode) (c .before .before .before .before .before .before .args .s .now) w (c .before .before .before .before .before .before .args .l) n (c .before .before .before .before .is-component-name .ensures) (c .before .before .before .if1 .taken) o (c .before .before .component-number .ensures) (c .before .may-begin .ensures) (c .if2 .left))  -- returns-4
+    (λ c. λ n w o. begin-unnamed _ _ (c .before .before .before .args .mode) (c .before .before .before .args .s .now) w (c .before .before .before .args .l) n (c .before .is-component-name .ensures) (c .if1 .left))  -- returns-5
     )

@@ -8,8 +8,8 @@ pub end-line-spec : {M : Type 1} → statement M
 end-line-spec = tie.close (tie.spec
     (λ c κs. search needs)  -- is-same-name-requires
     (λ c κs. search needs)  -- no-params-requires
-    (λ c. λ g w. end-stops g (c .before .before .before .before .before .before .args .mode) (c .before .before .before .before .before .before .args .s .now) w (c .before .before .before .before .before .before .args .l) _ (c .before .before .before .is-same-name .ensures) (c .before .before .if1 .taken) (c .before .no-params .ensures) (c .if2 .taken))  -- returns
+    (λ c. λ g w. end-stops _ g (c .before .before .before .before .before .before .args .mode) (c .before .before .before .before .before .before .args .s .now) w (c .before .before .before .before .before .before .args .l) _ (c .before .before .before .is-same-name .ensures) (c .before .before .if1 .taken) (c .before .no-params .ensures) (c .if2 .taken))  -- returns
     (λ c κs. search needs)  -- parameter-cursor-requires
-    (λ c. λ g w. end-parameters g (c .before .before .before .before .before .before .before .args .mode) (c .before .before .before .before .before .before .before .args .s .now) w (c .before .before .before .before .before .before .before .args .l) _ (c .before .before .before .before .is-same-name .ensures) (c .before .before .before .if1 .taken) (c .before .before .no-params .ensures) (c .before .if2 .left) (c .parameter-cursor .ensures))  -- returns-2
-    (λ c. λ g w. end-other g (c .before .before .before .before .args .mode) (c .before .before .before .before .args .s .now) w (c .before .before .before .before .args .l) _ (c .before .is-same-name .ensures) (c .if1 .left))  -- returns-3
+    (λ c. λ g w. end-parameters _ g (c .before .before .before .before .before .before .before .args .mode) (c .before .before .before .before .before .before .before .args .s .now) w (c .before .before .before .before .before .before .before .args .l) _ (c .before .before .before .before .is-same-name .ensures) (c .before .before .before .if1 .taken) (c .before .before .no-params .ensures) (c .before .if2 .left) (c .parameter-cursor .ensures))  -- returns-2
+    (λ c. λ g w. end-other _ g (c .before .before .before .before .args .mode) (c .before .before .before .before .args .s .now) w (c .before .before .before .before .args .l) _ (c .before .is-same-name .ensures) (c .if1 .left))  -- returns-3
     )

@@ -15,13 +15,13 @@ row-line-spec = tie.close (tie.spec
     (λ c κs. search needs)  -- property-fault-requires
     (λ c. search needs)  -- enum-known-f
     (λ c κs. search needs)  -- parameter-cursor-requires
-    (λ c. λ g n w o e. property-parameter g (c .before .before .before .before .before .before .before .before .args .mode) (c .before .before .before .before .before .before .before .before .args .s .now) (c .before .before .before .before .before .before .before .before .args .l) w n (c .before .before .before .before .before .before .before .before .args .inner) e (c .before .before .before .before .before .before .may-hold .ensures n (upper w) o e) (c .before .before .before .before .before .if1 .taken) (fault-named n (decodedLine (c .before .before .before .before .before .before .before .before .args .edition) (lineFrom w (c .before .before .before .before .before .before .before .before .args .mode) (c .before .before .before .before .before .before .before .before .args .s .now) (c .before .before .before .before .before .before .before .before .args .l))) (c .before .before .before .before .property-fault .ensures) o e refl refl) (c .before .before .f .given .1) (c .parameter-cursor .ensures))  -- returns
+    (λ c. λ g n w o e. property-parameter _ g (c .before .before .before .before .before .before .before .before .args .mode) (c .before .before .before .before .before .before .before .before .args .s .now) (c .before .before .before .before .before .before .before .before .args .l) w n (c .before .before .before .before .before .before .before .before .args .inner) e (c .before .before .before .before .before .before .may-hold .ensures n (upper w) o e) (c .before .before .before .before .before .if1 .taken) (fault-named n (decodedLine (c .before .before .before .before .before .before .before .before .args .edition) (lineFrom w (c .before .before .before .before .before .before .before .before .args .mode) (c .before .before .before .before .before .before .before .before .args .s .now) (c .before .before .before .before .before .before .before .before .args .l))) (c .before .before .before .before .property-fault .ensures) o e refl refl) (c .before .before .f .given .1) (c .parameter-cursor .ensures))  -- returns
     (λ c. search needs)  -- enum-told
-    (λ c. λ g n w o e. property-encoding g (c .before .before .before .before .before .before .args .mode) (c .before .before .before .before .before .before .args .s .now) (c .before .before .before .before .before .before .args .l) w n (c .before .before .before .before .before .before .args .inner) e (c .before .before .before .before .may-hold .ensures n (upper w) o e) (c .before .before .before .if1 .taken) (fault-named n (decodedLine (c .before .before .before .before .before .before .args .edition) (lineFrom w (c .before .before .before .before .before .before .args .mode) (c .before .before .before .before .before .before .args .s .now) (c .before .before .before .before .before .before .args .l))) (c .before .before .property-fault .ensures) o e refl refl) (c .enum-told .given .1))  -- returns-2
+    (λ c. λ g n w o e. property-encoding _ g (c .before .before .before .before .before .before .args .mode) (c .before .before .before .before .before .before .args .s .now) (c .before .before .before .before .before .before .args .l) w n (c .before .before .before .before .before .before .args .inner) e (c .before .before .before .before .may-hold .ensures n (upper w) o e) (c .before .before .before .if1 .taken) (fault-named n (decodedLine (c .before .before .before .before .before .before .args .edition) (lineFrom w (c .before .before .before .before .before .before .args .mode) (c .before .before .before .before .before .before .args .s .now) (c .before .before .before .before .before .before .args .l))) (c .before .before .property-fault .ensures) o e refl refl) (c .enum-told .given .1))  -- returns-2
     (λ c. search needs)  -- enum-told-2
-    (λ c. λ g n w o e. property-value g (c .before .before .before .before .before .before .args .mode) (c .before .before .before .before .before .before .args .s .now) (c .before .before .before .before .before .before .args .l) w n (c .before .before .before .before .before .before .args .inner) e (c .before .before .before .before .may-hold .ensures n (upper w) o e) (c .before .before .before .if1 .taken) (fault-named n (decodedLine (c .before .before .before .before .before .before .args .edition) (lineFrom w (c .before .before .before .before .before .before .args .mode) (c .before .before .before .before .before .before .args .s .now) (c .before .before .before .before .before .before .args .l))) (c .before .before .property-fault .ensures) o e refl refl) (c .enum-told2 .given .1))  -- returns-3
+    (λ c. λ g n w o e. property-value _ g (c .before .before .before .before .before .before .args .mode) (c .before .before .before .before .before .before .args .s .now) (c .before .before .before .before .before .before .args .l) w n (c .before .before .before .before .before .before .args .inner) e (c .before .before .before .before .may-hold .ensures n (upper w) o e) (c .before .before .before .if1 .taken) (fault-named n (decodedLine (c .before .before .before .before .before .before .args .edition) (lineFrom w (c .before .before .before .before .before .before .args .mode) (c .before .before .before .before .before .before .args .s .now) (c .before .before .before .before .before .before .args .l))) (c .before .before .property-fault .ensures) o e refl refl) (c .enum-told2 .given .1))  -- returns-3
     (λ c. search needs)  -- enum-told-3
     (λ c κs. search needs)  -- action-of-requires
-    (λ c. λ g n w o e. property-held g (c .before .before .before .before .before .before .before .args .mode) (c .before .before .before .before .before .before .before .args .s .now) (c .before .before .before .before .before .before .before .args .l) w n (c .before .before .before .before .before .before .before .args .inner) e (c .before .before .before .before .before .may-hold .ensures n (upper w) o e) (c .before .before .before .before .if1 .taken) (fault-named n (decodedLine (c .before .before .before .before .before .before .before .args .edition) (lineFrom w (c .before .before .before .before .before .before .before .args .mode) (c .before .before .before .before .before .before .before .args .s .now) (c .before .before .before .before .before .before .before .args .l))) (c .before .before .before .property-fault .ensures) o e refl refl) (c .before .enum-told3 .given .1) (c .action-of .ensures))  -- returns-4
-    (λ c. λ g n w o e. property-not g (c .before .before .before .args .mode) (c .before .before .before .args .s .now) (c .before .before .before .args .l) w n (c .before .before .before .args .inner) e (c .before .may-hold .ensures n (upper w) o e) (c .if1 .left))  -- returns-5
+    (λ c. λ g n w o e. property-held _ g (c .before .before .before .before .before .before .before .args .mode) (c .before .before .before .before .before .before .before .args .s .now) (c .before .before .before .before .before .before .before .args .l) w n (c .before .before .before .before .before .before .before .args .inner) e (c .before .before .before .before .before .may-hold .ensures n (upper w) o e) (c .before .before .before .before .if1 .taken) (fault-named n (decodedLine (c .before .before .before .before .before .before .before .args .edition) (lineFrom w (c .before .before .before .before .before .before .before .args .mode) (c .before .before .before .before .before .before .before .args .s .now) (c .before .before .before .before .before .before .before .args .l))) (c .before .before .before .property-fault .ensures) o e refl refl) (c .before .enum-told3 .given .1) (c .action-of .ensures))  -- returns-4
+    (λ c. λ g n w o e. property-not _ g (c .before .before .before .args .mode) (c .before .before .before .args .s .now) (c .before .before .before .args .l) w n (c .before .before .before .args .inner) e (c .before .may-hold .ensures n (upper w) o e) (c .if1 .left))  -- returns-5
     )

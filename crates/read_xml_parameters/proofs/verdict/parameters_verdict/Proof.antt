@@ -26,7 +26,7 @@ pub parameters-verdict-spec : {M : Type 1} → statement M
 parameters-verdict-spec = tie.close (tie.spec
     Inv-loop
     μ-loop
-    (λ c. (told-start _ _ _ _, omega arith, none-first _))  -- loop-holds
+    (λ c. (told-start _ _ _ _ _, omega arith, none-first _))  -- loop-holds
     (λ c κs. search needs)  -- next-node-requires
     (λ c. search telling)  -- enum-told
     (λ c. search telling)  -- returns
@@ -35,17 +35,17 @@ parameters-verdict-spec = tie.close (tie.spec
     (λ c. search telling)  -- sub-judge
     (λ c. search telling)  -- part-judge-start
     (λ c. search telling)  -- part-judge-end
-    (λ c κs. (c .before .before .before .before .before .before .before .pre, λ h. told-fresh (c .before .before .before .before .before .loop .inv .0) (c .before .before .before .before .next-node .ensures) (c .before .before .enum-told2 .given .1) (c .before .known-fresh .result) (c .before .known-fresh .ensures) h))  -- judge-requires
+    (λ c κs. (c .before .before .before .before .before .before .before .pre, λ h. told-fresh _ (c .before .before .before .before .before .loop .inv .0) (c .before .before .before .before .next-node .ensures) (c .before .before .enum-told2 .given .1) (c .before .known-fresh .result) (c .before .known-fresh .ensures) h))  -- judge-requires
     (λ c. search telling)  -- enum-told-3
     (λ c. omega (arith, element-onward (c .before .before .before .before .before .before .before .next-node .ensures) (c .before .before .before .before .before .enum-told2 .given .1)))  -- add-i
     (λ c. search telling)  -- loop-less
-    (λ c. (told-next (c .before .before .before .before .before .before .before .before .loop .inv .0) (c .before .before .before .before .before .before .before .next-node .ensures) (c .before .before .before .before .before .enum-told2 .given .1) (c .before .before .judge .ensures) (c .enum-told3 .given .1), omega (arith, element-onward (c .before .before .before .before .before .before .before .next-node .ensures) (c .before .before .before .before .before .enum-told2 .given .1)), c .before .before .before .before .known-fresh .ensures))  -- loop-again
+    (λ c. (told-next _ (c .before .before .before .before .before .before .before .before .loop .inv .0) (c .before .before .before .before .before .before .before .next-node .ensures) (c .before .before .before .before .before .enum-told2 .given .1) (c .before .before .judge .ensures) (c .enum-told3 .given .1), omega (arith, element-onward (c .before .before .before .before .before .before .before .next-node .ensures) (c .before .before .before .before .before .enum-told2 .given .1)), c .before .before .before .before .known-fresh .ensures))  -- loop-again
     (λ c. search telling)  -- enum-known-j
     (λ c. search telling)  -- returns-2
     (λ c. search telling)  -- enum-told-4
     (λ c κs. search needs)  -- is-space-requires
     (λ c. search telling)  -- loop-less-2
-    (λ c. (told-space (c .before .before .before .before .before .loop .inv .0) (c .before .before .before .before .next-node .ensures) (c .before .before .enum-told4 .given .1) (c .before .is-space .ensures) (c .if1 .taken), omega (arith, literal-onward (c .before .before .before .before .next-node .ensures) (c .before .before .enum-told4 .given .1)), c .before .before .before .before .before .loop .inv .2))  -- loop-again-2
+    (λ c. (told-space _ (c .before .before .before .before .before .loop .inv .0) (c .before .before .before .before .next-node .ensures) (c .before .before .enum-told4 .given .1) (c .before .is-space .ensures) (c .if1 .taken), omega (arith, literal-onward (c .before .before .before .before .next-node .ensures) (c .before .before .enum-told4 .given .1)), c .before .before .before .before .before .loop .inv .2))  -- loop-again-2
     (λ c. search telling)  -- returns-3
     (λ c. search telling)  -- enum-told-5
     (λ c. search telling)  -- returns-4
