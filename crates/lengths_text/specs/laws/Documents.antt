@@ -110,27 +110,27 @@ module _ (ed : Edition) where
       go true h k = omega (arith, h)
       go false h k = omega (arith, k)
 
-  none-shorter : (c : Components) → length (writeCalendar noMore) ≤ length (writeCalendar c)
+  none-shorter : (c : Components) → length (writeCalendar ed noMore) ≤ length (writeCalendar ed c)
   none-shorter c = unfold writeCalendar in omega arith
 
   -- the lines of a component, exactly
-  all-length : (n : List ℕ) (ps : List Property) (i x : Components) → length (writeCalendar (component n ps i x)) ≡
-      length (beginLine n) + length (propertyLines ps) + length (writeCalendar i) + length (endLine n) + length (writeCalendar x)
+  all-length : (n : List ℕ) (ps : List Property) (i x : Components) → length (writeCalendar ed (component n ps i x)) ≡
+      length (beginLine n) + length (propertyLines ed ps) + length (writeCalendar ed i) + length (endLine n) + length (writeCalendar ed x)
   unfolding writeCalendar
   all-length n ps i x =
-      let a : List ℕ = propertyLines ps in
-      let b : List ℕ = writeCalendar i in
-      let c : List ℕ = writeCalendar x in
+      let a : List ℕ = propertyLines ed ps in
+      let b : List ℕ = writeCalendar ed i in
+      let c : List ℕ = writeCalendar ed x in
       omega (arith, length-both (beginLine n) (a ⊕ b ⊕ endLine n ⊕ c), length-both a (b ⊕ endLine n ⊕ c), length-both b (endLine n ⊕ c), length-both (endLine n) c)
 
   -- without what stands too deep
-  shallow-length : (c : Components) (l : ℕ) → length (writeCalendar (shallow l c)) ≤ length (writeCalendar c)
+  shallow-length : (c : Components) (l : ℕ) → length (writeCalendar ed (shallow l c)) ≤ length (writeCalendar ed c)
   unfolding shallow
   shallow-length noMore l = omega arith
   shallow-length (component n ps inner next) l = go (ltb 0 l) (shallow-length inner (l - 1)) (shallow-length next l)
     where
-      go : (b : Bool) → length (writeCalendar (shallow (l - 1) inner)) ≤ length (writeCalendar inner) → length (writeCalendar (shallow l next)) ≤ length (writeCalendar next) →
-          length (writeCalendar (pick b (component n ps (shallow (l - 1) inner) (shallow l next)) noMore)) ≤ length (writeCalendar (component n ps inner next))
+      go : (b : Bool) → length (writeCalendar ed (shallow (l - 1) inner)) ≤ length (writeCalendar ed inner) → length (writeCalendar ed (shallow l next)) ≤ length (writeCalendar ed next) →
+          length (writeCalendar ed (pick b (component n ps (shallow (l - 1) inner) (shallow l next)) noMore)) ≤ length (writeCalendar ed (component n ps inner next))
       go true h k = unfold pick in omega (arith, all-length n ps inner next, all-length n ps (shallow (l - 1) inner) (shallow l next))
       go false h k = unfold pick in none-shorter (component n ps inner next)
 
