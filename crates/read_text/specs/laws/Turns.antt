@@ -63,8 +63,8 @@ module _ (ed : Edition) where
       does = λ seen st z. line-moves r f (openIn c seen inner ∷ st) ∙ rw (move-is ed (rest m (take e s) at) (openIn c seen inner) st, z);
     }
       where
-        said : (x : Kind) → KindIs (OffsetAt m (take e s) at) v m ed (take e s) (lineKind c v inner (rest m (take e s) at)) x →
-            KindIs (PlaceAt m s at (rest m (take e s) at)) v m ed (take e s) (lineKind c v inner (rest m (take e s) at)) x
+        said : (x : Kind) → KindIs (OffsetAt m (take e s) at) v m (take e s) (lineKind ed c v inner (rest m (take e s) at)) x →
+            KindIs (PlaceAt m s at (rest m (take e s) at)) v m (take e s) (lineKind ed c v inner (rest m (take e s) at)) x
         said (Starts i a) q = q
         said Stops q = q
         said (Holds p a) q = q

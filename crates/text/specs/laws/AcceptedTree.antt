@@ -270,7 +270,7 @@ module _ (ed : Edition) where
 
   pub tree-accepted : (ls : List Line) (e : ℕ) → every isGoodOne ls ≡ true → nesting ed e ls [] ≡ fine → areValid ed levels atTop false (calendarOf ed ls) ≡ true
   unfolding calendarOf
-  tree-accepted ls e g h = let v = all-frames ls e [] g h in rw (valid-shallow ed (innerOf (map entryOf ls) 0) levels atTop false v) v
+  tree-accepted ls e g h = let v = all-frames ls e [] g h in rw (valid-shallow ed (innerOf (map (entryOf ed) ls) 0) levels atTop false v) v
 
   -- ---- the first line begins a component
 
