@@ -13,10 +13,18 @@ pub enum Edition {
     Rfc6868 = 1,
 }
 
-// The same numbers, as a call is given them.
-pub const RFC_5545: u32 = Edition::Rfc5545 as u32;
+impl Edition {
+    // The numbers by which a call names them.
+    pub const RFC_5545: u32 = Edition::Rfc5545 as u32;
 
-pub const RFC_6868: u32 = Edition::Rfc6868 as u32;
+    pub const RFC_6868: u32 = Edition::Rfc6868 as u32;
+    // A caret, and the letters behind it that mean LF and a double quote.
+    pub const CARET: u8 = b'^';
+
+    pub const LINE_FEED: u8 = b'n';
+
+    pub const DOUBLE_QUOTE: u8 = b'\'';
+}
 
 // The edition that a number names, or none.
 pub enum EditionRead {
@@ -27,10 +35,10 @@ pub enum EditionRead {
 pub fn edition_of(number: u32) -> EditionRead
     ensures { λ r. ⌜ known r ≡ editionOf number ⌝ }
 {
-    if number == RFC_5545 {
+    if number == Edition::RFC_5545 {
         return EditionRead::Known(Edition::Rfc5545);
     }
-    if number == RFC_6868 {
+    if number == Edition::RFC_6868 {
         return EditionRead::Known(Edition::Rfc6868);
     }
     EditionRead::Unknown

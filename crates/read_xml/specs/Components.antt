@@ -77,6 +77,8 @@ WhichIs p c Other = (p ≡ false) × (c ≡ false)
 pub record WhichAt (k : ℕ) (had : Bool) (m : List ℕ) (r : Which) : Type 0 where
   pub is : WhichIs (same m (ascii "properties") and not had) (same m (ascii "components") and hasSubs k) r
 
+-- ---- what stands next before `components`
+
 -- what is left is shorter; and the first child of a name, where it is known or left
 abbrev pub MetFits : Bool → List ℕ → ℕ → Met → Type 0
 MetFits had s at End = insideOf (ascii "components") (nodesAt s at) ≡ noNodes
@@ -85,6 +87,20 @@ MetFits had s at (HasProperties q d) =
     (length s - d < length s - at) × (had ≡ false) × (insideOf (ascii "properties") (nodesAt s at) ≡ nodesAt s q) × (insideOf (ascii "components") (nodesAt s at) ≡ insideOf (ascii "components") (nodesAt s d))
 MetFits had s at (HasComponents q x d) = (length s - q < length s - at) × (insideOf (ascii "components") (nodesAt s at) ≡ nodesAt s q)
 MetFits had s at (Stops j) = Unit {0}
+
+-- the verdict on what stands from there on, with l levels left in the component
+abbrev pub metOf : Edition → List ℕ → ℕ → Bool → Bool → Bool → List ℕ → ℕ → Met → Verdict
+metOf ed c l counts had m s e End = endOfComponent c counts (come had false m) e
+metOf ed c l counts had m s e (Past d) = componentVerdict ed (nodesAt s d) c l counts (come had false m) e
+metOf ed c l counts had m s e (HasProperties q d) = propertiesVerdict ed c (nodesAt s q) otherwise componentVerdict ed (nodesAt s d) c l counts (come true false (methodFor c (readProperties (nodesAt s q)) m)) e
+metOf ed c l counts had m s e (HasComponents q x d) = componentsVerdict ed (nodesAt s q) c l m false x otherwise componentVerdict ed (nodesAt s d) c l counts (come had true m) e
+metOf ed c l counts had m s e (Stops j) = judgedAs j
+
+pub record MetAt (k : ℕ) (had : Bool) (s : List ℕ) (at : ℕ) (r : Met) : Type 0 where
+  pub is : (ed : Edition) (c : List ℕ) → k ≡ placeOf c componentNames → (l : ℕ) (counts m : Bool) (e : ℕ) → componentVerdict ed (nodesAt s at) c l counts (come had false m) e ≡ metOf ed c l counts had m s e r
+  pub fits : MetFits had s at r
+
+-- ---- up to `components`
 
 -- `components` stands deeper, and is the first; the properties are those of the first `properties`
 abbrev pub PartFits : List ℕ → ℕ → Kept → Part → Type 0
@@ -95,22 +111,6 @@ PartFits s from t (Opens q x next had) =
     × (had ≡ true → Counted (readProperties (insideOf (ascii "properties") (nodesAt s from))) t)
 
 module _ (ed : Edition) where
-  -- ---- what stands next before `components`
-
-  -- the verdict on what stands from there on, with l levels left in the component
-  abbrev pub metOf : List ℕ → ℕ → Bool → Bool → Bool → List ℕ → ℕ → Met → Verdict
-  metOf c l counts had m s e End = endOfComponent c counts (come had false m) e
-  metOf c l counts had m s e (Past d) = componentVerdict ed (nodesAt s d) c l counts (come had false m) e
-  metOf c l counts had m s e (HasProperties q d) = propertiesVerdict ed c (nodesAt s q) otherwise componentVerdict ed (nodesAt s d) c l counts (come true false (methodFor c (readProperties (nodesAt s q)) m)) e
-  metOf c l counts had m s e (HasComponents q x d) = componentsVerdict ed (nodesAt s q) c l m false x otherwise componentVerdict ed (nodesAt s d) c l counts (come had true m) e
-  metOf c l counts had m s e (Stops j) = judgedAs j
-
-  pub record MetAt (k : ℕ) (had : Bool) (s : List ℕ) (at : ℕ) (r : Met) : Type 0 where
-    pub is : (c : List ℕ) → k ≡ placeOf c componentNames → (l : ℕ) (counts m : Bool) (e : ℕ) → componentVerdict ed (nodesAt s at) c l counts (come had false m) e ≡ metOf c l counts had m s e r
-    pub fits : MetFits had s at r
-
-  -- ---- up to `components`
-
   abbrev pub partOf : List ℕ → ℕ → Bool → Bool → List ℕ → ℕ → ℕ → Part → Verdict
   partOf c l counts m s from e (Ends j) = judgedAs j
   partOf c l counts m s from e (Opens q x next had) =
@@ -121,8 +121,8 @@ module _ (ed : Edition) where
         componentVerdict ed (nodesAt s from) c l (isComplete c method (nodesAt s from)) (come false false method) e ≡ partOf c l (isComplete c method (nodesAt s from)) method s from e (r .part)
     pub fits : PartFits s from (r .kept) (r .part)
 
-  -- ---- behind `components`
+-- ---- behind `components`
 
-  pub record BehindAt (k : ℕ) (t : Kept) (had inner method : Bool) (s : List ℕ) (from e : ℕ) (r : Judged) : Type 0 where
-    pub is : (c : List ℕ) → k ≡ placeOf c componentNames → (l : ℕ) (counts : Bool) → (had ≡ true → counts ≡ completeBy k t inner method) → (m : Bool) →
-        componentVerdict ed (nodesAt s from) c l counts (come had true m) e ≡ judgedAs r
+pub record BehindAt (k : ℕ) (t : Kept) (had inner method : Bool) (s : List ℕ) (from e : ℕ) (r : Judged) : Type 0 where
+  pub is : (ed : Edition) (c : List ℕ) → k ≡ placeOf c componentNames → (l : ℕ) (counts : Bool) → (had ≡ true → counts ≡ completeBy k t inner method) → (m : Bool) →
+      componentVerdict ed (nodesAt s from) c l counts (come had true m) e ≡ judgedAs r

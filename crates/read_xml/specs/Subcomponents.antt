@@ -58,6 +58,20 @@ SubFits i l s at (Done j) = j ≡ Fine → hasElement (nodesAt s at) ≡ false
 SubFits i l s at (Past d) = (length s - d < length s - at) × (hasElement (nodesAt s at) ≡ hasElement (nodesAt s d))
 SubFits i l s at (Begins n q z d) = (n ≡ placeOf i componentNames) × (length s - q < length s - at) × (length s - d < length s - at) × (hasElement (nodesAt s at) ≡ true) × (0 < l)
 
+-- ---- a node of `components`
+
+-- the verdict on the children of `components` in a component c, where this node is what is found; i is the name of the component that begins there
+abbrev pub subOf : Edition → List ℕ → List ℕ → ℕ → Bool → List ℕ → ℕ → Bool → Sub → Verdict
+subOf ed i c l method s e any (Done j) = judgedAs j
+subOf ed i c l method s e any (Past d) = componentsVerdict ed (nodesAt s d) c l method any e
+subOf ed i c l method s e any (Begins n q z d) =
+    componentVerdict ed (nodesAt s q) i (l - 1) (isComplete i method (nodesAt s q)) (come false false method) z otherwise componentsVerdict ed (nodesAt s d) c l method true e
+
+pub record SubAt (k l : ℕ) (s : List ℕ) (e at : ℕ) (any : Bool) (r : Sub) : Type 0 where
+  pub inner : List ℕ
+  pub is : (ed : Edition) (c : List ℕ) → k ≡ placeOf c componentNames → (method : Bool) → componentsVerdict ed (nodesAt s at) c l method any e ≡ subOf ed inner c l method s e any r
+  pub fits : SubFits inner l s at r
+
 -- ---- the walk
 
 abbrev pub heldAs : Held → Verdict
@@ -74,20 +88,6 @@ module _ (ed : Edition) where
   -- method says whether the calendar round it has METHOD
   pub record ComponentAt (k l : ℕ) (method : Bool) (s : List ℕ) (from e : ℕ) (r : Judged) : Type 0 where
     pub is : (c : List ℕ) → k ≡ placeOf c componentNames → componentVerdict ed (nodesAt s from) c l (isComplete c method (nodesAt s from)) (come false false method) e ≡ judgedAs r
-
-  -- ---- a node of `components`
-
-  -- the verdict on the children of `components` in a component c, where this node is what is found; i is the name of the component that begins there
-  abbrev pub subOf : List ℕ → List ℕ → ℕ → Bool → List ℕ → ℕ → Bool → Sub → Verdict
-  subOf i c l method s e any (Done j) = judgedAs j
-  subOf i c l method s e any (Past d) = componentsVerdict ed (nodesAt s d) c l method any e
-  subOf i c l method s e any (Begins n q z d) =
-      componentVerdict ed (nodesAt s q) i (l - 1) (isComplete i method (nodesAt s q)) (come false false method) z otherwise componentsVerdict ed (nodesAt s d) c l method true e
-
-  pub record SubAt (k l : ℕ) (s : List ℕ) (e at : ℕ) (any : Bool) (r : Sub) : Type 0 where
-    pub inner : List ℕ
-    pub is : (c : List ℕ) → k ≡ placeOf c componentNames → (method : Bool) → componentsVerdict ed (nodesAt s at) c l method any e ≡ subOf inner c l method s e any r
-    pub fits : SubFits inner l s at r
 
   pub record CompsAt (k l : ℕ) (method : Bool) (s : List ℕ) (from e : ℕ) (r : Held) : Type 0 where
     pub is : (c : List ℕ) → k ≡ placeOf c componentNames → componentsVerdict ed (nodesAt s from) c l method false e ≡ heldAs r

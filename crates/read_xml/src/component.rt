@@ -137,8 +137,8 @@ fn which_child(k: usize, had: bool, s: &[u8], n: Node) -> Which
 }
 
 // What stands at `at` in the component of the number `k`, before its `components`; `properties` has come or not.
-fn child_at(edition: Edition, k: usize, had: bool, s: &[u8], at: usize) -> Met
-    ensures { λ r. ⌜ MetAt edition k had (now (s .entry)) at r ⌝ }
+fn child_at(k: usize, had: bool, s: &[u8], at: usize) -> Met
+    ensures { λ r. ⌜ MetAt k had (now (s .entry)) at r ⌝ }
 {
     let n = next_node(s, at);
     let kind = n.kind;
@@ -179,7 +179,7 @@ pub fn head(edition: Edition, k: usize, method: bool, s: &[u8], inside: usize, e
     let mut had = false;
     let mut kept = none_counted();
     loop {
-        let m = child_at(edition, k, had, s, at);
+        let m = child_at(k, had, s, at);
         match m {
             Met::End => {
                 let j = end_of(k, kept, had, false, false, method, e);
@@ -220,7 +220,6 @@ pub fn head(edition: Edition, k: usize, method: bool, s: &[u8], inside: usize, e
 
 // The component's children behind its `components`, which holds a component or not, up to its end tag at `e`.
 pub fn behind(
-    edition: Edition,
     k: usize,
     kept: Kept,
     had: bool,
@@ -230,7 +229,7 @@ pub fn behind(
     from: usize,
     e: usize,
 ) -> Judged
-    ensures { λ r. ⌜ BehindAt edition k kept had inner method (now (s .entry)) from e r ⌝ }
+    ensures { λ r. ⌜ BehindAt k kept had inner method (now (s .entry)) from e r ⌝ }
 {
     let mut at = from;
     loop {

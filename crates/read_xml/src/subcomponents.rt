@@ -76,8 +76,8 @@ fn sub_number(k: usize, left: usize, s: &[u8], name: usize, name_end: usize) -> 
 }
 
 // One node of the `components` of a component of the number `k`, at `at`.
-fn sub_at(edition: Edition, k: usize, left: usize, s: &[u8], at: usize, any: bool, e: usize) -> Sub
-    ensures { λ r. ⌜ SubAt edition k left (now (s .entry)) e at any r ⌝ }
+fn sub_at(k: usize, left: usize, s: &[u8], at: usize, any: bool, e: usize) -> Sub
+    ensures { λ r. ⌜ SubAt k left (now (s .entry)) e at any r ⌝ }
 {
     let n = next_node(s, at);
     let kind = n.kind;
@@ -144,7 +144,7 @@ pub fn component_verdict(
             let m = method_inside(k, kept, had, method);
             let r = components_verdict(edition, s, q, k, left, m, x);
             match r {
-                Held::Holds(inner) => behind(edition, k, kept, had, inner, method, s, after, e),
+                Held::Holds(inner) => behind(k, kept, had, inner, method, s, after, e),
                 Held::Fails(f, y) => Judged::Refused(f, y),
             }
         }
@@ -167,7 +167,7 @@ fn components_verdict(
     let mut at = inside;
     let mut any = false;
     loop {
-        let t = sub_at(edition, k, left, s, at, any, e);
+        let t = sub_at(k, left, s, at, any, e);
         match t {
             Sub::Done(j) => match j {
                 Judged::Fine => return Held::Holds(any),

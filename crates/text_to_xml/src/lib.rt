@@ -86,8 +86,8 @@ fn checked(edition: Edition, input: &[u8], kept: &[u8], out: &mut [u8]) -> Answe
 fn converted(edition: Edition, input: &[u8], kept: &[u8], out: &mut [u8]) -> Answer
     requires { ⌜ length (now kept) ≤ 65535 ⌝ }
     ensures { λ r. ⌜
-        Done (keptGives edition (now (input .entry)) (now (kept .entry)) (keptVerdict edition (now (kept .entry)))) (now (out .entry))
-        (now (out .exit)) r ⌝ }
+        Done (keptGives edition (now (input .entry)) (now (kept .entry)) (keptVerdict edition (now (kept .entry))))
+        (now (out .entry)) (now (out .exit)) r ⌝ }
 {
     match first_bad(kept) {
         Found::At(p) => {

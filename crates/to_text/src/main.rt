@@ -1,13 +1,13 @@
 // Standard input, an xCal document, as canonical iCalendar text on standard output; or one line `refused N at P`, of a
 // result that has no room `refused 10 needs L`. One byte more than the limit is read, so that a longer input is refused.
-use edition::RFC_5545;
+use edition::Edition;
 use libc::STDIN_FILENO;
 use reporting::say_answer;
 use xml_to_text::to_text;
 
 // What the input becomes, or why it is refused.
 fn convert(input: &[u8], out: &mut [u8]) {
-    let a = to_text(input, out, RFC_5545);
+    let a = to_text(input, out, Edition::RFC_5545);
     say_answer(a, out);
 }
 

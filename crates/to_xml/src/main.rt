@@ -1,13 +1,13 @@
 // Standard input, an iCalendar text, as canonical XML on standard output; or one line `refused N at P`, of a
 // result that has no room `refused 10 needs L`. One byte more than the limit is read, so that a longer input is refused.
-use edition::RFC_5545;
+use edition::Edition;
 use libc::STDIN_FILENO;
 use reporting::say_answer;
 use text_to_xml::to_xml;
 
 // What the input becomes, or why it is refused.
 fn convert(input: &[u8], work: &mut [u8], out: &mut [u8]) {
-    let a = to_xml(input, work, out, RFC_5545);
+    let a = to_xml(input, work, out, Edition::RFC_5545);
     say_answer(a, out);
 }
 

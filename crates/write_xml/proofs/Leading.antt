@@ -58,7 +58,7 @@ module _ {ed : Edition} where
 
     pub leading-end : length s ≤ at → LeadingPut ed d e o k mode s from (record { to = p; inner = at; bare = true; next = at })
     unfolding innerOf
-    leading-end h = stopped [] true at (omega arith) (entries-past mode s at (m .walking .ready .cut) h) refl (λ x. own-none (componentName k)) (λ x. walk-passed (m .walking) h)
+    leading-end h = stopped [] true at (omega arith) (entries-past ed mode s at (m .walking .ready .cut) h) refl (λ x. own-none (componentName k)) (λ x. walk-passed (m .walking) h)
 
     module _ {r : Found} (f : FoundAt ed mode s at r) where
       pub leading-begin : r .kind ≡ Begin → LeadingPut ed d e o k mode s from (record { to = p; inner = at; bare = false; next = at })

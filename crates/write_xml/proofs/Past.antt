@@ -32,9 +32,9 @@ module _ {ed : Edition} where
 
   module _ {mode : ℕ} {s : List ℕ} {from at depth : ℕ} (m : Passing ed mode s from at depth) where
     pub passing-end : length s ≤ at → Passed ed mode s from at
-    passing-end h = record { onward = m .low; ready = m .ready; rest = entries-past mode s at (m .ready .cut) h ∙ sym (behind-none depth) ∙ ap (λ (es : List Entry). behind es depth) (sym (entries-past mode s at (m .ready .cut) h)) ∙ m .is }
+    passing-end h = record { onward = m .low; ready = m .ready; rest = entries-past ed mode s at (m .ready .cut) h ∙ sym (behind-none depth) ∙ ap (λ (es : List Entry). behind es depth) (sym (entries-past ed mode s at (m .ready .cut) h)) ∙ m .is }
 
-    passing-on : (x : Entry) (next depth′ : ℕ) → at < next → Ready mode s next → depth′ ≤ next → First ed mode s at x next → behind (x ∷ (entriesAt ed) mode s next) depth ≡ behind (entriesAt ed mode s next) depth′ → Passing ed mode s from next depth′
+    passing-on : (x : Entry) (next depth′ : ℕ) → at < next → Ready mode s next → depth′ ≤ next → First ed mode s at x next → behind (x ∷ entriesAt ed mode s next) depth ≡ behind (entriesAt ed mode s next) depth′ → Passing ed mode s from next depth′
     passing-on x next depth′ h y l i q = record { low = omega (arith, m .low); ready = y; deep = l; is = sym q ∙ ap (λ (es : List Entry). behind es depth) (sym i) ∙ m .is }
 
     module _ {r : Found} (f : BoundAt ed mode s at r) where

@@ -96,11 +96,11 @@ module _ {ed : Edition} where
     walk-stop es i q = todo-done (m .todo) (ap (walkXml w) i ∙ q)
 
     walk-end : length s ≤ at → Put d e o p (walkXml w (entriesAt ed mode s from))
-    walk-end h = walk-stop [] (entries-past mode s at (m .ready .cut) h) (walk-none w)
+    walk-end h = walk-stop [] (entries-past ed mode s at (m .ready .cut) h) (walk-none w)
 
     -- it comes to the end of the text, or of the component
     pub walk-passed : length s ≤ at → Passed ed mode s from at
-    walk-passed h = record { onward = m .low; ready = m .ready; rest = entries-past mode s at (m .ready .cut) h ∙ sym (behind-none 0) ∙ ap (λ (es : List Entry). behind es 0) (sym (entries-past mode s at (m .ready .cut) h)) ∙ m .over }
+    walk-passed h = record { onward = m .low; ready = m .ready; rest = entries-past ed mode s at (m .ready .cut) h ∙ sym (behind-none 0) ∙ ap (λ (es : List Entry). behind es 0) (sym (entries-past ed mode s at (m .ready .cut) h)) ∙ m .over }
 
     pub walk-closed : (next : ℕ) → at < next → Ready mode s next → First ed mode s at end next → Passed ed mode s from next
     walk-closed next h y i = record { onward = omega (arith, m .low); ready = y; rest = sym (behind-close _ 0 refl) ∙ ap (λ (es : List Entry). behind es 0) (sym i) ∙ m .over }

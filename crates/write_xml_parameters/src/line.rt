@@ -15,6 +15,7 @@ ghost use Rattle.octets.specs.Words.{isEmpty};
 ghost use Rattle.octets.specs.Reading.{readOr};
 ghost use Rattle.sink.specs.Sink.{Put};
 ghost use Rattle.source.specs.Source.{cuts};
+ghost use Rattle.read_text_line.specs.Cursor.{paramsAt};
 ghost use Rattle.read_text_line.specs.Decoded.{paramsIn};
 ghost use Rattle.xml.specs.Escape.{elementOf};
 ghost use Rattle.text.specs.Parameters.{ownParameters, readParameters};
@@ -22,9 +23,9 @@ ghost use Rattle.xcal.specs.WriteXml.{parametersElement};
 ghost use Rattle.write_xml_parameters.specs.Shown.{parametersShown};
 
 // There is no parameter besides VALUE.
-fn is_bare(edition: Edition, mode: usize, s: &[u8], at: usize) -> bool
+fn is_bare(mode: usize, s: &[u8], at: usize) -> bool
     requires { ⌜ cuts mode ≡ true ⌝ }
-    ensures { λ r. ⌜ r ≡ isEmpty (ownParameters (paramsIn edition mode (now (s .entry)) at)) ⌝ }
+    ensures { λ r. ⌜ r ≡ isEmpty (ownParameters (paramsAt mode (now (s .entry)) at)) ⌝ }
 {
     let mut c = at;
     loop {
@@ -103,7 +104,7 @@ pub fn put_parameters(
 {
     let read = are_read(edition, mode, s, e);
     if read {
-        let bare = is_bare(edition, mode, s, e);
+        let bare = is_bare(mode, s, e);
         if bare {
             return o;
         }

@@ -28,7 +28,10 @@ fn put_parameter(
     requires { ⌜ cuts mode ≡ true ⌝ }
     ensures { λ r. ⌜
         Put (now (out .entry)) (now (out .exit)) o r
-        (shown (record { name = rest mode (now (n .entry)) at; values = valuesIn edition mode (now (s .entry)) first })) ⌝ }
+        (shown (record {
+          name = rest mode (now (n .entry)) at;
+          values = valuesIn edition mode (now (s .entry)) first;
+        })) ⌝ }
 {
     let q = parameter_number(mode, n, at);
     let a = put_small_start(out, o, mode, n, at);
@@ -50,7 +53,10 @@ fn put_own(
     requires { ⌜ cuts mode ≡ true ⌝ }
     ensures { λ r. ⌜
         Put (now (out .entry)) (now (out .exit)) o r
-        (ownShown (record { name = rest mode (now (n .entry)) at; values = valuesIn edition mode (now (s .entry)) first })) ⌝ }
+        (ownShown (record {
+          name = rest mode (now (n .entry)) at;
+          values = valuesIn edition mode (now (s .entry)) first;
+        })) ⌝ }
 {
     let value = is_word_any_case(mode, n, at, b"VALUE");
     if value {
@@ -72,7 +78,8 @@ pub fn put_cut_own(
 ) -> usize
     requires { ⌜ cuts mode ≡ true ⌝ }
     ensures { λ r. ⌜
-        Put (now (out .entry)) (now (out .exit)) o r (ownShown (paramRead edition mode (now (s .entry)) name end first)) ⌝ }
+        Put (now (out .entry)) (now (out .exit)) o r
+        (ownShown (paramRead edition mode (now (s .entry)) name end first)) ⌝ }
 {
     let e = smaller(end, s.len());
     put_own(out, o, edition, mode, &s[..e], name, s, first)

@@ -219,84 +219,84 @@ module _ (ed : Edition) where
     pub unread : had ≡ false → insideOf (ascii "properties") (nodesAt s from) ≡ insideOf (ascii "properties") (nodesAt s at)
     pub counted : had ≡ true → Counted (readProperties (insideOf (ascii "properties") (nodesAt s from))) t
 
-  -- ---- behind `components`
+-- ---- behind `components`
 
-  pub record Following (s : List ℕ) (from e at : ℕ) (had : Bool) : Type 0 where
-    pub is : (c : List ℕ) (l : ℕ) (b m : Bool) → componentVerdict ed (nodesAt s from) c l b (come had true m) e ≡ componentVerdict ed (nodesAt s at) c l b (come had true m) e
+pub record Following (s : List ℕ) (from e at : ℕ) (had : Bool) : Type 0 where
+  pub is : (ed : Edition) (c : List ℕ) (l : ℕ) (b m : Bool) → componentVerdict ed (nodesAt s from) c l b (come had true m) e ≡ componentVerdict ed (nodesAt s at) c l b (come had true m) e
 
-module _ {ed : Edition} where
-  module _ (k : ℕ) (had : Bool) {s : List ℕ} {at : ℕ} {r : Node} (n : NodeAt s at r) where
-    as-nodes : {x : Nodes} → nodesAt s at ≡ x → (c : List ℕ) (l : ℕ) (b m : Bool) (e : ℕ) → componentVerdict ed (nodesAt s at) c l b (come had false m) e ≡ componentVerdict ed x c l b (come had false m) e
-    as-nodes h c l b m e = ap (λ (y : Nodes). componentVerdict ed y c l b (come had false m) e) h
+module _ (k : ℕ) (had : Bool) {s : List ℕ} {at : ℕ} {r : Node} (n : NodeAt s at r) where
+  as-nodes : (ed : Edition) {x : Nodes} → nodesAt s at ≡ x → (c : List ℕ) (l : ℕ) (b m : Bool) (e : ℕ) → componentVerdict ed (nodesAt s at) c l b (come had false m) e ≡ componentVerdict ed x c l b (come had false m) e
+  as-nodes ed h c l b m e = ap (λ (y : Nodes). componentVerdict ed y c l b (come had false m) e) h
 
-    pub met-end : r .kind ≡ None → MetAt ed k had s at End
-    unfolding componentVerdict insideOf
-    met-end q = record { is = λ c o. as-nodes (node-none n q) c; fits = ap (insideOf (ascii "components")) (node-none n q) }
+  pub met-end : r .kind ≡ None → MetAt k had s at End
+  unfolding componentVerdict insideOf
+  met-end q = record { is = λ ed c o. as-nodes ed (node-none n q) c; fits = ap (insideOf (ascii "components")) (node-none n q) }
 
-    pub met-referred : r .kind ≡ Referred → MetAt ed k had s at (Stops (Refused 6 at))
+  pub met-referred : r .kind ≡ Referred → MetAt k had s at (Stops (Refused 6 at))
+  unfolding componentVerdict
+  met-referred q = record { is = λ ed c o l b m e. as-nodes ed (node-referred n q) c l b m e ∙ sym (is-frame at); fits = tt }
+
+  module _ (q : r .kind ≡ Literal) {b : Bool} (f : b ≡ isSpace (r .unit)) where
+    pub met-space : b ≡ true → MetAt k had s at (Past (r .next))
+    unfolding componentVerdict insideOf pick
+    met-space h = record { is = λ ed c o l b m e. as-nodes ed (node-literal n q) c l b m e ∙ rw (← f, h); fits = (literal-less n q, λ m. ap (insideOf m) (node-literal n q)) }
+
+    pub met-text : b ≡ false → MetAt k had s at (Stops (Refused 6 at))
+    unfolding componentVerdict pick
+    met-text h = record { is = λ ed c o l b m e. as-nodes ed (node-literal n q) c l b m e ∙ rw (← f, h) (sym (is-frame at)); fits = tt }
+
+  module _ (q : r .kind ≡ Element) {x : Which} (y : WhichAt k had (nameOf s r) x) where
+    at-child : (ed : Edition) (c : List ℕ) → k ≡ placeOf c componentNames → (l : ℕ) (b m : Bool) (e : ℕ) → componentVerdict ed (nodesAt s at) c l b (come had false m) e ≡
+        pick (same (nameOf s r) (ascii "properties") and not had)
+        (propertiesVerdict ed c (nodesAt s (r .inside)) otherwise componentVerdict ed (nodesAt s (r .next)) c l b (come true false (methodFor c (readProperties (nodesAt s (r .inside))) m)) e)
+        (pick (same (nameOf s r) (ascii "components") and hasSubs k)
+        (componentsVerdict ed (nodesAt s (r .inside)) c l m false (r .end) otherwise componentVerdict ed (nodesAt s (r .next)) c l b (come had true m) e)
+        (unexpected at (nameOf s r)))
     unfolding componentVerdict
-    met-referred q = record { is = λ c o l b m e. as-nodes (node-referred n q) c l b m e ∙ sym (is-frame at); fits = tt }
+    at-child ed c o l b m e =
+        as-nodes ed (node-element n q) c l b m e
+        ∙ not-yet (same (nameOf s r) (ascii "properties")) (not had) (same (nameOf s r) (ascii "components")) (not (isEmpty (subcomponentsOf c))) _ _ _
+        ∙ rw (subs-place c o)
 
-    module _ (q : r .kind ≡ Literal) {b : Bool} (f : b ≡ isSpace (r .unit)) where
-      pub met-space : b ≡ true → MetAt ed k had s at (Past (r .next))
-      unfolding componentVerdict insideOf pick
-      met-space h = record { is = λ c o l b m e. as-nodes (node-literal n q) c l b m e ∙ rw (← f, h); fits = (literal-less n q, λ m. ap (insideOf m) (node-literal n q)) }
+    which-is : {v : Which} → x ≡ v → WhichIs (same (nameOf s r) (ascii "properties") and not had) (same (nameOf s r) (ascii "components") and hasSubs k) v
+    which-is z = subst (WhichIs (same (nameOf s r) (ascii "properties") and not had) (same (nameOf s r) (ascii "components") and hasSubs k)) z (y .is)
 
-      pub met-text : b ≡ false → MetAt ed k had s at (Stops (Refused 6 at))
-      unfolding componentVerdict pick
-      met-text h = record { is = λ c o l b m e. as-nodes (node-literal n q) c l b m e ∙ rw (← f, h) (sym (is-frame at)); fits = tt }
+    pub met-other : {j : Judged} → x ≡ Other → unexpected at (nameOf s r) ≡ judgedAs j → MetAt k had s at (Stops j)
+    unfolding pick
+    met-other z u = record { is = λ ed c o l b m e. at-child ed c o l b m e ∙ rw (which-is z .0, which-is z .1) u; fits = tt }
 
-    module _ (q : r .kind ≡ Element) {x : Which} (y : WhichAt k had (nameOf s r) x) where
-      at-child : (c : List ℕ) → k ≡ placeOf c componentNames → (l : ℕ) (b m : Bool) (e : ℕ) → componentVerdict ed (nodesAt s at) c l b (come had false m) e ≡
-          pick (same (nameOf s r) (ascii "properties") and not had)
-          (propertiesVerdict ed c (nodesAt s (r .inside)) otherwise componentVerdict ed (nodesAt s (r .next)) c l b (come true false (methodFor c (readProperties (nodesAt s (r .inside))) m)) e)
-          (pick (same (nameOf s r) (ascii "components") and hasSubs k)
-          (componentsVerdict ed (nodesAt s (r .inside)) c l m false (r .end) otherwise componentVerdict ed (nodesAt s (r .next)) c l b (come had true m) e)
-          (unexpected at (nameOf s r)))
-      unfolding componentVerdict
-      at-child c o l b m e =
-          as-nodes (node-element n q) c l b m e
-          ∙ not-yet (same (nameOf s r) (ascii "properties")) (not had) (same (nameOf s r) (ascii "components")) (not (isEmpty (subcomponentsOf c))) _ _ _
-          ∙ rw (subs-place c o)
+    pub met-components : x ≡ Components → MetAt k had s at (HasComponents (r .inside) (r .end) (r .next))
+    unfolding pick insideOf
+    met-components z = record {
+      is = λ ed c o l b m e. at-child ed c o l b m e ∙ rw (which-is z .0, which-is z .1);
+      fits = (inside-less n q, ap (insideOf (ascii "components")) (node-element n q) ∙ rw (first-of (same (nameOf s r) (ascii "components")) (hasSubs k) (which-is z .1)));
+    }
 
-      which-is : {v : Which} → x ≡ v → WhichIs (same (nameOf s r) (ascii "properties") and not had) (same (nameOf s r) (ascii "components") and hasSubs k) v
-      which-is z = subst (WhichIs (same (nameOf s r) (ascii "properties") and not had) (same (nameOf s r) (ascii "components") and hasSubs k)) z (y .is)
+    pub met-properties : x ≡ Properties → MetAt k had s at (HasProperties (r .inside) (r .next))
+    unfolding pick insideOf
+    met-properties z =
+        let first : same (nameOf s r) (ascii "properties") ≡ true = first-of (same (nameOf s r) (ascii "properties")) (not had) (which-is z) in record {
+          is = λ ed c o l b m e. at-child ed c o l b m e ∙ rw (which-is z);
+          fits = (
+            element-less n q,
+            second-not (same (nameOf s r) (ascii "properties")) had (which-is z),
+            ap (insideOf (ascii "properties")) (node-element n q) ∙ rw first,
+            ap (insideOf (ascii "components")) (node-element n q) ∙ rw (properties-only (nameOf s r) first),
+          );
+        }
 
-      pub met-other : {j : Judged} → x ≡ Other → unexpected at (nameOf s r) ≡ judgedAs j → MetAt ed k had s at (Stops j)
-      unfolding pick
-      met-other z u = record { is = λ c o l b m e. at-child c o l b m e ∙ rw (which-is z .0, which-is z .1) u; fits = tt }
-
-      pub met-components : x ≡ Components → MetAt ed k had s at (HasComponents (r .inside) (r .end) (r .next))
-      unfolding pick insideOf
-      met-components z = record {
-        is = λ c o l b m e. at-child c o l b m e ∙ rw (which-is z .0, which-is z .1);
-        fits = (inside-less n q, ap (insideOf (ascii "components")) (node-element n q) ∙ rw (first-of (same (nameOf s r) (ascii "components")) (hasSubs k) (which-is z .1)));
-      }
-
-      pub met-properties : x ≡ Properties → MetAt ed k had s at (HasProperties (r .inside) (r .next))
-      unfolding pick insideOf
-      met-properties z =
-          let first : same (nameOf s r) (ascii "properties") ≡ true = first-of (same (nameOf s r) (ascii "properties")) (not had) (which-is z) in record {
-            is = λ c o l b m e. at-child c o l b m e ∙ rw (which-is z);
-            fits = (
-              element-less n q,
-              second-not (same (nameOf s r) (ascii "properties")) had (which-is z),
-              ap (insideOf (ascii "properties")) (node-element n q) ∙ rw first,
-              ap (insideOf (ascii "components")) (node-element n q) ∙ rw (properties-only (nameOf s r) first),
-            );
-          }
-
+module _ (ed : Edition) where
   pub head-start : (k : ℕ) (method : Bool) (s : List ℕ) (from e : ℕ) (t : Kept) → Heading ed k method s from e from false t
   unfolding pick
   head-start k method s from e t = record { is = λ c o l b. refl; low = omega arith; inner = refl; unread = λ h. refl; counted = λ h. absurd (false≢true h) }
 
-  module _ {k : ℕ} {method : Bool} {s : List ℕ} {from e at : ℕ} {had : Bool} {t : Kept} (i : Heading ed k method s from e at had t) {x : Met} (y : MetAt ed k had s at x) where
-    met-is : {v : Met} → x ≡ v → MetAt ed k had s at v
-    met-is z = subst (MetAt ed k had s at) z y
+  module _ {k : ℕ} {method : Bool} {s : List ℕ} {from e at : ℕ} {had : Bool} {t : Kept} (i : Heading ed k method s from e at had t) {x : Met} (y : MetAt k had s at x) where
+    met-is : {v : Met} → x ≡ v → MetAt k had s at v
+    met-is z = subst (MetAt k had s at) z y
 
     as-met : {v : Met} → x ≡ v → (c : List ℕ) → k ≡ placeOf c componentNames → (l : ℕ) (b : Bool) →
         componentVerdict ed (nodesAt s from) c l b (come false false method) e ≡ metOf ed c l b had (methodInside c method had (nodesAt s from)) s e v
-    as-met z c o l b = i .is c o l b ∙ met-is z .is c o l b (methodInside c method had (nodesAt s from)) e
+    as-met z c o l b = i .is c o l b ∙ met-is z .is ed c o l b (methodInside c method had (nodesAt s from)) e
 
     pub head-end : {j : Judged} → x ≡ End → EndAt k t had false false method e j → HeadAt ed k method s from e (record { part = Ends j; kept = t })
     unfolding hasElement
@@ -352,35 +352,35 @@ module _ {ed : Edition} where
         unfolding _otherwise_
         head-bad h = record { is = λ c o l. as-met z c o l (isComplete c method (nodesAt s from)) ∙ rw (g .is c o, h); fits = tt }
 
-  pub follow-start : (s : List ℕ) (from e : ℕ) (had : Bool) → Following ed s from e from had
-  follow-start s from e had = record { is = λ c l b m. refl }
+pub follow-start : (s : List ℕ) (from e : ℕ) (had : Bool) → Following s from e from had
+follow-start s from e had = record { is = λ ed c l b m. refl }
 
-  module _ (k : ℕ) (t : Kept) (inner method : Bool) {s : List ℕ} {from e at : ℕ} {had : Bool} {r : Node} (i : Following ed s from e at had) (n : NodeAt s at r) where
-    on-nodes : {x : Nodes} → nodesAt s at ≡ x → (c : List ℕ) (l : ℕ) (b m : Bool) → componentVerdict ed (nodesAt s from) c l b (come had true m) e ≡ componentVerdict ed x c l b (come had true m) e
-    on-nodes h c l b m = i .is c l b m ∙ ap (λ (y : Nodes). componentVerdict ed y c l b (come had true m) e) h
+module _ (k : ℕ) (t : Kept) (inner method : Bool) {s : List ℕ} {from e at : ℕ} {had : Bool} {r : Node} (i : Following s from e at had) (n : NodeAt s at r) where
+  on-nodes : (ed : Edition) {x : Nodes} → nodesAt s at ≡ x → (c : List ℕ) (l : ℕ) (b m : Bool) → componentVerdict ed (nodesAt s from) c l b (come had true m) e ≡ componentVerdict ed x c l b (come had true m) e
+  on-nodes ed h c l b m = i .is ed c l b m ∙ ap (λ (y : Nodes). componentVerdict ed y c l b (come had true m) e) h
 
-    pub follow-none : {j : Judged} → r .kind ≡ None → EndAt k t had true inner method e j → BehindAt ed k t had inner method s from e j
-    unfolding componentVerdict
-    follow-none q d = record { is = λ c o l b g m. on-nodes (node-none n q) c l b m ∙ d .is c o b g m }
+  pub follow-none : {j : Judged} → r .kind ≡ None → EndAt k t had true inner method e j → BehindAt k t had inner method s from e j
+  unfolding componentVerdict
+  follow-none q d = record { is = λ ed c o l b g m. on-nodes ed (node-none n q) c l b m ∙ d .is c o b g m }
 
-    pub follow-referred : r .kind ≡ Referred → BehindAt ed k t had inner method s from e (Refused 6 at)
-    unfolding componentVerdict
-    follow-referred q = record { is = λ c o l b g m. on-nodes (node-referred n q) c l b m ∙ sym (is-frame at) }
+  pub follow-referred : r .kind ≡ Referred → BehindAt k t had inner method s from e (Refused 6 at)
+  unfolding componentVerdict
+  follow-referred q = record { is = λ ed c o l b g m. on-nodes ed (node-referred n q) c l b m ∙ sym (is-frame at) }
 
-    module _ (q : r .kind ≡ Literal) {b : Bool} (f : b ≡ isSpace (r .unit)) where
-      pub follow-text : b ≡ false → BehindAt ed k t had inner method s from e (Refused 6 at)
-      unfolding componentVerdict pick
-      follow-text h = record { is = λ c o l b g m. on-nodes (node-literal n q) c l b m ∙ rw (← f, h) (sym (is-frame at)) }
+  module _ (q : r .kind ≡ Literal) {b : Bool} (f : b ≡ isSpace (r .unit)) where
+    pub follow-text : b ≡ false → BehindAt k t had inner method s from e (Refused 6 at)
+    unfolding componentVerdict pick
+    follow-text h = record { is = λ ed c o l b g m. on-nodes ed (node-literal n q) c l b m ∙ rw (← f, h) (sym (is-frame at)) }
 
-    pub follow-element : {j : Judged} → r .kind ≡ Element → unexpected at (nameOf s r) ≡ judgedAs j → BehindAt ed k t had inner method s from e j
-    unfolding componentVerdict
-    follow-element q u = record {
-      is = λ c o l b g m. on-nodes (node-element n q) c l b m ∙ none-behind (same (nameOf s r) (ascii "properties")) (same (nameOf s r) (ascii "components")) (not had) (not (isEmpty (subcomponentsOf c))) _ _ _ ∙ u;
-    }
+  pub follow-element : {j : Judged} → r .kind ≡ Element → unexpected at (nameOf s r) ≡ judgedAs j → BehindAt k t had inner method s from e j
+  unfolding componentVerdict
+  follow-element q u = record {
+    is = λ ed c o l b g m. on-nodes ed (node-element n q) c l b m ∙ none-behind (same (nameOf s r) (ascii "properties")) (same (nameOf s r) (ascii "components")) (not had) (not (isEmpty (subcomponentsOf c))) _ _ _ ∙ u;
+  }
 
-  pub follow-space : {s : List ℕ} {from e at : ℕ} {had : Bool} {r : Node} → Following ed s from e at had → NodeAt s at r → r .kind ≡ Literal → {b : Bool} → b ≡ isSpace (r .unit) → b ≡ true → Following ed s from e (r .next) had
-  unfolding componentVerdict pick
-  follow-space {s} {from} {e} {at} {had} i n q f h = record { is = λ c l b m. i .is c l b m ∙ ap (λ (y : Nodes). componentVerdict ed y c l b (come had true m) e) (node-literal n q) ∙ rw (← f, h) }
+pub follow-space : {s : List ℕ} {from e at : ℕ} {had : Bool} {r : Node} → Following s from e at had → NodeAt s at r → r .kind ≡ Literal → {b : Bool} → b ≡ isSpace (r .unit) → b ≡ true → Following s from e (r .next) had
+unfolding componentVerdict pick
+follow-space {s} {from} {e} {at} {had} i n q f h = record { is = λ ed c l b m. i .is ed c l b m ∙ ap (λ (y : Nodes). componentVerdict ed y c l b (come had true m) e) (node-literal n q) ∙ rw (← f, h) }
 
 pub ruleset ending = (counts-good, counts-bad, end-bare, end-lacking, end-calendar, end-other, ends-any, ends-calendar, ends-timezone, ends-empty, needs)
 

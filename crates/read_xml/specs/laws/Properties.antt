@@ -208,7 +208,7 @@ module _ (ed : Edition) where
     pub counted : Counted seen t
     pub agrees : readProperties (nodesAt s from) ≡ seen ⊕ readProperties (nodesAt s at)
 
-module _ {ed : Edition} where
+module _ (ed : Edition) where
   -- ---- the element
 
   module _ (k : ℕ) (s : List ℕ) (at : ℕ) (n : Node) {row : Row} {b : Bool} (e : b ≡ badName (nameOf s n)) where

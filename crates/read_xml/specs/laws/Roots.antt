@@ -46,7 +46,7 @@ module _ (ed : Edition) where
   pub record Streaming (s : List ℕ) (from e at : ℕ) (any : Bool) : Type 0 where
     pub is : streamVerdict ed (nodesAt s from) false e ≡ streamVerdict ed (nodesAt s at) any e
 
-module _ {ed : Edition} where
+module _ (ed : Edition) where
   pub stream-start : (s : List ℕ) (from e : ℕ) → Streaming ed s from e from false
   stream-start s from e = record { is = refl }
 

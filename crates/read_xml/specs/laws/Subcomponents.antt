@@ -157,7 +157,44 @@ module _ (ed : Edition) where
     pub low : length s - at ≤ length s - from
     pub held : hasElement (nodesAt s from) ≡ (any or hasElement (nodesAt s at))
 
-module _ {ed : Edition} where
+module _ (k l : ℕ) {s : List ℕ} (e : ℕ) {at : ℕ} (any : Bool) {r : Node} (n : NodeAt s at r) where
+  with-nodes : (ed : Edition) (c : List ℕ) (m : Bool) {x : Nodes} → nodesAt s at ≡ x → componentsVerdict ed (nodesAt s at) c l m any e ≡ componentsVerdict ed x c l m any e
+  with-nodes ed c m h = ap (λ (y : Nodes). componentsVerdict ed y c l m any e) h
+
+  pub sub-none : {j : Judged} → r .kind ≡ None → EndsAt k any e j → SubAt k l s e at any (Done j)
+  unfolding componentsVerdict hasElement
+  sub-none q d = record { inner = []; is = λ ed c o m. with-nodes ed c m (node-none n q) ∙ d .is c o; fits = λ h. ap hasElement (node-none n q) }
+
+  pub sub-referred : r .kind ≡ Referred → SubAt k l s e at any (Done (Refused 6 at))
+  unfolding componentsVerdict
+  sub-referred q = record { inner = []; is = λ ed c o m. with-nodes ed c m (node-referred n q) ∙ sym (is-frame at); fits = λ h. absurd (not-fine h) }
+
+  module _ (q : r .kind ≡ Literal) {b : Bool} (f : b ≡ isSpace (r .unit)) where
+    pub sub-space : b ≡ true → SubAt k l s e at any (Past (r .next))
+    unfolding componentsVerdict hasElement pick
+    sub-space h = record { inner = []; is = λ ed c o m. with-nodes ed c m (node-literal n q) ∙ rw (← f, h); fits = (literal-less n q, ap hasElement (node-literal n q)) }
+
+    pub sub-text : b ≡ false → SubAt k l s e at any (Done (Refused 6 at))
+    unfolding componentsVerdict pick
+    sub-text h = record { inner = []; is = λ ed c o m. with-nodes ed c m (node-literal n q) ∙ rw (← f, h) (sym (is-frame at)); fits = λ h. absurd (not-fine h) }
+
+  module _ (q : r .kind ≡ Element) {t : Numbered} (d : NumberedAt k l (nameOf s r) t) where
+    pub sub-other : {j : Judged} → t ≡ Other → noComponent at (nameOf s r) ≡ judgedAs j → SubAt k l s e at any (Done j)
+    unfolding componentsVerdict pick
+    sub-other z u = record { inner = []; is = λ ed c o m. with-nodes ed c m (node-element n q) ∙ rw (d .is c o, z) u; fits = λ h. absurd (not-there at (nameOf s r) u h) }
+
+    number-of : {i : ℕ} → t ≡ Number i → NumberIs l (nameOf s r) (Number i)
+    number-of z = subst (NumberIs l (nameOf s r)) z (d .number)
+
+    pub sub-begins : {i : ℕ} → t ≡ Number i → SubAt k l s e at any (Begins i (r .inside) (r .end) (r .next))
+    unfolding componentsVerdict hasElement pick
+    sub-begins z = record {
+      inner = upper (nameOf s r);
+      is = λ ed c o m. with-nodes ed c m (node-element n q) ∙ rw (d .is c o, z);
+      fits = (number-of z .0, inside-less n q, element-less n q, ap hasElement (node-element n q), number-of z .1);
+    }
+
+module _ (ed : Edition) where
   module _ {k : ℕ} {method : Bool} {s : List ℕ} {from e : ℕ} {b : Begun} (l : ℕ) (h : HeadAt ed k method s from e b) where
     pub whole-ends : {j : Judged} → b .part ≡ Ends j → ComponentAt ed k l method s from e j
     whole-ends z = record { is = λ c o. h .is c o l ∙ rw z }
@@ -174,79 +211,42 @@ module _ {ed : Edition} where
         unfolding _otherwise_
         whole-fails g = record { is = λ c o. h .is c o l ∙ rw (z, given c o, d .is c o, g) }
 
-        pub whole-behind : {inner : Bool} {v : Judged} → r ≡ Holds inner → BehindAt ed k (b .kept) had inner method s after e v → ComponentAt ed k l method s from e v
+        pub whole-behind : {inner : Bool} {v : Judged} → r ≡ Holds inner → BehindAt k (b .kept) had inner method s after e v → ComponentAt ed k l method s from e v
         unfolding _otherwise_
         whole-behind g w = record {
           is = λ c o. h .is c o l ∙ rw (z, given c o, d .is c o, g)
-              (w .is c o l (isComplete c method (nodesAt s from))
+              (w .is ed c o l (isComplete c method (nodesAt s from))
               (λ y. complete-is c o method (nodesAt s from) (opened .2 y) (subst (HeldIs (hasElement (nodesAt s q))) g (d .held) ∙ sym (ap hasElement (opened .1)))) m);
         }
-
-  module _ (k l : ℕ) {s : List ℕ} (e : ℕ) {at : ℕ} (any : Bool) {r : Node} (n : NodeAt s at r) where
-    with-nodes : (c : List ℕ) (m : Bool) {x : Nodes} → nodesAt s at ≡ x → componentsVerdict ed (nodesAt s at) c l m any e ≡ componentsVerdict ed x c l m any e
-    with-nodes c m h = ap (λ (y : Nodes). componentsVerdict ed y c l m any e) h
-
-    pub sub-none : {j : Judged} → r .kind ≡ None → EndsAt k any e j → SubAt ed k l s e at any (Done j)
-    unfolding componentsVerdict hasElement
-    sub-none q d = record { inner = []; is = λ c o m. with-nodes c m (node-none n q) ∙ d .is c o; fits = λ h. ap hasElement (node-none n q) }
-
-    pub sub-referred : r .kind ≡ Referred → SubAt ed k l s e at any (Done (Refused 6 at))
-    unfolding componentsVerdict
-    sub-referred q = record { inner = []; is = λ c o m. with-nodes c m (node-referred n q) ∙ sym (is-frame at); fits = λ h. absurd (not-fine h) }
-
-    module _ (q : r .kind ≡ Literal) {b : Bool} (f : b ≡ isSpace (r .unit)) where
-      pub sub-space : b ≡ true → SubAt ed k l s e at any (Past (r .next))
-      unfolding componentsVerdict hasElement pick
-      sub-space h = record { inner = []; is = λ c o m. with-nodes c m (node-literal n q) ∙ rw (← f, h); fits = (literal-less n q, ap hasElement (node-literal n q)) }
-
-      pub sub-text : b ≡ false → SubAt ed k l s e at any (Done (Refused 6 at))
-      unfolding componentsVerdict pick
-      sub-text h = record { inner = []; is = λ c o m. with-nodes c m (node-literal n q) ∙ rw (← f, h) (sym (is-frame at)); fits = λ h. absurd (not-fine h) }
-
-    module _ (q : r .kind ≡ Element) {t : Numbered} (d : NumberedAt k l (nameOf s r) t) where
-      pub sub-other : {j : Judged} → t ≡ Other → noComponent at (nameOf s r) ≡ judgedAs j → SubAt ed k l s e at any (Done j)
-      unfolding componentsVerdict pick
-      sub-other z u = record { inner = []; is = λ c o m. with-nodes c m (node-element n q) ∙ rw (d .is c o, z) u; fits = λ h. absurd (not-there at (nameOf s r) u h) }
-
-      number-of : {i : ℕ} → t ≡ Number i → NumberIs l (nameOf s r) (Number i)
-      number-of z = subst (NumberIs l (nameOf s r)) z (d .number)
-
-      pub sub-begins : {i : ℕ} → t ≡ Number i → SubAt ed k l s e at any (Begins i (r .inside) (r .end) (r .next))
-      unfolding componentsVerdict hasElement pick
-      sub-begins z = record {
-        inner = upper (nameOf s r);
-        is = λ c o m. with-nodes c m (node-element n q) ∙ rw (d .is c o, z);
-        fits = (number-of z .0, inside-less n q, element-less n q, ap hasElement (node-element n q), number-of z .1);
-      }
 
   pub among-start : (k l : ℕ) (method : Bool) (s : List ℕ) (from e : ℕ) → Among ed k l method s from e from false
   unfolding _or_
   among-start k l method s from e = record { is = λ c o. refl; low = omega arith; held = refl }
 
-  module _ {k l : ℕ} {method : Bool} {s : List ℕ} {from e at : ℕ} {any : Bool} (m : Among ed k l method s from e at any) {t : Sub} (u : SubAt ed k l s e at any t) where
+  module _ {k l : ℕ} {method : Bool} {s : List ℕ} {from e at : ℕ} {any : Bool} (m : Among ed k l method s from e at any) {t : Sub} (u : SubAt k l s e at any t) where
     module _ {j : Judged} (y : t ≡ Done j) where
-      done : SubAt ed k l s e at any (Done j)
-      done = subst (SubAt ed k l s e at any) y u
+      done : SubAt k l s e at any (Done j)
+      done = subst (SubAt k l s e at any) y u
 
       pub among-fine : j ≡ Fine → CompsAt ed k l method s from e (Holds any)
-      among-fine h = record { is = λ c o. m .is c o ∙ done .is c o method ∙ rw h; held = sym (m .held ∙ ap (λ (b : Bool). any or b) (done .fits h) ∙ or-false any) }
+      among-fine h = record { is = λ c o. m .is c o ∙ done .is ed c o method ∙ rw h; held = sym (m .held ∙ ap (λ (b : Bool). any or b) (done .fits h) ∙ or-false any) }
 
       pub among-refused : {f p : ℕ} → j ≡ Refused f p → CompsAt ed k l method s from e (Fails f p)
-      among-refused h = record { is = λ c o. m .is c o ∙ done .is c o method ∙ rw h; held = tt }
+      among-refused h = record { is = λ c o. m .is c o ∙ done .is ed c o method ∙ rw h; held = tt }
 
     module _ {d : ℕ} (y : t ≡ Past d) where
-      past : SubAt ed k l s e at any (Past d)
-      past = subst (SubAt ed k l s e at any) y u
+      past : SubAt k l s e at any (Past d)
+      past = subst (SubAt k l s e at any) y u
 
       pub among-past : Among ed k l method s from e d any
-      among-past = record { is = λ c o. m .is c o ∙ past .is c o method; low = omega (arith, m .low, past .fits .0); held = m .held ∙ ap (λ (b : Bool). any or b) (past .fits .1) }
+      among-past = record { is = λ c o. m .is c o ∙ past .is ed c o method; low = omega (arith, m .low, past .fits .0); held = m .held ∙ ap (λ (b : Bool). any or b) (past .fits .1) }
 
       pub past-less : length s - d < length s - at
       past-less = past .fits .0
 
     module _ {n q z d : ℕ} (y : t ≡ Begins n q z d) where
-      begun : SubAt ed k l s e at any (Begins n q z d)
-      begun = subst (SubAt ed k l s e at any) y u
+      begun : SubAt k l s e at any (Begins n q z d)
+      begun = subst (SubAt k l s e at any) y u
 
       pub begun-left : 1 ≤ l
       begun-left = begun .fits .4
@@ -257,12 +257,12 @@ module _ {ed : Edition} where
       module _ {v : Judged} (w : ComponentAt ed n (l - 1) method s q z v) where
         pub among-bad : {f p : ℕ} → v ≡ Refused f p → CompsAt ed k l method s from e (Fails f p)
         unfolding _otherwise_
-        among-bad y = record { is = λ c o. m .is c o ∙ begun .is c o method ∙ rw (w .is (begun .inner) (begun .fits .0), y); held = tt }
+        among-bad y = record { is = λ c o. m .is c o ∙ begun .is ed c o method ∙ rw (w .is (begun .inner) (begun .fits .0), y); held = tt }
 
         pub among-good : v ≡ Fine → Among ed k l method s from e d true
         unfolding _otherwise_
         among-good y = record {
-          is = λ c o. m .is c o ∙ begun .is c o method ∙ rw (w .is (begun .inner) (begun .fits .0), y);
+          is = λ c o. m .is c o ∙ begun .is ed c o method ∙ rw (w .is (begun .inner) (begun .fits .0), y);
           low = omega (arith, m .low, begun .fits .2);
           held = m .held ∙ ap (λ (b : Bool). any or b) (begun .fits .3) ∙ or-true any (hasElement (nodesAt s d));
         }

@@ -211,7 +211,7 @@ module _ (ed : Edition) where
     pub is : (c w : List ℕ) → Holder context c w → sequence (propertySlots w) (childVerdict ed c w (typeAt (context .«value_type»))) (nodesAt s from) 0 [] e ≡
         walked (slotsAt (context .row .number)) (childVerdict ed c w (typeAt (context .«value_type»))) (nodesAt s at) next (flagsAt (context .row .number) f g) e
 
-module _ {ed : Edition} where
+module _ (ed : Edition) where
   -- ---- what stands in a child
 
   module _ (context : Context) (slot place : ℕ) (n : List ℕ) (end : ℕ) (kids : Nodes) {v : Verdict} where

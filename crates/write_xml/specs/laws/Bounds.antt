@@ -108,35 +108,34 @@ decoded-aside ed (some l) = go (same (upper (l .name)) (ascii "BEGIN")) (same (u
     go false true = refl
     go false false = refl
 
-module _ {ed : Edition} where
-  -- what was found, of the kind that it has
-  pub bound-kind : {mode : ℕ} {s : List ℕ} {at : ℕ} {r : Found} → BoundAt ed mode s at r → (k : Kind) → r .kind ≡ k → BoundBy ed k mode s at (r .line .value) (r .end) (r .next)
-  bound-kind {mode} {s} {at} {r} f k q = subst (λ (x : Kind). (BoundBy ed) x mode s at (r .line .value) (r .end) (r .next)) q (f .found)
+-- what was found, of the kind that it has
+pub bound-kind : {ed : Edition} {mode : ℕ} {s : List ℕ} {at : ℕ} {r : Found} → BoundAt ed mode s at r → (k : Kind) → r .kind ≡ k → BoundBy ed k mode s at (r .line .value) (r .end) (r .next)
+bound-kind {ed} {mode} {s} {at} {r} f k q = subst (λ (x : Kind). BoundBy ed x mode s at (r .line .value) (r .end) (r .next)) q (f .found)
 
-  -- ---- a line that is read whole
+-- ---- a line that is read whole
 
-  found-by : (k : Kind) (mode : ℕ) (s : List ℕ) (at : ℕ) (l : LineCursors) (e next : ℕ) → FoundBy ed k mode s at l e next → BoundBy ed k mode s at (l .value) e next
-  found-by Begin mode s at l e next h = h
-  found-by End mode s at l e next h = h
-  found-by Property mode s at l e next h = record { entry = property (h .line); aside = refl; first = h .first }
-  found-by Nothing mode s at l e next h = record { entry = nothing; aside = refl; first = h }
+found-by : (k : Kind) (ed : Edition) (mode : ℕ) (s : List ℕ) (at : ℕ) (l : LineCursors) (e next : ℕ) → FoundBy ed k mode s at l e next → BoundBy ed k mode s at (l .value) e next
+found-by Begin ed mode s at l e next h = h
+found-by End ed mode s at l e next h = h
+found-by Property ed mode s at l e next h = record { entry = property (h .line); aside = refl; first = h .first }
+found-by Nothing ed mode s at l e next h = record { entry = nothing; aside = refl; first = h }
 
-  pub found-bound : {mode : ℕ} {s : List ℕ} {at : ℕ} {r : Found} → FoundAt ed mode s at r → BoundAt ed mode s at r
-  found-bound {mode} {s} {at} {r} f = record { onward = f .onward; ready = f .ready; ends = f .ends; found = found-by (r .kind) mode s at (r .line) (r .end) (r .next) (f .found) }
+pub found-bound : {ed : Edition} {mode : ℕ} {s : List ℕ} {at : ℕ} {r : Found} → FoundAt ed mode s at r → BoundAt ed mode s at r
+found-bound {ed} {mode} {s} {at} {r} f = record { onward = f .onward; ready = f .ready; ends = f .ends; found = found-by (r .kind) ed mode s at (r .line) (r .end) (r .next) (f .found) }
 
-  module _ {mode : ℕ} {s : List ℕ} {at : ℕ} (r : Ready mode s at) where
-    pub loose-aside : at < length s → EndsLine mode s at Loose → BoundAt ed mode s at (record { kind = Nothing; line = record { name = at; parameters = at; value = at }; end = at; next = length s })
-    loose-aside h f = found-bound (found-loose r _ h f)
+module _ {ed : Edition} {mode : ℕ} {s : List ℕ} {at : ℕ} (r : Ready mode s at) where
+  pub loose-aside : at < length s → EndsLine mode s at Loose → BoundAt ed mode s at (record { kind = Nothing; line = record { name = at; parameters = at; value = at }; end = at; next = length s })
+  loose-aside h f = found-bound (found-loose ed r _ h f)
 
-    pub whole-aside : {e next : ℕ} → LineEnds mode s at e next → opens (rest mode s at) ≡ false → BoundAt ed mode s at (record { kind = Nothing; line = record { name = at; parameters = e; value = e }; end = e; next = next })
-    unfolding entriesAt entryOf
-    whole-aside {e} {next} f q = record {
-      onward = line-low r f;
-      ready = line-next r f;
-      ends = line-end-inside r f;
-      found = record {
-        entry = entryBy (readLine ed (rest mode (take e s) at));
-        aside = decoded-aside ed (contentLine (rest mode (take e s) at)) ∙ content-aside _ (opens-front (rest mode (take e s) at) _ (sym (ap opens (f .is (r .cut))) ∙ q));
-        first = ap (map (entryOf ed)) (line-first (r .cut) (r .to) f);
-      };
-    }
+  pub whole-aside : {e next : ℕ} → LineEnds mode s at e next → opens (rest mode s at) ≡ false → BoundAt ed mode s at (record { kind = Nothing; line = record { name = at; parameters = e; value = e }; end = e; next = next })
+  unfolding entriesAt entryOf
+  whole-aside {e} {next} f q = record {
+    onward = line-low r f;
+    ready = line-next r f;
+    ends = line-end-inside r f;
+    found = record {
+      entry = entryBy (readLine ed (rest mode (take e s) at));
+      aside = decoded-aside ed (contentLine (rest mode (take e s) at)) ∙ content-aside _ (opens-front (rest mode (take e s) at) _ (sym (ap opens (f .is (r .cut))) ∙ q));
+      first = ap (map (entryOf ed)) (line-first (r .cut) (r .to) f);
+    };
+  }

@@ -36,11 +36,28 @@ use Rattle.write_xml.specs.declared.entry.Found.{Found}
 use Rattle.write_xml.specs.declared.entry.Kind.{Kind}
 use Rattle.write_xml.specs.declared.entry.Kind.the-variants.{Begin, End, Property, Nothing}
 
-module _ {ed : Edition} where
+module _ {ed : Edition} {mode : ℕ} {s : List ℕ} {at : ℕ} {r : Found} (f : FoundAt ed mode s at r) where
   -- what was found, of the kind that it has
-  pub by-kind : {mode : ℕ} {s : List ℕ} {at : ℕ} {r : Found} → FoundAt ed mode s at r → (k : Kind) → r .kind ≡ k → FoundBy ed k mode s at (r .line) (r .end) (r .next)
-  by-kind {mode} {s} {at} {r} f k q = subst (λ (x : Kind). (FoundBy ed) x mode s at (r .line) (r .end) (r .next)) q (f .found)
+  pub by-kind : (k : Kind) → r .kind ≡ k → FoundBy ed k mode s at (r .line) (r .end) (r .next)
+  by-kind k q = subst (λ (x : Kind). FoundBy ed x mode s at (r .line) (r .end) (r .next)) q (f .found)
 
+  -- where a property's name ends
+  pub property-inside : r .kind ≡ Property → r .line .parameters ≤ length (take (r .end) s)
+  property-inside q = name-inside (f .ready .cut) (by-kind Property q .parts)
+
+-- ---- the name of a line
+
+module _ {mode : ℕ} {s : List ℕ} {at : ℕ} (r : Ready mode s at) {e next : ℕ} (f : LineEnds mode s at e next) {y : LineRead} (a : LineAt mode (take e s) at y) {l : LineCursors} (z : y ≡ LineThere l) where
+  there : LineAt mode (take e s) at (LineThere l)
+  there = subst (LineAt mode (take e s) at) z a
+
+  name-within : l .parameters ≤ e
+  name-within = let b = line-count r f in omega (arith, b, there .parts .1 .name .plain (r .cut) (omega (arith, b, f .line .onward, there .parts .0)))
+
+  pub name-count : l .parameters ≡ length (take (l .parameters) s)
+  name-count = sym (length-take-le (l .parameters) s (omega (arith, name-within, line-end-inside r f)))
+
+module _ (ed : Edition) where
   -- ---- from the start, and past the end
 
   pub entries-start : {mode : ℕ} {s : List ℕ} {at : ℕ} → Settled mode s 0 at → shallow levels (innerOf (entriesAt ed mode s at) 0) ≡ calendarOf ed (lines (rest mode s 0))
@@ -89,21 +106,7 @@ module _ {ed : Edition} where
         unfolding entryBy
         found-bad l z = found-whole Nothing l (whole-line none (ap (Option·map (decodedLine ed)) (subst (LineAt mode (take e s) at) z a .is)))
 
-        module _ {l : LineCursors} (z : y ≡ LineThere l) where
-          there : LineAt mode (take e s) at (LineThere l)
-          there = subst (LineAt mode (take e s) at) z a
-
-          pub name-within : l .parameters ≤ e
-          name-within = let b = line-count r f in omega (arith, b, there .parts .1 .name .plain (r .cut) (omega (arith, b, f .line .onward, there .parts .0)))
-
-          pub name-count : l .parameters ≡ length (take (l .parameters) s)
-          name-count = sym (length-take-le (l .parameters) s (omega (arith, name-within, line-end-inside r f)))
-
-          pub found-named : {k : Kind} → k ≡ kindNamed (upper (rest mode (take (l .parameters) s) (l .name))) → FoundAt ed mode s at (record { kind = k; line = l; end = e; next = next })
-          found-named {k} h =
-              found-whole k l (rw h (by-name _ l (decodedLine ed (named mode (take e s) l))
-              (ap upper (ap (λ (x : List ℕ). rest mode x (l .name)) (sym (take-take (l .parameters) e s name-within)) ∙ name-chars (r .cut) (there .parts .1 .name))) refl (ap (Option·map (decodedLine ed)) (there .is)) there))
-
-  -- where a property's name ends
-  pub property-inside : {mode : ℕ} {s : List ℕ} {at : ℕ} {r : Found} → FoundAt ed mode s at r → r .kind ≡ Property → r .line .parameters ≤ length (take (r .end) s)
-  property-inside f q = name-inside (f .ready .cut) (by-kind f Property q .parts)
+        pub found-named : {l : LineCursors} → y ≡ LineThere l → {k : Kind} → k ≡ kindNamed (upper (rest mode (take (l .parameters) s) (l .name))) → FoundAt ed mode s at (record { kind = k; line = l; end = e; next = next })
+        found-named {l} z {k} h =
+            found-whole k l (rw h (by-name _ l (decodedLine ed (named mode (take e s) l))
+            (ap upper (ap (λ (x : List ℕ). rest mode x (l .name)) (sym (take-take (l .parameters) e s (name-within r f a z))) ∙ name-chars (r .cut) (there r f a z .parts .1 .name))) refl (ap (Option·map (decodedLine ed)) (there r f a z .is)) (there r f a z)))

@@ -26,8 +26,7 @@ written-is : (c : Components) → (declaration ⊕ (10 ∷ []) ⊕ rootStart) �
 unfolding writeDocument
 written-is c = regroup declaration (10 ∷ []) rootStart (componentsXml c ⊕ rootEnd ⊕ (10 ∷ []))
 
-module _ {ed : Edition} where
-  pub document-put : {mode : ℕ} {s : List ℕ} {from : ℕ} → Settled mode s 0 from → {d e f g : List ℕ} {o a b r : ℕ} → Put d e o a (declaration ⊕ (10 ∷ []) ⊕ rootStart) →
-      Put e f a b (innerXml levels (entriesAt ed mode s from)) → Put f g b r (rootEnd ⊕ (10 ∷ [])) → Put d g o r (writeDocument (calendarOf ed (lines (rest mode s 0))))
-  document-put {mode} {s} {from} p {d} {g = g} {o} {r = r} u v w =
-      subst (Put d g o r) (written-is (shallow levels (innerOf (entriesAt ed mode s from) 0)) ∙ ap writeDocument (entries-start p)) (u ▷ v ▷ w)
+pub document-put : (ed : Edition) {mode : ℕ} {s : List ℕ} {from : ℕ} → Settled mode s 0 from → {d e f g : List ℕ} {o a b r : ℕ} → Put d e o a (declaration ⊕ (10 ∷ []) ⊕ rootStart) →
+    Put e f a b (innerXml levels (entriesAt ed mode s from)) → Put f g b r (rootEnd ⊕ (10 ∷ [])) → Put d g o r (writeDocument (calendarOf ed (lines (rest mode s 0))))
+document-put ed {mode} {s} {from} p {d} {g = g} {o} {r = r} u v w =
+    subst (Put d g o r) (written-is (shallow levels (innerOf (entriesAt ed mode s from) 0)) ∙ ap writeDocument (entries-start ed p)) (u ▷ v ▷ w)

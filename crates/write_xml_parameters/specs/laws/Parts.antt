@@ -34,7 +34,7 @@ use Rattle.schema.specs.Sets.{parameterWordsAt}
 use Rattle.values.specs.ReadValue.{readValue}
 use Rattle.read_text_line.specs.ContentLine.{ParamValue, RawParameter, paramValue, nextValue}
 use Rattle.read_text_line.specs.Items.{items}
-use Rattle.read_text_line.specs.Decoded.{decodedValue}
+use Rattle.read_text_line.specs.Decoded.{decodedValue, decodedParameter}
 use Rattle.read_text_line.specs.Cursor.{valuesOf, valuesAt}
 use Rattle.read_text_line.specs.laws.Repeating.{item-bad}
 use Rattle.read_text_line.specs.Values.{ValueAt}
@@ -46,6 +46,7 @@ use Rattle.xcal.specs.WriteXml.{valueXml, parametersXml, parametersElement}
 use Rattle.read_text_parameters.specs.Cutting.{paramRead}
 use Rattle.write_xml_parameters.specs.Shown.{valueShown, charsShown, shown, ownShown, parametersShown, charsIn}
 use Rattle.write_xml_parameters.specs.laws.Shown.{shown-is}
+use Rattle.write_xml_parameters.specs.laws.Walk.{own-none}
 use Rattle.write_xml_parameters.specs.Parts.{rowAt}
 
 -- ---- a value
@@ -66,7 +67,7 @@ module _ {d e : List ℕ} {o r : ℕ} (q : ℕ) (l : List ℕ) {t : Bool} (h : t
 
 -- ---- the values of a parameter
 
-module _ {ed : Edition} (p : ParameterRow) {m : ℕ} {s : List ℕ} {c : ℕ} {r : ParamAt} (y : cuts m ≡ true) (v : ValueAt paramValue m s c r) {d : List ℕ} {o : ℕ} where
+module _ (ed : Edition) (p : ParameterRow) {m : ℕ} {s : List ℕ} {c : ℕ} {r : ParamAt} (y : cuts m ≡ true) (v : ValueAt paramValue m s c r) {d : List ℕ} {o : ℕ} where
   pub put-first : {e f : List ℕ} {a n : ℕ} → r .ok ≡ true → Put d e o a (valueShown p (decode ed (rest m (take (r .to) s) (r .from)))) →
       Put e f a n (joined (map (charsIn ed p) (items nextValue (rest m s (r .next))))) → Put d f o n (joined (map (charsIn ed p) (valuesAt m s c)))
   unfolding joined
@@ -83,11 +84,11 @@ unfolding joined
 chars-in ed p [] = refl
 chars-in ed p (v ∷ vs) = ap (λ (l : List ℕ). charsIn ed p v ⊕ l) (chars-in ed p vs)
 
-pub put-parameter : {ed : Edition} {d e f g : List ℕ} {o a b r q : ℕ} (n : List ℕ) (vs : List ParamValue) → q ≡ placeOf (upper n) parameterNames →
+pub put-parameter : (ed : Edition) {d e f g : List ℕ} {o a b r q : ℕ} (n : List ℕ) (vs : List ParamValue) → q ≡ placeOf (upper n) parameterNames →
     Put d e o a (startTag (lower n)) → Put e f a b (joined (map (charsIn ed (rowAt q)) vs)) → Put f g b r (endTag (lower n)) →
     Put d g o r (shown (record { name = n; values = map (decodedValue ed) vs }))
 unfolding rowAt
-put-parameter {ed} {q = q} n vs h x y z = x ▷ rw (parameter-place (upper n), ← h, ← (chars-in ed (rowAt q) vs)) y ▷ z
+put-parameter ed {q = q} n vs h x y z = x ▷ rw (parameter-place (upper n), ← h, ← (chars-in ed (rowAt q) vs)) y ▷ z
 
 module _ {d : List ℕ} {o : ℕ} (n : List ℕ) (vs : List ParamValue) {t : Bool} (h : t ≡ same (upper n) (ascii "VALUE")) where
   pub put-value-name : t ≡ true → length d * 1 < 2 ^ 63 → Put d d o o (ownShown (record { name = n; values = vs }))
@@ -102,42 +103,42 @@ module _ {d f : List ℕ} {o r e : ℕ} (m : ℕ) (s : List ℕ) (c to : ℕ) (h
   pub least-value : {ed : Edition} {u : ℕ} (p : ParameterRow) → Decodes ed m u → Put d f o r (valueShown p (rest u (take e s) c)) → Put d f o r (valueShown p (decode ed (rest m (take to s) c)))
   least-value p k w = rw (← (k .is (take to s) c), ← (take-least s to), ← h) w
 
-  pub least-own : {ed : Edition} (first : ℕ) → Put d f o r (ownShown (paramRead ed m s c e first)) → Put d f o r (ownShown (paramRead ed m s c to first))
-  least-own first w = rw (← (take-least s to), ← h) w
+  pub least-own : (ed : Edition) (first : ℕ) → Put d f o r (ownShown (paramRead ed m s c e first)) → Put d f o r (ownShown (paramRead ed m s c to first))
+  least-own ed first w = rw (← (take-least s to), ← h) w
 
 -- ---- all parameters
 
-module _ {d : List ℕ} {o : ℕ} (rs : List RawParameter) {t : Bool} (h : t ≡ isRead (readParameters rs)) where
-  pub put-unread : t ≡ false → length d * 1 < 2 ^ 63 → Put d d o o (parametersElement (readOr [] (readParameters rs)))
+module _ {d : List ℕ} {o : ℕ} (ed : Edition) (rs : List RawParameter) {t : Bool} (h : t ≡ isRead (readParameters (map (decodedParameter ed) rs))) where
+  pub put-unread : t ≡ false → length d * 1 < 2 ^ 63 → Put d d o o (parametersElement (readOr [] (readParameters (map (decodedParameter ed) rs))))
   unfolding isRead readOr
-  put-unread k z = go (readParameters rs) (sym h ∙ k)
+  put-unread k z = go (readParameters (map (decodedParameter ed) rs)) (sym h ∙ k)
     where
       go : (q : Option (List Parameter)) → isRead q ≡ false → Put d d o o (parametersElement (readOr [] q))
       go none e = put-none d o z
       go (some ps) e = absurd (false≢true (sym e))
 
   module _ {u : Bool} (i : u ≡ isEmpty (ownParameters rs)) (k : t ≡ true) where
-    pub put-only : u ≡ true → length d * 1 < 2 ^ 63 → Put d d o o (parametersElement (readOr [] (readParameters rs)))
+    pub put-only : u ≡ true → length d * 1 < 2 ^ 63 → Put d d o o (parametersElement (readOr [] (readParameters (map (decodedParameter ed) rs))))
     unfolding readOr
-    put-only w z = go (readParameters rs) refl
+    put-only w z = go (readParameters (map (decodedParameter ed) rs)) refl
       where
         all : (ps : List Parameter) → isEmpty ps ≡ true → Put d d o o (parametersElement ps)
         all [] e = put-none d o z
         all (p ∷ ps) e = absurd (false≢true e)
 
-        go : (q : Option (List Parameter)) → readParameters rs ≡ q → Put d d o o (parametersElement (readOr [] q))
+        go : (q : Option (List Parameter)) → readParameters (map (decodedParameter ed) rs) ≡ q → Put d d o o (parametersElement (readOr [] q))
         go none e = put-none d o z
-        go (some ps) e = all ps (each-empty readParameter (ownParameters rs) ps e ∙ sym i ∙ w)
+        go (some ps) e = all ps (each-empty readParameter (ownParameters (map (decodedParameter ed) rs)) ps e ∙ own-none ed rs ∙ sym i ∙ w)
 
-    pub put-shown : {e : List ℕ} {r : ℕ} → u ≡ false → Put d e o r (elementOf (ascii "parameters") (parametersShown rs)) →
-        Put d e o r (parametersElement (readOr [] (readParameters rs)))
+    pub put-shown : {e : List ℕ} {r : ℕ} → u ≡ false → Put d e o r (elementOf (ascii "parameters") (parametersShown (map (decodedParameter ed) rs))) →
+        Put d e o r (parametersElement (readOr [] (readParameters (map (decodedParameter ed) rs))))
     unfolding isRead readOr
-    put-shown {e} {r} w p = go (readParameters rs) refl (sym h ∙ k)
+    put-shown {e} {r} w p = go (readParameters (map (decodedParameter ed) rs)) refl (sym h ∙ k)
       where
-        all : (ps : List Parameter) → isEmpty ps ≡ false → parametersShown rs ≡ parametersXml ps → Put d e o r (parametersElement ps)
+        all : (ps : List Parameter) → isEmpty ps ≡ false → parametersShown (map (decodedParameter ed) rs) ≡ parametersXml ps → Put d e o r (parametersElement ps)
         all [] x y = absurd (false≢true (sym x))
         all (q ∷ ps) x y = rw (← y) p
 
-        go : (q : Option (List Parameter)) → readParameters rs ≡ q → isRead q ≡ true → Put d e o r (parametersElement (readOr [] q))
+        go : (q : Option (List Parameter)) → readParameters (map (decodedParameter ed) rs) ≡ q → isRead q ≡ true → Put d e o r (parametersElement (readOr [] q))
         go none x y = absurd (false≢true y)
-        go (some ps) x y = all ps (each-empty readParameter (ownParameters rs) ps x ∙ sym i ∙ w) (shown-is rs ps x)
+        go (some ps) x y = all ps (each-empty readParameter (ownParameters (map (decodedParameter ed) rs)) ps x ∙ own-none ed rs ∙ sym i ∙ w) (shown-is (map (decodedParameter ed) rs) ps x)

@@ -3,7 +3,7 @@
 --     writing-start, writing-more, writing-end     its laws
 --     value-written, values-over, values-fault     over the values of a parameter
 --     param-written, params-over, params-fault     over the parameters of a line
---     only-more, only-stop, only-over, only-fault  over the parameters of a line, as long as they are VALUE
+--     only-more, only-stop, only-over, only-fault  over the parameters of a line, as long as they are VALUE;   own-none: in any edition
 use mathlib.Core.Path.{_≡_, refl, sym, _∙_, subst, ap}
 use mathlib.Core.Bool.{Bool, true, false}
 use mathlib.Core.List.{List, [], _∷_, map}
@@ -52,7 +52,7 @@ module _ {A : Type 0} {f : A → List ℕ} {d₀ : List ℕ} {at₀ : ℕ} {all 
 
 -- ---- the values that follow the first
 
-module _ {ed : Edition} (p : ParameterRow) {d₀ : List ℕ} {at₀ : ℕ} {all : List ParamValue} {d : List ℕ} {at n : ℕ} {s : List ℕ} {c : ℕ} {r : ParamAt}
+module _ (ed : Edition) (p : ParameterRow) {d₀ : List ℕ} {at₀ : ℕ} {all : List ParamValue} {d : List ℕ} {at n : ℕ} {s : List ℕ} {c : ℕ} {r : ParamAt}
     (y : cuts n ≡ true) (t : Writing (charsIn ed p) d₀ at₀ all d at (items nextValue (rest n s c))) (v : ValueAt nextValue n s c r) where
   pub value-written : {e : List ℕ} {m : ℕ} → r .there ≡ true → r .ok ≡ true → Put d e at m (valueShown p (decode ed (rest n (take (r .to) s) (r .from)))) →
       Writing (charsIn ed p) d₀ at₀ all e m (items nextValue (rest n s (r .next)))
@@ -70,7 +70,7 @@ module _ {n : ℕ} {s : List ℕ} {c : ℕ} {r : ParamRead} (y : cuts n ≡ true
   pub cut-more : paramsAt n s c ≡ paramCut n s (r .name) (r .end) (r .first) ∷ paramsAt n s (r .next)
   cut-more = param-more a h k ∙ rw (name-chars y (a .named h k))
 
-module _ {ed : Edition} {d₀ : List ℕ} {at₀ : ℕ} {all : List RawParameter} {d : List ℕ} {at n : ℕ} {s : List ℕ} {c : ℕ} {r : ParamRead}
+module _ (ed : Edition) {d₀ : List ℕ} {at₀ : ℕ} {all : List RawParameter} {d : List ℕ} {at n : ℕ} {s : List ℕ} {c : ℕ} {r : ParamRead}
     (y : cuts n ≡ true) (t : Writing ownShown d₀ at₀ all d at (paramsIn ed n s c)) (a : ParamOf nextParam n s c r) where
   pub param-written : {e : List ℕ} {m : ℕ} → r .there ≡ true → r .ok ≡ true → Put d e at m (ownShown (paramRead ed n s (r .name) (r .end) (r .first))) →
       Writing ownShown d₀ at₀ all e m (paramsIn ed n s (r .next))
@@ -82,11 +82,21 @@ module _ {ed : Edition} {d₀ : List ℕ} {at₀ : ℕ} {all : List RawParameter
   pub params-fault : r .there ≡ true → r .ok ≡ false → Put d₀ d at₀ at (joined (map ownShown all))
   params-fault h k = writing-end t (ap (map (decodedParameter ed)) (param-fault a h k))
 
--- ---- whether there is one besides VALUE
+-- ---- whether there is one besides VALUE, which is the same in every edition
 
-module _ {ed : Edition} {n : ℕ} {s : List ℕ} {c : ℕ} {v : Bool} {r : ParamRead} (y : cuts n ≡ true) (e : v ≡ isEmpty (ownParameters (paramsIn ed n s c))) (a : ParamOf nextParam n s c r) where
+pub own-none : (ed : Edition) (rs : List RawParameter) → isEmpty (ownParameters (map (decodedParameter ed) rs)) ≡ isEmpty (ownParameters rs)
+unfolding ownParameters pick
+own-none ed [] = refl
+own-none ed (r ∷ rs) = go (same (upper (r .name)) (ascii "VALUE")) (own-none ed rs)
+  where
+    go : (b : Bool) → isEmpty (ownParameters (map (decodedParameter ed) rs)) ≡ isEmpty (ownParameters rs) →
+        isEmpty (pick b (ownParameters (map (decodedParameter ed) rs)) (decodedParameter ed r ∷ ownParameters (map (decodedParameter ed) rs))) ≡ isEmpty (pick b (ownParameters rs) (r ∷ ownParameters rs))
+    go true h = h
+    go false h = refl
+
+module _ {n : ℕ} {s : List ℕ} {c : ℕ} {v : Bool} {r : ParamRead} (y : cuts n ≡ true) (e : v ≡ isEmpty (ownParameters (paramsAt n s c))) (a : ParamOf nextParam n s c r) where
   module _ {t : Bool} (h : r .there ≡ true) (k : r .ok ≡ true) (q : t ≡ same (upper (rest n (take (r .end) s) (r .name))) (ascii "VALUE")) where
-    pub only-more : t ≡ true → v ≡ isEmpty (ownParameters (paramsIn ed n s (r .next)))
+    pub only-more : t ≡ true → v ≡ isEmpty (ownParameters (paramsAt n s (r .next)))
     unfolding ownParameters pick
     only-more z = e ∙ rw (cut-more y a h k, ← q, z)
 

@@ -6,10 +6,10 @@ use Rattle.read_xml.proofs.component.behind.Statement.{statement}
 use Rattle.read_xml.proofs.component.behind.Tie as tie
 
 abbrev Inv-loop : tie.InvT-loop
-Inv-loop edition k kept had inner method s from e at₀ at = Following edition s from e at had
+Inv-loop k kept had inner method s from e at₀ at = Following s from e at had
 
 abbrev μ-loop : tie.MeasureT-loop
-μ-loop edition k kept had inner method s from e at₀ at = length s - at
+μ-loop k kept had inner method s from e at₀ at = length s - at
 
 pub behind-spec : {M : Type 1} → statement M
 behind-spec = tie.close (tie.spec

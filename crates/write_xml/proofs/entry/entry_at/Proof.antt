@@ -18,7 +18,7 @@ entry-at-spec = tie.close (tie.spec
     (λ c. search needs)  -- enum-known-l
     (λ c. name-count (c .before .before .before .before .before .before .before .before .before .before .before .pre .0) (subst (EndsLine _ _ _) (c .before .before .before .before .before .before .before .e .given .1) (c .before .before .before .before .before .before .before .before .before .line-end .ensures)) (c .before .before .before .before .line-at .ensures) (c .before .before .l .given .1))  -- slice-aggregate-kind-of
     (λ c κs. search needs)  -- kind-of-requires
-    (λ c. found-loose (c .before .before .before .before .pre .0) _ (c .before .before .before .before .pre .1) (subst (EndsLine _ _ _) (c .enum-told .given .1) (c .before .before .line-end .ensures)))  -- returns
-    (λ c. found-bad (c .before .before .before .before .before .before .before .before .before .pre .0) (subst (EndsLine _ _ _) (c .before .before .before .before .before .e .given .1) (c .before .before .before .before .before .before .before .line-end .ensures)) (c .before .before .line-at .ensures) _ (c .enum-told2 .given .1))  -- returns-2
-    (λ c. found-named (c .before .before .before .before .before .before .before .before .before .before .before .before .pre .0) (subst (EndsLine _ _ _) (c .before .before .before .before .before .before .before .before .e .given .1) (c .before .before .before .before .before .before .before .before .before .before .line-end .ensures)) (c .before .before .before .before .before .line-at .ensures) (c .before .before .before .l .given .1) (c .kind-of .ensures))  -- returns-3
+    (λ c. found-loose _ (c .before .before .before .before .pre .0) _ (c .before .before .before .before .pre .1) (subst (EndsLine _ _ _) (c .enum-told .given .1) (c .before .before .line-end .ensures)))  -- returns
+    (λ c. found-bad _ (c .before .before .before .before .before .before .before .before .before .pre .0) (subst (EndsLine _ _ _) (c .before .before .before .before .before .e .given .1) (c .before .before .before .before .before .before .before .line-end .ensures)) (c .before .before .line-at .ensures) _ (c .enum-told2 .given .1))  -- returns-2
+    (λ c. found-named _ (c .before .before .before .before .before .before .before .before .before .before .before .before .pre .0) (subst (EndsLine _ _ _) (c .before .before .before .before .before .before .before .before .e .given .1) (c .before .before .before .before .before .before .before .before .before .before .line-end .ensures)) (c .before .before .before .before .before .line-at .ensures) (c .before .before .before .l .given .1) (c .kind-of .ensures))  -- returns-3
     )

@@ -3,7 +3,7 @@ use mathlib.Core.Path.{_≡_, refl}
 use Prim.Native.Nat.{_*_, _-_}
 use lib.ListN.{length}
 use Rattle.octets.specs.Words.{isEmpty}
-use Rattle.read_text_line.specs.Decoded.{paramsIn}
+use Rattle.read_text_line.specs.Cursor.{paramsAt}
 use Rattle.read_text_line.specs.laws.Params.{param-less}
 use Rattle.text.specs.Parameters.{ownParameters}
 use Rattle.write_xml_parameters.specs.laws.Walk.{only-more, only-stop, only-over, only-fault}
@@ -12,10 +12,10 @@ use Rattle.write_xml_parameters.proofs.line.is_bare.Statement.{statemen
 use Rattle.write_xml_parameters.proofs.line.is_bare.Tie as tie
 
 abbrev Inv-loop : tie.InvT-loop
-Inv-loop edition mode s at c₀ c = isEmpty (ownParameters (paramsIn edition mode s at)) ≡ isEmpty (ownParameters (paramsIn edition mode s c))
+Inv-loop mode s at c₀ c = isEmpty (ownParameters (paramsAt mode s at)) ≡ isEmpty (ownParameters (paramsAt mode s c))
 
 abbrev μ-loop : tie.MeasureT-loop
-μ-loop edition mode s at c₀ c = 4 * length s - c
+μ-loop mode s at c₀ c = 4 * length s - c
 
 pub is-bare-spec : {M : Type 1} → statement M
 is-bare-spec = tie.close (tie.spec

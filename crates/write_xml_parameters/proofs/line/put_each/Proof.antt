@@ -23,9 +23,9 @@ put-each-spec = tie.close (tie.spec
     (λ c κs. search writing)  -- next-param-requires
     (λ c κs. search writing)  -- put-cut-own-requires
     (λ c. param-less (c .before .before .before .before .before .before .next-param .ensures) (c .before .before .before .before .before .if1 .taken) (c .before .before .before .before .if2 .taken))  -- loop-less
-    (λ c. param-written (c .before .before .before .before .before .before .before .before .before .before .pre) (c .before .before .before .before .before .before .before .loop .inv) (c .before .before .before .before .before .before .next-param .ensures) (c .before .before .before .before .before .if1 .taken) (c .before .before .before .before .if2 .taken) (c .before .before .put-cut-own .ensures))  -- loop-again
+    (λ c. param-written _ (c .before .before .before .before .before .before .before .before .before .before .pre) (c .before .before .before .before .before .before .before .loop .inv) (c .before .before .before .before .before .before .next-param .ensures) (c .before .before .before .before .before .if1 .taken) (c .before .before .before .before .if2 .taken) (c .before .before .put-cut-own .ensures))  -- loop-again
     (λ c. c .before .before .before .loop .inv .kept)  -- same-length
-    (λ c. params-fault (c .before .before .before .before .before .before .pre) (c .before .before .before .loop .inv) (c .before .before .next-param .ensures) (c .before .if1 .taken) (c .if2 .left))  -- returns
+    (λ c. params-fault _ (c .before .before .before .before .before .before .pre) (c .before .before .before .loop .inv) (c .before .before .next-param .ensures) (c .before .if1 .taken) (c .if2 .left))  -- returns
     (λ c. c .before .before .loop .inv .kept)  -- same-length-2
-    (λ c. params-over (c .before .before .before .before .before .pre) (c .before .before .loop .inv) (c .before .next-param .ensures) (c .if1 .left))  -- returns-2
+    (λ c. params-over _ (c .before .before .before .before .before .pre) (c .before .before .loop .inv) (c .before .next-param .ensures) (c .if1 .left))  -- returns-2
     )

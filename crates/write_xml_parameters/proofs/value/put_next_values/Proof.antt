@@ -26,9 +26,9 @@ put-next-values-spec = tie.close (tie.spec
     (λ c κs. search writing)  -- next-value-requires
     (λ c κs. search writing)  -- put-cut-value-requires
     (λ c. value-less (c .before .before .before .before .before .before .next-value .ensures) (c .before .before .before .before .before .if1 .taken) (c .before .before .before .before .if2 .taken))  -- loop-less
-    (λ c. value-written _ (c .before .before .before .before .before .before .before .before .before .before .pre) (c .before .before .before .before .before .before .before .loop .inv) (c .before .before .before .before .before .before .next-value .ensures) (c .before .before .before .before .before .if1 .taken) (c .before .before .before .before .if2 .taken) (c .before .before .put-cut-value .ensures))  -- loop-again
+    (λ c. value-written _ _ (c .before .before .before .before .before .before .before .before .before .before .pre) (c .before .before .before .before .before .before .before .loop .inv) (c .before .before .before .before .before .before .next-value .ensures) (c .before .before .before .before .before .if1 .taken) (c .before .before .before .before .if2 .taken) (c .before .before .put-cut-value .ensures))  -- loop-again
     (λ c. c .before .before .before .loop .inv .kept)  -- same-length
-    (λ c. values-fault _ (c .before .before .before .before .before .before .pre) (c .before .before .before .loop .inv) (c .before .before .next-value .ensures) (c .before .if1 .taken) (c .if2 .left))  -- returns
+    (λ c. values-fault _ _ (c .before .before .before .before .before .before .pre) (c .before .before .before .loop .inv) (c .before .before .next-value .ensures) (c .before .if1 .taken) (c .if2 .left))  -- returns
     (λ c. c .before .before .loop .inv .kept)  -- same-length-2
-    (λ c. values-over _ (c .before .before .before .before .before .pre) (c .before .before .loop .inv) (c .before .next-value .ensures) (c .if1 .left))  -- returns-2
+    (λ c. values-over _ _ (c .before .before .before .before .before .pre) (c .before .before .loop .inv) (c .before .next-value .ensures) (c .if1 .left))  -- returns-2
     )
