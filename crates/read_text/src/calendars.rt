@@ -38,7 +38,8 @@ ghost use Rattle.read_text.specs.Answers.{Checks};
 // A BEGIN where nothing is open.
 fn begin_opens(edition: Edition, mode: usize, s: &[u8], l: LineCursors) -> Opening
     ensures { λ r. ⌜
-        OpeningIs (PlaceOf mode (now (s .entry)) l) mode (now (s .entry)) (beginsOuter edition mode (now (s .entry)) l) r ⌝ }
+        OpeningIs (PlaceOf mode (now (s .entry)) l) mode (now (s .entry))
+        (beginsOuter edition mode (now (s .entry)) l) r ⌝ }
 {
     let good = is_component_name(mode, s, l.value);
     if good {
@@ -60,8 +61,8 @@ fn begin_opens(edition: Edition, mode: usize, s: &[u8], l: LineCursors) -> Openi
 fn content_opens(edition: Edition, mode: usize, s: &[u8], l: LineCursors) -> Opening
     requires { ⌜ (l .name ≤ length (now s)) × Parts mode (now s) l × (cuts mode ≡ true) ⌝ }
     ensures { λ r. ⌜
-        OpeningIs (PlaceOf mode (now (s .entry)) l) mode (now (s .entry)) (moveBy (decodedLine edition (named mode (now (s .entry)) l)) [])
-        r ⌝ }
+        OpeningIs (PlaceOf mode (now (s .entry)) l) mode (now (s .entry))
+        (moveBy (decodedLine edition (named mode (now (s .entry)) l)) []) r ⌝ }
 {
     let at = l.name;
     let e = l.parameters;
@@ -80,8 +81,8 @@ fn content_opens(edition: Edition, mode: usize, s: &[u8], l: LineCursors) -> Ope
 fn line_opens(edition: Edition, mode: usize, s: &[u8], at: usize) -> Opening
     requires { ⌜ (at ≤ length (now s)) × (cuts mode ≡ true) ⌝ }
     ensures { λ r. ⌜
-        OpeningIs (OffsetAt mode (now (s .entry)) at) mode (now (s .entry)) (move edition (rest mode (now (s .entry)) at) [])
-        r ⌝ }
+        OpeningIs (OffsetAt mode (now (s .entry)) at) mode (now (s .entry))
+        (move edition (rest mode (now (s .entry)) at) []) r ⌝ }
 {
     let LineRead::Line(l) = line_at(mode, s, at) else {
         return Opening::Faulty(LINE, at);

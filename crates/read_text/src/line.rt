@@ -104,7 +104,8 @@ fn end_line(edition: Edition, name: &[u8], v: usize, mode: usize, s: &[u8], l: L
     ensures { λ r. ⌜
         ((g : Bool) (w : List ℕ) →
         KindIs (PlaceOf mode (now (s .entry)) l) g mode (now (s .entry))
-        (endKind (upper (rest mode (now (name .entry)) v)) (decodedLine edition (lineFrom w mode (now (s .entry)) l))) r) ⌝ }
+        (endKind (upper (rest mode (now (name .entry)) v))
+        (decodedLine edition (lineFrom w mode (now (s .entry)) l))) r) ⌝ }
 {
     let ours = is_same_name(mode, s, l.value, name, v);
     if ours {
@@ -235,7 +236,8 @@ fn content_line(
         × (cuts mode ≡ true) ⌝ }
     ensures { λ r. ⌜
         KindIs (PlaceOf mode (now (s .entry)) l) (ltb 0 left) mode (now (s .entry))
-        (kindBy (upper (rest mode (now (name .entry)) v)) (ltb 0 left) inner (decodedLine edition (named mode (now (s .entry)) l))) r ⌝ }
+        (kindBy (upper (rest mode (now (name .entry)) v)) (ltb 0 left) inner
+        (decodedLine edition (named mode (now (s .entry)) l))) r ⌝ }
 {
     let at = l.name;
     let e = l.parameters;
@@ -270,7 +272,8 @@ pub fn line_kind(
         (k ≡ placeOf (upper (rest mode (now name) v)) componentNames) × (at ≤ length (now s)) × (cuts mode ≡ true) ⌝ }
     ensures { λ r. ⌜
         KindIs (OffsetAt mode (now (s .entry)) at) (ltb 0 left) mode (now (s .entry))
-        (lineKind edition (upper (rest mode (now (name .entry)) v)) (ltb 0 left) inner (rest mode (now (s .entry)) at)) r ⌝ }
+        (lineKind edition (upper (rest mode (now (name .entry)) v)) (ltb 0 left) inner
+        (rest mode (now (s .entry)) at)) r ⌝ }
 {
     let LineRead::Line(l) = line_at(mode, s, at) else {
         return Kind::Faulty(LINE, at);
