@@ -18,7 +18,7 @@ use Rattle.octets.specs.Reading.{andThen}
 use Rattle.octets.specs.laws.Reading.{andThen-some}
 use Rattle.octets.specs.Computing.{octets-compute}
 use Rattle.calendar.specs.Calendar.{Property}
-use Rattle.schema.specs.Components.{Occurrence, alarmTable, alarmOccurrences, isAlarm}
+use Rattle.schema.specs.Components.{Occurrence, standing, alarmTable, alarmOccurrences, isAlarm}
 use Rattle.schema.specs.Properties.{propertyNames, isKnownProperty}
 use Rattle.schema.specs.Counts.{tally, occurrenceIn, Around, methodFor, firstText, actionOf, listFor, oftenFor, complete}
 use Rattle.schema.specs.laws.Tallies.{complete-same, complete-plain, often-at}
@@ -50,14 +50,6 @@ isOnceIn os = isOnce (occurrenceIn os action .most)
 alarm-rows : every (λ r. isOnceIn (r .occurrences)) alarmTable ≡ true
 unfolding octets-compute standing
 alarm-rows = refl
-
-none-once : isOnceIn [] ≡ true
-unfolding octets-compute
-none-once = refl
-
-component-once : (c : List ℕ) → isOnceIn (occurrencesOf c) ≡ true
-unfolding componentRow
-component-once c = row-any-passes (λ r. r .name) c (λ r. isOnceIn (r .occurrences)) unknownComponent componentTable component-rows none-once
 
 alarm-once : (a : Option (List ℕ)) (os : List Occurrence) → andThen a alarmOccurrences ≡ some os → isOnceIn os ≡ true
 unfolding alarmOccurrences
