@@ -193,9 +193,10 @@ fn child(
 ) -> Tried
     requires { ⌜ (length (now s) ≤ 65535) × (e .inside ≤ length (now s)) ⌝ }
     ensures { λ r. ⌜
-        (slot ≡ slotAt (context .row .number) (placeOf (nameAt (now (s .entry)) e) (childWords (context .row .number))) →
-        ChildAt edition context next (e .place) (nameAt (now (s .entry)) e) (e .end) (nodesAt (now (s .entry)) (e .inside))
-        r) ⌝ }
+        (slot
+        ≡ slotAt (context .row .number) (placeOf (nameAt (now (s .entry)) e) (childWords (context .row .number))) →
+        ChildAt edition context next (e .place) (nameAt (now (s .entry)) e) (e .end)
+        (nodesAt (now (s .entry)) (e .inside)) r) ⌝ }
 {
     let a = child_after(context.row.listed, slot, next);
     match a {

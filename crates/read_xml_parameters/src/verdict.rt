@@ -167,7 +167,8 @@ fn judge(
 ) -> Judged
     requires { ⌜ (length (now s) ≤ 65535) × (fresh ≡ true → isBefore (now w) at (nodesAt (now s) from) ≡ false) ⌝ }
     ensures { λ r. ⌜
-        verdictAt edition row t (now (s .entry)) from at (now (w .entry)) end (nodesAt (now (s .entry)) inside) ≡ judgedAs r ⌝ }
+        verdictAt edition row t (now (s .entry)) from at (now (w .entry)) end (nodesAt (now (s .entry)) inside)
+        ≡ judgedAs r ⌝ }
 {
     let bad = is_bad_name(w);
     if bad {

@@ -68,7 +68,8 @@ fn put_truth(out: &mut [u8], o: usize, s: &[u8], at: usize) -> usize
 // The characters as they stand.
 fn put_plain(out: &mut [u8], o: usize, edition: Edition, q: usize, s: &[u8], at: usize) -> usize
     ensures { λ r. ⌜
-        Put (now (out .entry)) (now (out .exit)) o r (plainShown edition (rowAt q .quoted) (rest 1 (now (s .entry)) at)) ⌝ }
+        Put (now (out .entry)) (now (out .exit)) o r
+        (plainShown edition (rowAt q .quoted) (rest 1 (now (s .entry)) at)) ⌝ }
 {
     let quoted = is_quoted(q, s, at);
     put_param_value(out, o, edition, quoted, 1, s, at)
@@ -115,7 +116,8 @@ fn put_item(
 fn put_list(out: &mut [u8], o: usize, edition: Edition, q: usize, s: &[u8], at: usize) -> usize
     requires { ⌜ length (now s) ≤ 65535 ⌝ }
     ensures { λ r. ⌜
-        Put (now (out .entry)) (now (out .exit)) o r (listShown edition (rowAt q) false (nodesAt (now (s .entry)) at)) ⌝ }
+        Put (now (out .entry)) (now (out .exit)) o r
+        (listShown edition (rowAt q) false (nodesAt (now (s .entry)) at)) ⌝ }
 {
     let mut p = o;
     let mut later = false;
@@ -136,7 +138,8 @@ fn put_list(out: &mut [u8], o: usize, edition: Edition, q: usize, s: &[u8], at: 
 fn put_values(out: &mut [u8], o: usize, edition: Edition, q: usize, s: &[u8], at: usize) -> usize
     requires { ⌜ length (now s) ≤ 65535 ⌝ }
     ensures { λ r. ⌜
-        Put (now (out .entry)) (now (out .exit)) o r (valuesShown edition (rowAt q) (nodesAt (now (s .entry)) at)) ⌝ }
+        Put (now (out .entry)) (now (out .exit)) o r
+        (valuesShown edition (rowAt q) (nodesAt (now (s .entry)) at)) ⌝ }
 {
     let values = are_values(q, s, at);
     if values {

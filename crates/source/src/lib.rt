@@ -68,14 +68,11 @@ fn no_unit(s: &[u8], at: usize, mode: usize) -> Step
     Step { u: END, next: at }
 }
 
-// The byte at the cursor `at`, in the encoding that `mode` names: 0 for bytes as they stand, 1 for the characters of an XML element,
-// 2 for a text with its folds in place, 4 and 5 for a parameter's value with carets over 0 and over 2; 3 is kept for the characters of a JSON string.
-pub fn unit(mode: usize, s: &[u8], at: usize) -> Step
+// The byte at the cursor `at` in any encoding but bytes as they stand.
+pub fn other_unit(mode: usize, s: &[u8], at: usize) -> Step
+    requires { ⌜ (mode ≡ 0 → ⊥) ⌝ }
     ensures { λ r. ⌜ Reads mode (now (s .entry)) at r ⌝ }
 {
-    if mode == 0 {
-        return plain_unit(s, at);
-    }
     if mode == 1 {
         return xml_unit(s, at);
     }
@@ -89,4 +86,15 @@ pub fn unit(mode: usize, s: &[u8], at: usize) -> Step
         return caret_unit(2, mode, s, at);
     }
     no_unit(s, at, mode)
+}
+
+// The byte at the cursor `at`, in the encoding that `mode` names: 0 for bytes as they stand, 1 for the characters of an XML element,
+// 2 for a text with its folds in place, 4 and 5 for a parameter's value with carets over 0 and over 2; 3 is kept for the characters of a JSON string.
+pub fn unit(mode: usize, s: &[u8], at: usize) -> Step
+    ensures { λ r. ⌜ Reads mode (now (s .entry)) at r ⌝ }
+{
+    if mode == 0 {
+        return plain_unit(s, at);
+    }
+    other_unit(mode, s, at)
 }

@@ -6,8 +6,8 @@ use octets::unit::END;
 use octets::unit::LOWER_N;
 use octets::unit::SEMICOLON;
 use octets::unit::UPPER_N;
+use source::other_unit;
 use source::plain_unit;
-use source::unit;
 ghost use mathlib.Core.Path.{_≡_};
 ghost use mathlib.Core.Bool.{true, false};
 ghost use Rattle.octets.specs.Pick.{pick};
@@ -122,7 +122,7 @@ pub fn read_text(sep: usize, mode: usize, s: &[u8], at: usize) -> Kept
     let mut after = false;
     let mut c = at;
     loop {
-        let t = unit(mode, s, c);
+        let t = other_unit(mode, s, c);
         let u = t.u;
         if u == END {
             return ended(after);

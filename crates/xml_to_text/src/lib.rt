@@ -42,8 +42,8 @@ fn written_at_once(
         × (length (writeCalendar edition (readCalendars (nodesAt (now s) from))) ≤ 6 * length (now s))
         × (6 * length (now s) ≤ length (now out)) ⌝ }
     ensures { λ r. ⌜
-        Done (converted (writeCalendar edition) (answer fine (readCalendars (nodesAt (now (s .entry)) from)))) (now (out .entry))
-        (now (out .exit)) r ⌝ }
+        Done (converted (writeCalendar edition) (answer fine (readCalendars (nodesAt (now (s .entry)) from))))
+        (now (out .entry)) (now (out .exit)) r ⌝ }
 {
     let n = put_calendar(out, 0, edition, line, s, from);
     Answer::Written(n)
@@ -56,8 +56,8 @@ fn measured(edition: Edition, s: &[u8], from: usize, line: &mut [u8], out: &mut 
         × (length (now line) ≡ 262144)
         × (length (writeCalendar edition (readCalendars (nodesAt (now s) from))) ≤ 6 * length (now s)) ⌝ }
     ensures { λ r. ⌜
-        Done (converted (writeCalendar edition) (answer fine (readCalendars (nodesAt (now (s .entry)) from)))) (now (out .entry))
-        (now (out .exit)) r ⌝ }
+        Done (converted (writeCalendar edition) (answer fine (readCalendars (nodesAt (now (s .entry)) from))))
+        (now (out .entry)) (now (out .exit)) r ⌝ }
 {
     let need = put_calendar(&mut out[..0], 0, edition, line, s, from);
     if need <= out.len() {
@@ -74,8 +74,8 @@ fn written(edition: Edition, s: &[u8], from: usize, line: &mut [u8], out: &mut [
         × (length (now line) ≡ 262144)
         × (length (writeCalendar edition (readCalendars (nodesAt (now s) from))) ≤ 6 * length (now s)) ⌝ }
     ensures { λ r. ⌜
-        Done (converted (writeCalendar edition) (answer fine (readCalendars (nodesAt (now (s .entry)) from)))) (now (out .entry))
-        (now (out .exit)) r ⌝ }
+        Done (converted (writeCalendar edition) (answer fine (readCalendars (nodesAt (now (s .entry)) from))))
+        (now (out .entry)) (now (out .exit)) r ⌝ }
 {
     let most = 6 * s.len();
     if most <= out.len() {
@@ -90,8 +90,8 @@ fn lined(edition: Edition, s: &[u8], from: usize, out: &mut [u8]) -> Answer
         (length (now s) ≤ 65535)
         × (length (writeCalendar edition (readCalendars (nodesAt (now s) from))) ≤ 6 * length (now s)) ⌝ }
     ensures { λ r. ⌜
-        Done (converted (writeCalendar edition) (answer fine (readCalendars (nodesAt (now (s .entry)) from)))) (now (out .entry))
-        (now (out .exit)) r ⌝ }
+        Done (converted (writeCalendar edition) (answer fine (readCalendars (nodesAt (now (s .entry)) from))))
+        (now (out .entry)) (now (out .exit)) r ⌝ }
 {
     let mut line = [0u8; 262144];
     written(edition, s, from, &mut line, out)
@@ -101,8 +101,8 @@ fn lined(edition: Edition, s: &[u8], from: usize, out: &mut [u8]) -> Answer
 fn judged(edition: Edition, s: &[u8], out: &mut [u8]) -> Answer
     requires { ⌜ (length (now s) ≤ 65535) × (xmlVerdict (now s) ≡ fine) ⌝ }
     ensures { λ r. ⌜
-        Done (nodesGive edition (now (s .entry)) (rootVerdict edition (documentNodes (now (s .entry))))) (now (out .entry))
-        (now (out .exit)) r ⌝ }
+        Done (nodesGive edition (now (s .entry)) (rootVerdict edition (documentNodes (now (s .entry)))))
+        (now (out .entry)) (now (out .exit)) r ⌝ }
 {
     let t = root_node(s);
     let from = t.inside;

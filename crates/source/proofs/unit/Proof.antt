@@ -1,5 +1,5 @@
 -- `source::unit` meets its contract.
-use Rattle.source.specs.laws.Facts.{stepping, over-plain, over-folded}
+use Rattle.source.specs.laws.Facts.{stepping}
 use Rattle.source.proofs.unit.Statement.{statement}
 use Rattle.source.proofs.unit.Tie as tie
 
@@ -7,14 +7,6 @@ pub unit-spec : {M : Type 1} → statement M
 unit-spec = tie.close (tie.spec
     (λ c κs. search stepping)  -- plain-unit-requires
     (λ c. search stepping)  -- returns
-    (λ c κs. search stepping)  -- xml-unit-requires
+    (λ c κs. search stepping)  -- other-unit-requires
     (λ c. search stepping)  -- returns-2
-    (λ c κs. search stepping)  -- folded-unit-requires
-    (λ c. search stepping)  -- returns-3
-    (λ c κs. rw (c .if4 .taken) over-plain)  -- caret-unit-requires
-    (λ c. search stepping)  -- returns-4
-    (λ c κs. rw (c .if5 .taken) over-folded)  -- caret-unit-requires-2
-    (λ c. search stepping)  -- returns-5
-    (λ c κs. search stepping)  -- no-unit-requires
-    (λ c. search stepping)  -- returns-6
     )

@@ -14,7 +14,7 @@ checked-spec = tie.close (tie.spec
     (λ c κs. search needs)  -- refused-requires
     (λ c. search needs)  -- enum-told
     (λ c κs. search needs)  -- written-requires
-    (λ c. lines-refused (c .before .before .before .before .before .before .before .before .before .args .input .now) (c .before .before .before .before .before .before .before .before .before .args .kept .now) (c .before .before .before .before .before .before .before .before .before .args .out .now) (c .before .before .before .n .given .0 .0) (check-refused (subst (Checks _ _ _) (c .before .before .before .n .given .1) (c .before .before .before .before .before .check .ensures))) (c .before .place-of .ensures) (c .refused .ensures))  -- returns
+    (λ c. lines-refused (c .before .before .before .before .before .before .before .before .before .args .edition) (c .before .before .before .before .before .before .before .before .before .args .input .now) (c .before .before .before .before .before .before .before .before .before .args .kept .now) (c .before .before .before .before .before .before .before .before .before .args .out .now) (c .before .before .before .n .given .0 .0) (check-refused (subst (Checks _ _ _) (c .before .before .before .n .given .1) (c .before .before .before .before .before .check .ensures))) (c .before .place-of .ensures) (c .refused .ensures))  -- returns
     (λ c. search needs)  -- same-length
-    (λ c. lines-fine (c .before .before .before .before .before .before .before .before .before .before .args .input .now) (c .before .before .before .before .before .before .before .before .before .before .args .kept .now) (c .before .before .before .before .before .before .before .before .before .before .args .out .now) (check-fine (subst (Checks _ _ _) (c .before .before .before .before .enum-told .given .1) (c .before .before .before .before .before .before .check .ensures))) (c .before .before .written .ensures))  -- returns-2
+    (λ c. lines-fine (c .before .before .before .before .before .before .before .before .before .before .args .edition) (c .before .before .before .before .before .before .before .before .before .before .args .input .now) (c .before .before .before .before .before .before .before .before .before .before .args .kept .now) (c .before .before .before .before .before .before .before .before .before .before .args .out .now) (check-fine (subst (Checks _ _ _) (c .before .before .before .before .enum-told .given .1) (c .before .before .before .before .before .before .check .ensures))) (c .before .before .written .ensures))  -- returns-2
     )

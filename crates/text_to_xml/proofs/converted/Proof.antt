@@ -13,7 +13,7 @@ converted-spec = tie.close (tie.spec
     (λ c κs. search needs)  -- place-of-requires
     (λ c. search needs)  -- enum-told
     (λ c κs. search needs)  -- checked-requires
-    (λ c. kept-bad (c .before .before .before .before .before .before .before .before .args .input .now) (c .before .before .before .before .before .before .before .before .args .kept .now) (c .before .before .before .before .before .before .before .before .args .out .now) (sym (c .before .before .before .before .first-bad .ensures) ∙ ap foundOf (c .before .before .p .given .1)) (c .place-of .ensures))  -- returns
+    (λ c. kept-bad (c .before .before .before .before .before .before .before .before .args .edition) (c .before .before .before .before .before .before .before .before .args .input .now) (c .before .before .before .before .before .before .before .before .args .kept .now) (c .before .before .before .before .before .before .before .before .args .out .now) (sym (c .before .before .before .before .first-bad .ensures) ∙ ap foundOf (c .before .before .p .given .1)) (c .place-of .ensures))  -- returns
     (λ c. search needs)  -- same-length
-    (λ c. kept-good (c .before .before .before .before .before .before .before .before .before .before .args .input .now) (c .before .before .before .before .before .before .before .before .before .before .args .kept .now) (c .before .before .before .before .before .before .before .before .before .before .args .out .now) (sym (c .before .before .before .before .before .before .first-bad .ensures) ∙ ap foundOf (c .before .before .before .before .enum-told .given .1)) (c .before .before .checked .ensures))  -- returns-2
+    (λ c. kept-good (c .before .before .before .before .before .before .before .before .before .before .args .edition) (c .before .before .before .before .before .before .before .before .before .before .args .input .now) (c .before .before .before .before .before .before .before .before .before .before .args .kept .now) (c .before .before .before .before .before .before .before .before .before .before .args .out .now) (sym (c .before .before .before .before .before .before .first-bad .ensures) ∙ ap foundOf (c .before .before .before .before .enum-told .given .1)) (c .before .before .checked .ensures))  -- returns-2
     )

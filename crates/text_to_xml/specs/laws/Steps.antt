@@ -50,12 +50,12 @@ module _ {ed : Edition} {u : List ℕ} where
   pub check-refused : {n p : ℕ} → Checks ed 0 u (checked.Refused n p) → linesVerdict ed (length u) (lines u) ≡ refuse (refusalAt n) p
   check-refused {n} {p} k = (rw (rest-plain u) at (k .is)) ∙ ap (refuse (refusalAt n)) (index-plain u p (k .place))
 
-pub put-kept : {ed : Edition} (u : List ℕ) {d e : List ℕ} {o r : ℕ} → Put d e o r (writeDocument (calendarOf ed (lines (rest 0 u 0)))) → Put d e o r (writeDocument (calendarOf ed (lines u)))
-put-kept u w = rw (rest-plain u) at w
+pub put-kept : (ed : Edition) (u : List ℕ) {d e : List ℕ} {o r : ℕ} → Put d e o r (writeDocument (calendarOf ed (lines (rest 0 u 0)))) → Put d e o r (writeDocument (calendarOf ed (lines u)))
+put-kept ed u w = rw (rest-plain u) at w
 
 -- ---- the steps
 
-module _ {ed : Edition} (s u d : List ℕ) where
+module _ (ed : Edition) (s u d : List ℕ) where
   -- a refused line
   pub lines-refused : (n : ℕ) {p q : ℕ} {r : Answer} → linesVerdict ed (length u) (lines u) ≡ refuse (refusalAt n) p → q ≡ origin s p → r ≡ answerAt n q →
       Done (keptGives ed s u (linesVerdict ed (length u) (lines u))) d d r

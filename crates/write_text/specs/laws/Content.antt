@@ -61,11 +61,20 @@ values-named w kids e = rw (e, placed w propertyNames) (go (isOneOf w propertyNa
     go true h = refl
     go false h = no-name w kids h
 
-module _ (ed : Edition) where
-  abbrev writtenParameters : List ℕ → Nodes → List ℕ
-  writtenParameters w kids = joined (map writeParameter (map (encodedParameter ed) (map rawOf (readParameterNodes (parametersIn w kids)))))
+module _ (s : List ℕ) (inside : ℕ) {p : ℕ} where
+  pub values-put : {d e f : List ℕ} {o a r : ℕ} → Put d e o a (ascii ":") → Put e f a r (writeValues (readValueNodes (propertyName p) (nodesAt s inside))) →
+      (w : List ℕ) → p ≡ placeOf w propertyNames → Put d f o r (58 ∷ writeValues (readValueNodes w (nodesAt s inside)))
+  unfolding _⊕_
+  values-put {e = e} {f} {a = a} {r} u v w q = u ▷ subst (λ (vs : List Value). Put e f a r (writeValues vs)) (values-named w (nodesAt s inside) q) v
 
-module _ {ed : Edition} where
+module _ {row : Row} where
+  number-of : (w : List ℕ) → row ≡ rowAt (placeOf w propertyNames) → row .number ≡ placeOf w propertyNames
+  number-of w e = ap (λ (r : Row). r .number) e ∙ number-place w
+
+  default-of : (w : List ℕ) → row ≡ rowAt (placeOf w propertyNames) → row .default ≡ typePlace (defaultType w)
+  default-of w e = ap (λ (r : Row). r .default) e ∙ default-place w
+
+module _ (ed : Edition) where
   -- ---- laws
 
   value-written : (t : ValueType) → writeParameter (encodedParameter ed (valueParameter t)) ≡ ascii ";VALUE=" ⊕ typeName t
@@ -80,34 +89,21 @@ module _ {ed : Edition} where
       go true = sym (append-empty _)
       go false = ap (λ (l : List ℕ). l ⊕ joined (map writeParameter (map (encodedParameter ed) ps))) (value-written t)
 
-  module _ (s : List ℕ) (inside : ℕ) where
-    module _ {p : ℕ} where
-      pub values-put : {d e f : List ℕ} {o a r : ℕ} → Put d e o a (ascii ":") → Put e f a r (writeValues (readValueNodes (propertyName p) (nodesAt s inside))) →
-          (w : List ℕ) → p ≡ placeOf w propertyNames → Put d f o r (58 ∷ writeValues (readValueNodes w (nodesAt s inside)))
-      unfolding _⊕_
-      values-put {e = e} {f} {a = a} {r} u v w q = u ▷ subst (λ (vs : List Value). Put e f a r (writeValues vs)) (values-named w (nodesAt s inside) q) v
+  module _ (s : List ℕ) (inside : ℕ) {row : Row} where
+    pub parameters-put : {d e f : List ℕ} {o a r t q : ℕ} →
+        (typeAt t ≡ typeOfAll (readValueNodes (propertyName (row .number)) (nodesAt s inside))) × (t ≤ 14) → ParametersAt (row .number) s inside q →
+        Put d e o a (valueAt (row .default) t) → Put e f a r (joined (map writeParameter (map (encodedParameter ed) (map rawOf (readParameterNodes (nodesAt s q)))))) →
+        (w : List ℕ) → row ≡ rowAt (placeOf w propertyNames) → Put d f o r (parametersText ed w (nodesAt s inside))
+    unfolding parametersText
+    parameters-put {d} {f = f} {o} {r = r} {t} {q} y i u v w e =
+        subst (Put d f o r)
+        (rw (value-at w t (default-of w e) (y .1), y .0, values-named w (nodesAt s inside) (number-of w e), ← (i .is w (number-of w e)))
+        (sym (with-value w (typeOfAll (readValueNodes w (nodesAt s inside))) (map rawOf (readParameterNodes (parametersIn w (nodesAt s inside)))))))
+        (u ▷ v)
 
-    module _ {row : Row} where
-      number-of : (w : List ℕ) → row ≡ rowAt (placeOf w propertyNames) → row .number ≡ placeOf w propertyNames
-      number-of w e = ap (λ (r : Row). r .number) e ∙ number-place w
-
-      default-of : (w : List ℕ) → row ≡ rowAt (placeOf w propertyNames) → row .default ≡ typePlace (defaultType w)
-      default-of w e = ap (λ (r : Row). r .default) e ∙ default-place w
-
-      pub parameters-put : {d e f : List ℕ} {o a r t q : ℕ} →
-          (typeAt t ≡ typeOfAll (readValueNodes (propertyName (row .number)) (nodesAt s inside))) × (t ≤ 14) → ParametersAt (row .number) s inside q →
-          Put d e o a (valueAt (row .default) t) → Put e f a r (joined (map writeParameter (map (encodedParameter ed) (map rawOf (readParameterNodes (nodesAt s q)))))) →
-          (w : List ℕ) → row ≡ rowAt (placeOf w propertyNames) → Put d f o r (parametersText ed w (nodesAt s inside))
-      unfolding parametersText
-      parameters-put {d} {f = f} {o} {r = r} {t} {q} y i u v w e =
-          subst (Put d f o r)
-          (rw (value-at w t (default-of w e) (y .1), y .0, values-named w (nodesAt s inside) (number-of w e), ← (i .is w (number-of w e)))
-          (sym (with-value w (typeOfAll (readValueNodes w (nodesAt s inside))) (map rawOf (readParameterNodes (parametersIn w (nodesAt s inside)))))))
-          (u ▷ v)
-
-      pub line-put : {d e f g : List ℕ} {o a b r : ℕ} (m : List ℕ) → row ≡ rowAt (placeOf (upper m) propertyNames) → Put d e o a (upper m) →
-          ((w : List ℕ) → row ≡ rowAt (placeOf w propertyNames) → Put e f a b (parametersText ed w (nodesAt s inside))) →
-          ((w : List ℕ) → row .number ≡ placeOf w propertyNames → Put f g b r (58 ∷ writeValues (readValueNodes w (nodesAt s inside)))) →
-          Put d g o r (lineText ed m (nodesAt s inside))
-      unfolding lineText parametersText writeContentLine contentLineOf
-      line-put m e u v w = u ▷ v (upper m) e ▷ w (upper m) (number-of (upper m) e)
+    pub line-put : {d e f g : List ℕ} {o a b r : ℕ} (m : List ℕ) → row ≡ rowAt (placeOf (upper m) propertyNames) → Put d e o a (upper m) →
+        ((w : List ℕ) → row ≡ rowAt (placeOf w propertyNames) → Put e f a b (parametersText ed w (nodesAt s inside))) →
+        ((w : List ℕ) → row .number ≡ placeOf w propertyNames → Put f g b r (58 ∷ writeValues (readValueNodes w (nodesAt s inside)))) →
+        Put d g o r (lineText ed m (nodesAt s inside))
+    unfolding lineText parametersText writeContentLine contentLineOf
+    line-put m e u v w = u ▷ v (upper m) e ▷ w (upper m) (number-of (upper m) e)

@@ -15,10 +15,10 @@ use Rattle.edition.specs.declared.Edition.{Edition}
 use Rattle.write_text.specs.Children.{nameIn}
 use Rattle.write_text.specs.Content.{lineText}
 
-module _ {ed : Edition} where
+module _ (ed : Edition) where
   pub line-fits : {s : List ℕ} {at : ℕ} {r : Node} → NodeAt s at r → r .kind ≡ Element → length s ≤ 65535 →
       length (lineText ed (nameIn s (r .name) (r .«name_end»)) (nodesAt s (r .inside))) ≤ 262144
   unfolding nodesAt marksAt lineText
   line-fits {s} {at} {r} n q h =
-      let k : length (lineText ed (nameIn s (r .name) (r .«name_end»)) (nodesAt s (r .inside))) < 262144 = lengths.line-fits s at at _ _ _ _ h (node-element n q) in
+      let k : length (lineText ed (nameIn s (r .name) (r .«name_end»)) (nodesAt s (r .inside))) < 262144 = lengths.line-fits ed s at at _ _ _ _ h (node-element n q) in
       omega (arith, k)

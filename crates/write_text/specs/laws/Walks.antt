@@ -72,7 +72,7 @@ unfolding shallow pick
 shallow-none noMore = refl
 shallow-none (component n ps i x) = refl
 
-module _ {ed : Edition} where
+module _ (ed : Edition) where
   -- ---- the components inside
 
   -- a component's lines, in three parts, and those of the next ones
@@ -190,7 +190,7 @@ module _ {ed : Edition} where
 
     pub own-fits : r .kind ≡ Element → length s ≤ 65535 → length k ≡ 262144 →
         length (lineText ed (nameIn s (r .name) (r .«name_end»)) (nodesAt s (r .inside))) ≤ length l
-    own-fits q h z = omega (arith, line-fits n q h, m .room)
+    own-fits q h z = omega (arith, line-fits ed n q h, m .room)
 
     pub own-put : {f : List ℕ} {a : ℕ} {j : List ℕ} → r .kind ≡ Element →
         PutBy e f p a (foldedLine (lineText ed (nameIn s (r .name) (r .«name_end»)) (nodesAt s (r .inside)))) j (overwrite l 0 (lineText ed (nameIn s (r .name) (r .«name_end»)) (nodesAt s (r .inside)))) →

@@ -13,7 +13,7 @@ formed-spec = tie.close (tie.spec
     (λ c. search needs)  -- enum-known-p
     (λ c. search needs)  -- enum-told
     (λ c κs. (omega (arith, c .before .before .before .before .before .before .pre), subst (Formed _ _) (c .before .enum-told .given .1) (c .before .before .before .well-formed .ensures) .is))  -- judged-requires
-    (λ c. xml-refused (c .before .before .before .before .before .before .args .s .now) (c .before .before .before .before .before .before .args .out .now) (subst (Formed _ _) (c .before .p .given .1) (c .before .before .before .well-formed .ensures) .is))  -- returns
+    (λ c. xml-refused _ (c .before .before .before .before .before .before .args .s .now) (c .before .before .before .before .before .before .args .out .now) (subst (Formed _ _) (c .before .p .given .1) (c .before .before .before .well-formed .ensures) .is))  -- returns
     (λ c. search needs)  -- same-length
-    (λ c. xml-fine (c .before .before .before .before .before .before .before .before .before .args .s .now) (c .before .before .before .before .before .before .before .before .before .args .out .now) (subst (Formed _ _) (c .before .before .before .before .enum-told .given .1) (c .before .before .before .before .before .before .well-formed .ensures) .is) (c .before .before .judged .ensures))  -- returns-2
+    (λ c. xml-fine _ (c .before .before .before .before .before .before .before .before .before .args .s .now) (c .before .before .before .before .before .before .before .before .before .args .out .now) (subst (Formed _ _) (c .before .before .before .before .enum-told .given .1) (c .before .before .before .before .before .before .well-formed .ensures) .is) (c .before .before .judged .ensures))  -- returns-2
     )

@@ -12,7 +12,7 @@ in-edition-spec = tie.close (tie.spec
     (λ c. search needs)  -- enum-known-p
     (λ c. search needs)  -- enum-told
     (λ c κs. c .before .before .before .before .before .before .pre)  -- formed-requires
-    (λ c. bad-character (c .before .before .before .before .before .before .args .s .now) (c .before .before .before .before .before .before .args .out .now) (sym (c .before .before .before .first-bad .ensures) ∙ ap foundOf (c .before .p .given .1)))  -- returns
+    (λ c. bad-character _ (c .before .before .before .before .before .before .args .s .now) (c .before .before .before .before .before .before .args .out .now) (sym (c .before .before .before .first-bad .ensures) ∙ ap foundOf (c .before .p .given .1)))  -- returns
     (λ c. search needs)  -- same-length
-    (λ c. good-characters (c .before .before .before .before .before .before .before .before .before .args .s .now) (c .before .before .before .before .before .before .before .before .before .args .out .now) (sym (c .before .before .before .before .before .before .first-bad .ensures) ∙ ap foundOf (c .before .before .before .before .enum-told .given .1)) (c .before .before .formed .ensures))  -- returns-2
+    (λ c. good-characters _ (c .before .before .before .before .before .before .before .before .before .args .s .now) (c .before .before .before .before .before .before .before .before .before .args .out .now) (sym (c .before .before .before .before .before .before .first-bad .ensures) ∙ ap foundOf (c .before .before .before .before .enum-told .given .1)) (c .before .before .formed .ensures))  -- returns-2
     )

@@ -11,10 +11,10 @@ pub to-text-spec : {M : Type 1} → statement M
 to-text-spec = tie.close (tie.spec
     (λ c κs. search needs)  -- edition-of-requires
     (λ c. search needs)  -- enum-known-e
-    (λ c κs. omega (arith, c .before .before .before .before .if1 .taken))  -- in-edition-requires
+    (λ c κs. omega (arith, c .before .before .before .before .before .if1 .taken))  -- in-edition-requires
     (λ c. search needs)  -- same-length
-    (λ c. in-edition (c .before .before .before .before .before .before .before .before .before .before .args .input .now) (c .before .before .before .before .before .before .before .before .before .before .args .out .now) (c .before .before .before .before .before .before .before .before .before .before .args .edition) (omega (arith, c .before .before .before .before .before .before .before .if1 .taken)) (sym (ap known (c .before .before .before .before .e .given .1)) ∙ c .before .before .before .before .before .before .edition-of .ensures) (c .before .before .in-edition .ensures))  -- returns
+    (λ c. in-edition (c .before .before .before .before .before .before .before .before .before .before .before .args .input .now) (c .before .before .before .before .before .before .before .before .before .before .before .args .out .now) (c .before .before .before .before .before .before .before .before .before .before .before .args .edition) (omega (arith, c .before .before .before .before .before .before .before .before .if1 .taken)) (sym (ap known (c .before .before .before .before .before .e .given .1)) ∙ c .before .before .before .before .before .before .before .edition-of .ensures) (c .before .before .in-edition .ensures))  -- returns
     (λ c. search needs)  -- enum-told
-    (λ c. no-edition (c .before .before .before .before .before .before .before .args .input .now) (c .before .before .before .before .before .before .before .args .out .now) (c .before .before .before .before .before .before .before .args .edition) (omega (arith, c .before .before .before .before .if1 .taken)) (sym (ap known (c .before .enum-told .given .1)) ∙ c .before .before .before .edition-of .ensures))  -- returns-2
+    (λ c. no-edition (c .before .before .before .before .before .before .args .input .now) (c .before .before .before .before .before .before .args .out .now) (c .before .before .before .before .before .before .args .edition) (omega (arith, c .before .before .before .if1 .taken)) (sym (ap known (c .enum-told .given .1)) ∙ c .before .before .edition-of .ensures))  -- returns-2
     (λ c. too-long (c .before .before .before .args .input .now) (c .before .before .before .args .out .now) (c .before .before .before .args .edition) (omega (arith, c .if1 .left)))  -- returns-3
     )

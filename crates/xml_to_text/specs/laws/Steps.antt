@@ -58,7 +58,11 @@ module _ (s d : List ℕ) (edition : ℕ) where
   unfolding toText readDocument documentVerdict pick
   in-edition h k g = let e : leb (length s) 65535 ≡ true = le-leb (length s) 65535 h in (g .answer ∙ rw (← k, e), g .left ∙ rw (← k, e))
 
-module _ {ed : Edition} where
+root-reads : {s : List ℕ} {t : Element} → RootNode s t → xmlVerdict s ≡ fine → readRoot (documentNodes s) ≡ readCalendars (nodesAt s (t .inside))
+unfolding readRoot
+root-reads x f = rw (x .is f)
+
+module _ (ed : Edition) where
   module _ (s d : List ℕ) where
     -- the characters
     pub bad-character : {p : ℕ} → firstBad s ≡ some p → Done (nodesGive ed s (characters (firstBad s) otherwise xmlVerdict s otherwise rootVerdict ed (documentNodes s))) d d (Refused Character p)
@@ -82,12 +86,8 @@ module _ {ed : Edition} where
 
   -- the root of a document within the XML profile
   module _ {s : List ℕ} {t : Element} (x : RootNode s t) (f : xmlVerdict s ≡ fine) where
-    root-reads : readRoot (documentNodes s) ≡ readCalendars (nodesAt s (t .inside))
-    unfolding readRoot
-    root-reads = rw (x .is f)
-
     pub root-bound : length (writeCalendar ed (readCalendars (nodesAt s (t .inside)))) ≤ rate * length s
-    root-bound = rw (← root-reads) (text-bound ed s)
+    root-bound = rw (← (root-reads x f)) (text-bound ed s)
 
     module _ {j : Judged} (v : RootAt ed s t j) (d : List ℕ) where
       root-judged : rootVerdict ed (documentNodes s) ≡ judgedAs j
@@ -98,4 +98,4 @@ module _ {ed : Edition} where
 
       pub root-fine : {e : List ℕ} {r : Answer} → j ≡ judged.Fine → Done (converted (writeCalendar ed) (answer fine (readCalendars (nodesAt s (t .inside))))) d e r →
           Done (nodesGive ed s (rootVerdict ed (documentNodes s))) d e r
-      root-fine e g = rw (root-judged, e, root-reads) g
+      root-fine e g = rw (root-judged, e, root-reads x f) g

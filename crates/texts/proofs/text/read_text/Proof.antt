@@ -23,7 +23,7 @@ read-text-spec = tie.close (tie.spec
     (λ c κs. search reading-text)  -- read-text-plain-requires
     (λ c. rw (c .before .if1 .taken) (c .read-text-plain .ensures))  -- returns
     (λ c. search reading-text)  -- loop-holds
-    (λ c κs. search reading-text)  -- unit-requires
+    (λ c κs. search reading-text)  -- other-unit-requires
     (λ c κs. search reading-text)  -- ended-requires
     (λ c. search reading-text)  -- returns-2
     (λ c κs. search reading-text)  -- in-text-requires

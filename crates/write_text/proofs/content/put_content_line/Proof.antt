@@ -14,5 +14,5 @@ put-content-line-spec = tie.close (tie.spec
     (λ c κs. search needs)  -- put-all-parameters-requires
     (λ c κs. search needs)  -- put-all-values-requires
     (λ c. search needs)  -- same-length
-    (λ c. line-put _ _ _ (c .before .before .before .before .before .before .before .before .before .before .before .before .before .row-of .ensures) (c .before .before .before .before .before .before .before .before .before .before .put-upper .ensures) (c .before .before .before .before .before .before .put-all-parameters .ensures) (c .before .before .put-all-values .ensures))  -- returns
+    (λ c. line-put _ _ _ _ (c .before .before .before .before .before .before .before .before .before .before .before .before .before .row-of .ensures) (c .before .before .before .before .before .before .before .before .before .before .put-upper .ensures) (c .before .before .before .before .before .before .put-all-parameters .ensures) (c .before .before .put-all-values .ensures))  -- returns
     )
