@@ -19,7 +19,7 @@ to-xml-spec = tie.close (tie.spec
     (λ c. search needs)  -- same-length-2
     (λ c. unfolded-done (c .before .before .before .before .before .before .before .before .before .before .before .before .before .before .before .before .before .before .args .input .now) (c .before .before .before .before .before .before .before .before .before .before .before .before .before .before .before .before .before .before .args .work .now) (c .before .before .before .before .before .before .before .before .before .before .before .before .before .before .before .before .before .before .args .out .now) (c .before .before .before .before .before .before .before .before .before .before .before .before .before .before .before .before .before .before .args .edition) (omega (arith, c .before .before .before .before .before .before .before .before .before .before .before .before .before .before .if1 .taken)) (c .before .before .before .before .before .before .before .before .before .before .before .before .before .if2 .taken) (sym (ap known (c .before .before .before .before .before .before .before .before .before .before .e .given .1)) ∙ c .before .before .before .before .before .before .before .before .before .before .before .before .edition-of .ensures) (c .before .before .before .before .before .before .before .«unfold» .ensures) (c .before .before .converted .ensures))  -- returns
     (λ c. search needs)  -- enum-told
-    (λ c. no-edition (c .before .before .before .before .before .before .before .before .before .args .input .now) (c .before .before .before .before .before .before .before .before .before .args .work .now) (c .before .before .before .before .before .before .before .before .before .args .out .now) (c .before .before .before .before .before .before .before .before .before .args .edition) (omega (arith, c .before .before .before .before .before .if1 .taken)) (c .before .before .before .before .if2 .taken) (sym (ap known (c .before .enum-told .given .1)) ∙ c .before .before .before .edition-of .ensures))  -- returns-2
+    (λ c. no-edition (c .before .before .before .before .before .before .before .before .args .input .now) (c .before .before .before .before .before .before .before .before .args .work .now) (c .before .before .before .before .before .before .before .before .args .out .now) (c .before .before .before .before .before .before .before .before .args .edition) (omega (arith, c .before .before .before .before .if1 .taken)) (c .before .before .before .if2 .taken) (sym (ap known (c .enum-told .given .1)) ∙ c .before .before .edition-of .ensures))  -- returns-2
     (λ c. no-room (c .before .before .before .before .before .args .input .now) (c .before .before .before .before .before .args .work .now) (c .before .before .before .before .before .args .out .now) (c .before .before .before .before .before .args .edition) (omega (arith, c .before .if1 .taken)) (c .if2 .left))  -- returns-3
     (λ c. too-long (c .before .before .before .before .args .input .now) (c .before .before .before .before .args .work .now) (c .before .before .before .before .args .out .now) (c .before .before .before .before .args .edition) (omega (arith, c .if1 .left)))  -- returns-4
     )
