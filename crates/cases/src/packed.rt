@@ -46,6 +46,14 @@ fn next_number() -> u64 {
     number_in(b)
 }
 
+// It as an edition.
+fn edition_in(n: u64) -> u32 {
+    if n < 4294967296 {
+        return n as u32;
+    }
+    u32::MAX
+}
+
 fn next_length() -> usize {
     next_number() as usize
 }
@@ -85,7 +93,7 @@ pub fn next_case(input: &mut [u8], output: &mut [u8]) -> Case {
     let m = next_parts(output);
     Case {
         way: way[0],
-        edition: edition as u32,
+        edition: edition_in(edition),
         number: number,
         value: value,
         input: n,
