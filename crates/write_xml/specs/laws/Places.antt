@@ -41,10 +41,6 @@ unfolding shallow pick
 same-any noMore l h = refl
 same-any (component n ps inner next) l h = rw (lt-ltb 0 l h)
 
--- the measure of a walk: the levels that are left
-pub less-one : {l t : ℕ} → 1 ≤ l → t ≡ l → l - 1 < t
-less-one h e = omega arith
-
 module _ {ed : Edition} where
   module _ {d e : List ℕ} {o k mode : ℕ} {s : List ℕ} {from : ℕ} {r : Walked} (l : LeadingPut ed d e o k mode s from r) where
     pub leading-bare : r .bare ≡ true → PropertiesPut ed whole d e o (ownXml (componentName k) (entriesAt ed mode s from)) mode s from r

@@ -16,9 +16,9 @@ calendar-spec = tie.close (tie.spec
     (λ c. line-count (c .before .before .before .before .before .before .pre .0) (subst (EndsLine _ _ _) (c .before .before .e .given .1) (c .before .before .before .before .line-end .ensures)))  -- slice-aggregate-line-opens
     (λ c κs. (line-inside (c .before .before .before .before .before .before .pre .0) (subst (EndsLine _ _ _) (c .before .before .e .given .1) (c .before .before .before .before .line-end .ensures)), c .before .before .before .before .before .before .pre .0 .cut))  -- line-opens-requires
     (λ c. search needs)  -- enum-known-v
-    (λ c. line-count (c .before .before .before .before .before .before .before .before .before .pre .0) (subst (EndsLine _ _ _) (c .before .before .before .before .before .e .given .1) (c .before .before .before .before .before .before .before .line-end .ensures)))  -- slice-aggregate-body
-    (λ c κs. (line-next (c .before .before .before .before .before .before .before .before .before .pre .0) (subst (EndsLine _ _ _) (c .before .before .before .before .before .e .given .1) (c .before .before .before .before .before .before .before .line-end .ensures)), outer-number _ (c .before .before .line-opens .result) (c .before .before .before .before .before .before .before .before .before .pre .0) (subst (EndsLine _ _ _) (c .before .before .before .before .before .e .given .1) (c .before .before .before .before .before .before .before .line-end .ensures)) (c .before .before .line-opens .ensures) (c .v .given .1)))  -- body-requires
+    (λ c. line-count (c .before .before .before .before .before .before .before .before .before .before .before .pre .0) (subst (EndsLine _ _ _) (c .before .before .before .before .before .before .before .e .given .1) (c .before .before .before .before .before .before .before .before .before .line-end .ensures)))  -- slice-aggregate-body
+    (λ c κs. (line-next (c .before .before .before .before .before .before .before .before .before .before .before .pre .0) (subst (EndsLine _ _ _) (c .before .before .before .before .before .before .before .e .given .1) (c .before .before .before .before .before .before .before .before .before .line-end .ensures)), outer-number _ (c .before .before .before .before .line-opens .result) (c .before .before .before .before .before .before .before .before .before .before .before .pre .0) (subst (EndsLine _ _ _) (c .before .before .before .before .before .before .before .e .given .1) (c .before .before .before .before .before .before .before .before .before .line-end .ensures)) (c .before .before .before .before .line-opens .ensures) (c .before .before .v .given .1)))  -- body-requires
     (λ c. search needs)  -- enum-known-r
-    (λ c. outer-body _ (c .before .before .before .line-opens .result) (c .before .before .before .before .before .before .before .before .before .before .pre .0) (subst (EndsLine _ _ _) (c .before .before .before .before .before .before .e .given .1) (c .before .before .before .before .before .before .before .before .line-end .ensures)) (c .before .before .before .line-opens .ensures) _ (c .before .v .given .1) (c .body .ensures))  -- returns-2
+    (λ c. outer-body _ (c .before .before .before .before .before .line-opens .result) (c .before .before .before .before .before .before .before .before .before .before .before .before .pre .0) (subst (EndsLine _ _ _) (c .before .before .before .before .before .before .before .before .e .given .1) (c .before .before .before .before .before .before .before .before .before .before .line-end .ensures)) (c .before .before .before .before .before .line-opens .ensures) _ (c .before .before .before .v .given .1) (c .body .ensures))  -- returns-2
     (λ c. outer-fault _ (c .before .before .before .line-opens .result) (c .before .before .before .before .before .before .before .before .before .before .pre .0) (subst (EndsLine _ _ _) (c .before .before .before .before .before .before .e .given .1) (c .before .before .before .before .before .before .before .before .line-end .ensures)) (c .before .before .before .line-opens .ensures) (c .before .r .given .1))  -- returns-3
     )

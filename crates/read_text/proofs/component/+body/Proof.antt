@@ -54,14 +54,14 @@ pub +body-spec : {M : Type 1} → statement M
     (λ c κs. ((c .before .before .before .before .pre .1 .1), c .before .loop .inv .high, c .loop-test .taken))  -- next-line-requires
     (λ c. search needs)  -- enum-known-kind
     (λ c κs. search needs)  -- method-for-requires
-    (λ c. sym (length-take-le _ _ ((c .before .before .before .before .next-line .ensures) .within)))  -- slice-aggregate-body
-    (λ c. starts-left (c .before .before .before .before .before .before .loop .inv) refl (c .before .before .before .before .next-line .ensures) (c .before .before .kind .given .1))  -- sub-body
-    (λ c κs. (omega (arith, (c .before .before .before .before .before .before .before .before .before .pre), starts-left (c .before .before .before .before .before .before .loop .inv) refl (c .before .before .before .before .next-line .ensures) (c .before .before .kind .given .1)), ((c .before .before .before .before .next-line .ensures) .high, starts-number (c .before .before .before .before .before .before .loop .inv) refl (c .before .before .before .before .next-line .ensures) (c .before .before .kind .given .1))))  -- body-requires
+    (λ c. sym (length-take-le _ _ ((c .before .before .before .before .before .next-line .ensures) .within)))  -- slice-aggregate-body
+    (λ c. starts-left (c .before .before .before .before .before .before .before .loop .inv) refl (c .before .before .before .before .before .next-line .ensures) (c .before .before .before .kind .given .1))  -- sub-body
+    (λ c κs. (omega (arith, (c .before .before .before .before .before .before .before .before .before .before .pre), starts-left (c .before .before .before .before .before .before .before .loop .inv) refl (c .before .before .before .before .before .next-line .ensures) (c .before .before .before .kind .given .1)), ((c .before .before .before .before .before .next-line .ensures) .high, starts-number (c .before .before .before .before .before .before .before .loop .inv) refl (c .before .before .before .before .before .next-line .ensures) (c .before .before .before .kind .given .1))))  -- body-requires
     (λ c. search needs)  -- enum-known-next
-    (λ c. let b = (subst (Body _ _ _ _ _ _ _) (c .before .next .given .1) (c .before .before .before .body .ensures)) in omega (arith, b .ends .0, b .ends .1 .most, (c .before .before .before .before .before .before .before .before .next-line .ensures) .low))  -- loop-less
-    (λ c. reached-inner (c .before .before .before .before .before .before .before .before .before .before .loop .inv) refl (c .before .before .before .before .before .before .before .before .next-line .ensures) (c .before .before .before .before .before .before .kind .given .1) (c .before .before .before .before .before .before .before .before .before .before .before .before .before .pre .1 .1) (c .before .before .before .before .method-for .ensures) (subst (Body _ _ _ _ _ _ _) (c .before .next .given .1) (c .before .before .before .body .ensures)))  -- loop-again
+    (λ c. let b = (subst (Body _ _ _ _ _ _ _) (c .before .next .given .1) (c .before .before .before .body .ensures)) in omega (arith, b .ends .0, b .ends .1 .most, (c .before .before .before .before .before .before .before .before .before .next-line .ensures) .low))  -- loop-less
+    (λ c. reached-inner (c .before .before .before .before .before .before .before .before .before .before .before .loop .inv) refl (c .before .before .before .before .before .before .before .before .before .next-line .ensures) (c .before .before .before .before .before .before .before .kind .given .1) (c .before .before .before .before .before .before .before .before .before .before .before .before .before .before .pre .1 .1) (c .before .before .before .before .before .method-for .ensures) (subst (Body _ _ _ _ _ _ _) (c .before .next .given .1) (c .before .before .before .body .ensures)))  -- loop-again
     (λ c. search needs)  -- enum-known-r
-    (λ c. body-inner (c .before .before .before .before .before .before .before .before .before .before .loop .inv) refl (c .before .before .before .before .before .before .before .before .next-line .ensures) (c .before .before .before .before .before .before .kind .given .1) (c .before .before .before .before .before .before .before .before .before .before .before .before .before .pre .1 .1) (c .before .before .before .before .method-for .ensures) (subst (Body _ _ _ _ _ _ _) (c .before .r .given .1) (c .before .before .before .body .ensures)))  -- returns
+    (λ c. body-inner (c .before .before .before .before .before .before .before .before .before .before .before .loop .inv) refl (c .before .before .before .before .before .before .before .before .before .next-line .ensures) (c .before .before .before .before .before .before .before .kind .given .1) (c .before .before .before .before .before .before .before .before .before .before .before .before .before .before .pre .1 .1) (c .before .before .before .before .before .method-for .ensures) (subst (Body _ _ _ _ _ _ _) (c .before .r .given .1) (c .before .before .before .body .ensures)))  -- returns
     (λ c. search needs)  -- enum-told
     (λ c κs. search needs)  -- complete-counts-requires
     (λ c. body-closed (c .before .before .before .before .before .before .loop .inv) refl (c .before .before .before .before .next-line .ensures) (c .before .before .enum-told .given .1) (c .before .before .before .before .before .before .before .before .before .pre .1 .1) (c .before .complete-counts .ensures) (c .if1 .taken))  -- returns-2

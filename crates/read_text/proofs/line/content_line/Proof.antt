@@ -18,7 +18,7 @@ content-line-spec = tie.close (tie.spec
     (λ c κs. search needs)  -- is-word-any-case-requires-2
     (λ c κs. search needs)  -- end-line-requires
     (λ c. kind-end _ (c .before .before .before .before .before .before .before .before .before .before .before .before .before .pre .3) (c .before .before .before .before .before .before .before .before .before .before .before .before .before .pre .2) _ _ (c .before .before .before .before .before .before .before .before .before .before .before .before .before .args .inner) (c .before .before .before .before .before .before .before .before .before .before .names-carried .ensures) (c .end-line .result) (c .before .before .before .before .before .before .before .before .before .if1 .taken) (c .before .before .before .before .before .before .is-word-any-case .ensures) (c .before .before .before .before .before .if2 .left) (c .before .before .is-word-any-case2 .ensures) (c .before .if3 .taken) (c .end-line .ensures _ []))  -- returns-2
-    (λ c κs. c .before .before .before .before .before .before .before .before .before .before .before .before .pre .1)  -- property-line-requires
+    (λ c κs. (c .before .before .before .before .before .before .before .before .before .before .before .before .pre .1, c .before .before .before .before .before .before .before .before .before .before .before .before .pre .2, c .before .before .before .before .before .before .before .before .before .before .before .before .pre .3))  -- property-line-requires
     (λ c. kind-property _ (c .before .before .before .before .before .before .before .before .before .before .before .before .before .pre .3) (c .before .before .before .before .before .before .before .before .before .before .before .before .before .pre .2) _ _ (c .before .before .before .before .before .before .before .before .before .before .before .before .before .args .inner) (c .before .before .before .before .before .before .before .before .before .before .names-carried .ensures) (c .property-line .result) (c .before .before .before .before .before .before .before .before .before .if1 .taken) (c .before .before .before .before .before .before .is-word-any-case .ensures) (c .before .before .before .before .before .if2 .left) (c .before .before .is-word-any-case2 .ensures) (c .before .if3 .left) (c .property-line .ensures _ _ (c .before .before .before .before .before .before .before .before .before .before .before .before .before .pre .0)))  -- returns-3
     (λ c. kind-uncarried _ (c .before .before .before .before .pre .3) (c .before .before .before .before .pre .2) _ _ (c .before .before .before .before .args .inner) (c .before .names-carried .ensures) (c .if1 .left))  -- returns-4
     )
