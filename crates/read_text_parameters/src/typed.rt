@@ -14,12 +14,15 @@ ghost use Rattle.schema.specs.Numbers.{parameterAt};
 ghost use Rattle.text.specs.Parameters.{readTyped, readWord};
 ghost use Rattle.read_text_parameters.specs.Typing.{readBy};
 
-// A value of the parameter's type. TEXT is any characters.
+// A value of the parameter's type. TEXT, and the value of an unrecognised parameter, is any characters.
 fn is_typed(q: usize, mode: usize, s: &[u8], at: usize) -> bool
     ensures { λ r. ⌜ r ≡ isRead (readTyped (parameterAt q .type) (rest mode (now (s .entry)) at)) ⌝ }
 {
     let t = parameter_type(q);
     if t == value_type::TEXT {
+        return true;
+    }
+    if t == value_type::UNKNOWN {
         return true;
     }
     let ValueRead::Good(v) = read_value(false, t, mode, s, at) else {

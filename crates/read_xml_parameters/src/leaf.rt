@@ -7,6 +7,7 @@ use schema::WordRead;
 use schema::parameter_has_words;
 use schema::parameter_type;
 use schema::read_word_of_parameter;
+use schema::value_type;
 use source::xml_unit;
 use values::ValueRead;
 use values::read_value;
@@ -48,7 +49,7 @@ pub fn has_byte(b: usize, s: &[u8], at: usize) -> bool
     }
 }
 
-// A word of the closed set of the parameter of the number `q`, or a value of its type.
+// A word of the closed set of the parameter of the number `q`, or a value of its type, which is any characters where it is UNKNOWN.
 fn is_chosen(q: usize, s: &[u8], at: usize) -> bool
     ensures { λ r. ⌜ r ≡ isRead (readWordIn (rowAt q .words) (rowAt q .type) (rest 1 (now (s .entry)) at)) ⌝ }
 {
@@ -60,6 +61,9 @@ fn is_chosen(q: usize, s: &[u8], at: usize) -> bool
         return true;
     }
     let t = parameter_type(q);
+    if t == value_type::UNKNOWN {
+        return true;
+    }
     let ValueRead::Good(v) = read_value(true, t, 1, s, at) else {
         return false;
     };

@@ -11,16 +11,16 @@ use Rattle.octets.specs.Pick.{pick, _and_, _or_}
 use Rattle.octets.specs.Class.{upper}
 use Rattle.octets.specs.Words.{same, isOneOf, isEmpty}
 use Rattle.octets.specs.Reading.{provided, readEach}
-use Rattle.calendar.specs.Calendar.{ical, ValueType, TEXT, Value, text, Parameter}
+use Rattle.calendar.specs.Calendar.{ical, ValueType, TEXT, UNKNOWN, Value, text, unknown, Parameter}
 use Rattle.schema.specs.Types.{typeNamed, sameType}
 use Rattle.schema.specs.Properties.{defaultType}
 use Rattle.schema.specs.Parameters.{parameterType, isListedParameter, parameterWords, isQuotedParameter}
 use Rattle.values.specs.ReadValue.{readValue}
 use Rattle.read_text_line.specs.ContentLine.{ParamValue, RawParameter}
 
--- the value of a parameter of a type: TEXT stands as it is, with no escapes
+-- the value of a parameter of a type: TEXT stands as it is, with no escapes, and so does that of an unrecognised parameter
 abbrev pub readTyped : ValueType → List ℕ → Option Value
-readTyped t s = pick (sameType t TEXT) (some (text s)) (readValue ical t s)
+readTyped t s = pick (sameType t TEXT) (some (text s)) (pick (sameType t UNKNOWN) (some (unknown s)) (readValue ical t s))
 
 -- a word of a closed set is read in any letter case and kept in capitals
 abbrev pub readWord : Option (List (List ℕ)) → ValueType → List ℕ → Option Value

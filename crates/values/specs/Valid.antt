@@ -12,7 +12,7 @@ use Rattle.octets.specs.Pick.{pick, _and_, _or_}
 use Rattle.octets.specs.Class.{upper}
 use Rattle.octets.specs.Words.{same, isOneOf, isEmpty}
 use Rattle.octets.specs.Lists.{every, anyOne, distinct}
-use Rattle.calendar.specs.Calendar.{ValueType, BINARY, Value, typeOf, textIn, Parameter, Property}
+use Rattle.calendar.specs.Calendar.{ValueType, BINARY, UNKNOWN, Value, typeOf, textIn, Parameter, Property}
 use Rattle.schema.specs.Types.{sameType, isTypeOf}
 use Rattle.schema.specs.Parameters.{parameterType, isListedParameter, parameterWords}
 use Rattle.schema.specs.Properties.{permittedTypes, isListedProperty, permitsParameter, propertyWords}
@@ -42,13 +42,21 @@ isChosen (some words) t v = isWordIn words (textIn v)
 
 -- ---- parameters
 
+-- a value of a parameter's type: that of an unrecognised parameter is any characters
+abbrev pub isOfParameter : ValueType → Value → Bool
+isOfParameter t v = sameType (typeOf v) t and isTyped v and (sameType (typeOf v) UNKNOWN or isValue v)
+
+abbrev pub isParameterValue : Option (List (List ℕ)) → ValueType → Value → Bool
+isParameterValue none t v = isOfParameter t v
+isParameterValue (some words) t v = isWordIn words (textIn v)
+
 -- the name is in capitals. VALUE is none: the type stands on the value
 unfoldable pub isParameter : Parameter → Bool
 isParameter p =
     same (upper (p .name)) (p .name)
     and not (same (p .name) (ascii "VALUE"))
     and isAmount (isListedParameter (p .name)) (p .values)
-    and every (isChosen (parameterWords (p .name)) (parameterType (p .name))) (p .values)
+    and every (isParameterValue (parameterWords (p .name)) (parameterType (p .name))) (p .values)
 
 -- ---- the values of a property
 

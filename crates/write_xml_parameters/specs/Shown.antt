@@ -7,7 +7,7 @@ use Rattle.octets.specs.Pick.{pick}
 use Rattle.octets.specs.Append.{joined}
 use Rattle.octets.specs.Class.{upper, lower}
 use Rattle.octets.specs.Reading.{isRead, orNothing}
-use Rattle.calendar.specs.Calendar.{ical, TEXT, text}
+use Rattle.calendar.specs.Calendar.{ical, TEXT, UNKNOWN, text, unknown}
 use Rattle.schema.specs.Types.{sameType}
 use Rattle.schema.specs.Parameters.{ParameterRow, parameterRow}
 use Rattle.values.specs.ReadValue.{readValue}
@@ -18,11 +18,12 @@ use Rattle.xml.specs.Escape.{elementOf}
 use Rattle.text.specs.Parameters.{isValueParameter}
 use Rattle.xcal.specs.WriteXml.{valueXml}
 
--- a word of a closed set in capitals, TEXT as it stands, another value as the element of its type
+-- a word of a closed set in capitals, TEXT and the value of an unrecognised parameter as they stand, another value as the element of its type
 unfoldable pub valueShown : ParameterRow → List ℕ → List ℕ
 valueShown p s =
     pick (isRead (p .words)) (valueXml (text (upper s)))
-    (pick (sameType (p .type) TEXT) (valueXml (text s)) (orNothing valueXml (readValue ical (p .type) s)))
+    (pick (sameType (p .type) TEXT) (valueXml (text s))
+    (pick (sameType (p .type) UNKNOWN) (valueXml (unknown s)) (orNothing valueXml (readValue ical (p .type) s))))
 
 abbrev pub charsShown : ParameterRow → ParamValue → List ℕ
 charsShown p v = valueShown p (v .chars)

@@ -8,6 +8,7 @@ use schema::parameter_type;
 use schema::value_type;
 use source::value_mode;
 use write_xml_value::put_raw_element;
+use write_xml_value::put_unknown_element;
 use write_xml_value::put_value_element;
 use write_xml_value::put_word_element;
 ghost use mathlib.Core.Path.{_≡_};
@@ -36,6 +37,9 @@ fn put_value(out: &mut [u8], o: usize, q: usize, mode: usize, s: &[u8], at: usiz
     let t = parameter_type(q);
     if t == value_type::TEXT {
         return put_raw_element(out, o, mode, s, at);
+    }
+    if t == value_type::UNKNOWN {
+        return put_unknown_element(out, o, mode, s, at);
     }
     put_value_element(out, o, t, mode, s, at)
 }

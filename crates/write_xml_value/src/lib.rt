@@ -7,4 +7,5 @@ mod word;
 
 pub use value::put_value_element;
 pub use word::put_raw_element;
+pub use word::put_unknown_element;
 pub use word::put_word_element;

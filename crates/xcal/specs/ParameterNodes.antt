@@ -14,7 +14,7 @@ use Rattle.octets.specs.Pick.{pick, _and_, _or_}
 use Rattle.octets.specs.Class.{upper, lower, isSpace}
 use Rattle.octets.specs.Words.{same, isOneOf, holds, isEmpty}
 use Rattle.octets.specs.Reading.{provided, andThen, consRead, readOr}
-use Rattle.calendar.specs.Calendar.{xcal, ValueType, BINARY, Value, text, textIn, Parameter}
+use Rattle.calendar.specs.Calendar.{xcal, ValueType, BINARY, UNKNOWN, Value, text, unknown, textIn, Parameter}
 use Rattle.calendar.specs.Refusal.{NAME, FRAME, PARAMETER, Verdict, fine, refuse, _otherwise_}
 use Rattle.schema.specs.Types.{typeName, sameType}
 use Rattle.schema.specs.Properties.{permitsParameter}
@@ -28,9 +28,9 @@ use Rattle.xcal.specs.Layout.{hasCapital}
 
 -- ---- the values of one parameter
 
--- a word of a closed set exactly
+-- a word of a closed set exactly; that of an unrecognised parameter is any characters
 abbrev pub readWordIn : Option (List (List ℕ)) → ValueType → List ℕ → Option Value
-readWordIn none t s = readValue xcal t s
+readWordIn none t s = pick (sameType t UNKNOWN) (some (unknown s)) (readValue xcal t s)
 readWordIn (some words) t s = provided (isOneOf s words) (text s)
 
 unfoldable pub readParamNode : List ℕ → Nodes → Option Value

@@ -30,8 +30,6 @@ use Rattle.schema.specs.Computing.{schema-compute}
 use Rattle.schema.specs.laws.Rows.{parameterTypes, parameter-type}
 use Rattle.numbers.specs.Boolean.{readBoolean}
 use Rattle.texts.specs.Uri.{isUri, readUri}
-use Rattle.texts.specs.Unknown.{readUnknown}
-use Rattle.texts.specs.laws.Unknown.{unknown-kept}
 use Rattle.values.specs.ReadValue.{readValue}
 use Rattle.values.specs.WriteValue.{writeValue}
 use Rattle.values.specs.laws.ReadBack.{made}
@@ -59,13 +57,13 @@ truth-length Rfc6868 true = omega arith
 truth-length Rfc6868 false = omega arith
 
 -- the characters of a value, encoded
-chars-length : (ed : Edition) (t : ValueType) (s : List ℕ) (v : Value) → isTypeOf t parameterTypes ≡ true → readValue xcal t s ≡ some v → length (encode ed (paramChars v)) ≤ 2 * length s + 5
-unfolding schema-compute readValue writeValue readOr
+chars-length : (ed : Edition) (t : ValueType) (s : List ℕ) (v : Value) → isTypeOf t parameterTypes ≡ true → readWordIn none t s ≡ some v → length (encode ed (paramChars v)) ≤ 2 * length s + 5
+unfolding schema-compute readValue writeValue readOr pick
 chars-length ed TEXT s v p h = made (λ v. length (encode ed (paramChars v)) ≤ 2 * length s + 5) text (some s) v h (λ x e. let z : s ≡ x = cc in rw (← z) (omega (arith, encode-short ed s)))
 chars-length ed URI s v p h = made (λ v. length (encode ed (paramChars v)) ≤ 2 * length s + 5) uri (readUri s) v h (λ x e. rw (← (provided-some (isUri s) s x e .1)) (omega (arith, encode-short ed s)))
 chars-length ed CAL-ADDRESS s v p h = made (λ v. length (encode ed (paramChars v)) ≤ 2 * length s + 5) calAddress (readUri s) v h (λ x e. rw (← (provided-some (isUri s) s x e .1)) (omega (arith, encode-short ed s)))
 chars-length ed BOOLEAN s v p h = made (λ v. length (encode ed (paramChars v)) ≤ 2 * length s + 5) boolean (readBoolean xcal s) v h (λ x e. omega (arith, truth-length ed x))
-chars-length ed UNKNOWN s v p h = made (λ v. length (encode ed (paramChars v)) ≤ 2 * length s + 5) unknown (readUnknown s) v h (λ x e. rw (← (unknown-kept s x e)) (omega (arith, encode-short ed s)))
+chars-length ed UNKNOWN s v p h = let z : unknown s ≡ v = cc in rw (← z) (omega (arith, encode-short ed s))
 chars-length ed BINARY s v p h = absurd (false≢true p)
 chars-length ed DATE s v p h = absurd (false≢true p)
 chars-length ed DATE-TIME s v p h = absurd (false≢true p)

@@ -18,7 +18,7 @@ use Rattle.octets.specs.Words.{joinedBy}
 use Rattle.octets.specs.Reading.{readEach, consRead}
 use Rattle.octets.specs.laws.Reading.{andThen-some, consRead-some, none-some}
 use Rattle.octets.specs.laws.Letters.{upper-length, lower-length}
-use Rattle.calendar.specs.Calendar.{ical, ValueType, TEXT, Value, text, Parameter}
+use Rattle.calendar.specs.Calendar.{ical, ValueType, TEXT, UNKNOWN, Value, text, unknown, Parameter}
 use Rattle.schema.specs.Types.{sameType}
 use Rattle.schema.specs.Parameters.{parameterType, isListedParameter, parameterWords, isQuotedParameter}
 use Rattle.values.specs.ReadValue.{readValue}
@@ -29,16 +29,20 @@ use Rattle.xml.specs.Escape.{elementOf}
 use Rattle.xcal.specs.WriteXml.{valuesXml, parameterXml, parametersXml, parametersElement}
 use Rattle.lengths_xml.specs.laws.Elements.{rate, element-length}
 use Rattle.lengths_xml.specs.laws.Pieces.{joined-weight}
-use Rattle.lengths_xml.specs.laws.Values.{Short, kept-length, value-length, each-length}
+use Rattle.lengths_xml.specs.laws.Values.{Short, kept-length, unknown-length, value-length, each-length}
 use Rattle.lengths_xml.specs.laws.PropertyValues.{word-short}
 
 typed-short : (t : ValueType) (s : List ℕ) (v : Value) → readTyped t s ≡ some v → Short s v
 unfolding pick
 typed-short t s v h = go (sameType t TEXT) h
   where
-    go : (b : Bool) → pick b (some (text s)) (readValue ical t s) ≡ some v → Short s v
+    other : (b : Bool) → pick b (some (unknown s)) (readValue ical t s) ≡ some v → Short s v
+    other true h = let q : unknown s ≡ v = cc in rw (← q) (unknown-length s s (omega arith))
+    other false h = value-length t s v h
+
+    go : (b : Bool) → pick b (some (text s)) (pick (sameType t UNKNOWN) (some (unknown s)) (readValue ical t s)) ≡ some v → Short s v
     go true h = let q : text s ≡ v = cc in rw (← q) (kept-length s s (omega arith))
-    go false h = value-length t s v h
+    go false h = other (sameType t UNKNOWN) h
 
 in-word-short : (o : Option (List (List ℕ))) (t : ValueType) (s : List ℕ) (v : Value) → readWord o t s ≡ some v → Short s v
 in-word-short none t s v h = typed-short t s v h

@@ -78,6 +78,10 @@ pub kept-length : (s v : List ℕ) → length v ≤ length s → Short s (text v
 unfolding valueXml valueCharacters
 kept-length s v h = plain-length s (text v) (omega arith)
 
+pub unknown-length : (s v : List ℕ) → length v ≤ length s → Short s (unknown v)
+unfolding valueXml valueCharacters
+unknown-length s v h = plain-length s (unknown v) (omega arith)
+
 -- ---- a period
 
 explicit-length : (s a z : List ℕ) → 15 ≤ length s → length a ≤ length s → length z ≤ length s → Short s (periodExplicit a z)

@@ -62,9 +62,13 @@ module _ (t : ValueType) (l : List ℕ) {n : ℕ} (e : n ≡ typePlace t) where
   unfolding sameType pick isRead
   typed-text h = rw (eq-eqb (typePlace t) 10 (sym e ∙ h))
 
-  pub typed-other : {r : Bool} → (n ≡ 10 → ⊥) → r ≡ isRead (readValue ical (typeAt n) l) → r ≡ isRead (readTyped t l)
+  pub typed-unknown : (n ≡ 10 → ⊥) → n ≡ 14 → true ≡ isRead (readTyped t l)
+  unfolding sameType pick isRead
+  typed-unknown h k = rw (ne-eqb (typePlace t) 10 (λ z. h (e ∙ z)), eq-eqb (typePlace t) 14 (sym e ∙ k))
+
+  pub typed-other : {r : Bool} → (n ≡ 10 → ⊥) → (n ≡ 14 → ⊥) → r ≡ isRead (readValue ical (typeAt n) l) → r ≡ isRead (readTyped t l)
   unfolding sameType pick
-  typed-other h p = p ∙ rw (ne-eqb (typePlace t) 10 (λ z. h (e ∙ z)), e, place-type t)
+  typed-other h k p = p ∙ rw (ne-eqb (typePlace t) 10 (λ z. h (e ∙ z)), ne-eqb (typePlace t) 14 (λ z. k (e ∙ z)), e, place-type t)
 
 module _ (o : Option (List (List ℕ))) (t : ValueType) (l : List ℕ) {a : Bool} (e : a ≡ isRead o) where
   pub chosen-word : {r : Bool} → a ≡ true → r ≡ isWordOf o (upper l) → r ≡ isRead (readWord o t l)

@@ -4,7 +4,7 @@
 --     leaf-..          a value is characters alone
 --     typeWords        the names of the types' elements, by the types' numbers;   type-word: compared by number
 --     value-..         an element that is a value
-use mathlib.Core.Path.{_≡_, refl, sym, _∙_}
+use mathlib.Core.Path.{_≡_, refl, sym, ap, _∙_}
 use mathlib.Core.Bool.{Bool, true, false, false≢true}
 use mathlib.Core.List.{List}
 use mathlib.Core.Option.{Option, none, some}
@@ -15,15 +15,15 @@ use borrow.Author.Needs.{needs}
 use borrow.Author.Tests.{eq-eqb, ne-eqb}
 use Rattle.octets.specs.Ascii.{ascii}
 use Rattle.octets.specs.Pick.{pick, _or_}
-use Rattle.octets.specs.laws.Pick.{and-go, and-stop}
+use Rattle.octets.specs.laws.Pick.{pick-yes, pick-no, and-go, and-stop}
 use Rattle.octets.specs.Words.{isOneOf, holds}
 use Rattle.octets.specs.Reading.{isRead}
-use Rattle.calendar.specs.Calendar.{xcal, Value}
+use Rattle.calendar.specs.Calendar.{xcal, Value, unknown}
 use Rattle.source.specs.Source.{rest, Reads}
 use Rattle.source.specs.laws.Facts.{rest-byte, rest-end, byte-small, rest-plain}
 use Rattle.source.specs.declared.Step.{Step}
 use Rattle.names.specs.Table.{placeOf, namesIn}
-use Rattle.schema.specs.Types.{typePlace}
+use Rattle.schema.specs.Types.{typePlace, sameType}
 use Rattle.schema.specs.laws.Types.{place-type}
 use Rattle.schema.specs.Parameters.{ParameterRow}
 use Rattle.schema.specs.Numbers.{typeAt, parameterAt, typeWords}
@@ -79,14 +79,22 @@ module _ (q : ℕ) (l : List ℕ) {a : Bool} (e : a ≡ isRead (parameterWordsAt
       go none k w = absurd (false≢true k)
       go (some ws) k w = w ∙ tested (isOneOf l ws) _
 
-  pub chosen-other : {r : Bool} {t : ℕ} → a ≡ false → t ≡ typePlace (parameterAt q .type) → r ≡ isRead (readValue xcal (typeAt t) l) →
-      r ≡ isRead (readWordIn (rowAt q .words) (rowAt q .type) l)
-  unfolding rowAt isRead
-  chosen-other {r} {t} h i p = go (parameterWordsAt q) (sym e ∙ h)
-    where
-      go : (o : Option (List (List ℕ))) → isRead o ≡ false → r ≡ isRead (readWordIn o (parameterAt q .type) l)
-      go none k = p ∙ rw (i, place-type (parameterAt q .type))
-      go (some ws) k = absurd (false≢true (sym k))
+  module _ {t : ℕ} (h : a ≡ false) (i : t ≡ typePlace (parameterAt q .type)) where
+    of-type : {r : Bool} → r ≡ isRead (readWordIn none (parameterAt q .type) l) → r ≡ isRead (readWordIn (rowAt q .words) (rowAt q .type) l)
+    unfolding rowAt isRead
+    of-type {r} p = go (parameterWordsAt q) (sym e ∙ h)
+      where
+        go : (o : Option (List (List ℕ))) → isRead o ≡ false → r ≡ isRead (readWordIn o (parameterAt q .type) l)
+        go none k = p
+        go (some ws) k = absurd (false≢true (sym k))
+
+    pub chosen-any : t ≡ 14 → true ≡ isRead (readWordIn (rowAt q .words) (rowAt q .type) l)
+    unfolding isRead sameType
+    chosen-any k = of-type (ap isRead (sym (pick-yes _ (some (unknown l)) _ (eq-eqb _ _ (sym i ∙ k)))))
+
+    pub chosen-other : {r : Bool} → (t ≡ 14 → ⊥) → r ≡ isRead (readValue xcal (typeAt t) l) → r ≡ isRead (readWordIn (rowAt q .words) (rowAt q .type) l)
+    unfolding sameType
+    chosen-other {r} k p = of-type (p ∙ rw (i, place-type (parameterAt q .type)) (ap isRead (sym (pick-no _ (some (unknown l)) _ (ne-eqb _ _ (λ z. k (i ∙ z)))))))
 
 -- ---- characters alone
 

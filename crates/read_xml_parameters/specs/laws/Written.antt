@@ -27,7 +27,6 @@ use Rattle.numbers.specs.ReadBoolean.{truthOf}
 use Rattle.numbers.specs.declared.boolean.BooleanRead.{BooleanRead}
 use Rattle.numbers.specs.declared.boolean.BooleanRead.the-variants.{Truth, Bad}
 use Rattle.texts.specs.Uri.{isUri}
-use Rattle.texts.specs.Unknown.{isUnknown}
 use Rattle.texts.specs.Quoting.{needsQuotes}
 use Rattle.schema.specs.Types.{typePlace, sameType}
 use Rattle.schema.specs.laws.Types.{same-type-true}
@@ -170,7 +169,7 @@ module _ (ed : Edition) where
     by-type none TIME z u h = absurd (false≢true u)
     by-type none URI z u h = kept z (isUri l) uri refl h
     by-type none UTC-OFFSET z u h = absurd (false≢true u)
-    by-type none UNKNOWN z u h = kept z (isUnknown l) unknown refl h
+    by-type none UNKNOWN z u h = kept z true unknown refl h
 
   pub shown-is : (q : ℕ) (kids : Nodes) (v : Value) → readLeaf (rowAt q) kids ≡ some v → valueShown ed (rowAt q) (charactersOf kids) ≡ writeParamValue (encodedValue ed (rowValue (rowAt q) v))
   unfolding readLeaf valueShown pick

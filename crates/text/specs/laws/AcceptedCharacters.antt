@@ -23,7 +23,7 @@ use Rattle.octets.specs.Lists.{every}
 use Rattle.octets.specs.laws.Lists.{every-both, every-weaker, every-map}
 use Rattle.octets.specs.Reading.{readOr, readEach}
 use Rattle.octets.specs.laws.Reading.{none-some, provided-some, andThen-some, each-accepted-of}
-use Rattle.calendar.specs.Calendar.{ical, ValueType, TEXT, Value, text, typeOf, Parameter}
+use Rattle.calendar.specs.Calendar.{ical, ValueType, TEXT, UNKNOWN, Value, text, unknown, typeOf, Parameter}
 use Rattle.schema.specs.Types.{sameType, isTypeOf}
 use Rattle.schema.specs.Properties.{permittedTypes, isListedProperty, propertyWords}
 use Rattle.schema.specs.Parameters.{parameterType, parameterWords, isQuotedParameter}
@@ -171,9 +171,13 @@ word-read-good : (n : List ℕ) (o : Option (List (List ℕ))) (t : ValueType) (
 unfolding pick
 word-read-good n none t s v e q h = go (sameType t TEXT) h
   where
-    go : (b : Bool) → pick b (some (text s)) (readValue ical t s) ≡ some v → isPermitted v ≡ true
+    other : (b : Bool) → pick b (some (unknown s)) (readValue ical t s) ≡ some v → isPermitted v ≡ true
+    other true k = let u : unknown s ≡ v = cc in rw (← u) (one-piece s q)
+    other false k = typed-good t s v q k
+
+    go : (b : Bool) → pick b (some (text s)) (pick (sameType t UNKNOWN) (some (unknown s)) (readValue ical t s)) ≡ some v → isPermitted v ≡ true
     go true k = let u : text s ≡ v = cc in rw (← u) (one-piece s q)
-    go false k = typed-good t s v q k
+    go false k = other (sameType t UNKNOWN) k
 word-read-good n (some words) t s v e q h =
     let p = provided-some (isOneOf (upper s) words) (text (upper s)) v h in
     rw (← (p .1)) (word-good (upper s) (and-both _ _ (and-both _ _ (parameter-words-plain n words (upper s) e (p .0)) .1) .0))

@@ -233,9 +233,13 @@ module _ (ed : Edition) where
   unfolding pick
   word-read-free n none t s v e q h = go (sameType t TEXT) refl h
     where
-      go : (b : Bool) → sameType t TEXT ≡ b → pick b (some (text s)) (readValue ical t s) ≡ some v → isParameterText ed v ≡ true
+      other : sameType t TEXT ≡ false → (b : Bool) → pick b (some (unknown s)) (readValue ical t s) ≡ some v → isParameterText ed v ≡ true
+      other e true k = let u : unknown s ≡ v = cc in rw (← u) (unknown-free ed s q)
+      other e false k = other-free t s v e q k
+
+      go : (b : Bool) → sameType t TEXT ≡ b → pick b (some (text s)) (pick (sameType t UNKNOWN) (some (unknown s)) (readValue ical t s)) ≡ some v → isParameterText ed v ≡ true
       go true e k = let u : text s ≡ v = cc in rw (← u) (spelled-free ed s q)
-      go false e k = other-free t s v e q k
+      go false e k = other e (sameType t UNKNOWN) k
   word-read-free n (some words) t s v e q h =
       let p = provided-some (isOneOf (upper s) words) (text (upper s)) v h in
       rw (← (p .1)) (word-free ed (upper s) (and-both _ _ (and-both _ _ (parameter-words-plain n words (upper s) e (p .0)) .1) .0))

@@ -30,7 +30,7 @@ use Rattle.texts.specs.laws.Uri.{uri-visible, uri-unquoted}
 use Rattle.texts.specs.Quoting.{needsQuotes}
 use Rattle.texts.specs.laws.Quoting.{plain-no-colon, plain-no-semicolon, plain-no-comma}
 use Rattle.values.specs.WriteValue.{writeValue, writeValues, typeOfAll}
-use Rattle.values.specs.Valid.{isAmount, isChosen, isPropertyValue, areValuesOf}
+use Rattle.values.specs.Valid.{isAmount, isParameterValue, isPropertyValue, areValuesOf}
 use Rattle.values.specs.laws.Valid.{property-value-valid}
 use Rattle.values.specs.Characters.{isValueText}
 use Rattle.values.specs.laws.Characters.{value-one-line, value-no-return}
@@ -113,7 +113,7 @@ values-written k n t vs h f =
     all-joined (λ v. isPropertyValue k n t v and isValueText v) writeValue isValueChar 44 refl (value-written k n t) vs (every-and (isPropertyValue k n t) isValueText vs h f)
 
 module _ (ed : Edition) where
-  param-chars : (n : List ℕ) (v : Value) → isChosen (parameterWords n) (parameterType n) v ≡ true → isParameterText ed v ≡ true → allOf (isSpelled ed) (paramChars v) ≡ true
+  param-chars : (n : List ℕ) (v : Value) → isParameterValue (parameterWords n) (parameterType n) v ≡ true → isParameterText ed v ≡ true → allOf (isSpelled ed) (paramChars v) ≡ true
   unfolding octets-compute writeValue
   param-chars n v h f =
       parameter-value (λ v. isParameterText ed v ≡ true → allOf (isSpelled ed) (paramChars v) ≡ true) truth (λ s u f. both-chars ed s (uri-chars s u)) (λ s u f. both-chars ed s (uri-chars s u)) (free-chars ed) (unknown-chars ed)
@@ -123,7 +123,7 @@ module _ (ed : Edition) where
       truth true f = both-chars ed (paramChars (boolean true)) refl
       truth false f = both-chars ed (paramChars (boolean false)) refl
 
-  param-value-is : (n : List ℕ) (v : Value) → isChosen (parameterWords n) (parameterType n) v ≡ true → isParameterText ed v ≡ true → isParamValue (encodedValue ed (paramValueOf n v)) ≡ true
+  param-value-is : (n : List ℕ) (v : Value) → isParameterValue (parameterWords n) (parameterType n) v ≡ true → isParameterText ed v ≡ true → isParamValue (encodedValue ed (paramValueOf n v)) ≡ true
   unfolding isParamValue
   param-value-is n v h f =
       let c = spelled-encoded ed (paramChars v) (param-chars n v h f) in
@@ -134,12 +134,12 @@ module _ (ed : Edition) where
 
   -- ---- parameters
 
-  param-values-are : (n : List ℕ) (vs : List Value) → every (isChosen (parameterWords n) (parameterType n)) vs ≡ true → every (isParameterText ed) vs ≡ true →
+  param-values-are : (n : List ℕ) (vs : List Value) → every (isParameterValue (parameterWords n) (parameterType n)) vs ≡ true → every (isParameterText ed) vs ≡ true →
       every isParamValue (map (encodedValue ed) (map (paramValueOf n) vs)) ≡ true
   unfolding every
   param-values-are n [] h f = refl
   param-values-are n (v ∷ vs) h f =
-      let a = every-both (isChosen (parameterWords n) (parameterType n)) v vs h in
+      let a = every-both (isParameterValue (parameterWords n) (parameterType n)) v vs h in
       let b = every-both (isParameterText ed) v vs f in
       and-yes _ _ (param-value-is n v (a .0) (b .0)) (param-values-are n vs (a .1) (b .1))
 

@@ -9,7 +9,7 @@ use mathlib.Core.Option.{Option, none, some, Option·map}
 use Prim.Native.Nat.{ℕ}
 use borrow.Author.Tests.{not-true}
 use Rattle.octets.specs.Pick.{pick, _and_, _or_}
-use Rattle.octets.specs.laws.Pick.{pick-yes, pick-no, and-yes, and-both}
+use Rattle.octets.specs.laws.Pick.{pick-yes, pick-no, and-yes, and-both, or-left, or-right}
 use Rattle.octets.specs.Class.{upper}
 use Rattle.octets.specs.laws.Letters.{upper-twice}
 use Rattle.octets.specs.Words.{same, isOneOf, isEmpty}
@@ -19,7 +19,7 @@ use Rattle.octets.specs.laws.Lists.{every-both}
 use Rattle.octets.specs.Reading.{provided, readOr, readEach}
 use Rattle.octets.specs.laws.Reading.{none-some, provided-some, each-read-back, each-accepted, each-accepted-of}
 use Rattle.octets.specs.Computing.{octets-compute}
-use Rattle.calendar.specs.Calendar.{ical, ValueType, TEXT, UNKNOWN, Value, text, typeOf, textIn, Parameter}
+use Rattle.calendar.specs.Calendar.{ical, ValueType, TEXT, UNKNOWN, Value, text, unknown, typeOf, textIn, Parameter}
 use Rattle.schema.specs.Types.{typeName, typeNamed, valueTypes, sameType, isTypeOf}
 use Rattle.schema.specs.laws.Types.{same-type-self, same-type-true, type-name-read-back, type-any, type-passes}
 use Rattle.schema.specs.Properties.{PropertyRow, defaultType, permittedTypes, isKnownProperty}
@@ -31,27 +31,35 @@ use Rattle.values.specs.ReadValue.{readValue}
 use Rattle.values.specs.WriteValue.{writeValue}
 use Rattle.values.specs.ReadBack.{isValue, isTyped}
 use Rattle.values.specs.laws.ReadBack.{value-read-back, value-accepted}
-use Rattle.values.specs.Valid.{isAmount, isOfType, isWordIn, isChosen, isParameter}
-use Rattle.values.specs.laws.Valid.{each-amount, text-or-other, text-in}
+use Rattle.values.specs.Valid.{isAmount, isOfParameter, isWordIn, isParameterValue, isParameter}
+use Rattle.values.specs.laws.Valid.{each-amount, text-or-other, text-in, any-unknown, kept-or-valid}
 use Rattle.read_text_line.specs.ContentLine.{ParamValue, RawParameter}
 use Rattle.text.specs.Parameters.{readTyped, readWord, readParamValue, isSingle, readParameter, isValueParameter, statedType, ownParameters, readParameters}
 use Rattle.text.specs.WriteText.{paramChars, paramValueOf, rawOf, valueParameter, withValue}
 
 -- ---- one value
 
-typed-read-back : (v : Value) → isTyped v ≡ true → isValue v ≡ true → readTyped (typeOf v) (paramChars v) ≡ some v
-unfolding sameType pick readOr
-typed-read-back v t h =
-    text-or-other (λ v. isTyped v ≡ true → isValue v ≡ true → readTyped (typeOf v) (paramChars v) ≡ some v)
-    (λ s t h. refl)
-    (λ v e n t h. rw (n, e) (value-read-back v t h))
-    v t t h
+-- any characters, or as the type says
+typed-read-back : (v : Value) → isTyped v ≡ true → (sameType (typeOf v) UNKNOWN or isValue v) ≡ true → readTyped (typeOf v) (paramChars v) ≡ some v
+unfolding sameType pick readOr writeValue
+typed-read-back v t h = kept-or-valid (λ v. isTyped v ≡ true → readTyped (typeOf v) (paramChars v) ≡ some v) (λ s t. refl) typed v h t
+  where
+    typed : (v : Value) → isValue v ≡ true → isTyped v ≡ true → readTyped (typeOf v) (paramChars v) ≡ some v
+    typed v h t =
+        text-or-other (λ v. isTyped v ≡ true → isValue v ≡ true → readTyped (typeOf v) (paramChars v) ≡ some v)
+        (λ s t h. refl)
+        (λ v e n t h. other v e n t h (sameType (typeOf v) UNKNOWN) refl)
+        v t t h
+      where
+        other : (v : Value) → textIn v ≡ none → sameType (typeOf v) TEXT ≡ false → isTyped v ≡ true → isValue v ≡ true → (b : Bool) → sameType (typeOf v) UNKNOWN ≡ b → readTyped (typeOf v) (paramChars v) ≡ some v
+        other v e n t h true q = any-unknown (λ v. readTyped (typeOf v) (paramChars v) ≡ some v) (λ s. refl) v q
+        other v e n t h false q = rw (n, q, e) (value-read-back v t h)
 
-word-read-back : (n : List ℕ) (o : Option (List (List ℕ))) (t : ValueType) (v : Value) → parameterWords n ≡ o → isChosen o t v ≡ true → readWord o t (paramChars v) ≡ some v
+word-read-back : (n : List ℕ) (o : Option (List (List ℕ))) (t : ValueType) (v : Value) → parameterWords n ≡ o → isParameterValue o t v ≡ true → readWord o t (paramChars v) ≡ some v
 unfolding readOr
 word-read-back n none t v e h =
-    let p = and-both (sameType (typeOf v) t) (isTyped v and isValue v) h in
-    let q = and-both (isTyped v) (isValue v) (p .1) in
+    let p = and-both (sameType (typeOf v) t) (isTyped v and (sameType (typeOf v) UNKNOWN or isValue v)) h in
+    let q = and-both (isTyped v) (sameType (typeOf v) UNKNOWN or isValue v) (p .1) in
     rw (← (same-type-true (typeOf v) t (p .0))) (typed-read-back v (q .0) (q .1))
 word-read-back n (some words) t v e h = go (textIn v) refl h
   where
@@ -68,7 +76,7 @@ quotes-kept true b = refl
 quotes-kept false true = refl
 quotes-kept false false = refl
 
-value-written : (n : List ℕ) (v : Value) → isChosen (parameterWords n) (parameterType n) v ≡ true → readParamValue n (paramValueOf n v) ≡ some v
+value-written : (n : List ℕ) (v : Value) → isParameterValue (parameterWords n) (parameterType n) v ≡ true → readParamValue n (paramValueOf n v) ≡ some v
 unfolding readParamValue
 value-written n v h = pick-no _ none _ (quotes-kept (isQuotedParameter n) _) ∙ word-read-back n (parameterWords n) (parameterType n) v refl h
 
@@ -84,13 +92,13 @@ abbrev parameterOf : List ℕ → List Value → Parameter
 parameterOf n vs = record { name = n; values = vs }
 
 -- of a name in capitals
-named-read-back : (n : List ℕ) (vs : List Value) → isAmount (isListedParameter n) vs ≡ true → every (isChosen (parameterWords n) (parameterType n)) vs ≡ true →
+named-read-back : (n : List ℕ) (vs : List Value) → isAmount (isListedParameter n) vs ≡ true → every (isParameterValue (parameterWords n) (parameterType n)) vs ≡ true →
     pick (isListedParameter n or isSingle (map (paramValueOf n) vs))
     (Option·map (parameterOf n) (readEach (readParamValue n) (map (paramValueOf n) vs))) none
     ≡ some (parameterOf n vs)
 unfolding pick
 named-read-back n vs a h =
-    rw (single-map (isListedParameter n) (paramValueOf n) vs a, each-read-back (readParamValue n) (isChosen (parameterWords n) (parameterType n)) (paramValueOf n) (value-written n) vs h)
+    rw (single-map (isListedParameter n) (paramValueOf n) vs a, each-read-back (readParamValue n) (isParameterValue (parameterWords n) (parameterType n)) (paramValueOf n) (value-written n) vs h)
 
 pub parameter-read-back : (p : Parameter) → isParameter p ≡ true → readParameter (rawOf p) ≡ some p
 unfolding isParameter readParameter
@@ -101,26 +109,32 @@ parameter-read-back p h =
 
 -- ---- what is read is a parameter
 
-word-accepted : (o : Option (List (List ℕ))) (t : ValueType) (s : List ℕ) (v : Value) → readWord o t s ≡ some v → isChosen o t v ≡ true
+word-accepted : (o : Option (List (List ℕ))) (t : ValueType) (s : List ℕ) (v : Value) → readWord o t s ≡ some v → isParameterValue o t v ≡ true
 unfolding pick _and_
 word-accepted none t s v h = go (sameType t TEXT) refl h
   where
-    go : (b : Bool) → sameType t TEXT ≡ b → pick b (some (text s)) (readValue ical t s) ≡ some v → isOfType t v ≡ true
+    other : (b : Bool) → sameType t UNKNOWN ≡ b → pick b (some (unknown s)) (readValue ical t s) ≡ some v → isOfParameter t v ≡ true
+    other true e k =
+        let q : unknown s ≡ v = cc in
+        rw (← q, same-type-true t UNKNOWN e, same-type-self UNKNOWN) (or-left _ _ refl)
+    other false e k =
+        let a = value-accepted ical t s v k in
+        rw (a .2, same-type-self t) (and-yes _ _ (a .1) (or-right _ _ (a .0)))
+
+    go : (b : Bool) → sameType t TEXT ≡ b → pick b (some (text s)) (pick (sameType t UNKNOWN) (some (unknown s)) (readValue ical t s)) ≡ some v → isOfParameter t v ≡ true
     go true e k =
         let q : text s ≡ v = cc in
-        rw (← q, same-type-true t TEXT e, same-type-self TEXT)
-    go false e k =
-        let a = value-accepted ical t s v k in
-        rw (a .2, same-type-self t) (and-yes _ _ (a .1) (a .0))
+        rw (← q, same-type-true t TEXT e, same-type-self TEXT) (or-right _ _ refl)
+    go false e k = other (sameType t UNKNOWN) refl k
 word-accepted (some words) t s v h =
     let p = provided-some (isOneOf (upper s) words) (text (upper s)) v h in
     rw (← (p .1)) (p .0)
 
-value-read : (n : List ℕ) (r : ParamValue) (v : Value) → readParamValue n r ≡ some v → isChosen (parameterWords n) (parameterType n) v ≡ true
+value-read : (n : List ℕ) (r : ParamValue) (v : Value) → readParamValue n r ≡ some v → isParameterValue (parameterWords n) (parameterType n) v ≡ true
 unfolding readParamValue pick
 value-read n r v h = go (not (r .quoted) and isQuotedParameter n) h
   where
-    go : (b : Bool) → pick b none (readWord (parameterWords n) (parameterType n) (r .chars)) ≡ some v → isChosen (parameterWords n) (parameterType n) v ≡ true
+    go : (b : Bool) → pick b none (readWord (parameterWords n) (parameterType n) (r .chars)) ≡ some v → isParameterValue (parameterWords n) (parameterType n) v ≡ true
     go true k = none-some k
     go false k = word-accepted (parameterWords n) (parameterType n) (r .chars) v k
 

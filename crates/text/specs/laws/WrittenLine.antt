@@ -22,7 +22,7 @@ use Rattle.octets.specs.Lists.{every}
 use Rattle.octets.specs.laws.Lists.{every-both, every-weaker, every-map}
 use Rattle.octets.specs.Reading.{readOr}
 use Rattle.octets.specs.Computing.{octets-compute}
-use Rattle.calendar.specs.Calendar.{ValueType, Value, textIn, Parameter, Property}
+use Rattle.calendar.specs.Calendar.{ValueType, Value, unknown, textIn, Parameter, Property}
 use Rattle.schema.specs.Types.{typeName, sameType}
 use Rattle.schema.specs.laws.Types.{type-name-is-name}
 use Rattle.schema.specs.Parameters.{parameterType, parameterWords}
@@ -32,8 +32,8 @@ use Rattle.utf8.specs.laws.Utf8.{well-formed-good, good-well-formed, good-appen
 use Rattle.folding.specs.Unfold.{blankAt}
 use Rattle.values.specs.WriteValue.{writeValue, writeValues, typeOfAll}
 use Rattle.values.specs.ReadBack.{isValue}
-use Rattle.values.specs.Valid.{isChosen, isPropertyValue, areValuesOf}
-use Rattle.values.specs.laws.Valid.{text-in, chosen-valid, property-value-valid}
+use Rattle.values.specs.Valid.{isParameterValue, isPropertyValue, areValuesOf}
+use Rattle.values.specs.laws.Valid.{text-in, parameter-value-valid, property-value-valid}
 use Rattle.read_text_line.specs.ContentLine.{ParamValue, RawParameter, ContentLine, isValueChar, isQSafeChar, isSafeChar, isName, isParamValue, isRawParameter, isContentLine}
 use Rattle.read_text_line.specs.Write.{writeParamValue, writeParameter, writeContentLine}
 use Rattle.edition.specs.declared.Edition.{Edition}
@@ -138,19 +138,23 @@ param-chars-good v h g = go (textIn v) refl
     go none e = value-good v h g
     go (some s) e = well-formed-good s (every-both wellFormed s [] (rw (text-in v s e) at g) .0)
 
+unknown-good : (s : List ℕ) → isPermitted (unknown s) ≡ true → firstBad (paramChars (unknown s)) ≡ none
+unfolding readOr writeValue
+unknown-good s g = well-formed-good s (every-both wellFormed s [] g .0)
+
 abbrev pub isGoodChars : ParamValue → Bool
 isGoodChars v = wellFormed (v .chars)
 
 abbrev isGoodRaw : RawParameter → Bool
 isGoodRaw r = isName (r .name) and every isGoodChars (r .values)
 
-chars-good : (n : List ℕ) (vs : List Value) → every (isChosen (parameterWords n) (parameterType n)) vs ≡ true → every isPermitted vs ≡ true → every isGoodChars (map (paramValueOf n) vs) ≡ true
+chars-good : (n : List ℕ) (vs : List Value) → every (isParameterValue (parameterWords n) (parameterType n)) vs ≡ true → every isPermitted vs ≡ true → every isGoodChars (map (paramValueOf n) vs) ≡ true
 unfolding every
 chars-good n [] h g = refl
 chars-good n (v ∷ vs) h g =
-    let a = every-both (isChosen (parameterWords n) (parameterType n)) v vs h in
+    let a = every-both (isParameterValue (parameterWords n) (parameterType n)) v vs h in
     let b = every-both isPermitted v vs g in
-    and-yes _ _ (good-well-formed _ (param-chars-good v (chosen-valid (parameterWords n) (parameterType n) v (a .0)) (b .0))) (chars-good n vs (a .1) (b .1))
+    and-yes _ _ (good-well-formed _ (parameter-value-valid (λ v. isPermitted v ≡ true → firstBad (paramChars v) ≡ none) unknown-good param-chars-good (parameterWords n) (parameterType n) v (a .0) (b .0))) (chars-good n vs (a .1) (b .1))
 
 raw-good : (ed : Edition) (p : Parameter) → isValidParameter ed p ≡ true → isGoodRaw (rawOf p) ≡ true
 raw-good ed p h =

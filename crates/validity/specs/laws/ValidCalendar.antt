@@ -20,7 +20,7 @@ use Rattle.octets.specs.laws.Class.{name-char-visible}
 use Rattle.octets.specs.Words.{same, noneHolds}
 use Rattle.octets.specs.laws.Words.{same-true}
 use Rattle.octets.specs.Lists.{every}
-use Rattle.calendar.specs.Calendar.{Value, binary, boolean, calAddress, date, dateTime, duration, float, integer, periodExplicit, periodStart, recur, text, time, uri, utcOffset, unknown, geo, requestStatus, typeOf, textIn, Parameter, Property, Components, noMore, component}
+use Rattle.calendar.specs.Calendar.{UNKNOWN, Value, binary, boolean, calAddress, date, dateTime, duration, float, integer, periodExplicit, periodStart, recur, text, time, uri, utcOffset, unknown, geo, requestStatus, typeOf, textIn, Parameter, Property, Components, noMore, component}
 use Rattle.calendar.specs.Levels.{levels, shallow}
 use Rattle.schema.specs.Types.{sameType, isTypeOf}
 use Rattle.schema.specs.laws.Types.{same-type-true}
@@ -33,7 +33,7 @@ use Rattle.schema.specs.laws.Rows.{parameterTypes, parameter-type}
 use Rattle.texts.specs.Uri.{isUri}
 use Rattle.values.specs.WriteValue.{typeOfAll}
 use Rattle.values.specs.ReadBack.{isValue, isTyped}
-use Rattle.values.specs.Valid.{isAmount, isWordIn, isChosen, isParameter, arePropertyValues, areParameters, isProperty}
+use Rattle.values.specs.Valid.{isAmount, isWordIn, isParameterValue, isParameter, arePropertyValues, areParameters, isProperty}
 use Rattle.values.specs.laws.Valid.{text-in}
 use Rattle.values.specs.Characters.{freeIn, isValueText}
 use Rattle.read_text_line.specs.ContentLine.{isName}
@@ -62,7 +62,7 @@ component-name k h = let n = kept-parts k h in (n .0, name-visible k (n .1), and
 
 -- a value of a parameter is a truth value, a URI, or free characters
 typed-value : (P : Value → Type 0) → ((b : Bool) → P (boolean b)) → ((s : List ℕ) → isUri s ≡ true → P (calAddress s)) → ((s : List ℕ) → isUri s ≡ true → P (uri s)) →
-    ((s : List ℕ) → P (text s)) → ((s : List ℕ) → P (unknown s)) → (v : Value) → isTyped v ≡ true → isValue v ≡ true → isTypeOf (typeOf v) parameterTypes ≡ true → P v
+    ((s : List ℕ) → P (text s)) → ((s : List ℕ) → P (unknown s)) → (v : Value) → isTyped v ≡ true → (sameType (typeOf v) UNKNOWN or isValue v) ≡ true → isTypeOf (typeOf v) parameterTypes ≡ true → P v
 unfolding schema-compute
 typed-value P b a u x r (binary s) t h p = absurd (false≢true p)
 typed-value P b a u x r (boolean w) t h p = b w
@@ -84,17 +84,17 @@ typed-value P b a u x r (geo la lo) t h p = absurd (false≢true t)
 typed-value P b a u x r (requestStatus c d e) t h p = absurd (false≢true t)
 
 pub parameter-value : (P : Value → Type 0) → ((b : Bool) → P (boolean b)) → ((s : List ℕ) → isUri s ≡ true → P (calAddress s)) → ((s : List ℕ) → isUri s ≡ true → P (uri s)) →
-    ((s : List ℕ) → P (text s)) → ((s : List ℕ) → P (unknown s)) → (n : List ℕ) (v : Value) → isChosen (parameterWords n) (parameterType n) v ≡ true → P v
+    ((s : List ℕ) → P (text s)) → ((s : List ℕ) → P (unknown s)) → (n : List ℕ) (v : Value) → isParameterValue (parameterWords n) (parameterType n) v ≡ true → P v
 parameter-value P b a u x r n v h = go (parameterWords n) h
   where
     word : (words : List (List ℕ)) (o : Option (List ℕ)) → textIn v ≡ o → isWordIn words o ≡ true → P v
     word words none e k = absurd (false≢true k)
     word words (some s) e k = rw (text-in v s e) (x s)
 
-    go : (o : Option (List (List ℕ))) → isChosen o (parameterType n) v ≡ true → P v
+    go : (o : Option (List (List ℕ))) → isParameterValue o (parameterType n) v ≡ true → P v
     go none k =
         let c = and-both (sameType (typeOf v) (parameterType n)) _ k in
-        let d = and-both (isTyped v) (isValue v) (c .1) in
+        let d = and-both (isTyped v) (sameType (typeOf v) UNKNOWN or isValue v) (c .1) in
         typed-value P b a u x r v (d .0) (d .1) (rw (same-type-true (typeOf v) (parameterType n) (c .0)) (parameter-type n))
     go (some words) k = word words (textIn v) refl k
 
@@ -114,7 +114,7 @@ module _ (ed : Edition) where
     pub typed : isParameter p ≡ true
     pub other : same (p .name) (ascii "VALUE") ≡ false
     pub amount : isAmount (isListedParameter (p .name)) (p .values) ≡ true
-    pub chosen : every (isChosen (parameterWords (p .name)) (parameterType (p .name))) (p .values) ≡ true
+    pub chosen : every (isParameterValue (parameterWords (p .name)) (parameterType (p .name))) (p .values) ≡ true
     pub plain : every (isParameterText ed) (p .values) ≡ true
     pub permitted : every isPermitted (p .values) ≡ true
 

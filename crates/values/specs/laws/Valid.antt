@@ -1,20 +1,21 @@
 -- Laws of what specs/Valid.antt defines.
---     chosen-valid, property-value-valid    a value of a parameter or of a property is spelled as its type says
+--     chosen-valid, property-value-valid    a value of a property is spelled as its type says
+--     kept-or-valid, parameter-value-valid  so is that of a parameter, or it is any characters
 use mathlib.Core.Path.{_≡_, refl, sym}
 use mathlib.Core.Bool.{Bool, true, false, false≢true}
 use mathlib.Core.List.{List, [], _∷_}
 use mathlib.Core.Option.{Option, none, some}
 use Prim.Native.Nat.{ℕ}
-use Rattle.octets.specs.Pick.{pick, _or_}
-use Rattle.octets.specs.laws.Pick.{and-both}
+use Rattle.octets.specs.Pick.{pick, _and_, _or_}
+use Rattle.octets.specs.laws.Pick.{and-both, or-cases}
 use Rattle.octets.specs.Reading.{consRead, readEach}
 use Rattle.octets.specs.laws.Reading.{none-some, andThen-some, consRead-some, each-empty}
-use Rattle.calendar.specs.Calendar.{Decimal, ValueType, TEXT, Value, binary, boolean, calAddress, date, dateTime, duration, float, integer, periodExplicit, periodStart, recur, text, time, uri, utcOffset, unknown, geo, requestStatus, typeOf, textIn}
+use Rattle.calendar.specs.Calendar.{Decimal, ValueType, TEXT, UNKNOWN, Value, binary, boolean, calAddress, date, dateTime, duration, float, integer, periodExplicit, periodStart, recur, text, time, uri, utcOffset, unknown, geo, requestStatus, typeOf, textIn}
 use Rattle.schema.specs.Types.{sameType}
 use Rattle.schema.specs.Properties.{propertyWords}
 use Rattle.numbers.specs.Float.{isNormal}
 use Rattle.values.specs.ReadBack.{isValue, isTyped}
-use Rattle.values.specs.Valid.{isAmount, isWordIn, isChosen, hasOwnValues, isOwnValue, isPropertyValue}
+use Rattle.values.specs.Valid.{isAmount, isWordIn, isChosen, isParameterValue, hasOwnValues, isOwnValue, isPropertyValue}
 
 -- ---- laws of amounts
 
@@ -110,6 +111,35 @@ chosen-valid (some words) t v h = go (textIn v) refl h
     go : (x : Option (List ℕ)) → textIn v ≡ x → isWordIn words x ≡ true → isValue v ≡ true
     go none e k = absurd (false≢true k)
     go (some s) e k = rw (text-in v s e)
+
+-- that of a parameter is, or is any characters
+pub any-unknown : (P : Value → Type 0) → ((s : List ℕ) → P (unknown s)) → (v : Value) → sameType (typeOf v) UNKNOWN ≡ true → P v
+unfolding sameType
+any-unknown P u (binary s) h = absurd (false≢true h)
+any-unknown P u (boolean b) h = absurd (false≢true h)
+any-unknown P u (calAddress s) h = absurd (false≢true h)
+any-unknown P u (date s) h = absurd (false≢true h)
+any-unknown P u (dateTime s) h = absurd (false≢true h)
+any-unknown P u (duration s) h = absurd (false≢true h)
+any-unknown P u (float d) h = absurd (false≢true h)
+any-unknown P u (integer w) h = absurd (false≢true h)
+any-unknown P u (periodExplicit s e) h = absurd (false≢true h)
+any-unknown P u (periodStart s d) h = absurd (false≢true h)
+any-unknown P u (recur p) h = absurd (false≢true h)
+any-unknown P u (text s) h = absurd (false≢true h)
+any-unknown P u (time s) h = absurd (false≢true h)
+any-unknown P u (uri s) h = absurd (false≢true h)
+any-unknown P u (utcOffset s) h = absurd (false≢true h)
+any-unknown P u (unknown s) h = u s
+any-unknown P u (geo la lo) h = absurd (false≢true h)
+any-unknown P u (requestStatus c d x) h = absurd (false≢true h)
+
+pub kept-or-valid : (P : Value → Type 0) → ((s : List ℕ) → P (unknown s)) → ((v : Value) → isValue v ≡ true → P v) → (v : Value) → (sameType (typeOf v) UNKNOWN or isValue v) ≡ true → P v
+kept-or-valid P u f v h = or-cases (sameType (typeOf v) UNKNOWN) (isValue v) h (any-unknown P u v) (f v)
+
+pub parameter-value-valid : (P : Value → Type 0) → ((s : List ℕ) → P (unknown s)) → ((v : Value) → isValue v ≡ true → P v) → (o : Option (List (List ℕ))) (t : ValueType) (v : Value) → isParameterValue o t v ≡ true → P v
+parameter-value-valid P u f none t v h = kept-or-valid P u f v (and-both _ _ (and-both _ _ h .1) .1)
+parameter-value-valid P u f (some words) t v h = f v (chosen-valid (some words) t v h)
 
 pub property-value-valid : (k n : List ℕ) (t : ValueType) (v : Value) → isPropertyValue k n t v ≡ true → isValue v ≡ true
 unfolding pick

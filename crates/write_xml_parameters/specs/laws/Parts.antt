@@ -1,5 +1,5 @@
 -- Laws of what specs/Parts.antt defines.
---     put-word, put-raw, put-typed      a value, by what its parameter takes
+--     put-word, put-raw, put-unknown, put-typed      a value, by what its parameter takes
 --     put-first, put-no-first           the values of a parameter, from the first on
 --     put-parameter, put-value-name, put-other-name     a parameter
 --     least-value, least-own            a slice cut at its length, or before
@@ -18,7 +18,7 @@ use Rattle.octets.specs.Class.{upper, lower}
 use Rattle.octets.specs.Words.{same, isEmpty}
 use Rattle.octets.specs.Reading.{isRead, readOr, orNothing}
 use Rattle.octets.specs.laws.Reading.{each-empty}
-use Rattle.calendar.specs.Calendar.{ical, text, Parameter}
+use Rattle.calendar.specs.Calendar.{ical, text, unknown, Parameter}
 use Rattle.sink.specs.Sink.{Put}
 use Rattle.sink.specs.laws.Sink.{put-none, put-yes, put-no, _▷_}
 use Rattle.edition.specs.Edition.{decode}
@@ -61,9 +61,13 @@ module _ {d e : List ℕ} {o r : ℕ} (q : ℕ) (l : List ℕ) {t : Bool} (h : t
     unfolding rowAt valueShown sameType
     put-raw z p = put-no _ _ _ (sym h ∙ k) (put-yes _ _ _ (eq-eqb _ _ (sym i ∙ z)) p)
 
-    pub put-typed : (n ≡ 10 → ⊥) → Put d e o r (orNothing valueXml (readValue ical (typeAt n) l)) → Put d e o r (valueShown (rowAt q) l)
+    pub put-unknown : (n ≡ 10 → ⊥) → n ≡ 14 → Put d e o r (valueXml (unknown l)) → Put d e o r (valueShown (rowAt q) l)
     unfolding rowAt valueShown sameType
-    put-typed z p = put-no _ _ _ (sym h ∙ k) (put-no _ _ _ (ne-eqb _ _ (λ y. z (i ∙ y))) (rw (← (place-type (parameterAt q .type)), ← i) p))
+    put-unknown z y p = put-no _ _ _ (sym h ∙ k) (put-no _ _ _ (ne-eqb _ _ (λ x. z (i ∙ x))) (put-yes _ _ _ (eq-eqb _ _ (sym i ∙ y)) p))
+
+    pub put-typed : (n ≡ 10 → ⊥) → (n ≡ 14 → ⊥) → Put d e o r (orNothing valueXml (readValue ical (typeAt n) l)) → Put d e o r (valueShown (rowAt q) l)
+    unfolding rowAt valueShown sameType
+    put-typed z y p = put-no _ _ _ (sym h ∙ k) (put-no _ _ _ (ne-eqb _ _ (λ x. z (i ∙ x))) (put-no _ _ _ (ne-eqb _ _ (λ x. y (i ∙ x))) (rw (← (place-type (parameterAt q .type)), ← i) p)))
 
 -- ---- the values of a parameter
 

@@ -13,7 +13,7 @@ use Rattle.octets.specs.laws.Letters.{lower-any-case}
 use Rattle.octets.specs.Words.{isOneOf}
 use Rattle.octets.specs.Reading.{isRead, orNothing, readEach, consRead}
 use Rattle.octets.specs.laws.Reading.{none-some, provided-some, andThen-some, consRead-some}
-use Rattle.calendar.specs.Calendar.{ical, TEXT, Value, text, Parameter}
+use Rattle.calendar.specs.Calendar.{ical, TEXT, UNKNOWN, Value, text, unknown, Parameter}
 use Rattle.schema.specs.Types.{sameType}
 use Rattle.schema.specs.Parameters.{parameterRow, parameterType, parameterWords, isListedParameter, isQuotedParameter}
 use Rattle.values.specs.ReadValue.{readValue}
@@ -53,14 +53,20 @@ value-is n v x h = quotes (not (v .quoted) and isQuotedParameter n) h
     s : List ℕ
     s = v .chars
 
-    typed : (t : Bool) → pick t (some (text s)) (readValue ical (parameterType n) s) ≡ some x →
-        pick t (valueXml (text s)) (orNothing valueXml (readValue ical (parameterType n) s)) ≡ valueXml x
+    other : (t : Bool) → pick t (some (unknown s)) (readValue ical (parameterType n) s) ≡ some x →
+        pick t (valueXml (unknown s)) (orNothing valueXml (readValue ical (parameterType n) s)) ≡ valueXml x
+    other true h = let z : unknown s ≡ x = cc in rw z
+    other false h = rw h
+
+    typed : (t : Bool) → pick t (some (text s)) (pick (sameType (parameterType n) UNKNOWN) (some (unknown s)) (readValue ical (parameterType n) s)) ≡ some x →
+        pick t (valueXml (text s)) (pick (sameType (parameterType n) UNKNOWN) (valueXml (unknown s)) (orNothing valueXml (readValue ical (parameterType n) s))) ≡ valueXml x
     typed true h = let z : text s ≡ x = cc in rw z
-    typed false h = rw h
+    typed false h = other (sameType (parameterType n) UNKNOWN) h
 
     word : (o : Option (List (List ℕ))) → readWord o (parameterType n) s ≡ some x →
         pick (isRead o) (valueXml (text (upper s)))
-        (pick (sameType (parameterType n) TEXT) (valueXml (text s)) (orNothing valueXml (readValue ical (parameterType n) s))) ≡ valueXml x
+        (pick (sameType (parameterType n) TEXT) (valueXml (text s))
+        (pick (sameType (parameterType n) UNKNOWN) (valueXml (unknown s)) (orNothing valueXml (readValue ical (parameterType n) s)))) ≡ valueXml x
     word none h = typed (sameType (parameterType n) TEXT) h
     word (some ws) h = ap valueXml (provided-some (isOneOf (upper s) ws) (text (upper s)) x h .1)
 

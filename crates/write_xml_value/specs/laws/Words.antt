@@ -1,5 +1,5 @@
 -- The element of a TEXT value, by its characters.
---     put-text-value        an element `text` of these characters is the value's
+--     put-text-value, put-unknown-value    an element `text`, or `unknown`, of these characters is the value's
 --     capitals              rules of the loop that writes a word in capitals, with `capitals-each`: byte by byte
 use mathlib.Core.Path.{_≡_, refl, ap}
 use mathlib.Core.List.{List, [], _∷_, _++_}
@@ -8,7 +8,7 @@ use Rattle.octets.specs.Ascii.{ascii}
 use Rattle.octets.specs.Append.{_⊕_}
 use Rattle.octets.specs.Class.{upper, upperByte}
 use Rattle.octets.specs.Computing.{octets-compute}
-use Rattle.calendar.specs.Calendar.{text}
+use Rattle.calendar.specs.Calendar.{text, unknown}
 use Rattle.sink.specs.Sink.{Put}
 use Rattle.sink.specs.laws.Sink.{each}
 use Rattle.names.specs.laws.Case.{cased-small}
@@ -17,10 +17,15 @@ use Rattle.source.specs.laws.Copying.{copying}
 use Rattle.values.specs.WriteValue.{valueCharacters}
 use Rattle.xml.specs.Escape.{escapedByte, escaped, elementOf}
 use Rattle.xcal.specs.WriteXml.{valueXml}
+use Rattle.write_xml_value.specs.Tags.{typeLabel}
 
 pub put-text-value : {d e : List ℕ} {o r : ℕ} (s : List ℕ) → Put d e o r (elementOf (ascii "text") (escaped s)) → Put d e o r (valueXml (text s))
 unfolding valueXml valueCharacters octets-compute
 put-text-value s p = p
+
+pub put-unknown-value : {d e : List ℕ} {o r : ℕ} (s : List ℕ) → Put d e o r (elementOf (typeLabel 14) (escaped s)) → Put d e o r (valueXml (unknown s))
+unfolding valueXml valueCharacters octets-compute
+put-unknown-value s p = p
 
 -- ---- capitals
 

@@ -1,25 +1,25 @@
 -- A value of a type, or a word of a closed set, in XML.
 --     plain-value     a value of another type than PERIOD and RECUR is character data
---     chosen-typed    what is chosen has the type asked for
---     chosen-read     its characters are read back, as a value of the type or as a word
---     chosen-word     and pass the test of a property's value
-use mathlib.Core.Path.{_≡_, refl, sym}
+--     chosen-typed    what is chosen has the type asked for;   parameter-typed: so has a parameter's value
+--     chosen-word     its characters pass the test of a property's value
+--     parameter-read  those of a parameter's value are read back, as a value of the type or as a word
+use mathlib.Core.Path.{_≡_, refl, sym, _∙_}
 use mathlib.Core.Bool.{true, false, false≢true}
 use mathlib.Core.List.{List}
 use mathlib.Core.Option.{Option, none, some}
 use Prim.Native.Nat.{ℕ}
-use Rattle.octets.specs.Pick.{_and_}
-use Rattle.octets.specs.laws.Pick.{pick-yes, and-both}
+use Rattle.octets.specs.Pick.{pick, _and_, _or_}
+use Rattle.octets.specs.laws.Pick.{pick-yes, pick-case, and-both, or-cases}
 use Rattle.octets.specs.Words.{isOneOf}
 use Rattle.octets.specs.Reading.{isRead}
-use Rattle.calendar.specs.Calendar.{ValueType, PERIOD, RECUR, TEXT, Value, text, textIn, typeOf}
+use Rattle.calendar.specs.Calendar.{ValueType, PERIOD, RECUR, TEXT, UNKNOWN, Value, text, unknown, textIn, typeOf}
 use Rattle.schema.specs.Types.{sameType}
 use Rattle.schema.specs.laws.Types.{same-type-true}
 use Rattle.values.specs.WriteValue.{valueCharacters}
 use Rattle.values.specs.ReadBack.{isValue, isTyped}
 use Rattle.values.specs.laws.ReadBack.{isCharacterData, characters-read-back}
-use Rattle.values.specs.Valid.{isWordIn, isChosen}
-use Rattle.values.specs.laws.Valid.{text-in}
+use Rattle.values.specs.Valid.{isWordIn, isChosen, isParameterValue}
+use Rattle.values.specs.laws.Valid.{text-in, any-unknown}
 use Rattle.xcal.specs.laws.Contents.{plainInside, inside}
 use Rattle.xcal.specs.ValueNodes.{readWordOf}
 use Rattle.xcal.specs.ParameterNodes.{readWordIn}
@@ -53,12 +53,25 @@ chosen-typed (some words) t v f h =
     let w = word-text words v h in
     rw (w .1) (sym (f words refl), refl, refl)
 
-pub chosen-read : (o : Option (List (List ℕ))) (t : ValueType) (v : Value) → OfText o t → isChosen o t v ≡ true → isCharacterData v ≡ true → readWordIn o t (valueCharacters v) ≡ some v
-unfolding valueCharacters
-chosen-read none t v f h c = let k = chosen-typed none t v f h in rw (← (k .0)) (characters-read-back v c (k .2))
-chosen-read (some words) t v f h c = let w = word-text words v h in rw (w .1) (pick-yes (isOneOf (w .0) words) _ _ (w .2))
-
 pub chosen-word : (o : Option (List (List ℕ))) (t : ValueType) (v : Value) → OfText o t → isChosen o t v ≡ true → isCharacterData v ≡ true → readWordOf o t (valueCharacters v) ≡ true
 unfolding isRead valueCharacters
-chosen-word none t v f h c = rw (chosen-read none t v f h c)
+chosen-word none t v f h c = let k = chosen-typed none t v f h in rw (← (k .0), characters-read-back v c (k .2))
 chosen-word (some words) t v f h c = let w = word-text words v h in rw (w .1) (w .2)
+
+-- ---- a parameter's value
+
+pub parameter-typed : (o : Option (List (List ℕ))) (t : ValueType) (v : Value) → OfText o t → isParameterValue o t v ≡ true → (typeOf v ≡ t) × (isTyped v ≡ true)
+parameter-typed none t v f h = let p = and-both (sameType (typeOf v) t) _ h in (same-type-true (typeOf v) t (p .0), and-both (isTyped v) _ (p .1) .0)
+parameter-typed (some words) t v f h =
+    let w = word-text words v h in
+    rw (w .1) (sym (f words refl), refl)
+
+pub parameter-read : (o : Option (List (List ℕ))) (t : ValueType) (v : Value) → OfText o t → isParameterValue o t v ≡ true → isCharacterData v ≡ true → readWordIn o t (valueCharacters v) ≡ some v
+unfolding valueCharacters
+parameter-read none t v f h c =
+    let p = and-both (sameType (typeOf v) t) _ h in
+    let q = and-both (isTyped v) (sameType (typeOf v) UNKNOWN or isValue v) (p .1) in
+    rw (← (same-type-true (typeOf v) t (p .0)))
+    (pick-case (λ (o : Option Value). o ≡ some v) (sameType (typeOf v) UNKNOWN) _ _ (any-unknown (λ v. some (unknown (valueCharacters v)) ≡ some v) (λ s. refl) v)
+    (λ e. characters-read-back v c (or-cases (sameType (typeOf v) UNKNOWN) (isValue v) (q .1) (λ k. absurd (false≢true (sym e ∙ k))) (λ k. k))))
+parameter-read (some words) t v f h c = let w = word-text words v h in rw (w .1) (pick-yes (isOneOf (w .0) words) _ _ (w .2))

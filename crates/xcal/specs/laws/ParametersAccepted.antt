@@ -20,10 +20,11 @@ use Rattle.octets.specs.Reading.{consRead, readOr}
 use Rattle.octets.specs.laws.Reading.{none-some, provided-some, andThen-some, consRead-some}
 use Rattle.octets.specs.Computing.{octets-compute}
 use Rattle.calendar.specs.Calendar.{xcal, ValueType, BINARY, BOOLEAN, CAL-ADDRESS, DATE, DATE-TIME, DURATION, FLOAT, INTEGER, PERIOD, RECUR, TEXT, TIME, URI, UTC-OFFSET, UNKNOWN}
-use Rattle.calendar.specs.Calendar.{Value, boolean, calAddress, text, uri, unknown, Parameter}
+use Rattle.calendar.specs.Calendar.{Value, boolean, calAddress, text, uri, unknown, typeOf, Parameter}
 use Rattle.calendar.specs.Refusal.{NAME, FRAME, PARAMETER, fine}
 use Rattle.calendar.specs.laws.Refusal.{refused-not}
-use Rattle.schema.specs.Types.{typeName, isTypeOf}
+use Rattle.schema.specs.Types.{typeName, sameType, isTypeOf}
+use Rattle.schema.specs.laws.Types.{same-type-self, same-type-true}
 use Rattle.schema.specs.Parameters.{parameterType, isListedParameter, parameterWords}
 use Rattle.schema.specs.Properties.{permitsParameter}
 use Rattle.schema.specs.Computing.{schema-compute}
@@ -32,10 +33,9 @@ use Rattle.utf8.specs.Utf8.{wellFormed}
 use Rattle.read_text_line.specs.Names.{isCarriedName}
 use Rattle.numbers.specs.Boolean.{readBoolean}
 use Rattle.texts.specs.Uri.{readUri}
-use Rattle.texts.specs.Unknown.{readUnknown}
-use Rattle.texts.specs.laws.Unknown.{unknown-kept}
 use Rattle.values.specs.ReadValue.{readValue}
-use Rattle.values.specs.Valid.{isAmount, isChosen, isParameter}
+use Rattle.values.specs.ReadBack.{isValue, isTyped}
+use Rattle.values.specs.Valid.{isAmount, isOfParameter, isParameterValue, isParameter}
 use Rattle.values.specs.Characters.{freeIn}
 use Rattle.values.specs.laws.ReadBack.{made}
 use Rattle.edition.specs.declared.Edition.{Edition}
@@ -117,14 +117,28 @@ none-plain : (ed : Edition) (v : Value) → freeIn v ≡ [] → isPlain ed v ≡
 unfolding every
 none-plain ed v f = and-yes _ _ (nothing-free ed v f) (rw f)
 
--- what is read from clean characters that the edition can spell
-plain-kept : (ed : Edition) (t : ValueType) (s : List ℕ) (v : Value) → isTypeOf t parameterTypes ≡ true → isClean s ≡ true → areChars ed s ≡ true → readValue xcal t s ≡ some v → isPlain ed v ≡ true
-unfolding schema-compute readValue
+-- what is read has the type asked for
+of-parameter : (t : ValueType) (s : List ℕ) (v : Value) → readWordIn none t s ≡ some v → isOfParameter t v ≡ true
+unfolding pick
+of-parameter t s v h = go (sameType t UNKNOWN) refl h
+  where
+    go : (b : Bool) → sameType t UNKNOWN ≡ b → pick b (some (unknown s)) (readValue xcal t s) ≡ some v → isOfParameter t v ≡ true
+    go true e k =
+        let z : unknown s ≡ v = cc in
+        rw (← z) (and-yes _ _ (rw (same-type-true t UNKNOWN e) (same-type-self UNKNOWN)) (and-yes _ _ refl (or-left _ _ (same-type-self UNKNOWN))))
+    go false e k =
+        let a = and-both (sameType (typeOf v) t) _ (read-typed t s v k) in
+        let b = and-both (isTyped v) (isValue v) (a .1) in
+        and-yes _ _ (a .0) (and-yes _ _ (b .0) (or-right _ _ (b .1)))
+
+-- and, from clean characters that the edition can spell, both formats can have it
+plain-kept : (ed : Edition) (t : ValueType) (s : List ℕ) (v : Value) → isTypeOf t parameterTypes ≡ true → isClean s ≡ true → areChars ed s ≡ true → readWordIn none t s ≡ some v → isPlain ed v ≡ true
+unfolding schema-compute readValue pick
 plain-kept ed TEXT s v p c a h = made (λ v. isPlain ed v ≡ true) text (some s) v h (λ x e. let z : s ≡ x = cc in rw (← z) (free-plain ed (text s) s refl c a))
 plain-kept ed URI s v p c a h = made (λ v. isPlain ed v ≡ true) uri (readUri s) v h (λ x e. none-plain ed (uri x) refl)
 plain-kept ed CAL-ADDRESS s v p c a h = made (λ v. isPlain ed v ≡ true) calAddress (readUri s) v h (λ x e. none-plain ed (calAddress x) refl)
 plain-kept ed BOOLEAN s v p c a h = made (λ v. isPlain ed v ≡ true) boolean (readBoolean xcal s) v h (λ x e. none-plain ed (boolean x) refl)
-plain-kept ed UNKNOWN s v p c a h = made (λ v. isPlain ed v ≡ true) unknown (readUnknown s) v h (λ x e. rw (← (unknown-kept s x e)) (free-plain ed (unknown s) s refl c a))
+plain-kept ed UNKNOWN s v p c a h = let z : unknown s ≡ v = cc in rw (← z) (free-plain ed (unknown s) s refl c a)
 plain-kept ed BINARY s v p c a h = absurd (false≢true p)
 plain-kept ed DATE s v p c a h = absurd (false≢true p)
 plain-kept ed DATE-TIME s v p c a h = absurd (false≢true p)
@@ -139,12 +153,12 @@ plain-kept ed UTC-OFFSET s v p c a h = absurd (false≢true p)
 module _ (ed : Edition) where
   -- what is known of a value of the parameter n
   record Sound (n : List ℕ) (v : Value) : Type 0 where
-    chosen : isChosen (parameterWords n) (parameterType n) v ≡ true
+    chosen : isParameterValue (parameterWords n) (parameterType n) v ≡ true
     plain : isPlain ed v ≡ true
 
   word-sound : (n : List ℕ) (o : Option (List (List ℕ))) (s : List ℕ) (v : Value) → parameterWords n ≡ o → areChars ed s ≡ true → isClean s ≡ true →
-      readWordIn o (parameterType n) s ≡ some v → (isChosen o (parameterType n) v ≡ true) × (isPlain ed v ≡ true)
-  word-sound n none s v z a c h = (read-typed (parameterType n) s v h, plain-kept ed (parameterType n) s v (parameter-type n) c a h)
+      readWordIn o (parameterType n) s ≡ some v → (isParameterValue o (parameterType n) v ≡ true) × (isPlain ed v ≡ true)
+  word-sound n none s v z a c h = (of-parameter (parameterType n) s v h, plain-kept ed (parameterType n) s v (parameter-type n) c a h)
   word-sound n (some words) s v z a c h =
       let p = provided-some (isOneOf s words) (text s) v h in
       rw (← (p .1)) (p .0, free-plain ed (text s) s refl c a)
@@ -162,7 +176,7 @@ module _ (ed : Edition) where
   -- ---- the values of a parameter
 
   record Sounds (n : List ℕ) (kids : Nodes) (vs : List Value) : Type 0 where
-    chosen : every (isChosen (parameterWords n) (parameterType n)) vs ≡ true
+    chosen : every (isParameterValue (parameterWords n) (parameterType n)) vs ≡ true
     plain : every (isPlain ed) vs ≡ true
     some-value : hasElement kids ≡ true → isEmpty vs ≡ false
 

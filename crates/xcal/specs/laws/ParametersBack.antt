@@ -25,8 +25,8 @@ use Rattle.schema.specs.Parameters.{parameterTable, parameterRow, unrecognisedP
 use Rattle.texts.specs.Uri.{isUri}
 use Rattle.texts.specs.laws.Uri.{uri-visible, uri-unquoted}
 use Rattle.values.specs.WriteValue.{valueCharacters}
-use Rattle.values.specs.ReadBack.{isValue, isTyped}
-use Rattle.values.specs.Valid.{isAmount, isChosen}
+use Rattle.values.specs.ReadBack.{isTyped}
+use Rattle.values.specs.Valid.{isAmount, isParameterValue}
 use Rattle.xml.specs.Nodes.{noNodes, charactersOf, hasElement}
 use Rattle.xml.specs.Content.{nothing, placed}
 use Rattle.edition.specs.declared.Edition.{Edition}
@@ -38,7 +38,7 @@ use Rattle.xcal.specs.laws.Contents.{inside, valuesBefore, parametersBef
 use Rattle.xcal.specs.laws.LeavesBack.{leaf-placed, leaf-characters, leaf-no-element}
 use Rattle.xcal.specs.ParameterNodes.{arePlain, areSpelled, readParamNode, readParamNodes, readParameterNodes}
 use Rattle.xcal.specs.laws.ValuesBack.{typed-before}
-use Rattle.xcal.specs.laws.Chosen.{plain-value, chosen-typed, chosen-read}
+use Rattle.xcal.specs.laws.Chosen.{plain-value, parameter-typed, parameter-read}
 
 -- ---- one value
 
@@ -54,9 +54,9 @@ parameter-plain n = row-any-passes (λ r. r .name) n (λ r. not (sameType (r .ty
 of-text : (n : List ℕ) (words : List (List ℕ)) → parameterWords n ≡ some words → parameterType n ≡ TEXT
 of-text n words e = parameter-words-text n words e .0
 
-module _ (n : List ℕ) (v : Value) (h : isChosen (parameterWords n) (parameterType n) v ≡ true) where
-  param-typed : (typeOf v ≡ parameterType n) × (isTyped v ≡ true) × (isValue v ≡ true)
-  param-typed = chosen-typed (parameterWords n) (parameterType n) v (of-text n) h
+module _ (n : List ℕ) (v : Value) (h : isParameterValue (parameterWords n) (parameterType n) v ≡ true) where
+  param-typed : (typeOf v ≡ parameterType n) × (isTyped v ≡ true)
+  param-typed = parameter-typed (parameterWords n) (parameterType n) v (of-text n) h
 
   param-value-back : (q : ℕ) → readParamNode n (placed (inside v) q noNodes) ≡ some v
   unfolding readParamNode pick
@@ -65,7 +65,7 @@ module _ (n : List ℕ) (v : Value) (h : isChosen (parameterWords n) (parameterT
       let t = and-both _ _ (parameter-plain n) in
       let p = plain-value v (k .1) (rw (k .0) (not-true _ (t .0))) (rw (k .0) (not-true _ (t .1))) in
       rw (p .1, leaf-placed (valueCharacters v) q, leaf-no-element (valueCharacters v) q, leaf-characters (valueCharacters v) q)
-      (chosen-read (parameterWords n) (parameterType n) v (of-text n) h (p .0))
+      (parameter-read (parameterWords n) (parameterType n) v (of-text n) h (p .0))
 
   param-characters : (q : ℕ) → charactersOf (placed (inside v) q noNodes) ≡ valueCharacters v
   param-characters q =
@@ -76,7 +76,7 @@ module _ (n : List ℕ) (v : Value) (h : isChosen (parameterWords n) (parameterT
 
 -- ---- the values of a parameter
 
-pub parameter-values-back : (n : List ℕ) (vs : List Value) → every (isChosen (parameterWords n) (parameterType n)) vs ≡ true →
+pub parameter-values-back : (n : List ℕ) (vs : List Value) → every (isParameterValue (parameterWords n) (parameterType n)) vs ≡ true →
     (q : ℕ) → readParamNodes n (placed (valuesBefore vs nothing) q noNodes) ≡ some vs
 unfolding valuesBefore placed readParamNodes pick andThen consRead
 parameter-values-back n [] h q = refl
@@ -86,7 +86,7 @@ parameter-values-back n (v ∷ vs) h q =
     rw (typed-before v (valuesBefore vs nothing) (k .1), k .0, same-self (lower (typeName (parameterType n))), param-value-back n v (a .0), parameter-values-back n vs (a .1))
 
 -- no double quote and no LF among them
-values-plain : (n : List ℕ) (vs : List Value) → every (isChosen (parameterWords n) (parameterType n)) vs ≡ true → every isCarriedValue vs ≡ true →
+values-plain : (n : List ℕ) (vs : List Value) → every (isParameterValue (parameterWords n) (parameterType n)) vs ≡ true → every isCarriedValue vs ≡ true →
     (q : ℕ) → arePlain (placed (valuesBefore vs nothing) q noNodes) ≡ true
 unfolding valuesBefore placed arePlain
 values-plain n [] h c q = refl
@@ -99,7 +99,7 @@ values-plain n (v ∷ vs) h c q =
     (and-yes _ _ (rw (or-no _ _ (not-true _ (d .0)) (not-true _ (d .1)))) (values-plain n vs (a .1) (b .1) _))
 
 -- a parameter has a value, which is an element
-pub has-element : (n : List ℕ) (l : Bool) (vs : List Value) → isAmount l vs ≡ true → every (isChosen (parameterWords n) (parameterType n)) vs ≡ true →
+pub has-element : (n : List ℕ) (l : Bool) (vs : List Value) → isAmount l vs ≡ true → every (isParameterValue (parameterWords n) (parameterType n)) vs ≡ true →
     (q : ℕ) → hasElement (placed (valuesBefore vs nothing) q noNodes) ≡ true
 unfolding valuesBefore placed hasElement
 has-element n l [] a h q = absurd (false≢true a)
@@ -120,7 +120,7 @@ free-carried s h =
     neither s (none-split 34 s [] (q .1) .0) (none-split 10 s [] (q .0) .0)
 
 -- where the characters that a value's type leaves free hold no double quote and no LF, its element does not either
-value-carried : (n : List ℕ) (v : Value) → isChosen (parameterWords n) (parameterType n) v ≡ true → isParameterText Rfc5545 v ≡ true → isCarriedValue v ≡ true
+value-carried : (n : List ℕ) (v : Value) → isParameterValue (parameterWords n) (parameterType n) v ≡ true → isParameterText Rfc5545 v ≡ true → isCarriedValue v ≡ true
 unfolding octets-compute valueCharacters
 value-carried n v h f =
     parameter-value (λ v. isParameterText Rfc5545 v ≡ true → isCarriedValue v ≡ true) truth (λ s u f. uri-carried s u) (λ s u f. uri-carried s u) free-carried free-carried n v h f
@@ -136,8 +136,8 @@ pub spelled-in : (ed : Edition) (p : Parameter) → ValidParameter ed p → (q :
 unfolding areSpelled
 spelled-in Rfc5545 p c q =
     values-plain (p .name) (p .values) (c .chosen)
-    (every-weaker _ isCarriedValue (λ v h. let a = and-both (isChosen (parameterWords (p .name)) (parameterType (p .name)) v) _ h in value-carried (p .name) v (a .0) (a .1)) (p .values)
-    (every-and (isChosen (parameterWords (p .name)) (parameterType (p .name))) (isParameterText Rfc5545) (p .values) (c .chosen) (c .plain)))
+    (every-weaker _ isCarriedValue (λ v h. let a = and-both (isParameterValue (parameterWords (p .name)) (parameterType (p .name)) v) _ h in value-carried (p .name) v (a .0) (a .1)) (p .values)
+    (every-and (isParameterValue (parameterWords (p .name)) (parameterType (p .name))) (isParameterText Rfc5545) (p .values) (c .chosen) (c .plain)))
     q
 spelled-in Rfc6868 p c q = refl
 

@@ -20,7 +20,7 @@ use Rattle.schema.specs.Parameters.{parameterWords, parameterType}
 use Rattle.values.specs.WriteValue.{typeOfAll}
 use Rattle.values.specs.ReadBack.{isValue}
 use Rattle.values.specs.Valid.{areValuesOf, arePropertyValues}
-use Rattle.values.specs.laws.Valid.{chosen-valid, property-value-valid}
+use Rattle.values.specs.laws.Valid.{property-value-valid}
 use Rattle.values.specs.Characters.{isValueText}
 use Rattle.xml.specs.Reads.{isName}
 use Rattle.xml.specs.Content.{Content, nothing, child}
@@ -33,7 +33,7 @@ use Rattle.xcal.specs.laws.ElementNames.{kept-element}
 use Rattle.xcal.specs.laws.ComponentsBack.{isCalendar}
 use Rattle.xcal.specs.laws.SoundContent.{isSound, sound-deeper}
 use Rattle.xcal.specs.laws.CleanValues.{values-clean}
-use Rattle.xcal.specs.laws.SoundValues.{child-sound, values-sound}
+use Rattle.xcal.specs.laws.SoundValues.{child-sound, value-sound, parameter-value-sound, values-sound}
 
 parameters-name : isName (ascii "parameters") ≡ true
 unfolding octets-compute isName
@@ -61,7 +61,7 @@ module _ (ed : Edition) where
       let a = every-both (isValidParameter ed) p ps h in
       let c = valid-parameter ed p (a .0) in
       child-sound (lower (p .name)) (valuesBefore (p .values) nothing) (parametersBefore ps nothing) 2 (kept-element (p .name) (c .kept))
-      (values-sound (p .values) (every-weaker _ isValue (chosen-valid (parameterWords (p .name)) (parameterType (p .name))) (p .values) (c .chosen))
+      (values-sound _ (parameter-value-sound (parameterWords (p .name)) (parameterType (p .name))) (p .values) (c .chosen)
       (values-clean (p .values) (every-weaker (isParameterText ed) isValueText (parameter-text ed) (p .values) (c .plain)) (c .permitted)) nothing 0 refl)
       (parameters-sound ps (a .1))
 
@@ -77,7 +77,7 @@ module _ (ed : Edition) where
       let c = valid-property ed k p (a .0) in
       child-sound (lower (p .name)) (propertyInside p) (propertiesBefore ps nothing) 4 (kept-element (p .name) (c .kept))
       (part-sound (p .parameters) (valuesBefore (p .values) nothing) (c .parameters)
-      (values-sound (p .values) (property-values k (p .name) (p .values) (c .values)) (values-clean (p .values) (c .plain) (c .permitted)) nothing 2 refl))
+      (values-sound isValue value-sound (p .values) (property-values k (p .name) (p .values) (c .values)) (values-clean (p .values) (c .plain) (c .permitted)) nothing 2 refl))
       (properties-sound k ps (a .1))
 
   inside-sound : (n : List ℕ) (ps : List Property) (empty : Bool) (c : Content) (d : ℕ) → every (isValidProperty ed n) ps ≡ true → 5 ≤ d → isSound c d ≡ true →

@@ -1,5 +1,6 @@
 -- The elements of values are sound: their names are names, and their characters are clean.
---     value-sound, values-sound    the elements of values, in front of what follows
+--     value-sound, parameter-value-sound    the element of a value of a property or of a parameter, in front of what follows
+--     values-sound    the elements of values
 use mathlib.Core.Path.{_≡_, refl, sym, ap, _∙_}
 use mathlib.Core.Bool.{Bool, true, false, false≢true}
 use mathlib.Core.List.{List, [], _∷_}
@@ -12,8 +13,8 @@ use Rattle.octets.specs.Lists.{every}
 use Rattle.octets.specs.laws.Lists.{every-both}
 use Rattle.octets.specs.laws.Tables.{row-named, row-passes}
 use Rattle.octets.specs.Computing.{octets-compute}
-use Rattle.calendar.specs.Calendar.{xcal, ValueType, RuleItem, RulePart}
-use Rattle.calendar.specs.Calendar.{Value, typeOf}
+use Rattle.calendar.specs.Calendar.{xcal, ValueType, UNKNOWN, RuleItem, RulePart}
+use Rattle.calendar.specs.Calendar.{Value, unknown, typeOf}
 use Rattle.schema.specs.Types.{typeName}
 use Rattle.schema.specs.laws.Types.{type-passes}
 use Rattle.times.specs.DateTime.{isDateTime}
@@ -21,8 +22,10 @@ use Rattle.times.specs.Duration.{isDuration}
 use Rattle.recur.specs.Parts.{Part, partTable, partNames, partOf, isListPart}
 use Rattle.recur.specs.Item.{writeItem, isFor, isItem}
 use Rattle.recur.specs.Rule.{isAmount, isPart, isOrdered, isComplete}
+use Rattle.values.specs.WriteValue.{valueCharacters}
 use Rattle.values.specs.ReadBack.{isValue, isTyped}
-use Rattle.values.specs.laws.Valid.{own-value}
+use Rattle.values.specs.Valid.{isParameterValue}
+use Rattle.values.specs.laws.Valid.{own-value, parameter-value-valid}
 use Rattle.xml.specs.Reads.{isName}
 use Rattle.xml.specs.Content.{Content, nothing, child}
 use Rattle.xcal.specs.laws.Contents.{leafBefore, itemsBefore, partsBefore, dataBefore, inside, valueBefore, valuesBefore}
@@ -97,17 +100,30 @@ pub child-sound : (n : List ℕ) (inner next : Content) (d : ℕ) → isName n �
 unfolding isSound
 child-sound n inner next d a b c = and-yes _ _ a (and-yes _ _ b c)
 
-pub value-sound : (v : Value) → isValue v ≡ true → isCleanValue v ≡ true → (next : Content) (d : ℕ) → isSound next (suc (suc d)) ≡ true → isSound (valueBefore v next) (suc (suc d)) ≡ true
+-- the element of a value with clean characters is sound
+abbrev pub SoundValue : Value → Type 0
+SoundValue v = isCleanValue v ≡ true → (next : Content) (d : ℕ) → isSound next (suc (suc d)) ≡ true → isSound (valueBefore v next) (suc (suc d)) ≡ true
+
+pub value-sound : (v : Value) → isValue v ≡ true → SoundValue v
 value-sound v h k next d s = go (isTyped v) refl
   where
     go : (t : Bool) → isTyped v ≡ t → isSound (valueBefore v next) (suc (suc d)) ≡ true
     go true e = rw (typed-before v next e) (child-sound (lower (typeName (typeOf v))) (inside v) next (suc d) (type-element (typeOf v)) (inside-sound v e h k d) s)
     go false e = own-sound v e h k next (suc d) s
 
-pub values-sound : (vs : List Value) → every isValue vs ≡ true → every isCleanValue vs ≡ true → (next : Content) (d : ℕ) → isSound next (suc (suc d)) ≡ true → isSound (valuesBefore vs next) (suc (suc d)) ≡ true
+unknown-sound : (s : List ℕ) → SoundValue (unknown s)
+unfolding valueBefore inside valueCharacters
+unknown-sound s k next d h = leaf-sound (lower (typeName UNKNOWN)) s next (suc d) (type-element UNKNOWN) (every-both isClean s [] k .0) h
+
+pub parameter-value-sound : (o : Option (List (List ℕ))) (t : ValueType) (v : Value) → isParameterValue o t v ≡ true → SoundValue v
+parameter-value-sound o t v h = parameter-value-valid SoundValue unknown-sound value-sound o t v h
+
+-- values that pass a test
+pub values-sound : (p : Value → Bool) → ((v : Value) → p v ≡ true → SoundValue v) → (vs : List Value) → every p vs ≡ true → every isCleanValue vs ≡ true →
+    (next : Content) (d : ℕ) → isSound next (suc (suc d)) ≡ true → isSound (valuesBefore vs next) (suc (suc d)) ≡ true
 unfolding valuesBefore
-values-sound [] h k next d s = s
-values-sound (v ∷ vs) h k next d s =
-    let a = every-both isValue v vs h in
+values-sound p f [] h k next d s = s
+values-sound p f (v ∷ vs) h k next d s =
+    let a = every-both p v vs h in
     let b = every-both isCleanValue v vs k in
-    value-sound v (a .0) (b .0) (valuesBefore vs next) d (values-sound vs (a .1) (b .1) next d s)
+    f v (a .0) (b .0) (valuesBefore vs next) d (values-sound p f vs (a .1) (b .1) next d s)

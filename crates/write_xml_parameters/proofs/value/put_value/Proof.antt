@@ -1,5 +1,5 @@
 -- `write_xml_parameters::value::put_value` meets its contract.
-use Rattle.write_xml_parameters.specs.laws.Parts.{put-word, put-raw, put-typed}
+use Rattle.write_xml_parameters.specs.laws.Parts.{put-word, put-raw, put-unknown, put-typed}
 use Rattle.sink.specs.laws.Sink.{writing}
 use Rattle.read_text_parameters.specs.laws.Typing.{no-rule}
 use Rattle.write_xml_parameters.proofs.value.put_value.Statement.{statement}
@@ -15,7 +15,10 @@ put-value-spec = tie.close (tie.spec
     (λ c κs. search writing)  -- put-raw-element-requires
     (λ c. search writing)  -- same-length-2
     (λ c. search (put-raw, writing))  -- returns-2
-    (λ c κs. search (no-rule, writing))  -- put-value-element-requires
+    (λ c κs. search writing)  -- put-unknown-element-requires
     (λ c. search writing)  -- same-length-3
-    (λ c. search (put-typed, writing))  -- returns-3
+    (λ c. search (put-unknown, writing))  -- returns-3
+    (λ c κs. search (no-rule, writing))  -- put-value-element-requires
+    (λ c. search writing)  -- same-length-4
+    (λ c. search (put-typed, writing))  -- returns-4
     )
