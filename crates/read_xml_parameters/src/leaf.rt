@@ -49,7 +49,7 @@ pub fn has_byte(b: usize, s: &[u8], at: usize) -> bool
     }
 }
 
-// A word of the closed set of the parameter of the number `q`, or a value of its type, which is any characters where it is UNKNOWN.
+// A word of the closed set of the parameter of the number `q`, or a value of its type: any characters where that is UNKNOWN.
 fn is_chosen(q: usize, s: &[u8], at: usize) -> bool
     ensures { λ r. ⌜ r ≡ isRead (readWordIn (rowAt q .words) (rowAt q .type) (rest 1 (now (s .entry)) at)) ⌝ }
 {
