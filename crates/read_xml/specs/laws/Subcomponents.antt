@@ -142,12 +142,9 @@ unfolding _or_
 or-true true b = refl
 or-true false b = refl
 
--- the measures of the two walks, by the levels that are left
-pub fall-in : {l t : ℕ} → t ≡ 2 * l + 1 → 2 * l < t
-fall-in e = omega arith
-
-pub fall-down : {l t : ℕ} → 1 ≤ l → t ≡ 2 * l → 2 * (l - 1) + 1 < t
-fall-down h e = omega arith
+-- the measure of a component, by the levels that are left, and that of its subcomponents
+pub fall-in : (l : ℕ) {t : ℕ} → t ≡ 2 * l + 1 → 2 * l < t
+fall-in l e = omega arith
 
 module _ (ed : Edition) where
   -- ---- the walk

@@ -1,9 +1,10 @@
 -- `read_xml::subcomponents::component_verdict` and `components_verdict`, which call each other, meet their contracts.
 use Prim.Native.Nat.{ℕ, _+_, _*_, _-_, _<_}
+use native.Mathlib.Omega.{arith}
 use lib.ListN.{length}
 use borrow.Fn.Kinds.{In}
 use borrow.Fn.PlainCycle.{Measures, is, falls, and}
-use Rattle.read_xml.specs.laws.Subcomponents.{fall-in, fall-down, wholes, Among, among}
+use Rattle.read_xml.specs.laws.Subcomponents.{fall-in, wholes, Among, begun-left, among}
 use Rattle.read_xml.proofs.subcomponents.component_verdict.Reads as component-verdict
 use Rattle.read_xml.proofs.subcomponents.component_verdict.Kinds as component-verdict-kinds
 use Rattle.read_xml.proofs.subcomponents.+component_verdict+components_verdict.Lts-component_verdict as component-verdict-lts
@@ -84,7 +85,7 @@ pub +component-verdict+components-verdict-spec : {M : Type 1} → statement M
     (λ c. search among)  -- loop-again
     (λ c. search among)  -- enum-known-t-3
     (λ c. search among)  -- sub-component-verdict
-    (λ c κs. (search (fall-down, among), search among))  -- component-verdict-requires
+    (λ c κs. (omega (arith, begun-left _ (c .before .before .before .before .loop .inv) (c .before .before .before .sub-at .ensures) (c .before .t3 .given .1), c .before .before .before .before .before .before .pre .0), search among))  -- component-verdict-requires
     (λ c. search among)  -- enum-told-2
     (λ c. search among)  -- loop-less-2
     (λ c. search among)  -- loop-again-2

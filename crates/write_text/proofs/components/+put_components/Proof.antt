@@ -49,19 +49,16 @@ pub +put-components-spec : {M : Type 1} → statement M
     put-components.Post
     put-components-Inv-loop
     put-components-μ-loop
-    (λ c. search inners)  -- same-length
-    (λ c. search inners)  -- same-length-2
     (λ c. search inners)  -- returns
     (λ c. search inners)  -- loop-holds
     (λ c κs. search inners)  -- next-node-requires
     (λ c. search inners)  -- enum-told
     (λ c. search inners)  -- same-length
     (λ c. search inners)  -- same-length-2
-    (λ c. search inners)  -- returns
+    (λ c. search inners)  -- returns-2
     (λ c. search inners)  -- enum-told-2
     (λ c κs. search inners)  -- put-head-requires
     (λ c κs. search inners)  -- components-inside-requires
-    (λ c. c .before .before .before .before .before .before .before .before .before .before .before .before .before .before .if1 .left)  -- sub-put-components
     (λ c κs. (omega (arith, c .before .before .before .before .before .before .before .before .before .before .before .before .before .before .if1 .left, c .before .before .before .before .before .before .before .before .before .before .before .before .before .before .before .before .before .before .pre .0), (c .before .before .before .before .before .before .before .before .before .before .before .before .before .before .before .before .before .before .pre .1 .0, omega (arith, c .before .before .before .before .before .before .before .before .before .before .before .before .before .before .before .before .before .before .pre .1 .1, c .before .before .before .before .before .before .before .before .before .before .before .before .before .loop .inv .room, c .before .before .before .before .before .before .before .put-head .kept .1 .1 .1 .0))))  -- put-components-requires
     (λ c κs. (c .before .before .before .before .before .before .before .before .before .before .before .before .before .before .before .before .before .before .before .before .before .before .before .before .before .pre .1 .0, omega (arith, c .before .before .before .before .before .before .before .before .before .before .before .before .before .before .before .before .before .before .before .before .before .before .before .before .before .pre .1 .1, c .before .before .before .before .before .before .before .before .before .before .before .before .before .before .before .before .before .before .before .before .loop .inv .room, c .before .before .before .before .before .before .before .before .before .before .before .before .before .before .put-head .kept .1 .1 .1 .0, c .before .before .before .before .before .before .put-components .kept .1 .1 .1 .0), c .before .before .before .before .before .before .before .before .before .before .before .before .before .before .before .before .before .before .before .next-node .ensures .name-within))  -- put-tail-requires
     (λ c. search inners)  -- loop-less

@@ -8,5 +8,5 @@ put-calendar-spec = tie.close (tie.spec
     (λ c κs. search needs)  -- put-components-requires
     (λ c. search needs)  -- same-length
     (λ c. search needs)  -- same-length-2
-    (λ c. c .put-components .ensures)  -- returns
+    (λ c. search needs)  -- returns
     )
