@@ -24,7 +24,7 @@ use Rattle.schema.specs.Property as property
 use Rattle.folding.specs.Lines.{Line, lines, linesAfter}
 use Rattle.folding.specs.laws.Lines.{lines-some}
 use Rattle.source.specs.Source.{rest, cuts, Settled}
-use Rattle.read_text_line.specs.LineEnd.{index, linesAt}
+use Rattle.read_text_line.specs.LineEnd.{index}
 use Rattle.source.specs.laws.Facts.{rest-past}
 use Rattle.read_text_line.specs.Ready.{Ready}
 use Rattle.read_text_line.specs.laws.Ready.{ready-start, lines-start, lines-past, index-end}

@@ -1,6 +1,5 @@
 -- `read_text::component::next_line` meets its contract.
 use mathlib.Core.Path.{subst}
-use native.Mathlib.Omega.{arith}
 use borrow.Author.Needs.{needs}
 use Rattle.read_text_line.specs.LineEnd.{EndsLine}
 use Rattle.read_text_line.specs.laws.Ready.{line-count, line-inside}
