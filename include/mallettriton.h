@@ -90,7 +90,7 @@ uint64_t mallettriton_to_xml(const uint8_t *input, size_t input_length,
  *                         other answer all of it is as it was. With a length of 0 the call tells the length that is needed
  *   edition               that of the text which is written
  *
- * Its answers are 0, 1, 3, 5 to 11 and 13. There is no work room. Allow the call 650 kB of stack: a content line is put together in a room
+ * Its answers are 0, 1, 3, 5 to 11 and 13. There is no work room. Allow the call 1,200 kB of stack: a content line is put together in a room
  * of 262,144 bytes there, before it is folded into the output, and the names of many parameters are compared there.
  */
 uint64_t mallettriton_to_text(const uint8_t *input, size_t input_length,

@@ -5,7 +5,7 @@
 
 A FILE has a case a line, or is a JSON list of cases: {"call": "to_xml" or "to_text", "in": [INPUT], "answer": ["ok", {"b64": RESULT}] or ["refused", N, P]},
 INPUT and RESULT in base64; or, as for the base, {"way": "to-xml" or "to-text", "in": INPUT, "answer": ["ok", RESULT] or ["refused", N, P]}; "edition" is 0 where it is not given. Added are, both ways, an empty input and inputs as long as the limit and one byte longer; and to text, documents
-with 16 and with 17 open elements. The form of what is written stands in the program's main.rt.
+with 32 and with 33 open elements. The form of what is written stands in the program's main.rt.
 """
 import base64
 import json
@@ -87,9 +87,9 @@ def added():
         yield long("to_text", XML, b"<x-a>\n<date>2024-02-29</date>\r</x-a >", TEXT, b"X-A;VALUE=DATE:20240229\r\n", length)
     yield long_line(LIMIT)
     # what stands at the first <a> is 6, unless the document is no XML of the profile
-    yield nested(16, b"<a>", b"</a>", 6, len(ROOT))
+    yield nested(32, b"<a>", b"</a>", 6, len(ROOT))
     for last, end in ((b"<a>", b"</a>"), (b"<a/>", b"")):
-        yield nested(17, last, end, 11, len(ROOT) + 15 * len(b"<a>"))
+        yield nested(33, last, end, 11, len(ROOT) + 31 * len(b"<a>"))
 
 
 out = sys.stdout.buffer

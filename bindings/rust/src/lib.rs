@@ -28,7 +28,7 @@
 //!
 //! # Stack and threads
 //!
-//! Allow [`to_text`] and [`to_text_into`] 650 kB of stack, most of it a room for one line, and [`to_xml`] and [`to_xml_into`] 250 kB, for names that are compared. A main thread and the threads of `std::thread`
+//! Allow [`to_text`] and [`to_text_into`] 1,200 kB of stack, most of it a room for one line, and [`to_xml`] and [`to_xml_into`] 250 kB, for names that are compared. A main thread and the threads of `std::thread`
 //! (2 MB) have that. In a thread of a smaller stack the call overflows it, which under `std::thread` ends the process.
 //!
 //! The library keeps nothing between calls: any number of threads may call it at once.
@@ -203,7 +203,7 @@ pub fn to_xml_into<'a>(input: &[u8], work: &mut [u8], out: &'a mut [u8], edition
 
 /// Converts the xCal document `input` to canonical iCalendar text, at the start of `out`.
 ///
-/// Allow it 650 kB of stack.
+/// Allow it 1,200 kB of stack.
 pub fn to_text_into<'a>(input: &[u8], out: &'a mut [u8], edition: Edition) -> Answer<'a> {
     // SAFETY: as above.
     let code = unsafe { mallettriton_to_text(input.as_ptr(), input.len(), out.as_mut_ptr(), out.len(), edition as u32) };
@@ -236,7 +236,7 @@ pub fn to_xml(input: &[u8], edition: Edition) -> Result<Vec<u8>, Refusal> {
 
 /// Converts the xCal document `input` to canonical iCalendar text.
 ///
-/// It allocates an output of [`longest_text`] bytes, and gives back what the result does not fill. Allow it 650 kB of stack. To use a buffer over and over, call [`to_text_into`].
+/// It allocates an output of [`longest_text`] bytes, and gives back what the result does not fill. Allow it 1,200 kB of stack. To use a buffer over and over, call [`to_text_into`].
 pub fn to_text(input: &[u8], edition: Edition) -> Result<Vec<u8>, Refusal> {
     let length = if input.len() <= LONGEST { input.len() } else { 0 };
     in_a_vec(longest_text(length), |out| to_text_into(input, out, edition))

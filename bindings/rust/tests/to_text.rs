@@ -67,10 +67,10 @@ fn the_longest_input_is_taken_and_no_longer_one() {
 }
 
 #[test]
-fn sixteen_elements_are_open_at_once_and_no_more() {
+fn thirty_two_elements_are_open_at_once_and_no_more() {
     let nested = |depth: usize| format!("{FRONT}{}{}{BACK}", "<a>".repeat(depth), "</a>".repeat(depth));
-    assert_eq!(checked(nested(15).as_bytes()), Told::Refused(6, FRONT.len()));
-    assert_eq!(checked(nested(16).as_bytes()), Told::Refused(11, FRONT.len() + 3 * 15));
+    assert_eq!(checked(nested(31).as_bytes()), Told::Refused(6, FRONT.len()));
+    assert_eq!(checked(nested(32).as_bytes()), Told::Refused(11, FRONT.len() + 3 * 31));
 }
 
 #[test]

@@ -11,7 +11,7 @@ ghost use Rattle.distinct.specs.Listed.{wordAt};
 ghost use Rattle.distinct.specs.Order.{order};
 
 // The words from two cursors on: 0 where they are the same, 1 where the first goes before the second, 2 where it goes behind.
-fn compare_from(mode: usize, s: &[u8], a: usize, t: &[u8], b: usize) -> usize
+pub fn compare_from(mode: usize, s: &[u8], a: usize, t: &[u8], b: usize) -> usize
     ensures { λ r. ⌜ r ≡ order (upper (rest mode (now (s .entry)) a)) (upper (rest mode (now (t .entry)) b)) ⌝ }
 {
     let mut c = a;

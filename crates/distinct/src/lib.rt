@@ -9,6 +9,7 @@ mod order;
 mod pairs;
 
 pub use again::first_again;
+pub use compare::compare_from;
 pub use cuts::keep;
 use heap::sort;
 use numbers::count_up;

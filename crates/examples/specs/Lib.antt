@@ -7,6 +7,7 @@
 --     Worked         lines, elements and whole texts, both ways
 --     Refusals       each refusal, with its place
 --     Todos          to-dos that are due, and events without DTSTART
+--     Fleets         unrecognised components
 --     Buffers        whole calls, with the lent buffers afterwards
 pub mod Notation
 pub mod Readings
@@ -16,4 +17,5 @@ pub mod Appendix
 pub mod Worked
 pub mod Refusals
 pub mod Todos
+pub mod Fleets
 pub mod Buffers

@@ -30,12 +30,16 @@ textTable =
     line (ascii "SUMMARY:a\nb") gives refused 4 at 112 ∷
     line (ascii "SUMMARY:a\r\n\r\n  b") gives refused 4 at 126 ∷
     wholeText (textLines ("BEGIN:VCALENDAR" ∷ []) ++ ascii "END:V") gives refused 4 at 17 ∷
-    -- 5 NAME
+    -- 5 NAME: of a property, a parameter, a component
     line (ascii "xmlns:a") gives refused 5 at 112 ∷
     line (ascii "SUMMARY;1A=b:c") gives refused 5 at 112 ∷
-    -- 6 FRAME: a known property outside its components' lists; a component where it may not stand; another END; something open at the end of the input
+    line (ascii "BEGIN:X A") gives refused 5 at 112 ∷
+    line (ascii "BEGIN:XMLA") gives refused 5 at 112 ∷
+    -- 6 FRAME: a known property outside its components' lists; a component where it may not stand; a ninth level; another END; something open at the end of the input
     line (ascii "DUE:20240504T090000") gives refused 6 at 112 ∷
     line (ascii "BEGIN:VEVENT") gives refused 6 at 112 ∷
+    line (ascii "BEGIN:X-A") gives refused 6 at 112 ∷
+    wholeText (textLines ("BEGIN:VCALENDAR" ∷ replicate 9 "BEGIN:X-A")) gives refused 6 at 105 ∷
     line (ascii "END:VCALENDAR") gives refused 6 at 112 ∷
     wholeText (textLines ("BEGIN:VCALENDAR" ∷ [])) gives refused 6 at 17 ∷
     -- 7 PARAMETER, at its name: not permitted; repeated, where it comes again; not quoted; a type that is none; on BEGIN the first
@@ -120,11 +124,11 @@ documentTable =
     isTold refused 8 at 426 ∷
     -- 9 COUNT, at the component's end tag
     eventXml (ascii "<summary><text>a</text></summary><summary><text>b</text></summary>") isTold refused 9 at 456 ∷
-    -- 11 XML: an entity that is none; CR by reference; an attribute; the 17th open element; still open at the end; no root
+    -- 11 XML: an entity that is none; CR by reference; an attribute; the 33rd open element; still open at the end; no root
     eventXml (ascii "<summary><text>&nbsp;</text></summary>") isTold refused 11 at 392 ∷
     eventXml (ascii "<summary><text>a&#13;</text></summary>") isTold refused 11 at 393 ∷
     eventXml (ascii "<summary><text a=\"b\">a</text></summary>") isTold refused 11 at 386 ∷
-    eventXml (nested 12) isTold refused 11 at 410 ∷
+    eventXml (nested 28) isTold refused 11 at 458 ∷
     ascii "<icalendar xmlns=\"urn:ietf:params:xml:ns:icalendar-2.0\"><vcalendar>" isTold refused 11 at 67 ∷
     [] isTold refused 11 at 0 ∷
     []

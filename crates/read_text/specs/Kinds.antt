@@ -1,12 +1,16 @@
 -- The kind of a line in an open component, by numbers.
---     KindIs P            what the code's answer says of a kind, where P says that a place in the line has a cursor;   Held: of a property;   Faulted: of a fault
+--     KindIs P v m s      what the code's answer says of a kind, where P says that a place in the line has a cursor, v whether there is a level left, and the line is s;   Held: of a property;   Faulted: of a fault
 use mathlib.Core.Path.{_≡_}
-use Prim.Native.Nat.{ℕ, _<_}
+use mathlib.Core.Bool.{Bool, true}
+use mathlib.Core.List.{List}
+use Prim.Native.Nat.{ℕ}
+use Rattle.octets.specs.Class.{upper}
+use Rattle.source.specs.Source.{rest}
 use Rattle.names.specs.Table.{placeOf}
 use Rattle.calendar.specs.Calendar.{Property}
 use Rattle.calendar.specs.Refusal.{refusalAt}
+use Rattle.schema.specs.Components.{componentNames}
 use Rattle.schema.specs.Properties.{propertyNames}
-use Rattle.schema.specs.Numbers.{componentName}
 use Rattle.schema.specs.Counts.{firstText}
 use Rattle.schema.specs.Completing.{actionNumber}
 use Rattle.schema.specs.Property.{ACTION}
@@ -27,8 +31,9 @@ pub record Faulted (P : Where → ℕ → Type 0) (x : LineKind) (n c : ℕ) : T
   pub is : x ≡ faulty (fault (refusalAt n) place)
   pub there : P place c
 
-abbrev pub KindIs : (Where → ℕ → Type 0) → LineKind → Kind → Type 0
-KindIs P x (Starts n) = (x ≡ starts (componentName n)) × (n < 9)
-KindIs P x Stops = x ≡ stops
-KindIs P x (Holds p a) = Held x p a
-KindIs P x (Faulty n c) = Faulted P x n c
+-- of a component that starts its number, and where its name stands in the line
+abbrev pub KindIs : (Where → ℕ → Type 0) → Bool → ℕ → List ℕ → LineKind → Kind → Type 0
+KindIs P v m s x (Starts n a) = (x ≡ starts (upper (rest m s a))) × (n ≡ placeOf (upper (rest m s a)) componentNames) × (v ≡ true)
+KindIs P v m s x Stops = x ≡ stops
+KindIs P v m s x (Holds p a) = Held x p a
+KindIs P v m s x (Faulty n c) = Faulted P x n c

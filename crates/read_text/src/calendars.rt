@@ -4,6 +4,7 @@ use crate::Opening;
 use crate::Step;
 use crate::component::body;
 use crate::line::no_params;
+use crate::named::is_component_name;
 use crate::places::parameter_cursor;
 use edition::Edition;
 use names::is_word_any_case;
@@ -36,24 +37,32 @@ ghost use Rattle.read_text.specs.Answers.{Checks};
 
 // A BEGIN where nothing is open.
 fn begin_opens(edition: Edition, mode: usize, s: &[u8], l: LineCursors) -> Opening
-    ensures { λ r. ⌜ OpeningIs (PlaceOf mode (now (s .entry)) l) (beginsOuter edition mode (now (s .entry)) l) r ⌝ }
+    ensures { λ r. ⌜
+        OpeningIs (PlaceOf mode (now (s .entry)) l) mode (now (s .entry))
+        (beginsOuter edition mode (now (s .entry)) l) r ⌝ }
 {
-    let n = component_number(mode, s, l.value);
-    if n == component::VCALENDAR {
-        let bare = no_params(mode, s, l.parameters);
-        if bare {
-            return Opening::Begins;
+    let good = is_component_name(mode, s, l.value);
+    if good {
+        let n = component_number(mode, s, l.value);
+        if n == component::VCALENDAR {
+            let bare = no_params(mode, s, l.parameters);
+            if bare {
+                return Opening::Begins(l.value);
+            }
+            let c = parameter_cursor(mode, s, l.parameters, 0);
+            return Opening::Faulty(PARAMETER, c);
         }
-        let c = parameter_cursor(mode, s, l.parameters, 0);
-        return Opening::Faulty(PARAMETER, c);
+        return Opening::Faulty(FRAME, l.name);
     }
-    Opening::Faulty(FRAME, l.name)
+    Opening::Faulty(NAME, l.name)
 }
 
 // A content line where nothing is open.
 fn content_opens(edition: Edition, mode: usize, s: &[u8], l: LineCursors) -> Opening
     requires { ⌜ (l .name ≤ length (now s)) × Parts mode (now s) l × (cuts mode ≡ true) ⌝ }
-    ensures { λ r. ⌜ OpeningIs (PlaceOf mode (now (s .entry)) l) (moveBy (decodedLine edition (named mode (now (s .entry)) l)) []) r ⌝ }
+    ensures { λ r. ⌜
+        OpeningIs (PlaceOf mode (now (s .entry)) l) mode (now (s .entry))
+        (moveBy (decodedLine edition (named mode (now (s .entry)) l)) []) r ⌝ }
 {
     let at = l.name;
     let e = l.parameters;
@@ -71,7 +80,9 @@ fn content_opens(edition: Edition, mode: usize, s: &[u8], l: LineCursors) -> Ope
 // A line where nothing is open.
 fn line_opens(edition: Edition, mode: usize, s: &[u8], at: usize) -> Opening
     requires { ⌜ (at ≤ length (now s)) × (cuts mode ≡ true) ⌝ }
-    ensures { λ r. ⌜ OpeningIs (OffsetAt mode (now (s .entry)) at) (move edition (rest mode (now (s .entry)) at) []) r ⌝ }
+    ensures { λ r. ⌜
+        OpeningIs (OffsetAt mode (now (s .entry)) at) mode (now (s .entry))
+        (move edition (rest mode (now (s .entry)) at) []) r ⌝ }
 {
     let LineRead::Line(l) = line_at(mode, s, at) else {
         return Opening::Faulty(LINE, at);
@@ -88,7 +99,17 @@ fn calendar(edition: Edition, mode: usize, s: &[u8], at: usize) -> Step
         return Step::Failed(LINE, at);
     };
     match line_opens(edition, mode, &s[..e], at) {
-        Opening::Begins => body(edition, mode, s, next, component::VCALENDAR, false),
+        Opening::Begins(v) => body(
+            edition,
+            mode,
+            s,
+            next,
+            component::VCALENDAR,
+            &s[..e],
+            v,
+            component::BELOW,
+            false,
+        ),
         Opening::Faulty(r, p) => Step::Failed(r, p),
     }
 }

@@ -16,26 +16,46 @@ use schema::method_for;
 use schema::property;
 ghost use mathlib.Core.Path.{_≡_};
 ghost use Prim.Native.Nat.{_<_};
-ghost use lib.Dec.{eqb};
+ghost use lib.Dec.{eqb, ltb};
 ghost use lib.ListN.{length};
 ghost use Rattle.octets.specs.Pick.{pick};
+ghost use Rattle.octets.specs.Class.{upper};
+ghost use Rattle.source.specs.Source.{rest};
+ghost use Rattle.names.specs.Table.{placeOf};
+ghost use Rattle.schema.specs.Components.{componentNames};
 ghost use Rattle.schema.specs.Property.{ACTION};
 ghost use Rattle.read_text_line.specs.Ready.{Ready};
 ghost use Rattle.read_text.specs.Turns.{Turned, Body};
 
-// The line at a place in the component of the number `k`, in which a subcomponent has come or not.
-fn next_line(edition: Edition, k: usize, inner: bool, mode: usize, s: &[u8], at: usize) -> Turn
-    requires { ⌜ (k < 9) × Ready mode (now s) at × (at < length (now s)) ⌝ }
-    ensures { λ r. ⌜ Turned edition k inner mode (now (s .entry)) at r ⌝ }
+// The line at a place in the component of the number `k`, whose name stands in `name` from `v` on; `left`, the levels that are left in it;
+// `inner`, whether a subcomponent has come.
+fn next_line(
+    edition: Edition,
+    k: usize,
+    name: &[u8],
+    v: usize,
+    left: usize,
+    inner: bool,
+    mode: usize,
+    s: &[u8],
+    at: usize,
+) -> Turn
+    requires { ⌜
+        (k ≡ placeOf (upper (rest mode (now name) v)) componentNames)
+        × Ready mode (now s) at
+        × (at < length (now s)) ⌝ }
+    ensures { λ r. ⌜
+        Turned edition (upper (rest mode (now (name .entry)) v)) (ltb 0 left) inner mode (now (s .entry)) at r ⌝ }
 {
     let Ending::Whole(e, next) = line_end(mode, s, at) else {
         return Turn {
             kind: Kind::Faulty(LINE, at),
+            end: s.len(),
             next: s.len(),
         };
     };
-    let kind = line_kind(edition, k, inner, mode, &s[..e], at);
-    Turn { kind, next }
+    let kind = line_kind(edition, k, name, v, left, inner, mode, &s[..e], at);
+    Turn { kind, end: e, next }
 }
 
 // The number of ACTION's word behind a property of the number `p`.
@@ -48,10 +68,22 @@ fn action_after(p: usize, a: usize, last: usize) -> usize
     last
 }
 
-// The component of the number `k`, from the line behind its BEGIN on; `method`, whether the calendar round it has METHOD.
-pub fn body(edition: Edition, mode: usize, s: &[u8], from: usize, k: usize, method: bool) -> Step
-    requires { ⌜ Ready mode (now s) from × (k < 9) ⌝ }
-    ensures { λ r. ⌜ Body edition k method mode (now (s .entry)) from r ⌝ }
+// The component of the number `k`, whose name stands in `name` from `v` on, from the line behind its BEGIN on; `left`, the levels that are left in it;
+// `method`, whether the calendar round it has METHOD.
+pub fn body(
+    edition: Edition,
+    mode: usize,
+    s: &[u8],
+    from: usize,
+    k: usize,
+    name: &[u8],
+    v: usize,
+    left: usize,
+    method: bool,
+) -> Step
+    requires { ⌜ Ready mode (now s) from × (k ≡ placeOf (upper (rest mode (now name) v)) componentNames) ⌝ }
+    ensures { λ r. ⌜
+        Body edition (upper (rest mode (now (name .entry)) v)) left method mode (now (s .entry)) from r ⌝ }
 {
     let mut at = from;
     // One for each known property.
@@ -59,12 +91,22 @@ pub fn body(edition: Edition, mode: usize, s: &[u8], from: usize, k: usize, meth
     let mut action = action::NONE;
     let mut inner = false;
     while at < s.len() {
-        let l = next_line(edition, k, inner, mode, s, at);
+        let l = next_line(edition, k, name, v, left, inner, mode, s, at);
         let kind = l.kind;
         match kind {
-            Kind::Starts(n) => {
+            Kind::Starts(n, w) => {
                 let inside = method_for(k, counts, method);
-                match body(edition, mode, s, l.next, n, inside) {
+                match body(
+                    edition,
+                    mode,
+                    s,
+                    l.next,
+                    n,
+                    &s[..l.end],
+                    w,
+                    left - 1,
+                    inside,
+                ) {
                     Step::Closed(next) => {
                         inner = true;
                         at = next;

@@ -2,22 +2,24 @@
 mod calendars;
 mod component;
 mod line;
+mod named;
 mod places;
 
 pub use calendars::check;
 
-// What a line is in an open component: the beginning of the component of a number; the component's end; a property of a number, with the number of
+// What a line is in an open component: the beginning of the component of a number, whose name stands at a cursor; the component's end; a property of a number, with the number of
 // ACTION's word where it is ACTION; or a refusal of a number, and the cursor of its place.
 pub enum Kind {
-    Starts(usize),
+    Starts(usize, usize),
     Stops,
     Holds(usize, usize),
     Faulty(u8, usize),
 }
 
-// A line's kind, and the place behind the line.
+// A line's kind, the place of its end, and that behind the line.
 pub struct Turn {
     pub kind: Kind,
+    pub end: usize,
     pub next: usize,
 }
 
@@ -33,8 +35,8 @@ pub enum Checked {
     Refused(u8, usize),
 }
 
-// A line where nothing is open: it begins a calendar; or a refusal of a number, and the cursor of its place.
+// A line where nothing is open: it begins a calendar, whose name stands at a cursor; or a refusal of a number, and the cursor of its place.
 pub enum Opening {
-    Begins,
+    Begins(usize),
     Faulty(u8, usize),
 }

@@ -1,5 +1,7 @@
 // What a line is in an open component, by the component's number. A line is cut at its end: it is all that stands from `at` on.
 use crate::Kind;
+use crate::named::is_component_name;
+use crate::named::is_same_name;
 use crate::places::parameter_cursor;
 use edition::Edition;
 use names::is_word_any_case;
@@ -25,17 +27,17 @@ use schema::may_stand;
 use schema::property;
 use schema::row_of;
 ghost use mathlib.Core.Path.{_≡_};
-ghost use mathlib.Core.Bool.{true, not};
+ghost use mathlib.Core.Bool.{Bool, true, not};
 ghost use mathlib.Core.List.{List};
-ghost use Prim.Native.Nat.{ℕ, _≤_, _<_};
-ghost use lib.Dec.{eqb};
+ghost use Prim.Native.Nat.{ℕ, _≤_};
+ghost use lib.Dec.{eqb, ltb};
 ghost use lib.ListN.{length};
 ghost use Rattle.octets.specs.Pick.{pick, _or_};
 ghost use Rattle.octets.specs.Class.{upper};
 ghost use Rattle.octets.specs.Words.{isEmpty};
 ghost use Rattle.source.specs.Source.{rest, cuts};
 ghost use Rattle.names.specs.Table.{placeOf};
-ghost use Rattle.schema.specs.Numbers.{componentName};
+ghost use Rattle.schema.specs.Components.{componentNames};
 ghost use Rattle.schema.specs.Coded.{rowAt};
 ghost use Rattle.schema.specs.Property.{ACTION};
 ghost use Rattle.schema.specs.Properties.{propertyNames};
@@ -62,37 +64,51 @@ pub fn no_params(mode: usize, s: &[u8], e: usize) -> bool
     true
 }
 
-// The kind of a BEGIN.
-fn begin_line(edition: Edition, k: usize, mode: usize, s: &[u8], l: LineCursors) -> Kind
-    requires { ⌜ k < 9 ⌝ }
+// The kind of a BEGIN in the component of the number `k`; `left`, here and below, the levels that are left in it.
+fn begin_line(
+    edition: Edition,
+    k: usize,
+    left: usize,
+    mode: usize,
+    s: &[u8],
+    l: LineCursors,
+) -> Kind
     ensures { λ r. ⌜
-        ((w : List ℕ) →
-        KindIs (PlaceOf mode (now (s .entry)) l)
-        (beginKind (componentName k) (decodedLine edition (lineFrom w mode (now (s .entry)) l))) r) ⌝ }
+        ((c w : List ℕ) →
+        k ≡ placeOf c componentNames →
+        KindIs (PlaceOf mode (now (s .entry)) l) (ltb 0 left) mode (now (s .entry))
+        (beginKind c (ltb 0 left) (decodedLine edition (lineFrom w mode (now (s .entry)) l))) r) ⌝ }
 {
-    let n = component_number(mode, s, l.value);
-    let may = may_begin(k, n);
-    if may {
-        let bare = no_params(mode, s, l.parameters);
-        if bare {
-            return Kind::Starts(n);
+    let good = is_component_name(mode, s, l.value);
+    if good {
+        let n = component_number(mode, s, l.value);
+        let may = may_begin(k, n);
+        if may {
+            if 0 < left {
+                let bare = no_params(mode, s, l.parameters);
+                if bare {
+                    return Kind::Starts(n, l.value);
+                }
+                let c = parameter_cursor(mode, s, l.parameters, 0);
+                return Kind::Faulty(PARAMETER, c);
+            }
+            return Kind::Faulty(FRAME, l.name);
         }
-        let c = parameter_cursor(mode, s, l.parameters, 0);
-        return Kind::Faulty(PARAMETER, c);
+        return Kind::Faulty(FRAME, l.name);
     }
-    Kind::Faulty(FRAME, l.name)
+    Kind::Faulty(NAME, l.name)
 }
 
-// The kind of an END.
-fn end_line(edition: Edition, k: usize, mode: usize, s: &[u8], l: LineCursors) -> Kind
-    requires { ⌜ k < 9 ⌝ }
+// The kind of an END in the component whose name stands in `name` from `v` on.
+fn end_line(edition: Edition, name: &[u8], v: usize, mode: usize, s: &[u8], l: LineCursors) -> Kind
     ensures { λ r. ⌜
-        ((w : List ℕ) →
-        KindIs (PlaceOf mode (now (s .entry)) l)
-        (endKind (componentName k) (decodedLine edition (lineFrom w mode (now (s .entry)) l))) r) ⌝ }
+        ((g : Bool) (w : List ℕ) →
+        KindIs (PlaceOf mode (now (s .entry)) l) g mode (now (s .entry))
+        (endKind (upper (rest mode (now (name .entry)) v))
+        (decodedLine edition (lineFrom w mode (now (s .entry)) l))) r) ⌝ }
 {
-    let n = component_number(mode, s, l.value);
-    if n == k {
+    let ours = is_same_name(mode, s, l.value, name, v);
+    if ours {
         let bare = no_params(mode, s, l.parameters);
         if bare {
             return Kind::Stops;
@@ -115,11 +131,11 @@ fn may_follow(k: usize, inner: bool) -> bool
 
 // The property of the row may stand in the component.
 fn may_hold(k: usize, inner: bool, row: Row) -> bool
-    requires { ⌜ k < 9 ⌝ }
     ensures { λ r. ⌜
-        ((w : List ℕ) →
+        ((c w : List ℕ) →
+        k ≡ placeOf c componentNames →
         row ≡ rowAt (placeOf w propertyNames) →
-        r ≡ mayHold w (openAs (componentName k) inner)) ⌝ }
+        r ≡ mayHold w (openAs c inner)) ⌝ }
 {
     let p = row.number;
     if p < property::KNOWN {
@@ -152,12 +168,13 @@ fn row_line(
     s: &[u8],
     l: LineCursors,
 ) -> Kind
-    requires { ⌜ (k < 9) × (cuts mode ≡ true) ⌝ }
+    requires { ⌜ cuts mode ≡ true ⌝ }
     ensures { λ r. ⌜
-        ((w : List ℕ) →
+        ((g : Bool) (c w : List ℕ) →
+        k ≡ placeOf c componentNames →
         row ≡ rowAt (placeOf (upper w) propertyNames) →
-        KindIs (PlaceOf mode (now (s .entry)) l)
-        (propertyKind (componentName k) inner (decodedLine edition (lineFrom w mode (now (s .entry)) l))) r) ⌝ }
+        KindIs (PlaceOf mode (now (s .entry)) l) g mode (now (s .entry))
+        (propertyKind c inner (decodedLine edition (lineFrom w mode (now (s .entry)) l))) r) ⌝ }
 {
     let p = row.number;
     let may = may_hold(k, inner, row);
@@ -188,10 +205,12 @@ fn property_line(
     s: &[u8],
     l: LineCursors,
 ) -> Kind
-    requires { ⌜ (k < 9) × (l .name ≤ length (now s)) × Parts mode (now s) l × (cuts mode ≡ true) ⌝ }
+    requires { ⌜ (l .name ≤ length (now s)) × Parts mode (now s) l × (cuts mode ≡ true) ⌝ }
     ensures { λ r. ⌜
-        KindIs (PlaceOf mode (now (s .entry)) l)
-        (propertyKind (componentName k) inner (decodedLine edition (named mode (now (s .entry)) l))) r ⌝ }
+        ((g : Bool) (c : List ℕ) →
+        k ≡ placeOf c componentNames →
+        KindIs (PlaceOf mode (now (s .entry)) l) g mode (now (s .entry))
+        (propertyKind c inner (decodedLine edition (named mode (now (s .entry)) l))) r) ⌝ }
 {
     let e = l.parameters;
     let row = row_of(mode, &s[..e], l.name);
@@ -202,14 +221,23 @@ fn property_line(
 fn content_line(
     edition: Edition,
     k: usize,
+    name: &[u8],
+    v: usize,
+    left: usize,
     inner: bool,
     mode: usize,
     s: &[u8],
     l: LineCursors,
 ) -> Kind
-    requires { ⌜ (k < 9) × (l .name ≤ length (now s)) × Parts mode (now s) l × (cuts mode ≡ true) ⌝ }
+    requires { ⌜
+        (k ≡ placeOf (upper (rest mode (now name) v)) componentNames)
+        × (l .name ≤ length (now s))
+        × Parts mode (now s) l
+        × (cuts mode ≡ true) ⌝ }
     ensures { λ r. ⌜
-        KindIs (PlaceOf mode (now (s .entry)) l) (kindBy (componentName k) inner (decodedLine edition (named mode (now (s .entry)) l))) r ⌝ }
+        KindIs (PlaceOf mode (now (s .entry)) l) (ltb 0 left) mode (now (s .entry))
+        (kindBy (upper (rest mode (now (name .entry)) v)) (ltb 0 left) inner
+        (decodedLine edition (named mode (now (s .entry)) l))) r ⌝ }
 {
     let at = l.name;
     let e = l.parameters;
@@ -217,26 +245,38 @@ fn content_line(
     if good {
         let begin = is_word_any_case(mode, &s[..e], at, b"BEGIN");
         if begin {
-            return begin_line(edition, k, mode, s, l);
+            return begin_line(edition, k, left, mode, s, l);
         }
         let end = is_word_any_case(mode, &s[..e], at, b"END");
         if end {
-            return end_line(edition, k, mode, s, l);
+            return end_line(edition, name, v, mode, s, l);
         }
         return property_line(edition, k, inner, mode, s, l);
     }
     Kind::Faulty(NAME, l.name)
 }
 
-// The kind of a line in the component of the number `k`, in which a subcomponent has come or not.
-pub fn line_kind(edition: Edition, k: usize, inner: bool, mode: usize, s: &[u8], at: usize) -> Kind
-    requires { ⌜ (k < 9) × (at ≤ length (now s)) × (cuts mode ≡ true) ⌝ }
+// The kind of a line in the component of the number `k`, whose name stands in `name` from `v` on, and in which a subcomponent has come or not.
+pub fn line_kind(
+    edition: Edition,
+    k: usize,
+    name: &[u8],
+    v: usize,
+    left: usize,
+    inner: bool,
+    mode: usize,
+    s: &[u8],
+    at: usize,
+) -> Kind
+    requires { ⌜
+        (k ≡ placeOf (upper (rest mode (now name) v)) componentNames) × (at ≤ length (now s)) × (cuts mode ≡ true) ⌝ }
     ensures { λ r. ⌜
-        KindIs (OffsetAt mode (now (s .entry)) at)
-        (lineKind edition (componentName k) inner (rest mode (now (s .entry)) at)) r ⌝ }
+        KindIs (OffsetAt mode (now (s .entry)) at) (ltb 0 left) mode (now (s .entry))
+        (lineKind edition (upper (rest mode (now (name .entry)) v)) (ltb 0 left) inner
+        (rest mode (now (s .entry)) at)) r ⌝ }
 {
     let LineRead::Line(l) = line_at(mode, s, at) else {
         return Kind::Faulty(LINE, at);
     };
-    content_line(edition, k, inner, mode, s, l)
+    content_line(edition, k, name, v, left, inner, mode, s, l)
 }

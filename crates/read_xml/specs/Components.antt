@@ -9,7 +9,7 @@ use mathlib.Core.Path.{_≡_}
 use mathlib.Core.Bool.{Bool, true, false, not}
 use mathlib.Core.List.{List}
 use Prim.Native.Nat.{ℕ, _-_, _<_}
-use lib.Dec.{eqb}
+use lib.Dec.{eqb, leb}
 use lib.ListN.{length}
 use Rattle.octets.specs.Ascii.{ascii}
 use Rattle.octets.specs.Pick.{pick, _and_, _or_}
@@ -62,10 +62,10 @@ pub record EndAt (k : ℕ) (t : Kept) (had came inner method : Bool) (e : ℕ) (
 pub record EndsAt (k : ℕ) (any : Bool) (e : ℕ) (r : Judged) : Type 0 where
   pub is : (c : List ℕ) → k ≡ placeOf c componentNames → endOfComponents c any e ≡ judgedAs r
 
--- ---- which components have subcomponents
+-- ---- which components have subcomponents: VCALENDAR, VEVENT, VTODO, VTIMEZONE, unrecognised ones
 
 abbrev pub hasSubs : ℕ → Bool
-hasSubs k = eqb k 0 or eqb k 1 or eqb k 2 or eqb k 5
+hasSubs k = eqb k 0 or eqb k 1 or eqb k 2 or eqb k 5 or leb 9 k
 
 -- ---- which child an element is
 
@@ -88,16 +88,16 @@ MetFits had s at (HasProperties q d) =
 MetFits had s at (HasComponents q x d) = (length s - q < length s - at) × (insideOf (ascii "components") (nodesAt s at) ≡ nodesAt s q)
 MetFits had s at (Stops j) = Unit {0}
 
--- the verdict on what stands from there on
-abbrev pub metOf : Edition → List ℕ → Bool → Bool → Bool → List ℕ → ℕ → Met → Verdict
-metOf ed c counts had m s e End = endOfComponent c counts (come had false m) e
-metOf ed c counts had m s e (Past d) = componentVerdict ed (nodesAt s d) c counts (come had false m) e
-metOf ed c counts had m s e (HasProperties q d) = propertiesVerdict ed c (nodesAt s q) otherwise componentVerdict ed (nodesAt s d) c counts (come true false (methodFor c (readProperties (nodesAt s q)) m)) e
-metOf ed c counts had m s e (HasComponents q x d) = componentsVerdict ed (nodesAt s q) c m false x otherwise componentVerdict ed (nodesAt s d) c counts (come had true m) e
-metOf ed c counts had m s e (Stops j) = judgedAs j
+-- the verdict on what stands from there on, with l levels left in the component
+abbrev pub metOf : Edition → List ℕ → ℕ → Bool → Bool → Bool → List ℕ → ℕ → Met → Verdict
+metOf ed c l counts had m s e End = endOfComponent c counts (come had false m) e
+metOf ed c l counts had m s e (Past d) = componentVerdict ed (nodesAt s d) c l counts (come had false m) e
+metOf ed c l counts had m s e (HasProperties q d) = propertiesVerdict ed c (nodesAt s q) otherwise componentVerdict ed (nodesAt s d) c l counts (come true false (methodFor c (readProperties (nodesAt s q)) m)) e
+metOf ed c l counts had m s e (HasComponents q x d) = componentsVerdict ed (nodesAt s q) c l m false x otherwise componentVerdict ed (nodesAt s d) c l counts (come had true m) e
+metOf ed c l counts had m s e (Stops j) = judgedAs j
 
 pub record MetAt (k : ℕ) (had : Bool) (s : List ℕ) (at : ℕ) (r : Met) : Type 0 where
-  pub is : (ed : Edition) (c : List ℕ) → k ≡ placeOf c componentNames → (counts m : Bool) (e : ℕ) → componentVerdict ed (nodesAt s at) c counts (come had false m) e ≡ metOf ed c counts had m s e r
+  pub is : (ed : Edition) (c : List ℕ) → k ≡ placeOf c componentNames → (l : ℕ) (counts m : Bool) (e : ℕ) → componentVerdict ed (nodesAt s at) c l counts (come had false m) e ≡ metOf ed c l counts had m s e r
   pub fits : MetFits had s at r
 
 -- ---- up to `components`
@@ -111,18 +111,18 @@ PartFits s from t (Opens q x next had) =
     × (had ≡ true → Counted (readProperties (insideOf (ascii "properties") (nodesAt s from))) t)
 
 module _ (ed : Edition) where
-  abbrev pub partOf : List ℕ → Bool → Bool → List ℕ → ℕ → ℕ → Part → Verdict
-  partOf c counts m s from e (Ends j) = judgedAs j
-  partOf c counts m s from e (Opens q x next had) =
-      componentsVerdict ed (nodesAt s q) c (methodInside c m had (nodesAt s from)) false x otherwise componentVerdict ed (nodesAt s next) c counts (come had true (methodInside c m had (nodesAt s from))) e
+  abbrev pub partOf : List ℕ → ℕ → Bool → Bool → List ℕ → ℕ → ℕ → Part → Verdict
+  partOf c l counts m s from e (Ends j) = judgedAs j
+  partOf c l counts m s from e (Opens q x next had) =
+      componentsVerdict ed (nodesAt s q) c l (methodInside c m had (nodesAt s from)) false x otherwise componentVerdict ed (nodesAt s next) c l counts (come had true (methodInside c m had (nodesAt s from))) e
 
   pub record HeadAt (k : ℕ) (method : Bool) (s : List ℕ) (from e : ℕ) (r : Begun) : Type 0 where
-    pub is : (c : List ℕ) → k ≡ placeOf c componentNames →
-        componentVerdict ed (nodesAt s from) c (isComplete c method (nodesAt s from)) (come false false method) e ≡ partOf c (isComplete c method (nodesAt s from)) method s from e (r .part)
+    pub is : (c : List ℕ) → k ≡ placeOf c componentNames → (l : ℕ) →
+        componentVerdict ed (nodesAt s from) c l (isComplete c method (nodesAt s from)) (come false false method) e ≡ partOf c l (isComplete c method (nodesAt s from)) method s from e (r .part)
     pub fits : PartFits s from (r .kept) (r .part)
 
 -- ---- behind `components`
 
 pub record BehindAt (k : ℕ) (t : Kept) (had inner method : Bool) (s : List ℕ) (from e : ℕ) (r : Judged) : Type 0 where
-  pub is : (ed : Edition) (c : List ℕ) → k ≡ placeOf c componentNames → (counts : Bool) → (had ≡ true → counts ≡ completeBy k t inner method) → (m : Bool) →
-      componentVerdict ed (nodesAt s from) c counts (come had true m) e ≡ judgedAs r
+  pub is : (ed : Edition) (c : List ℕ) → k ≡ placeOf c componentNames → (l : ℕ) (counts : Bool) → (had ≡ true → counts ≡ completeBy k t inner method) → (m : Bool) →
+      componentVerdict ed (nodesAt s from) c l counts (come had true m) e ≡ judgedAs r

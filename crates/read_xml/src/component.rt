@@ -96,7 +96,10 @@ fn has_subs(k: usize) -> bool
     if k == component::VTODO {
         return true;
     }
-    k == component::VTIMEZONE
+    if k == component::VTIMEZONE {
+        return true;
+    }
+    component::KNOWN <= k
 }
 
 // The name is `properties`, or else `components`.

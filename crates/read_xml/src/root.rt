@@ -1,5 +1,6 @@
 // The calendars of a document, and its root. See crate xcal, specs/ComponentNodes.antt.
 use crate::subcomponents::component_verdict;
+use crate::subcomponents::no_component;
 use edition::Edition;
 use markup::element;
 use names::is_word;
@@ -52,6 +53,7 @@ fn stream_verdict(edition: Edition, s: &[u8], inside: usize, e: usize) -> Judged
                         s,
                         n.inside,
                         component::VCALENDAR,
+                        component::BELOW,
                         false,
                         n.end,
                     );
@@ -65,7 +67,7 @@ fn stream_verdict(edition: Edition, s: &[u8], inside: usize, e: usize) -> Judged
                         }
                     }
                 } else {
-                    return unexpected(s, at, n.name, n.name_end);
+                    return no_component(s, at, n.name, n.name_end);
                 }
             }
             NodeKind::Literal => {

@@ -33,19 +33,19 @@ abbrev pub verdictAt : List ℕ → List ℕ → List ℕ → ℕ → ℕ → Ve
 verdictAt s a e d at = check (marksAt s at) (length s) true (opened s a e d)
 
 pub record Ongoing (v : Verdict) (s a e : List ℕ) (d at : ℕ) : Type 0 where
-  pub deep : d ≤ 16
-  pub begun : length a ≡ 16
-  pub ended : length e ≡ 16
+  pub deep : d ≤ 32
+  pub begun : length a ≡ 32
+  pub ended : length e ≡ 32
   pub inside : at ≤ length s
   pub left : v ≡ verdictAt s a e d at
 
--- ---- how many elements are open behind a token; 17 where it may not stand there
+-- ---- how many elements are open behind a token; 33 where it may not stand there
 
 pub record Turn (v : Verdict) (s a e : List ℕ) (d at : ℕ) (t : TokenAt) (r : ℕ) : Type 0 where
-  pub stops : 16 < r → Formed v (length s) (Refused at)
-  pub opens : d < r → r ≤ 16 → Ongoing v s (set a d (t .name)) (set e d (t .«name_end»)) r (t .next)
+  pub stops : 32 < r → Formed v (length s) (Refused at)
+  pub opens : d < r → r ≤ 32 → Ongoing v s (set a d (t .name)) (set e d (t .«name_end»)) r (t .next)
   pub stays : r ≤ d → Ongoing v s a e r (t .next)
-  pub less : r ≤ 16 → length s - t .next < length s - at
+  pub less : r ≤ 32 → length s - t .next < length s - at
 
 abbrev pub After : List ℕ → List ℕ → List ℕ → ℕ → ℕ → TokenAt → ℕ → Type 0
 After s a e d at t r = (v : Verdict) → Ongoing v s a e d at → Turn v s a e d at t r

@@ -17,7 +17,7 @@ opened s a e zero = []
 opened s a e (suc d) = rest 0 (take (getD e d 0) s) (getD a d 0) ∷ opened s a e d
 
 abbrev pub roomAt : ℕ → Bool
-roomAt d = pick (eqb d 0) false (ltb d 16)
+roomAt d = pick (eqb d 0) false (ltb d 32)
 
 -- a character may stand where d elements are open: white space alone behind the root
 abbrev pub mayStand : ℕ → ℕ → Bool

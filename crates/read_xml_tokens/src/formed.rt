@@ -34,7 +34,7 @@ fn has_room(depth: usize) -> bool
     if depth == 0 {
         return false;
     }
-    depth < 16
+    depth < 32
 }
 
 // A character may stand where `depth` elements are open: white space alone behind the root.
@@ -50,13 +50,13 @@ fn may_stand(depth: usize, u: usize) -> bool
 // An end tag with the name from `name` to `name_end` closes the innermost of `depth` open elements.
 fn closes_top(
     s: &[u8],
-    starts: [usize; 16],
-    ends: [usize; 16],
+    starts: [usize; 32],
+    ends: [usize; 32],
     depth: usize,
     name: usize,
     name_end: usize,
 ) -> bool
-    requires { ⌜ (depth ≤ 16) × (name ≤ «name_end») × («name_end» ≤ length (now s)) ⌝ }
+    requires { ⌜ (depth ≤ 32) × (name ≤ «name_end») × («name_end» ≤ length (now s)) ⌝ }
     ensures { λ r. ⌜ r ≡ closesAt (now (s .entry)) starts ends depth name «name_end» ⌝ }
 {
     if depth == 0 {
@@ -66,16 +66,16 @@ fn closes_top(
     same_name(s, starts[top], ends[top], name, name_end)
 }
 
-// How many elements are open behind the token `t` at `at`; 17 where it may not stand there.
+// How many elements are open behind the token `t` at `at`; 33 where it may not stand there.
 fn depth_after(
     s: &[u8],
     at: usize,
     t: TokenAt,
-    starts: [usize; 16],
-    ends: [usize; 16],
+    starts: [usize; 32],
+    ends: [usize; 32],
     depth: usize,
 ) -> usize
-    requires { ⌜ Reads tokenIn (now s) at at t × (at < length (now s)) × (depth ≤ 16) ⌝ }
+    requires { ⌜ Reads tokenIn (now s) at at t × (at < length (now s)) × (depth ≤ 32) ⌝ }
     ensures { λ r. ⌜ After (now (s .entry)) starts ends depth at t r ⌝ }
 {
     let kind = t.kind;
@@ -84,33 +84,33 @@ fn depth_after(
             if has_room(depth) {
                 return depth + 1;
             }
-            17
+            33
         }
         TokenKind::Empty => {
             if has_room(depth) {
                 return depth;
             }
-            17
+            33
         }
         TokenKind::End => {
             if closes_top(s, starts, ends, depth, t.name, t.name_end) {
                 return depth - 1;
             }
-            17
+            33
         }
         TokenKind::Char => {
             if may_stand(depth, t.unit) {
                 return depth;
             }
-            17
+            33
         }
         TokenKind::Reference => {
             if depth == 0 {
-                return 17;
+                return 33;
             }
             depth
         }
-        TokenKind::Fault => 17,
+        TokenKind::Fault => 33,
     }
 }
 
@@ -118,11 +118,11 @@ fn depth_after(
 fn content_formed(
     s: &[u8],
     from: usize,
-    starts: [usize; 16],
-    ends: [usize; 16],
+    starts: [usize; 32],
+    ends: [usize; 32],
     inside: usize,
 ) -> Xml
-    requires { ⌜ (from ≤ length (now s)) × (inside ≤ 16) ⌝ }
+    requires { ⌜ (from ≤ length (now s)) × (inside ≤ 32) ⌝ }
     ensures { λ r. ⌜ Formed (verdictAt (now (s .entry)) starts ends inside from) (length (now (s .entry))) r ⌝ }
 {
     let mut a = starts;
@@ -132,7 +132,7 @@ fn content_formed(
     while at < s.len() {
         let t = token_at(s, at);
         let d = depth_after(s, at, t, a, e, depth);
-        if 16 < d {
+        if 32 < d {
             return Xml::Refused(at);
         }
         if depth < d {
@@ -156,8 +156,8 @@ pub fn well_formed(s: &[u8]) -> Xml
     ensures { λ r. ⌜ Formed (xmlVerdict (now (s .entry))) (length (now (s .entry))) r ⌝ }
 {
     let t = root_at(s);
-    let mut a = [0usize; 16];
-    let mut e = [0usize; 16];
+    let mut a = [0usize; 32];
+    let mut e = [0usize; 32];
     a[0] = t.name;
     e[0] = t.name_end;
     let kind = t.kind;

@@ -33,9 +33,9 @@ halfOften es from l t = eachFrom 0 23 (λ n. oftenIn (getD es n (coded unrecogni
 unfoldable pub allOften : ℕ → List ℕ → Bool
 allOften l t = eachFrom 0 46 (λ n. oftenIn (coded (propertyAt n)) l (getD t n 0))
 
--- 8 is VALARM, whose list its ACTION names
+-- 8 is VALARM, whose list its ACTION names; an unrecognised component has no list
 abbrev pub oftenAt : ℕ → List ℕ → ℕ → Bool
-oftenAt k t a = pick (eqb k 8) (pick (ltb a 3) (allOften (a + 8) t) false) (pick (ltb k 9) (allOften k t) (allOften 11 t))
+oftenAt k t a = pick (eqb k 8) (pick (ltb a 3) (allOften (a + 8) t) false) (pick (ltb k 9) (allOften k t) true)
 
 -- 1 is VEVENT, 2 VTODO, 5 VTIMEZONE
 abbrev pub pairsAt : ℕ → List ℕ → Around → Bool

@@ -4,16 +4,18 @@
 --     Occurrence        a property with how often it stands: `least` times, and at most `most` times; `most` is none where any number may stand
 --     listIn            the list of a column of the table
 --     occurrencesOf     the list of a component; for a VALARM there are three, by the word of its ACTION: alarmTable
+--     isKnownComponent  the schema's components
+--     mayContain        whether a component may stand directly in another: unrecognised ones in a VCALENDAR and in each other
 --     mayStand          whether a known property may stand in a component; in a VALARM, one that any of the three lists has
 -- The pairs and choices inside the lists (lines 447, 492, 614, 627, 637) are judged in Counts; here each of their properties is one that may be missing.
-use mathlib.Core.Bool.{Bool}
+use mathlib.Core.Bool.{Bool, not}
 use mathlib.Core.List.{List, [], _∷_, map}
 use mathlib.Core.Option.{Option, none, some}
 use Prim.Native.Nat.{ℕ}
 use lib.Dec.{eqb}
 use lib.ListN.{getD}
 use Rattle.octets.specs.Ascii.{ascii}
-use Rattle.octets.specs.Pick.{pick}
+use Rattle.octets.specs.Pick.{pick, _and_, _or_}
 use Rattle.octets.specs.Append.{_⊕_}
 use Rattle.octets.specs.Words.{same, isOneOf, holds, rowOf}
 use Rattle.octets.specs.Reading.{andThen, readOr}
@@ -89,15 +91,31 @@ componentTable =
 abbrev pub componentNames : List (List ℕ)
 componentNames = map (λ r. r .name) componentTable
 
--- what stands for a component that is no row
+-- what stands for a component that is no row: in an unrecognised one every component but VCALENDAR may stand, and every property, any number of times
 abbrev pub unknownComponent : ComponentRow
-unknownComponent = record { name = []; subcomponents = []; occurrences = [] }
+unknownComponent = record {
+  name = [];
+  subcomponents =
+      ascii "VEVENT" ∷ ascii "VTODO" ∷ ascii "VJOURNAL" ∷ ascii "VFREEBUSY" ∷ ascii "VTIMEZONE" ∷ ascii "STANDARD" ∷ ascii "DAYLIGHT" ∷ ascii "VALARM" ∷ [];
+  occurrences = map (λ r. signed (r .name) 42) propertyTable;
+}
 
 unfoldable pub componentRow : List ℕ → ComponentRow
 componentRow c = readOr unknownComponent (rowOf (λ r. r .name) c componentTable)
 
 abbrev pub subcomponentsOf : List ℕ → List (List ℕ)
 subcomponentsOf c = componentRow c .subcomponents
+
+unfoldable pub isKnownComponent : List ℕ → Bool
+isKnownComponent c = isOneOf c componentNames
+
+-- unrecognised components stand in a VCALENDAR and in each other
+abbrev pub holdsUnknown : List ℕ → Bool
+holdsUnknown k = same k (ascii "VCALENDAR") or not (isKnownComponent k)
+
+-- a component c directly in a component k
+unfoldable pub mayContain : List ℕ → List ℕ → Bool
+mayContain k c = isOneOf c (subcomponentsOf k) or (holdsUnknown k and not (isKnownComponent c))
 
 abbrev pub occurrencesOf : List ℕ → List Occurrence
 occurrencesOf c = componentRow c .occurrences

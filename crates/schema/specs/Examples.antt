@@ -13,8 +13,8 @@ use Rattle.octets.specs.Lists.{distinct, every}
 use Rattle.calendar.specs.Calendar.{BOOLEAN, CAL-ADDRESS, DATE, DATE-TIME, DURATION, FLOAT, PERIOD, TEXT, URI, UTC-OFFSET, UNKNOWN, text, Property}
 use Rattle.schema.specs.Types.{typeName, valueTypes, typeNamed}
 use Rattle.schema.specs.Parameters.{parameterNames, parameterType, isListedParameter, isQuotedParameter, parameterWords}
-use Rattle.schema.specs.Components.{alarmTable, componentNames, subcomponentsOf, standingIn, mayStand}
-use Rattle.schema.specs.Properties.{propertyTable, propertyNames, isKnownProperty, defaultType, permittedTypes, isListedProperty, permitsParameter, propertyWords}
+use Rattle.schema.specs.Components.{alarmTable, componentNames, subcomponentsOf, mayContain, standingIn, mayStand}
+use Rattle.schema.specs.Properties.{propertyTable, propertyNames, isKnownProperty, defaultType, permittedTypes, isListedProperty, permitsParameter, statusWords, propertyWords}
 use Rattle.schema.specs.Counts.{Around, methodFor, complete}
 use Rattle.names.specs.Table.{placeOf}
 use Rattle.schema.specs.Numbers.{propertyAt}
@@ -125,8 +125,8 @@ permits :
 unfolding schema-compute
 permits = refl
 
-status-words : map (λ c. propertyWords c (ascii "STATUS")) (ascii "VEVENT" ∷ ascii "VJOURNAL" ∷ ascii "VALARM" ∷ []) ≡
-    some (ascii "TENTATIVE" ∷ ascii "CONFIRMED" ∷ ascii "CANCELLED" ∷ []) ∷ some (ascii "DRAFT" ∷ ascii "FINAL" ∷ ascii "CANCELLED" ∷ []) ∷ none ∷ []
+status-words : map (λ c. propertyWords c (ascii "STATUS")) (ascii "VEVENT" ∷ ascii "VJOURNAL" ∷ ascii "X-FLEET" ∷ []) ≡
+    some (ascii "TENTATIVE" ∷ ascii "CONFIRMED" ∷ ascii "CANCELLED" ∷ []) ∷ some (ascii "DRAFT" ∷ ascii "FINAL" ∷ ascii "CANCELLED" ∷ []) ∷ some statusWords ∷ []
 unfolding schema-compute
 status-words = refl
 
@@ -136,10 +136,25 @@ property-words = refl
 
 -- ---- what stands where
 
-subcomponents : map subcomponentsOf (ascii "VTIMEZONE" ∷ ascii "VTODO" ∷ ascii "VJOURNAL" ∷ ascii "VALARM" ∷ ascii "X-A" ∷ []) ≡
-    (ascii "STANDARD" ∷ ascii "DAYLIGHT" ∷ []) ∷ (ascii "VALARM" ∷ []) ∷ [] ∷ [] ∷ [] ∷ []
+subcomponents : map subcomponentsOf (ascii "VTIMEZONE" ∷ ascii "VTODO" ∷ ascii "VJOURNAL" ∷ ascii "VALARM" ∷ []) ≡
+    (ascii "STANDARD" ∷ ascii "DAYLIGHT" ∷ []) ∷ (ascii "VALARM" ∷ []) ∷ [] ∷ [] ∷ []
 unfolding schema-compute
 subcomponents = refl
+
+-- in an unrecognised component every other but VCALENDAR, and it stands in VCALENDAR and in its like
+in-fleet : passing (mayContain (ascii "X-FLEET")) (ascii "X-BOAT" ∷ componentNames) ≡
+    ascii "X-BOAT" ∷ ascii "VEVENT" ∷ ascii "VTODO" ∷ ascii "VJOURNAL" ∷ ascii "VFREEBUSY" ∷ ascii "VTIMEZONE" ∷ ascii "STANDARD" ∷ ascii "DAYLIGHT" ∷ ascii "VALARM" ∷ []
+unfolding schema-compute passing
+in-fleet = refl
+
+fleet-in : passing (λ c. mayContain c (ascii "X-FLEET")) (ascii "X-BOAT" ∷ componentNames) ≡ ascii "X-BOAT" ∷ ascii "VCALENDAR" ∷ []
+unfolding schema-compute passing
+fleet-in = refl
+
+-- every property stands there
+fleet-properties : passing (λ p. mayStand (ascii "X-FLEET") p) propertyNames ≡ propertyNames
+unfolding schema-compute passing
+fleet-properties = refl
 
 in-valarm : passing (λ p. mayStand (ascii "VALARM") p) propertyNames ≡
     ascii "ACTION" ∷ ascii "ATTACH" ∷ ascii "ATTENDEE" ∷ ascii "DESCRIPTION" ∷ ascii "DURATION" ∷ ascii "REPEAT" ∷ ascii "SUMMARY" ∷ ascii "TRIGGER" ∷ []

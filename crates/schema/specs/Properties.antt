@@ -179,5 +179,13 @@ statusTable =
 abbrev wordsBy : List ℕ → List WordsRow → Option (List (List ℕ))
 wordsBy w t = andThen (rowOf (λ r. r .name) w t) (λ r. some (r .words))
 
+abbrev pub statusWords : List (List ℕ)
+statusWords =
+    ascii "TENTATIVE" ∷ ascii "CONFIRMED" ∷ ascii "CANCELLED" ∷ ascii "NEEDS-ACTION" ∷ ascii "COMPLETED" ∷ ascii "IN-PROCESS" ∷ ascii "DRAFT" ∷ ascii "FINAL" ∷ []
+
+-- what stands for a component that is no row, and so for an unrecognised one: any of these words
+abbrev pub elsewhere : WordsRow
+elsewhere = record { name = []; words = statusWords }
+
 unfoldable pub propertyWords : List ℕ → List ℕ → Option (List (List ℕ))
-propertyWords c p = pick (same p (ascii "STATUS")) (wordsBy c statusTable) (wordsBy p wordsTable)
+propertyWords c p = pick (same p (ascii "STATUS")) (some (readOr elsewhere (rowOf (λ r. r .name) c statusTable) .words)) (wordsBy p wordsTable)

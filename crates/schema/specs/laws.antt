@@ -3,6 +3,7 @@
 --     Rows        laws of these tables
 --     Closed      laws of closed sets
 --     Tallies     laws of counting
+--     Unknown     an unrecognised component
 --     Numbers     names by their numbers, and the rows of numbers
 --     Cells       tables that a definition fills
 --     Places      the number of the name of a number
@@ -18,6 +19,7 @@ pub mod Types
 pub mod Rows
 pub mod Closed
 pub mod Tallies
+pub mod Unknown
 pub mod Numbers
 pub mod Cells
 pub mod Places

@@ -39,11 +39,14 @@ pub fn permits_parameter(row: Row, t: usize, q: usize) -> bool
     true
 }
 
-// Whether a property may stand in the component `k`.
+// Whether a property may stand in the component `k`; in an unrecognised one every known one may.
 pub fn may_stand(k: usize, row: Row) -> bool
     ensures { λ r. ⌜ r ≡ standsAt k row ⌝ }
 {
-    holds(row.components, k)
+    if k < component::KNOWN {
+        return holds(row.components, k);
+    }
+    row.number < property::KNOWN
 }
 
 // The type of each parameter's values.
@@ -114,6 +117,9 @@ const INNER: [u8; 81] = *b"\
     000000000\
     000000000";
 
+// The same of an unrecognised component.
+const IN_UNKNOWN: [u8; 9] = *b"011111111";
+
 // Whether the component `k` may stand directly in `parent`.
 pub fn may_begin(parent: usize, k: usize) -> bool
     ensures { λ r. ⌜ r ≡ mayBegin parent k ⌝ }
@@ -122,9 +128,12 @@ pub fn may_begin(parent: usize, k: usize) -> bool
         if k < component::KNOWN {
             return INNER[parent * component::KNOWN + k] == b'1';
         }
-        return false;
+        return parent == component::VCALENDAR;
     }
-    false
+    if k < component::KNOWN {
+        return IN_UNKNOWN[k] == b'1';
+    }
+    true
 }
 
 // The component is VALARM.

@@ -19,3 +19,8 @@ pub const VALARM: usize = 8;
 
 // How many there are, and the number of an unrecognised one.
 pub const KNOWN: usize = 9;
+
+// How many levels of components a calendar has at most, its VCALENDAR the first; and how many of them stand below that.
+pub const LEVELS: usize = 9;
+
+pub const BELOW: usize = 8;

@@ -16,9 +16,6 @@ ghost use Rattle.schema.specs.Arrays.{bumped};
 ghost use Rattle.schema.specs.Property as property;
 ghost use Rattle.schema.specs.Completing.{oftenIn, halfOften, allOften, oftenAt, pairsAt, completeAt, methodAt};
 
-// How many lists there are: a component's by its number, and from VALARM's number on one for each ACTION.
-const LISTS: usize = 11;
-
 // One more of the property `p`; of an unrecognised one, nothing.
 pub fn bump(t: [u8; 46], p: usize) -> [u8; 46]
     ensures { λ r. ⌜ r ≡ bumped p t ⌝ }
@@ -100,7 +97,7 @@ fn often_at(k: usize, t: [u8; 46], action: usize) -> bool
     if k < component::KNOWN {
         return all_often(k, t);
     }
-    all_often(LISTS, t)
+    true
 }
 
 // VEVENT: DTSTART, unless the calendar has METHOD.

@@ -27,7 +27,7 @@ fn status_set(k: usize) -> usize
     if k == component::VJOURNAL {
         return set::JOURNAL_STATUS;
     }
-    set::NONE
+    set::STATUS
 }
 
 // The number of the set of a property other than STATUS.
@@ -63,7 +63,7 @@ fn set_at(k: usize, p: usize) -> usize
 }
 
 // The words of the sets, one set after the other.
-const WORDS: [u8; 441] = *b"\
+const WORDS: [u8; 517] = *b"\
     GREGORIAN\n\
     2.0\n\
     PUBLIC\nPRIVATE\nCONFIDENTIAL\n\
@@ -79,10 +79,11 @@ const WORDS: [u8; 441] = *b"\
     THISANDFUTURE\n\
     START\nEND\n\
     PARENT\nCHILD\nSIBLING\n\
-    CHAIR\nREQ-PARTICIPANT\nOPT-PARTICIPANT\nNON-PARTICIPANT\n";
+    CHAIR\nREQ-PARTICIPANT\nOPT-PARTICIPANT\nNON-PARTICIPANT\n\
+    TENTATIVE\nCONFIRMED\nCANCELLED\nNEEDS-ACTION\nCOMPLETED\nIN-PROCESS\nDRAFT\nFINAL\n";
 
 // Where each set begins, and where the last one ends.
-const STARTS: [usize; 17] = [
+const STARTS: [usize; 18] = [
     0,
     10,
     14,
@@ -100,10 +101,11 @@ const STARTS: [usize; 17] = [
     366,
     387,
     441,
+    517,
 ];
 
 // How many words each set has.
-const SIZES: [usize; 16] = [1, 1, 3, 2, 3, 3, 4, 3, 5, 2, 4, 7, 1, 2, 3, 4];
+const SIZES: [usize; 17] = [1, 1, 3, 2, 3, 3, 4, 3, 5, 2, 4, 7, 1, 2, 3, 4, 8];
 
 // The place of the word in the set `n`.
 fn read_in_set(n: usize, xcal: bool, mode: usize, s: &[u8], at: usize) -> WordRead

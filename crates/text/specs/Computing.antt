@@ -1,6 +1,7 @@
 -- One name that opens every shut definition on the way from a text to its answer and from a calendar to its text: `unfolding ical-compute`.
 use Prim.Native.Nat.{ℕ}
 use Rattle.octets.specs.Computing.{octets-compute}
+use Rattle.calendar.specs.Levels.{shallow}
 use Rattle.calendar.specs.Refusal.{_otherwise_}
 use Rattle.folding.specs.Computing.{folding-compute}
 use Rattle.utf8.specs.Computing.{utf8-compute}
@@ -17,5 +18,5 @@ use Rattle.text.specs.ReadText.{linesVerdict, keptVerdict, placed, textV
 use Rattle.text.specs.WriteText.{withValue, contentLineOf, propertyLines, writeCalendar}
 
 unfoldable pub ical-compute : ℕ
-unfolding octets-compute _otherwise_ folding-compute utf8-compute schema-compute values-compute lines-compute readParamValue readParameter statedType ownParameters readValues behind offset isFaulty firstFaulty parametersFault faultAs propertyOf begins ends states namesCarried moveBy moveOf onward ended nesting entryBy entryOf ownOf innerOf calendarOf linesVerdict keptVerdict placed textVerdict readCalendar withValue contentLineOf propertyLines writeCalendar
+unfolding octets-compute _otherwise_ folding-compute utf8-compute schema-compute values-compute lines-compute readParamValue readParameter statedType ownParameters readValues behind offset isFaulty firstFaulty parametersFault faultAs propertyOf begins ends states namesCarried moveBy moveOf onward ended nesting entryBy entryOf ownOf innerOf shallow calendarOf linesVerdict keptVerdict placed textVerdict readCalendar withValue contentLineOf propertyLines writeCalendar
 ical-compute = 0

@@ -7,21 +7,24 @@ use mathlib.Core.Bool.{Bool, true, false, not}
 use mathlib.Core.List.{List, [], _∷_}
 use mathlib.Core.Option.{Option, none, some}
 use Prim.Native.Nat.{ℕ}
+use lib.Dec.{ltb}
+use lib.ListN.{length}
 use Rattle.octets.specs.Ascii.{ascii}
 use Rattle.octets.specs.Pick.{pick, _and_, _or_}
 use Rattle.octets.specs.Class.{upper}
-use Rattle.octets.specs.Words.{same, isOneOf, isEmpty}
+use Rattle.octets.specs.Words.{same, isEmpty}
 use Rattle.octets.specs.Lists.{every}
 use Rattle.calendar.specs.Calendar.{Property}
+use Rattle.calendar.specs.Levels.{levels}
 use Rattle.calendar.specs.Refusal.{LINE, NAME, FRAME, PARAMETER, COUNT, Verdict, fine, refuse}
-use Rattle.schema.specs.Components.{subcomponentsOf, mayStand}
+use Rattle.schema.specs.Components.{mayContain, mayStand}
 use Rattle.schema.specs.Properties.{isKnownProperty}
 use Rattle.schema.specs.Counts.{Around, methodFor, complete}
 use Rattle.folding.specs.Lines.{Line, whole, loose}
 use Rattle.edition.specs.declared.Edition.{Edition}
 use Rattle.read_text_line.specs.ContentLine.{RawParameter, ContentLine}
 use Rattle.read_text_line.specs.Decoded.{readLine}
-use Rattle.read_text_line.specs.Names.{isCarriedName}
+use Rattle.read_text_line.specs.Names.{isCarriedName, isComponentName}
 use Rattle.text.specs.Faults.{Fault, fault, lineStart, parameterName, refusedAt}
 use Rattle.text.specs.Statement.{propertyFault, propertyOf}
 
@@ -41,17 +44,24 @@ opened k = record { name = k; seen = []; inner = false }
 
 -- ---- BEGIN
 
+-- a component of the next level may begin where these are open
+abbrev pub hasLevel : List Open → Bool
+hasLevel st = ltb (length st) levels
+
 -- a calendar stands where nothing is open, a component where its parent permits it
 abbrev pub mayBegin : List ℕ → List Open → Bool
 mayBegin k [] = same k (ascii "VCALENDAR")
-mayBegin k (f ∷ st) = isOneOf k (subcomponentsOf (f .name))
+mayBegin k (f ∷ st) = mayContain (f .name) k and hasLevel (f ∷ st)
 
 abbrev pub beginIn : List ℕ → List Open → List Open
 beginIn k [] = opened k ∷ []
 beginIn k (f ∷ st) = opened k ∷ record { name = f .name; seen = f .seen; inner = true } ∷ st
 
 unfoldable pub begins : List ℕ → List RawParameter → List Open → Move
-begins k ps st = pick (mayBegin k st) (pick (isEmpty ps) (on (beginIn k st)) (stop (fault PARAMETER (parameterName 0)))) (stop (fault FRAME lineStart))
+begins k ps st =
+    pick (isComponentName k)
+    (pick (mayBegin k st) (pick (isEmpty ps) (on (beginIn k st)) (stop (fault PARAMETER (parameterName 0)))) (stop (fault FRAME lineStart)))
+    (stop (fault NAME lineStart))
 
 -- ---- END
 

@@ -3,6 +3,7 @@
 --     entryOf       what a line is: the beginning or the end of a component, or a property
 --     ownOf         the properties of a component, from the lines after its BEGIN
 --     innerOf       the components that the lines begin at depth 0
+--     calendarOf    the calendar that lines state; what stands too deep in it counts as nothing
 use mathlib.Core.List.{List, [], _∷_, map}
 use mathlib.Core.Option.{Option, none, some}
 use Prim.Native.Nat.{ℕ, zero, suc}
@@ -11,6 +12,7 @@ use Rattle.octets.specs.Pick.{pick}
 use Rattle.octets.specs.Class.{upper}
 use Rattle.octets.specs.Words.{same}
 use Rattle.calendar.specs.Calendar.{Property, Components, noMore, component}
+use Rattle.calendar.specs.Levels.{levels, shallow}
 use Rattle.folding.specs.Lines.{Line, whole, loose}
 use Rattle.edition.specs.declared.Edition.{Edition}
 use Rattle.read_text_line.specs.ContentLine.{ContentLine}
@@ -51,4 +53,4 @@ innerOf (property l ∷ es) d = innerOf es d
 innerOf (nothing ∷ es) d = innerOf es d
 
 unfoldable pub calendarOf : Edition → List Line → Components
-calendarOf ed ls = innerOf (map (entryOf ed) ls) 0
+calendarOf ed ls = shallow levels (innerOf (map (entryOf ed) ls) 0)

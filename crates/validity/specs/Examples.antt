@@ -1,6 +1,7 @@
 -- Calendars that are valid, and ones that are not.
 --     rota          a calendar with an event: each way in which values are spelled
 --     variants      small changes to an event, and whether the calendar is still valid
+--     fleets        unrecognised components, with others inside them and nine levels deep
 --     invited       an event without DTSTART, in a calendar without METHOD and in one with it
 use mathlib.Core.Path.{_≡_, refl}
 use mathlib.Core.Bool.{true, false}
@@ -91,3 +92,31 @@ request = prop (ascii "METHOD") (text (ascii "REQUEST") ∷ []) ∷ []
 invited-valid : isValid Rfc5545 (invited [] []) ∷ isValid Rfc5545 (invited request []) ∷ isValid Rfc5545 (invited [] request) ∷ [] ≡ false ∷ false ∷ true ∷ []
 unfolding validity-compute
 invited-valid = refl
+
+-- a calendar with these components
+abbrev holding : Components → Components
+holding c = component (ascii "VCALENDAR") (prop (ascii "PRODID") (text (ascii "p") ∷ []) ∷ prop (ascii "VERSION") (text (ascii "2.0") ∷ []) ∷ []) c noMore
+
+abbrev within : List (List ℕ) → Components
+within [] = noMore
+within (k ∷ ks) = component k [] (within ks) noMore
+
+abbrev x : List ℕ
+x = ascii "X-A"
+
+fleets : List Components
+fleets =
+    component x (prop (ascii "UID") (text [] ∷ []) ∷ prop (ascii "UID") (text [] ∷ []) ∷ prop (ascii "STATUS") (text (ascii "DRAFT") ∷ []) ∷ []) noMore noMore
+    ∷ component x (prop (ascii "STATUS") (text (ascii "WET") ∷ []) ∷ []) noMore noMore  -- no word of the schema's
+    ∷ within (x ∷ ascii "BEGIN" ∷ ascii "END" ∷ [])
+    ∷ within (x ∷ ascii "VCALENDAR" ∷ [])
+    ∷ within (x ∷ ascii "VEVENT" ∷ [])  -- by its own rules
+    ∷ within (x ∷ ascii "XML-A" ∷ [])  -- no name that is carried
+    ∷ within (x ∷ ascii "x-b" ∷ [])  -- not in capitals
+    ∷ within (x ∷ x ∷ x ∷ x ∷ x ∷ x ∷ x ∷ x ∷ [])
+    ∷ within (x ∷ x ∷ x ∷ x ∷ x ∷ x ∷ x ∷ x ∷ x ∷ [])  -- too deep
+    ∷ []
+
+fleets-valid : map (λ c. isValid Rfc5545 (holding c)) fleets ≡ (true ∷ false ∷ true ∷ false ∷ false ∷ false ∷ false ∷ true ∷ false ∷ [])
+unfolding validity-compute fleets
+fleets-valid = refl

@@ -1,22 +1,24 @@
 -- A valid calendar (RFC 5545, sections 3.1 to 3.6, and the rules), in an edition, whichever format states it: what an accepted text or document states is one, and its text and its
 -- document are read back as it.
---     isKeptName             a name of a property or parameter
+--     isKeptName             a name of a property, parameter or component
 --     isValidParameter p     a parameter
 --     isValidProperty k p    a property in a component k
---     areValid ks m c        components with names among ks, in a calendar with METHOD or, where m is false, without
+--     areValid l may m c     components whose names pass a test, at most l levels deep, in a calendar with METHOD or, where m is false, without
 --     isValid c              VCALENDAR components, at least one
 use mathlib.Core.Bool.{Bool, true, false, not}
 use mathlib.Core.List.{List, [], _∷_}
-use Prim.Native.Nat.{ℕ}
+use Prim.Native.Nat.{ℕ, _-_}
+use lib.Dec.{ltb}
 use Rattle.octets.specs.Ascii.{ascii}
 use Rattle.octets.specs.Pick.{_and_, _or_}
 use Rattle.octets.specs.Class.{upper}
-use Rattle.octets.specs.Words.{same, isOneOf, noneHolds}
+use Rattle.octets.specs.Words.{same, noneHolds}
 use Rattle.octets.specs.Lists.{every}
 use Rattle.calendar.specs.Calendar.{Value, Parameter, Property, Components, noMore, component}
+use Rattle.calendar.specs.Levels.{levels}
 use Rattle.utf8.specs.Utf8.{wellFormed}
 use Rattle.schema.specs.Properties.{isKnownProperty}
-use Rattle.schema.specs.Components.{subcomponentsOf, mayStand}
+use Rattle.schema.specs.Components.{mayContain, mayStand}
 use Rattle.schema.specs.Counts.{Around, methodFor, complete}
 use Rattle.values.specs.Valid.{isParameter, isProperty}
 use Rattle.values.specs.Characters.{freeIn, isValueText}
@@ -71,17 +73,17 @@ hasComponents noMore = false
 hasComponents (component k ps inner next) = true
 
 -- each with such properties, as often as they must stand, and with such subcomponents; m says whether the calendar round them has METHOD
-unfoldable pub areValid : Edition → List (List ℕ) → Bool → Components → Bool
-areValid ed ks m noMore = true
-areValid ed ks m (component k ps inner next) =
-    isOneOf k ks
+unfoldable pub areValid : Edition → ℕ → (List ℕ → Bool) → Bool → Components → Bool
+areValid ed l may m noMore = true
+areValid ed l may m (component k ps inner next) =
+    (ltb 0 l and isKeptName k and may k)
     and every (isValidProperty ed k) ps
     and complete k ps (record { inner = hasComponents inner; method = m })
-    and areValid ed (subcomponentsOf k) (methodFor k ps m) inner
-    and areValid ed ks m next
+    and areValid ed (l - 1) (mayContain k) (methodFor k ps m) inner
+    and areValid ed l may m next
 
-abbrev pub atTop : List (List ℕ)
-atTop = ascii "VCALENDAR" ∷ []
+abbrev pub atTop : List ℕ → Bool
+atTop k = same k (ascii "VCALENDAR")
 
 unfoldable pub isValid : Edition → Components → Bool
-isValid ed c = hasComponents c and areValid ed atTop false c
+isValid ed c = hasComponents c and areValid ed levels atTop false c

@@ -7,6 +7,7 @@ use markup::element;
 use names::put_upper;
 use read_xml_nodes::NodeKind;
 use read_xml_nodes::next_node;
+use schema::component;
 use sink::put_all;
 ghost use mathlib.Core.Path.{_≡_};
 ghost use Prim.Native.Nat.{_+_, _≤_};
@@ -17,7 +18,8 @@ ghost use Rattle.octets.specs.Class.{upper};
 ghost use Rattle.sink.specs.Sink.{overwrite};
 ghost use Rattle.folding.specs.Fold.{foldedLine};
 ghost use Rattle.text.specs.WriteText.{endLine, writeCalendar};
-ghost use Rattle.xcal.specs.ComponentNodes.{readComponents};
+ghost use Rattle.calendar.specs.Levels.{shallow};
+ghost use Rattle.xcal.specs.ComponentNodes.{readComponents, readCalendars};
 ghost use Rattle.xml.specs.NodesAt.{nodesAt};
 ghost use Rattle.write_text.specs.Children.{InsideAt, nameIn};
 ghost use Rattle.write_text.specs.Filled.{calendarRoom, headRoom, PutBy};
@@ -87,22 +89,26 @@ fn components_inside(s: &[u8], inside: usize) -> usize
     inside_of(s, inside, &element::COMPONENTS)
 }
 
-// The lines of the components whose elements stand from `from` on. `line` is the room for a line.
-pub fn put_calendar(
+// The lines of the components whose elements stand from `from` on, `left` levels deep. `line` is the room for a line.
+fn put_components(
     out: &mut [u8],
     o: usize,
     edition: Edition,
     line: &mut [u8],
     s: &[u8],
     from: usize,
+    left: usize,
 ) -> usize
     requires { ⌜ (length (now s) ≤ 65535) × (length (now line) ≡ 262144) ⌝ }
     ensures { λ r. ⌜
         PutBy (now (out .entry)) (now (out .exit)) o r
-        (writeCalendar edition (readComponents (nodesAt (now (s .entry)) from)))
+        (writeCalendar edition (shallow left (readComponents (nodesAt (now (s .entry)) from))))
         (now (line .exit))
-        (calendarRoom edition (readComponents (nodesAt (now (s .entry)) from)) (now (line .entry))) ⌝ }
+        (calendarRoom edition (shallow left (readComponents (nodesAt (now (s .entry)) from))) (now (line .entry))) ⌝ }
 {
+    if left < 1 {
+        return o;
+    }
     let mut p = o;
     let mut at = from;
     loop {
@@ -115,7 +121,7 @@ pub fn put_calendar(
             NodeKind::Element => {
                 let a = put_head(out, p, edition, line, s, n.name, n.name_end, n.inside);
                 let inner = components_inside(s, n.inside);
-                let b = put_calendar(out, a, edition, line, s, inner);
+                let b = put_components(out, a, edition, line, s, inner, left - 1);
                 p = put_tail(out, b, line, s, n.name, n.name_end);
                 at = n.next;
             }
@@ -127,4 +133,23 @@ pub fn put_calendar(
             }
         }
     }
+}
+
+// The lines of the calendars whose elements stand from `from` on. `line` is the room for a line.
+pub fn put_calendar(
+    out: &mut [u8],
+    o: usize,
+    edition: Edition,
+    line: &mut [u8],
+    s: &[u8],
+    from: usize,
+) -> usize
+    requires { ⌜ (length (now s) ≤ 65535) × (length (now line) ≡ 262144) ⌝ }
+    ensures { λ r. ⌜
+        PutBy (now (out .entry)) (now (out .exit)) o r
+        (writeCalendar edition (readCalendars (nodesAt (now (s .entry)) from)))
+        (now (line .exit))
+        (calendarRoom edition (readCalendars (nodesAt (now (s .entry)) from)) (now (line .entry))) ⌝ }
+{
+    put_components(out, o, edition, line, s, from, component::LEVELS)
 }

@@ -5,7 +5,7 @@
 use mathlib.Core.Path.{_≡_, refl, sym, ap, subst, _∙_}
 use mathlib.Core.Bool.{true}
 use mathlib.Core.List.{List, []}
-use Prim.Native.Nat.{ℕ, _*_, _^_, _≤_, _<_}
+use Prim.Native.Nat.{ℕ, _-_, _*_, _^_, _≤_, _<_}
 use native.Mathlib.Omega.{arith}
 use lib.ListN.{length, take}
 use borrow.Author.Needs.{needs}
@@ -18,6 +18,7 @@ use Rattle.sink.specs.laws.Sink.{put-none, put-length, _▷_, todo-all, todo-st
 use Rattle.source.specs.Source.{rest}
 use Rattle.read_text_line.specs.Ready.{Ready}
 use Rattle.calendar.specs.Calendar.{Components}
+use Rattle.calendar.specs.Levels.{shallow}
 use Rattle.schema.specs.Numbers.{componentName}
 use Rattle.text.specs.Statement.{propertyOf}
 use Rattle.text.specs.Tree.{Entry, begin, end, property, nothing}
@@ -41,16 +42,16 @@ use Rattle.write_xml.specs.laws.Parts.{component-parts}
 
 pub data Walk : Type 0 where
   own : ℕ → Walk
-  inner : Walk
+  inner : ℕ → Walk
 
 abbrev pub walkXml : Walk → List Entry → List ℕ
 walkXml (own k) es = ownXml (componentName k) es
-walkXml inner es = innerXml es
+walkXml (inner v) es = innerXml v es
 
 -- no line, no bytes
 walk-none : (w : Walk) → walkXml w [] ≡ []
 walk-none (own k) = own-none (componentName k)
-walk-none inner = inner-none
+walk-none (inner v) = inner-none v
 
 module _ (ed : Edition) where
   -- it began at the line at `from` with d and o, and has come with e and p to the line at `at`
@@ -140,41 +141,41 @@ module _ {ed : Edition} where
 
   -- ---- the subcomponents
 
-  module _ {mode : ℕ} {s : List ℕ} {from : ℕ} {d : List ℕ} {o : ℕ} {e : List ℕ} {p at : ℕ} (m : Walking ed inner mode s from d o e p at) where
-    pub inner-end : length s ≤ at → ComponentsPut ed d e o mode s from (record { to = p; next = at })
+  module _ {v mode : ℕ} {s : List ℕ} {from : ℕ} {d : List ℕ} {o : ℕ} {e : List ℕ} {p at : ℕ} (m : Walking ed (inner v) mode s from d o e p at) where
+    pub inner-end : length s ≤ at → ComponentsPut ed v d e o mode s from (record { to = p; next = at })
     inner-end h = record { put = walk-end m h; passed = walk-passed m h }
 
     module _ {r : Found} (f : BoundAt ed mode s at r) where
-      pub inner-over : r .kind ≡ End → ComponentsPut ed d e o mode s from (record { to = p; next = r .next })
-      inner-over q = record { put = walk-stop m _ (bound-kind f End q) (inner-close _); passed = walk-closed m (r .next) (f .onward) (f .ready) (bound-kind f End q) }
+      pub inner-over : r .kind ≡ End → ComponentsPut ed v d e o mode s from (record { to = p; next = r .next })
+      inner-over q = record { put = walk-stop m _ (bound-kind f End q) (inner-close v _); passed = walk-closed m (r .next) (f .onward) (f .ready) (bound-kind f End q) }
 
       -- a component whose parts were put
-      module _ {w : Walked} {g h i : List ℕ} (q : r .kind ≡ Begin) (u : PropertiesPut ed e g p (headXml (upper (rest mode (take (r .end) s) (r .line .value))) (w .bare) (entriesAt ed mode s (r .next))) mode s (r .next) w) where
-        component : {b p′ n : ℕ} → Put g h (w .to) b (innerXml (entriesAt ed mode s (r .next))) → Put h i b p′ (tailXml (upper (rest mode (take (r .end) s) (r .line .value))) (w .bare)) →
-            Passed ed mode s (r .next) n → Walking ed inner mode s from d o i p′ n
-        component {n = n} v t z =
+      module _ {w : Walked} {g h i : List ℕ} (y : 1 ≤ v) (q : r .kind ≡ Begin) (u : PropertiesPut ed (shallow (v - 1)) e g p (headXml (upper (rest mode (take (r .end) s) (r .line .value))) (w .bare) (entriesAt ed mode s (r .next))) mode s (r .next) w) where
+        component : {b p′ n : ℕ} → Put g h (w .to) b (innerXml (v - 1) (entriesAt ed mode s (r .next))) → Put h i b p′ (tailXml (upper (rest mode (take (r .end) s) (r .line .value))) (w .bare)) →
+            Passed ed mode s (r .next) n → Walking ed (inner v) mode s from d o i p′ n
+        component {n = n} c t z =
             let j = bound-kind f Begin q in
-            walk-put m n _ (omega (arith, f .onward, z .onward)) (z .ready) (ap innerXml j ∙ component-parts _ _ ∙ rw (z .rest, u .ahead .empty)) (behind-passed at _ j z) (u .put ▷ v ▷ t)
+            walk-put m n _ (omega (arith, f .onward, z .onward)) (z .ready) (ap (innerXml v) j ∙ component-parts v _ _ y ∙ rw (z .rest, u .ahead .empty)) (behind-passed at _ j z) (u .put ▷ c ▷ t)
 
-        pub inner-at-component : {p′ : ℕ} {b : Reached} → ComponentsPut ed g h (w .to) mode s (w .inner) b →
-            Put h i (b .to) p′ (tailXml (upper (rest mode (take (r .end) s) (r .line .value))) (w .bare)) → Walking ed inner mode s from d o i p′ (b .next)
-        inner-at-component {b = b} v t =
-            component (subst (λ (c : Components). Put g h (w .to) (b .to) (componentsXml c)) (u .ahead .components) (v .put)) t (record { onward = omega (arith, u .ahead .onward, v .passed .onward); ready = v .passed .ready; rest = v .passed .rest ∙ u .ahead .rest })
+        pub inner-at-component : {p′ : ℕ} {b : Reached} → ComponentsPut ed (v - 1) g h (w .to) mode s (w .inner) b →
+            Put h i (b .to) p′ (tailXml (upper (rest mode (take (r .end) s) (r .line .value))) (w .bare)) → Walking ed (inner v) mode s from d o i p′ (b .next)
+        inner-at-component {b = b} c t =
+            component (subst (λ (x : Components). Put g h (w .to) (b .to) (componentsXml (shallow (v - 1) x))) (u .ahead .components) (c .put)) t (record { onward = omega (arith, u .ahead .onward, c .passed .onward); ready = c .passed .ready; rest = c .passed .rest ∙ u .ahead .rest })
 
-      pub inner-at-bare : {w : Walked} {g i : List ℕ} {p′ : ℕ} → r .kind ≡ Begin →
-          PropertiesPut ed e g p (headXml (upper (rest mode (take (r .end) s) (r .line .value))) (w .bare) (entriesAt ed mode s (r .next))) mode s (r .next) w → w .bare ≡ true →
-          Put g i (w .to) p′ (tailXml (upper (rest mode (take (r .end) s) (r .line .value))) (w .bare)) → Walking ed inner mode s from d o i p′ (w .next)
-      inner-at-bare q u h t =
-          component q u (rw (inner-empty _ (sym (u .ahead .empty) ∙ h)) (put-none _ _ (t .sized))) t (u .ahead .passed h)
+      pub inner-at-bare : {w : Walked} {g i : List ℕ} {p′ : ℕ} → 1 ≤ v → r .kind ≡ Begin →
+          PropertiesPut ed (shallow (v - 1)) e g p (headXml (upper (rest mode (take (r .end) s) (r .line .value))) (w .bare) (entriesAt ed mode s (r .next))) mode s (r .next) w → w .bare ≡ true →
+          Put g i (w .to) p′ (tailXml (upper (rest mode (take (r .end) s) (r .line .value))) (w .bare)) → Walking ed (inner v) mode s from d o i p′ (w .next)
+      inner-at-bare y q u h t =
+          component y q u (rw (inner-empty (v - 1) _ (sym (u .ahead .empty) ∙ h)) (put-none _ _ (t .sized))) t (u .ahead .passed h)
 
-      inner-aside-at : Aside ed mode s at (r .next) → Walking ed inner mode s from d o e p (r .next)
+      inner-aside-at : Aside ed mode s at (r .next) → Walking ed (inner v) mode s from d o e p (r .next)
       inner-aside-at i =
-          walk-skip m (r .next) (f .onward) (f .ready) (ap innerXml (i .first) ∙ inner-aside _ (i .entry) (i .aside)) (sym (ap (λ (es : List Entry). behind es 0) (i .first) ∙ behind-aside _ (i .entry) 0 (i .aside)))
+          walk-skip m (r .next) (f .onward) (f .ready) (ap (innerXml v) (i .first) ∙ inner-aside v _ (i .entry) (i .aside)) (sym (ap (λ (es : List Entry). behind es 0) (i .first) ∙ behind-aside _ (i .entry) 0 (i .aside)))
 
-      pub inner-at-property : r .kind ≡ Property → Walking ed inner mode s from d o e p (r .next)
+      pub inner-at-property : r .kind ≡ Property → Walking ed (inner v) mode s from d o e p (r .next)
       inner-at-property q = inner-aside-at (bound-kind f Property q)
 
-      pub inner-at-nothing : r .kind ≡ Nothing → Walking ed inner mode s from d o e p (r .next)
+      pub inner-at-nothing : r .kind ≡ Nothing → Walking ed (inner v) mode s from d o e p (r .next)
       inner-at-nothing q = inner-aside-at (bound-kind f Nothing q)
 
 pub ruleset owns = (walk-start, walk-ready, walk-length, own-end, own-at-begin, own-over, own-at-property, own-at-nothing, needs)

@@ -4,6 +4,7 @@ use crate::entry::Kind;
 use crate::parts::put_head;
 use crate::parts::put_tail;
 use edition::Edition;
+ghost use Prim.Native.Nat.{_≤_};
 ghost use Rattle.read_text_line.specs.Ready.{Ready};
 ghost use Rattle.write_xml.specs.Places.{ComponentsPut};
 
@@ -13,7 +14,7 @@ pub struct Reached {
     pub next: usize,
 }
 
-// The components that the lines from `from` on begin, up to the end of the one that they stand in.
+// The components that the lines from `from` on begin, `left` levels deep, up to the end of the one that they stand in.
 pub fn put_components(
     out: &mut [u8],
     o: usize,
@@ -21,9 +22,10 @@ pub fn put_components(
     mode: usize,
     s: &[u8],
     from: usize,
+    left: usize,
 ) -> Reached
-    requires { ⌜ Ready mode (now s) from ⌝ }
-    ensures { λ r. ⌜ ComponentsPut edition (now (out .entry)) (now (out .exit)) o mode (now (s .entry)) from r ⌝ }
+    requires { ⌜ Ready mode (now s) from × (1 ≤ left) ⌝ }
+    ensures { λ r. ⌜ ComponentsPut edition left (now (out .entry)) (now (out .exit)) o mode (now (s .entry)) from r ⌝ }
 {
     let mut p = o;
     let mut at = from;
@@ -33,12 +35,12 @@ pub fn put_components(
         match kind {
             Kind::Begin => {
                 let l = f.line;
-                let h = put_head(out, p, edition, mode, s, l.value, f.end, f.next);
+                let h = put_head(out, p, edition, mode, s, l.value, f.end, f.next, left);
                 if h.bare {
                     p = put_tail(out, h.to, mode, &s[..f.end], l.value, h.bare);
                     at = h.next;
                 } else {
-                    let b = put_components(out, h.to, edition, mode, s, h.inner);
+                    let b = put_components(out, h.to, edition, mode, s, h.inner, left - 1);
                     p = put_tail(out, b.to, mode, &s[..f.end], l.value, h.bare);
                     at = b.next;
                 }

@@ -4,6 +4,7 @@ use edition::Edition;
 use markup::declaration;
 use markup::element;
 use markup::namespace;
+use schema::component;
 use sink::put;
 use sink::put_all;
 use source::settled;
@@ -82,6 +83,6 @@ pub fn put_document(out: &mut [u8], o: usize, edition: Edition, mode: usize, s: 
 {
     let a = put_front(out, o);
     let from = settled(mode, s, 0);
-    let b = put_components(out, a, edition, mode, s, from);
+    let b = put_components(out, a, edition, mode, s, from, component::LEVELS);
     put_back(out, b.to)
 }

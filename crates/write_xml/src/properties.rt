@@ -14,7 +14,7 @@ ghost use Rattle.xml.specs.Escape.{elementOf};
 ghost use Rattle.schema.specs.Numbers.{componentName};
 ghost use Rattle.write_xml.specs.Entries.{entriesAt};
 ghost use Rattle.write_xml.specs.Walks.{ownXml};
-ghost use Rattle.write_xml.specs.Places.{PropertiesPut, LeadingPut};
+ghost use Rattle.write_xml.specs.Places.{whole, PropertiesPut, LeadingPut};
 
 // What a walk over a component's properties came to: the index in the sink; the cursor of the first subcomponent, or of what ends the component; whether there is
 // no subcomponent; and if there is none, the cursor behind the component's END.
@@ -130,7 +130,7 @@ fn put_properties(
 ) -> Walked
     requires { ⌜ Ready mode (now s) from ⌝ }
     ensures { λ r. ⌜
-        PropertiesPut edition (now (out .entry)) (now (out .exit)) o
+        PropertiesPut edition whole (now (out .entry)) (now (out .exit)) o
         (ownXml (componentName k) (entriesAt edition mode (now (s .entry)) from)) mode (now (s .entry)) from r ⌝ }
 {
     let a = put_leading(out, o, edition, k, mode, s, from);
@@ -158,7 +158,7 @@ pub fn put_properties_element(
 ) -> Walked
     requires { ⌜ Ready mode (now s) from ⌝ }
     ensures { λ r. ⌜
-        PropertiesPut edition (now (out .entry)) (now (out .exit)) o
+        PropertiesPut edition whole (now (out .entry)) (now (out .exit)) o
         (elementOf (ascii "properties") (ownXml (componentName k) (entriesAt edition mode (now (s .entry)) from))) mode
         (now (s .entry)) from r ⌝ }
 {

@@ -1,19 +1,22 @@
 -- The elements of components, up to the root (RFC 6321, sections 3.2 and 3.3): what they state, and where they are refused.
 --     componentsVerdict, componentVerdict   the verdict on the children of `components`, and of a component
 --     rootVerdict                           the verdict on the root element
---     readComponents                        the components that elements state
+--     readComponents, readCalendars         the components that elements state, and the calendars of the root's children
 use mathlib.Core.Bool.{Bool, true, false, not}
 use mathlib.Core.List.{List}
-use Prim.Native.Nat.{ℕ}
+use Prim.Native.Nat.{ℕ, _-_}
+use lib.Dec.{ltb}
 use Rattle.octets.specs.Ascii.{ascii}
 use Rattle.octets.specs.Pick.{pick, _and_, _or_}
 use Rattle.octets.specs.Class.{upper, isSpace}
-use Rattle.octets.specs.Words.{same, isOneOf, isEmpty}
+use Rattle.octets.specs.Words.{same, isEmpty}
 use Rattle.calendar.specs.Calendar.{Components, noMore, component}
-use Rattle.calendar.specs.Refusal.{FRAME, COUNT, Verdict, fine, refuse, _otherwise_}
-use Rattle.schema.specs.Components.{subcomponentsOf}
+use Rattle.calendar.specs.Levels.{levels, shallow}
+use Rattle.calendar.specs.Refusal.{NAME, FRAME, COUNT, Verdict, fine, refuse, _otherwise_}
+use Rattle.schema.specs.Components.{subcomponentsOf, mayContain}
 use Rattle.schema.specs.Counts.{Around, methodFor, complete}
 use Rattle.edition.specs.declared.Edition.{Edition}
+use Rattle.read_text_line.specs.Names.{isCarriedName}
 use Rattle.xml.specs.Nodes.{Nodes, noNodes, element, literal, referred, hasElement}
 use Rattle.xcal.specs.Layout.{hasCapital, unexpected}
 use Rattle.xcal.specs.PropertyNodes.{propertiesVerdict, readProperties}
@@ -49,28 +52,39 @@ endOfComponent k counts c e =
 unfoldable pub endOfComponents : List ℕ → Bool → ℕ → Verdict
 endOfComponents k any e = pick (any or same k (ascii "VCALENDAR") or same k (ascii "VTIMEZONE")) fine (refuse FRAME e)
 
+-- names that no component's element has: with capitals, beginning with xml
+abbrev pub badComponent : List ℕ → Bool
+badComponent m = hasCapital m or not (isCarriedName m)
+
+-- an element that is no component here
+abbrev pub noComponent : ℕ → List ℕ → Verdict
+noComponent p m = pick (badComponent m) (refuse NAME p) (refuse FRAME p)
+
 unfoldable mutual
-  -- the children of a component k: counts says whether its properties and subcomponents are as often as they must; e is its end tag
-  pub componentVerdict : Edition → Nodes → List ℕ → Bool → Come → ℕ → Verdict
-  componentVerdict ed noNodes k counts c e = endOfComponent k counts c e
-  componentVerdict ed (literal p b more) k counts c e = pick (isSpace b) (componentVerdict ed more k counts c e) (refuse FRAME p)
-  componentVerdict ed (referred p bs more) k counts c e = refuse FRAME p
-  componentVerdict ed (element p m x kids more) k counts c e =
+  -- the children of a component k, with so many levels left in it: counts says whether its properties and subcomponents are as often as they must; e is its end tag
+  pub componentVerdict : Edition → Nodes → List ℕ → ℕ → Bool → Come → ℕ → Verdict
+  componentVerdict ed noNodes k left counts c e = endOfComponent k counts c e
+  componentVerdict ed (literal p b more) k left counts c e = pick (isSpace b) (componentVerdict ed more k left counts c e) (refuse FRAME p)
+  componentVerdict ed (referred p bs more) k left counts c e = refuse FRAME p
+  componentVerdict ed (element p m x kids more) k left counts c e =
       pick (same m (ascii "properties") and not (c .properties) and not (c .components))
-      (propertiesVerdict ed k kids otherwise componentVerdict ed more k counts (record { properties = true; components = false; method = methodFor k (readProperties kids) (c .method) }) e)
+      (propertiesVerdict ed k kids otherwise
+      componentVerdict ed more k left counts (record { properties = true; components = false; method = methodFor k (readProperties kids) (c .method) }) e)
       (pick (same m (ascii "components") and not (c .components) and not (isEmpty (subcomponentsOf k)))
-      (componentsVerdict ed kids k (c .method) false x otherwise componentVerdict ed more k counts (record { properties = c .properties; components = true; method = c .method }) e)
+      (componentsVerdict ed kids k left (c .method) false x otherwise
+      componentVerdict ed more k left counts (record { properties = c .properties; components = true; method = c .method }) e)
       (unexpected p m))
 
   -- the children of `components` in a component k; method says whether the calendar has METHOD; any, whether one has come; e is the end tag of `components`
-  pub componentsVerdict : Edition → Nodes → List ℕ → Bool → Bool → ℕ → Verdict
-  componentsVerdict ed noNodes k method any e = endOfComponents k any e
-  componentsVerdict ed (literal p b more) k method any e = pick (isSpace b) (componentsVerdict ed more k method any e) (refuse FRAME p)
-  componentsVerdict ed (referred p bs more) k method any e = refuse FRAME p
-  componentsVerdict ed (element p m x kids more) k method any e =
-      pick (not (hasCapital m) and isOneOf (upper m) (subcomponentsOf k))
-      (componentVerdict ed kids (upper m) (isComplete (upper m) method kids) (nothingCome method) x otherwise componentsVerdict ed more k method true e)
-      (unexpected p m)
+  pub componentsVerdict : Edition → Nodes → List ℕ → ℕ → Bool → Bool → ℕ → Verdict
+  componentsVerdict ed noNodes k left method any e = endOfComponents k any e
+  componentsVerdict ed (literal p b more) k left method any e = pick (isSpace b) (componentsVerdict ed more k left method any e) (refuse FRAME p)
+  componentsVerdict ed (referred p bs more) k left method any e = refuse FRAME p
+  componentsVerdict ed (element p m x kids more) k left method any e =
+      pick (not (badComponent m) and mayContain k (upper m) and ltb 0 left)
+      (componentVerdict ed kids (upper m) (left - 1) (isComplete (upper m) method kids) (nothingCome method) x otherwise
+      componentsVerdict ed more k left method true e)
+      (noComponent p m)
 
 -- ---- the root
 
@@ -81,8 +95,9 @@ streamVerdict ed (literal p b more) any e = pick (isSpace b) (streamVerdict ed m
 streamVerdict ed (referred p bs more) any e = refuse FRAME p
 streamVerdict ed (element p m x kids more) any e =
     pick (same m (ascii "vcalendar"))
-    (componentVerdict ed kids (ascii "VCALENDAR") (isComplete (ascii "VCALENDAR") false kids) (nothingCome false) x otherwise streamVerdict ed more true e)
-    (unexpected p m)
+    (componentVerdict ed kids (ascii "VCALENDAR") (levels - 1) (isComplete (ascii "VCALENDAR") false kids) (nothingCome false) x otherwise
+    streamVerdict ed more true e)
+    (noComponent p m)
 
 unfoldable pub rootVerdict : Edition → Nodes → Verdict
 rootVerdict ed noNodes = fine
@@ -107,8 +122,12 @@ unfoldable mutual
   readInner (referred p bs more) = readInner more
   readInner (element p m x kids more) = pick (same m (ascii "components")) (readComponents kids) (readInner more)
 
+-- what stands too deep counts as nothing
+abbrev pub readCalendars : Nodes → Components
+readCalendars ns = shallow levels (readComponents ns)
+
 unfoldable pub readRoot : Nodes → Components
 readRoot noNodes = noMore
 readRoot (literal p b more) = noMore
 readRoot (referred p bs more) = noMore
-readRoot (element p m x kids more) = readComponents kids
+readRoot (element p m x kids more) = readCalendars kids

@@ -83,13 +83,13 @@ tags : map xmlVerdict (
     withRoot (ascii "<a/ >") ∷
     withRoot (ascii "<a b='c'/>") ∷
     withRoot (ascii "<a></b>") ∷
-    withRoot (ascii "<a><a><a><a><a><a><a><a><a><a><a><a><a><a><a><b/>") ∷
+    withRoot (ascii "<a><a><a><a><a><a><a><a><a><a><a><a><a><a><a><a><a><a><a><a><a><a><a><a><a><a><a><a><a><a><a><b/>") ∷
     withRoot (ascii "<a") ∷
     withRoot (ascii "<a>") ∷
     withRoot (ascii "<!-- -->") ∷
     ascii "<icalendar xmlns='urn:ietf:params:xml:ns:icalendar-2.0'><a>" ∷
     ascii "<icalendar xmlns='urn:ietf:params:xml:ns:icalendar-2.0'><a" ∷ []) ≡
-    (refuse XML 59 ∷ refuse XML 56 ∷ refuse XML 56 ∷ refuse XML 56 ∷ refuse XML 59 ∷ refuse XML 101 ∷ refuse XML 56 ∷ refuse XML 59 ∷ refuse XML 56 ∷ refuse XML 59 ∷
+    (refuse XML 59 ∷ refuse XML 56 ∷ refuse XML 56 ∷ refuse XML 56 ∷ refuse XML 59 ∷ refuse XML 149 ∷ refuse XML 56 ∷ refuse XML 59 ∷ refuse XML 56 ∷ refuse XML 59 ∷
     refuse XML 56 ∷ [])
 unfolding xml-compute
 tags = refl

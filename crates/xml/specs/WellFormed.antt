@@ -1,4 +1,4 @@
--- Whether a document is within the XML profile: each end tag has its start tag's name, at most 16 elements are open, there is one root, and only white space
+-- Whether a document is within the XML profile: each end tag has its start tag's name, at most 32 elements are open, there is one root, and only white space
 -- after it (XML 1.0, section 2.1; the rules, "XML profile for reading").
 --     xmlVerdict s   fine, or XML and the place of the first fault from the left: the start of the tag, reference or character; the input's length where an
 --                    element is still open or no root came
@@ -18,9 +18,9 @@ pub data Move : Type 0 where
   onward : Bool → List (List ℕ) → Move
   stop : ℕ → Move
 
--- an element may start: as the root, or inside with fewer than 16 open
+-- an element may start: as the root, or inside with fewer than 32 open
 unfoldable pub hasRoom : Bool → List (List ℕ) → Bool
-hasRoom came st = pick (isEmpty st) (not came) (ltb (length st) 16)
+hasRoom came st = pick (isEmpty st) (not came) (ltb (length st) 32)
 
 -- the end tag of the innermost open element
 unfoldable pub closesTop : List ℕ → Bool → List (List ℕ) → ℕ → Move

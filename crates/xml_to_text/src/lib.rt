@@ -22,7 +22,7 @@ ghost use Rattle.xml.specs.WellFormed.{xmlVerdict};
 ghost use Rattle.xml.specs.Nodes.{documentNodes};
 ghost use Rattle.xml.specs.NodesAt.{nodesAt};
 ghost use Rattle.text.specs.WriteText.{writeCalendar};
-ghost use Rattle.xcal.specs.ComponentNodes.{rootVerdict, readComponents};
+ghost use Rattle.xcal.specs.ComponentNodes.{rootVerdict, readCalendars};
 ghost use Rattle.calls.specs.Conversion.{converted};
 ghost use Rattle.calls.specs.ToText.{toTextOutcome, toTextOutput};
 ghost use Rattle.calls.specs.Answered.{outcomeOf, Done};
@@ -39,10 +39,10 @@ fn written_at_once(
     requires { ⌜
         (length (now s) ≤ 65535)
         × (length (now line) ≡ 262144)
-        × (length (writeCalendar edition (readComponents (nodesAt (now s) from))) ≤ 6 * length (now s))
+        × (length (writeCalendar edition (readCalendars (nodesAt (now s) from))) ≤ 6 * length (now s))
         × (6 * length (now s) ≤ length (now out)) ⌝ }
     ensures { λ r. ⌜
-        Done (converted (writeCalendar edition) (answer fine (readComponents (nodesAt (now (s .entry)) from))))
+        Done (converted (writeCalendar edition) (answer fine (readCalendars (nodesAt (now (s .entry)) from))))
         (now (out .entry)) (now (out .exit)) r ⌝ }
 {
     let n = put_calendar(out, 0, edition, line, s, from);
@@ -54,9 +54,9 @@ fn measured(edition: Edition, s: &[u8], from: usize, line: &mut [u8], out: &mut 
     requires { ⌜
         (length (now s) ≤ 65535)
         × (length (now line) ≡ 262144)
-        × (length (writeCalendar edition (readComponents (nodesAt (now s) from))) ≤ 6 * length (now s)) ⌝ }
+        × (length (writeCalendar edition (readCalendars (nodesAt (now s) from))) ≤ 6 * length (now s)) ⌝ }
     ensures { λ r. ⌜
-        Done (converted (writeCalendar edition) (answer fine (readComponents (nodesAt (now (s .entry)) from))))
+        Done (converted (writeCalendar edition) (answer fine (readCalendars (nodesAt (now (s .entry)) from))))
         (now (out .entry)) (now (out .exit)) r ⌝ }
 {
     let need = put_calendar(&mut out[..0], 0, edition, line, s, from);
@@ -72,9 +72,9 @@ fn written(edition: Edition, s: &[u8], from: usize, line: &mut [u8], out: &mut [
     requires { ⌜
         (length (now s) ≤ 65535)
         × (length (now line) ≡ 262144)
-        × (length (writeCalendar edition (readComponents (nodesAt (now s) from))) ≤ 6 * length (now s)) ⌝ }
+        × (length (writeCalendar edition (readCalendars (nodesAt (now s) from))) ≤ 6 * length (now s)) ⌝ }
     ensures { λ r. ⌜
-        Done (converted (writeCalendar edition) (answer fine (readComponents (nodesAt (now (s .entry)) from))))
+        Done (converted (writeCalendar edition) (answer fine (readCalendars (nodesAt (now (s .entry)) from))))
         (now (out .entry)) (now (out .exit)) r ⌝ }
 {
     let most = 6 * s.len();
@@ -88,9 +88,9 @@ fn written(edition: Edition, s: &[u8], from: usize, line: &mut [u8], out: &mut [
 fn lined(edition: Edition, s: &[u8], from: usize, out: &mut [u8]) -> Answer
     requires { ⌜
         (length (now s) ≤ 65535)
-        × (length (writeCalendar edition (readComponents (nodesAt (now s) from))) ≤ 6 * length (now s)) ⌝ }
+        × (length (writeCalendar edition (readCalendars (nodesAt (now s) from))) ≤ 6 * length (now s)) ⌝ }
     ensures { λ r. ⌜
-        Done (converted (writeCalendar edition) (answer fine (readComponents (nodesAt (now (s .entry)) from))))
+        Done (converted (writeCalendar edition) (answer fine (readCalendars (nodesAt (now (s .entry)) from))))
         (now (out .entry)) (now (out .exit)) r ⌝ }
 {
     let mut line = [0u8; 262144];

@@ -118,12 +118,22 @@ fn is_carried(name: &str) -> bool {
     !name.starts_with(|c: char| c.is_ascii_digit() || c == '-') && !name.starts_with("XML")
 }
 
+/// A name, in capitals, that a component can have: BEGIN and END too.
+fn is_component_name(name: &str) -> bool {
+    matches!(name_of(name), Some((_, ""))) && is_carried(name)
+}
+
+const COMPONENTS: [&str; 9] = ["VCALENDAR", "VEVENT", "VTODO", "VJOURNAL", "VFREEBUSY", "VTIMEZONE", "STANDARD", "DAYLIGHT", "VALARM"];
+
+/// VCALENDAR, and eight levels below it.
+const LEVELS: usize = 9;
+
 fn may_hold(outer: &str, inner: &str) -> bool {
     match outer {
-        "VCALENDAR" => matches!(inner, "VEVENT" | "VTODO" | "VJOURNAL" | "VFREEBUSY" | "VTIMEZONE"),
+        "VCALENDAR" => matches!(inner, "VEVENT" | "VTODO" | "VJOURNAL" | "VFREEBUSY" | "VTIMEZONE") || !COMPONENTS.contains(&inner),
         "VEVENT" | "VTODO" => inner == "VALARM",
         "VTIMEZONE" => matches!(inner, "STANDARD" | "DAYLIGHT"),
-        _ => false,
+        _ => !COMPONENTS.contains(&outer) && inner != "VCALENDAR",
     }
 }
 
@@ -136,6 +146,7 @@ impl Open {
     /// Takes a line; `false` where it may not stand there.
     fn takes(&mut self, line: &Content) -> bool {
         let value = line.value.to_ascii_uppercase();
+        let has_level = self.stack.len() < LEVELS;
         match (line.name.as_str(), self.stack.last_mut()) {
             ("BEGIN", None) => {
                 self.stack.push((value.clone(), false));
@@ -143,7 +154,7 @@ impl Open {
             }
             ("BEGIN", Some((outer, inner))) => {
                 *inner = true;
-                let may = may_hold(outer, &value);
+                let may = has_level && may_hold(outer, &value);
                 self.stack.push((value, false));
                 may
             }
@@ -189,7 +200,8 @@ pub fn reading(input: &[u8]) -> Reading {
                 value = Some(lent(content.value_at));
                 let stands = open.takes(&content);
                 let property = content.name != "BEGIN" && content.name != "END";
-                if property && !is_carried(&content.name) || !content.parameters.iter().all(|name| is_carried(name)) {
+                let component = content.name == "BEGIN" && !is_component_name(&content.value.to_ascii_uppercase());
+                if component || property && !is_carried(&content.name) || !content.parameters.iter().all(|name| is_carried(name)) {
                     Some(5)
                 } else if !stands {
                     Some(6)

@@ -19,7 +19,8 @@ use Rattle.octets.specs.Words.{same}
 use Rattle.octets.specs.Lists.{every, distinct}
 use Rattle.octets.specs.Computing.{octets-compute}
 use Rattle.octets.specs.laws.Letters.{upper-length}
-use Rattle.calendar.specs.Calendar.{Property, Components, component}
+use Rattle.calendar.specs.Calendar.{Property, Components, noMore, component}
+use Rattle.calendar.specs.Levels.{levels, shallow}
 use Rattle.folding.specs.Fold.{width, isOver, foldFrom}
 use Rattle.folding.specs.laws.Fold.{width-most}
 use Rattle.read_text_line.specs.Decoded.{writeLine}
@@ -109,6 +110,30 @@ module _ (ed : Edition) where
       go true h k = omega (arith, h)
       go false h k = omega (arith, k)
 
+  none-shorter : (c : Components) → length (writeCalendar ed noMore) ≤ length (writeCalendar ed c)
+  none-shorter c = unfold writeCalendar in omega arith
+
+  -- the lines of a component, exactly
+  all-length : (n : List ℕ) (ps : List Property) (i x : Components) → length (writeCalendar ed (component n ps i x)) ≡
+      length (beginLine n) + length (propertyLines ed ps) + length (writeCalendar ed i) + length (endLine n) + length (writeCalendar ed x)
+  unfolding writeCalendar
+  all-length n ps i x =
+      let a : List ℕ = propertyLines ed ps in
+      let b : List ℕ = writeCalendar ed i in
+      let c : List ℕ = writeCalendar ed x in
+      omega (arith, length-both (beginLine n) (a ⊕ b ⊕ endLine n ⊕ c), length-both a (b ⊕ endLine n ⊕ c), length-both b (endLine n ⊕ c), length-both (endLine n) c)
+
+  -- without what stands too deep
+  shallow-length : (c : Components) (l : ℕ) → length (writeCalendar ed (shallow l c)) ≤ length (writeCalendar ed c)
+  unfolding shallow
+  shallow-length noMore l = omega arith
+  shallow-length (component n ps inner next) l = go (ltb 0 l) (shallow-length inner (l - 1)) (shallow-length next l)
+    where
+      go : (b : Bool) → length (writeCalendar ed (shallow (l - 1) inner)) ≤ length (writeCalendar ed inner) → length (writeCalendar ed (shallow l next)) ≤ length (writeCalendar ed next) →
+          length (writeCalendar ed (pick b (component n ps (shallow (l - 1) inner) (shallow l next)) noMore)) ≤ length (writeCalendar ed (component n ps inner next))
+      go true h k = unfold pick in omega (arith, all-length n ps inner next, all-length n ps (shallow (l - 1) inner) (shallow l next))
+      go false h k = unfold pick in none-shorter (component n ps inner next)
+
   -- ---- the text
 
   root-length : (ns : Nodes) → length (writeCalendar ed (readRoot ns)) ≤ rate * size ns
@@ -116,7 +141,7 @@ module _ (ed : Edition) where
   root-length noNodes = unfold writeCalendar in omega arith
   root-length (literal p b more) = unfold writeCalendar in omega arith
   root-length (referred p bs more) = unfold writeCalendar in omega arith
-  root-length (element p m x kids more) = omega (arith, calendar-length kids .0)
+  root-length (element p m x kids more) = omega (arith, shallow-length (readComponents kids) levels, calendar-length kids .0)
 
   pub text-bound : (s : List ℕ) → length (writeCalendar ed (readRoot (documentNodes s))) ≤ rate * length s
   text-bound s = omega (arith, root-length (documentNodes s), document-size s)

@@ -18,6 +18,7 @@ use Rattle.octets.specs.Words.{same, starts, eachAfter, joinedBy}
 use Rattle.octets.specs.laws.Words.{starts-length}
 use Rattle.octets.specs.laws.Letters.{upper-length}
 use Rattle.calendar.specs.Calendar.{Components}
+use Rattle.calendar.specs.Levels.{levels}
 use Rattle.folding.specs.Unfold.{crlf}
 use Rattle.folding.specs.Lines.{Line, whole, loose, longer, lineStep, linesAfter, lines}
 use Rattle.edition.specs.Edition.{decode}
@@ -145,7 +146,7 @@ pub xml-bound : (ed : Edition) (u : List ℕ) → length (writeDocument (calenda
 unfolding calendarOf
 xml-bound ed u =
     let ls : List Line = lines u in
-    omega (arith, document-length (calendarOf ed ls), nested-length (map (entryOf ed) ls), lines-cost ed ls, after-bytes u 0 0)
+    omega (arith, document-length (calendarOf ed ls), nested-length (map (entryOf ed) ls) levels, lines-cost ed ls, after-bytes u 0 0)
 
 pub xml-fits : (ed : Edition) (u : List ℕ) (n : ℕ) → rate * length u + 109 ≤ n → length (writeDocument (calendarOf ed (lines u))) ≤ n
 xml-fits ed u n h = omega (arith, xml-bound ed u, h)

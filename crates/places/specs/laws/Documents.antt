@@ -7,7 +7,7 @@ use mathlib.Core.Path.{_≡_, refl}
 use mathlib.Core.Bool.{Bool, true, false}
 use mathlib.Core.List.{List, []}
 use mathlib.Core.Option.{Option, none, some}
-use Prim.Native.Nat.{ℕ, _≤_}
+use Prim.Native.Nat.{ℕ, _-_, _≤_}
 use native.Mathlib.Omega.{arith}
 use lib.ListN.{length}
 use Rattle.octets.specs.Class.{upper}
@@ -57,22 +57,22 @@ module _ (ed : Edition) where
     mutual
       unfolding componentVerdict endOfComponent endOfComponents
 
-      pub component-within : (ns : Nodes) (k : List ℕ) (counts : Bool) (c : Come) (e : ℕ) → Inside n ns → e ≤ n → Within n (componentVerdict ed ns k counts c e)
-      component-within noNodes k counts c e i h = search bounding
-      component-within (literal p b more) k counts c e i h = let ih = component-within more k counts c e (i .1) h in search bounding
-      component-within (referred p bs more) k counts c e i h = search bounding
-      component-within (element p m x kids more) k counts c e i h =
-          let inner = components-within kids k (c .method) false x (i .2) (i .1) in
-          let ih : (d : Come) → Within n (componentVerdict ed more k counts d e) = λ d. component-within more k counts d e (i .3) h in
+      pub component-within : (ns : Nodes) (k : List ℕ) (l : ℕ) (counts : Bool) (c : Come) (e : ℕ) → Inside n ns → e ≤ n → Within n (componentVerdict ed ns k l counts c e)
+      component-within noNodes k l counts c e i h = search bounding
+      component-within (literal p b more) k l counts c e i h = let ih = component-within more k l counts c e (i .1) h in search bounding
+      component-within (referred p bs more) k l counts c e i h = search bounding
+      component-within (element p m x kids more) k l counts c e i h =
+          let inner = components-within kids k l (c .method) false x (i .2) (i .1) in
+          let ih : (d : Come) → Within n (componentVerdict ed more k l counts d e) = λ d. component-within more k l counts d e (i .3) h in
           search (bounding, properties-within)
 
-      pub components-within : (ns : Nodes) (k : List ℕ) (method any : Bool) (e : ℕ) → Inside n ns → e ≤ n → Within n (componentsVerdict ed ns k method any e)
-      components-within noNodes k method any e i h = search bounding
-      components-within (literal p b more) k method any e i h = let ih = components-within more k method any e (i .1) h in search bounding
-      components-within (referred p bs more) k method any e i h = search bounding
-      components-within (element p m x kids more) k method any e i h =
-          let inner = component-within kids (upper m) (isComplete (upper m) method kids) (nothingCome method) x (i .2) (i .1) in
-          let ih = components-within more k method true e (i .3) h in
+      pub components-within : (ns : Nodes) (k : List ℕ) (l : ℕ) (method any : Bool) (e : ℕ) → Inside n ns → e ≤ n → Within n (componentsVerdict ed ns k l method any e)
+      components-within noNodes k l method any e i h = search bounding
+      components-within (literal p b more) k l method any e i h = let ih = components-within more k l method any e (i .1) h in search bounding
+      components-within (referred p bs more) k l method any e i h = search bounding
+      components-within (element p m x kids more) k l method any e i h =
+          let inner = component-within kids (upper m) (l - 1) (isComplete (upper m) method kids) (nothingCome method) x (i .2) (i .1) in
+          let ih = components-within more k l method true e (i .3) h in
           search bounding
 
     -- ---- the root

@@ -20,14 +20,13 @@ use Rattle.names.specs.Table.{placeOf}
 use Rattle.names.specs.laws.Table.{one-of-place}
 use Rattle.calendar.specs.Refusal.{refusalAt}
 use Rattle.source.specs.Source.{rest}
+use Rattle.schema.specs.Components.{componentNames}
 use Rattle.schema.specs.Properties.{propertyNames, isKnownProperty}
-use Rattle.schema.specs.Numbers.{componentName}
 use Rattle.schema.specs.Coded.{rowAt}
 use Rattle.schema.specs.Columns.{standsAt}
 use Rattle.schema.specs.laws.Columns.{number-place, stand-place, row-stands}
 use Rattle.schema.specs.laws.Sets.{timezone-place}
 use Rattle.schema.specs.Completing.{actionNames}
-use Rattle.schema.specs.laws.Places.{component-at}
 use Rattle.schema.specs.Property as property
 use Rattle.schema.specs.declared.table.Row.{Row}
 use Rattle.read_text_line.specs.Cursor.{paramsAt}
@@ -62,64 +61,64 @@ follow-first inner t h = rw h
 number-of : {row : Row} (w : List ℕ) → row ≡ rowAt (placeOf w propertyNames) → row .number ≡ placeOf w propertyNames
 number-of w e = ap (λ (r : Row). r .number) e ∙ number-place w
 
-module _ {k : ℕ} {row : Row} (inner : Bool) (w : List ℕ) (h : k < 9) (e : row ≡ rowAt (placeOf w propertyNames)) where
-  follow-at : (not inner or same (componentName k) (ascii "VTIMEZONE")) ≡ (not inner or eqb k 5)
-  follow-at = rw (timezone-place (componentName k), component-at k h)
+module _ {k : ℕ} {row : Row} (inner : Bool) (c w : List ℕ) (o : k ≡ placeOf c componentNames) (e : row ≡ rowAt (placeOf w propertyNames)) where
+  follow-at : (not inner or same c (ascii "VTIMEZONE")) ≡ (not inner or eqb k 5)
+  follow-at = rw (timezone-place c, ← o)
 
-  hold-at : mayHold w (openAs (componentName k) inner) ≡ ((not (ltb (row .number) property.KNOWN) or standsAt k row) and (not inner or eqb k 5))
+  hold-at : mayHold w (openAs c inner) ≡ ((not (ltb (row .number) property.KNOWN) or standsAt k row) and (not inner or eqb k 5))
   unfolding isKnownProperty
-  hold-at = rw (one-of-place w propertyNames, stand-place (componentName k) w, component-at k h, ← (row-stands k (placeOf w propertyNames)), ← e, ← (number-of w e), follow-at)
+  hold-at = rw (one-of-place w propertyNames, stand-place c w, ← o, ← (row-stands k (placeOf w propertyNames)), ← e, ← (number-of w e), follow-at)
 
-  pub hold-known : {m r : Bool} → row .number < property.KNOWN → m ≡ standsAt k row → m ≡ true → r ≡ (not inner or eqb k 5) → r ≡ mayHold w (openAs (componentName k) inner)
+  pub hold-known : {m r : Bool} → row .number < property.KNOWN → m ≡ standsAt k row → m ≡ true → r ≡ (not inner or eqb k 5) → r ≡ mayHold w (openAs c inner)
   unfolding _and_ _or_
   hold-known f q g u = u ∙ sym (hold-at ∙ rw (lt-ltb (row .number) property.KNOWN f, ← q, g))
 
-  pub hold-not : {m : Bool} → row .number < property.KNOWN → m ≡ standsAt k row → m ≡ false → false ≡ mayHold w (openAs (componentName k) inner)
+  pub hold-not : {m : Bool} → row .number < property.KNOWN → m ≡ standsAt k row → m ≡ false → false ≡ mayHold w (openAs c inner)
   unfolding _and_ _or_
   hold-not f q g = sym (hold-at ∙ rw (lt-ltb (row .number) property.KNOWN f, ← q, g))
 
-  pub hold-other : {r : Bool} → property.KNOWN ≤ row .number → r ≡ (not inner or eqb k 5) → r ≡ mayHold w (openAs (componentName k) inner)
+  pub hold-other : {r : Bool} → property.KNOWN ≤ row .number → r ≡ (not inner or eqb k 5) → r ≡ mayHold w (openAs c inner)
   unfolding _and_ _or_
   hold-other f u = u ∙ sym (hold-at ∙ rw (le-ltb (row .number) property.KNOWN f))
 
 module _ (ed : Edition) where
   -- ---- its line
 
-  module _ (m : ℕ) (s : List ℕ) (c : LineCursors) (w : List ℕ) (k : ℕ) {row : Row} (inner : Bool) {b : Bool} (e : row ≡ rowAt (placeOf (upper w) propertyNames)) (q : b ≡ mayHold (upper w) (openAs (componentName k) inner)) where
-    pub property-not : b ≡ false → KindIs (PlaceOf m s c) (propertyKind (componentName k) inner (decodedLine ed (lineFrom w m s c))) (Faulty 6 (c .name))
+  module _ (v : Bool) (m : ℕ) (s : List ℕ) (c : LineCursors) (w n : List ℕ) {row : Row} (inner : Bool) {b : Bool} (e : row ≡ rowAt (placeOf (upper w) propertyNames)) (q : b ≡ mayHold (upper w) (openAs n inner)) where
+    pub property-not : b ≡ false → KindIs (PlaceOf m s c) v m s (propertyKind n inner (decodedLine ed (lineFrom w m s c))) (Faulty 6 (c .name))
     unfolding refusalAt
     property-not g = record { place = lineStart; is = pick-no _ _ _ (sym q ∙ g); there = refl }
 
-    module _ {f : LineFault} (g : b ≡ true) (u : FaultIs (propertyFault (componentName k) (decodedLine ed (lineFrom w m s c))) f) where
-      fault-as : (x : LineFault) → f ≡ x → propertyFault (componentName k) (decodedLine ed (lineFrom w m s c)) ≡ faultOf x
+    module _ {f : LineFault} (g : b ≡ true) (u : FaultIs (propertyFault n (decodedLine ed (lineFrom w m s c))) f) where
+      fault-as : (x : LineFault) → f ≡ x → propertyFault n (decodedLine ed (lineFrom w m s c)) ≡ faultOf x
       fault-as x z = sym (u .is) ∙ ap faultOf z
 
-      kind-as : (x : LineFault) → f ≡ x → propertyKind (componentName k) inner (decodedLine ed (lineFrom w m s c)) ≡ heldBy (faultOf x) (propertyOf (componentName k) (decodedLine ed (lineFrom w m s c)))
-      kind-as x z = pick-yes _ _ _ (sym q ∙ g) ∙ ap (λ (o : Option Fault). heldBy o (propertyOf (componentName k) (decodedLine ed (lineFrom w m s c)))) (fault-as x z)
+      kind-as : (x : LineFault) → f ≡ x → propertyKind n inner (decodedLine ed (lineFrom w m s c)) ≡ heldBy (faultOf x) (propertyOf n (decodedLine ed (lineFrom w m s c)))
+      kind-as x z = pick-yes _ _ _ (sym q ∙ g) ∙ ap (λ (o : Option Fault). heldBy o (propertyOf n (decodedLine ed (lineFrom w m s c)))) (fault-as x z)
 
       pub property-parameter : {i r : ℕ} → f ≡ Parameter i → (i < length (paramsAt m s (c .parameters)) → NameAt m s (c .parameters) i r) →
-          KindIs (PlaceOf m s c) (propertyKind (componentName k) inner (decodedLine ed (lineFrom w m s c))) (Faulty 7 r)
+          KindIs (PlaceOf m s c) v m s (propertyKind n inner (decodedLine ed (lineFrom w m s c))) (Faulty 7 r)
       unfolding refusalAt
       property-parameter {i} z x = record {
         place = parameterName i;
         is = kind-as (Parameter i) z;
-        there = x (let n = length-map (paramsAt m s (c .parameters)) (decodedParameter ed) in let v = fault-within (componentName k) (decodedLine ed (lineFrom w m s c)) i (fault-as (Parameter i) z) in omega (arith, n, v));
+        there = x (let j = length-map (paramsAt m s (c .parameters)) (decodedParameter ed) in let y = fault-within n (decodedLine ed (lineFrom w m s c)) i (fault-as (Parameter i) z) in omega (arith, j, y));
       }
 
-      pub property-encoding : f ≡ Encoding → KindIs (PlaceOf m s c) (propertyKind (componentName k) inner (decodedLine ed (lineFrom w m s c))) (Faulty 7 (c .value))
+      pub property-encoding : f ≡ Encoding → KindIs (PlaceOf m s c) v m s (propertyKind n inner (decodedLine ed (lineFrom w m s c))) (Faulty 7 (c .value))
       unfolding refusalAt
       property-encoding z = record { place = valueStart; is = kind-as Encoding z; there = refl }
 
-      pub property-value : f ≡ Value → KindIs (PlaceOf m s c) (propertyKind (componentName k) inner (decodedLine ed (lineFrom w m s c))) (Faulty 8 (c .value))
+      pub property-value : f ≡ Value → KindIs (PlaceOf m s c) v m s (propertyKind n inner (decodedLine ed (lineFrom w m s c))) (Faulty 8 (c .value))
       unfolding refusalAt
       property-value z = record { place = valueStart; is = kind-as Value z; there = refl }
 
       pub property-held : {a : ℕ} → f ≡ None → a ≡ pick (eqb (row .number) property.ACTION) (placeOf (upper (rest m s (c .value))) actionNames) 3 →
-          KindIs (PlaceOf m s c) (propertyKind (componentName k) inner (decodedLine ed (lineFrom w m s c))) (Holds (row .number) a)
+          KindIs (PlaceOf m s c) v m s (propertyKind n inner (decodedLine ed (lineFrom w m s c))) (Holds (row .number) a)
       unfolding pick propertyOf
       property-held {a} z y = record {
-        property = propertyOf (componentName k) (decodedLine ed (lineFrom w m s c));
+        property = propertyOf n (decodedLine ed (lineFrom w m s c));
         is = kind-as None z;
         number = number-of (upper w) e;
-        action = λ x. y ∙ rw (eq-eqb (row .number) property.ACTION x) (sym (action-read (componentName k) (decodedLine ed (lineFrom w m s c)) (fault-as None z) (sym (number-of (upper w) e) ∙ x)));
+        action = λ x. y ∙ rw (eq-eqb (row .number) property.ACTION x) (sym (action-read n (decodedLine ed (lineFrom w m s c)) (fault-as None z) (sym (number-of (upper w) e) ∙ x)));
       }

@@ -7,13 +7,12 @@ use native.Mathlib.Omega.{arith}
 use lib.ListN.{length, take}
 use Rattle.source.specs.Source.{rest}
 use Rattle.calendar.specs.Refusal.{LINE, refuse, refusalAt}
-use Rattle.schema.specs.Numbers.{componentName}
 use Rattle.folding.specs.Lines.{Line}
 use Rattle.read_text_line.specs.LineEnd.{index, LineEnds, EndsLine}
 use Rattle.read_text_line.specs.laws.LineEnd.{line-first, line-none}
 use Rattle.read_text_line.specs.declared.Ending.the-variants.{Loose}
 use Rattle.read_text_line.specs.Ready.{Ready}
-use Rattle.read_text_line.specs.laws.Ready.{ready-end, line-next, line-low}
+use Rattle.read_text_line.specs.laws.Ready.{ready-end, line-end-inside, line-next, line-low}
 use Rattle.text.specs.Faults.{fault, lineStart, offset}
 use Rattle.text.specs.Nesting.{Open, onward, move, nesting}
 use Rattle.text.specs.LineKind.{faulty, lineKind, step}
@@ -39,8 +38,8 @@ module _ (ed : Edition) where
   unfolding nesting
   loose-stops m s at st r h f = ap (λ (ls : List Line). (nesting ed) (length (rest m s 0)) ls st) (line-none m s at (λ e. let k = r .some-byte e in omega arith) f)
 
-  module _ (k : ℕ) (inner : Bool) {m : ℕ} {s : List ℕ} {at : ℕ} (r : Ready m s at) where
-    pub turned-loose : EndsLine m s at Loose → at < length s → Turned ed k inner m s at (record { kind = Faulty 4 at; next = length s })
+  module _ (c : List ℕ) (v inner : Bool) {m : ℕ} {s : List ℕ} {at : ℕ} (r : Ready m s at) where
+    pub turned-loose : EndsLine m s at Loose → at < length s → Turned ed c v inner m s at (record { kind = Faulty 4 at; end = length s; next = length s })
     unfolding step onward refusalAt offset
     turned-loose f h = record {
       bytes = [];
@@ -48,21 +47,25 @@ module _ (ed : Edition) where
       said = record { place = lineStart; is = refl; there = record { is = omega arith; most = r .most } };
       low = h;
       high = ready-end m s (r .cut);
-      does = λ seen st. let z : index m s at ≡ index m s at + 0 = omega arith in loose-stops m s at (openIn k seen inner ∷ st) r h f ∙ ap (refuse LINE) z;
+      within = omega arith;
+      does = λ seen st x. let z : index m s at ≡ index m s at + 0 = omega arith in loose-stops m s at (openIn c seen inner ∷ st) r h f ∙ ap (refuse LINE) z;
     }
 
-    pub turned-whole : {e n : ℕ} (x : Kind) → LineEnds m s at e n → KindIs (OffsetAt m (take e s) at) (lineKind ed (componentName k) inner (rest m (take e s) at)) x → Turned ed k inner m s at (record { kind = x; next = n })
+    pub turned-whole : {e n : ℕ} (x : Kind) → LineEnds m s at e n → KindIs (OffsetAt m (take e s) at) v m (take e s) (lineKind ed c v inner (rest m (take e s) at)) x →
+        Turned ed c v inner m s at (record { kind = x; end = e; next = n })
     turned-whole {e} {n} x f q = record {
       bytes = rest m (take e s) at;
-      line = lineKind ed (componentName k) inner (rest m (take e s) at);
+      line = lineKind ed c v inner (rest m (take e s) at);
       said = said x q;
       low = line-low r f;
       high = line-next r f;
-      does = λ seen st. line-moves r f (openIn k seen inner ∷ st) ∙ rw (move-is ed (rest m (take e s) at) (openIn k seen inner) st);
+      within = line-end-inside r f;
+      does = λ seen st z. line-moves r f (openIn c seen inner ∷ st) ∙ rw (move-is ed (rest m (take e s) at) (openIn c seen inner) st, z);
     }
       where
-        said : (x : Kind) → KindIs (OffsetAt m (take e s) at) (lineKind ed (componentName k) inner (rest m (take e s) at)) x → KindIs (PlaceAt m s at (rest m (take e s) at)) (lineKind ed (componentName k) inner (rest m (take e s) at)) x
-        said (Starts i) q = q
+        said : (x : Kind) → KindIs (OffsetAt m (take e s) at) v m (take e s) (lineKind ed c v inner (rest m (take e s) at)) x →
+            KindIs (PlaceAt m s at (rest m (take e s) at)) v m (take e s) (lineKind ed c v inner (rest m (take e s) at)) x
+        said (Starts i a) q = q
         said Stops q = q
         said (Holds p a) q = q
-        said (Faulty i c) q = record { place = q .place; is = q .is; there = place-in-text r f (q .there) }
+        said (Faulty i a) q = record { place = q .place; is = q .is; there = place-in-text r f (q .there) }

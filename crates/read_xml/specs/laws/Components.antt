@@ -15,7 +15,7 @@ use lib.Dec.{eqb}
 use lib.ListN.{length}
 use lib.Seq.{length-take-le}
 use borrow.Author.Needs.{needs}
-use borrow.Author.Tests.{eq-eqb, ne-eqb}
+use borrow.Author.Tests.{eq-eqb, ne-eqb, le-leb}
 use Rattle.octets.specs.Ascii.{ascii}
 use Rattle.octets.specs.Pick.{pick, _and_, _or_}
 use Rattle.octets.specs.Class.{isSpace}
@@ -134,7 +134,7 @@ subs-at (suc (suc (suc (suc (suc (suc (suc zero))))))) = refl
 subs-at (suc (suc (suc (suc (suc (suc (suc (suc zero)))))))) = refl
 subs-at (suc (suc (suc (suc (suc (suc (suc (suc (suc n))))))))) =
     let k : ℕ = suc (suc (suc (suc (suc (suc (suc (suc (suc n)))))))) in
-    rw (ne-eqb k 0 (λ e. omega arith), ne-eqb k 1 (λ e. omega arith), ne-eqb k 2 (λ e. omega arith), ne-eqb k 5 (λ e. omega arith))
+    rw (ne-eqb k 0 (λ e. omega arith), ne-eqb k 1 (λ e. omega arith), ne-eqb k 2 (λ e. omega arith), ne-eqb k 5 (λ e. omega arith), le-leb 9 k (omega arith))
 
 subs-place : (c : List ℕ) {k : ℕ} → k ≡ placeOf c componentNames → not (isEmpty (subcomponentsOf c)) ≡ hasSubs k
 subs-place c {k} o = ap (λ (r : ComponentRow). not (isEmpty (r .subcomponents))) (component-place c ∙ ap componentAt (sym o)) ∙ subs-at k
@@ -212,8 +212,8 @@ module _ (ed : Edition) where
   -- ---- up to `components`
 
   pub record Heading (k : ℕ) (method : Bool) (s : List ℕ) (from e at : ℕ) (had : Bool) (t : Kept) : Type 0 where
-    pub is : (c : List ℕ) → k ≡ placeOf c componentNames → (b : Bool) →
-        componentVerdict ed (nodesAt s from) c b (come false false method) e ≡ componentVerdict ed (nodesAt s at) c b (come had false (methodInside c method had (nodesAt s from))) e
+    pub is : (c : List ℕ) → k ≡ placeOf c componentNames → (l : ℕ) (b : Bool) →
+        componentVerdict ed (nodesAt s from) c l b (come false false method) e ≡ componentVerdict ed (nodesAt s at) c l b (come had false (methodInside c method had (nodesAt s from))) e
     pub low : length s - at ≤ length s - from
     pub inner : insideOf (ascii "components") (nodesAt s from) ≡ insideOf (ascii "components") (nodesAt s at)
     pub unread : had ≡ false → insideOf (ascii "properties") (nodesAt s from) ≡ insideOf (ascii "properties") (nodesAt s at)
@@ -222,11 +222,11 @@ module _ (ed : Edition) where
 -- ---- behind `components`
 
 pub record Following (s : List ℕ) (from e at : ℕ) (had : Bool) : Type 0 where
-  pub is : (ed : Edition) (c : List ℕ) (b m : Bool) → componentVerdict ed (nodesAt s from) c b (come had true m) e ≡ componentVerdict ed (nodesAt s at) c b (come had true m) e
+  pub is : (ed : Edition) (c : List ℕ) (l : ℕ) (b m : Bool) → componentVerdict ed (nodesAt s from) c l b (come had true m) e ≡ componentVerdict ed (nodesAt s at) c l b (come had true m) e
 
 module _ (k : ℕ) (had : Bool) {s : List ℕ} {at : ℕ} {r : Node} (n : NodeAt s at r) where
-  as-nodes : (ed : Edition) {x : Nodes} → nodesAt s at ≡ x → (c : List ℕ) (b m : Bool) (e : ℕ) → componentVerdict ed (nodesAt s at) c b (come had false m) e ≡ componentVerdict ed x c b (come had false m) e
-  as-nodes ed h c b m e = ap (λ (y : Nodes). componentVerdict ed y c b (come had false m) e) h
+  as-nodes : (ed : Edition) {x : Nodes} → nodesAt s at ≡ x → (c : List ℕ) (l : ℕ) (b m : Bool) (e : ℕ) → componentVerdict ed (nodesAt s at) c l b (come had false m) e ≡ componentVerdict ed x c l b (come had false m) e
+  as-nodes ed h c l b m e = ap (λ (y : Nodes). componentVerdict ed y c l b (come had false m) e) h
 
   pub met-end : r .kind ≡ None → MetAt k had s at End
   unfolding componentVerdict insideOf
@@ -234,27 +234,27 @@ module _ (k : ℕ) (had : Bool) {s : List ℕ} {at : ℕ} {r : Node} (n : NodeAt
 
   pub met-referred : r .kind ≡ Referred → MetAt k had s at (Stops (Refused 6 at))
   unfolding componentVerdict
-  met-referred q = record { is = λ ed c o b m e. as-nodes ed (node-referred n q) c b m e ∙ sym (is-frame at); fits = tt }
+  met-referred q = record { is = λ ed c o l b m e. as-nodes ed (node-referred n q) c l b m e ∙ sym (is-frame at); fits = tt }
 
   module _ (q : r .kind ≡ Literal) {b : Bool} (f : b ≡ isSpace (r .unit)) where
     pub met-space : b ≡ true → MetAt k had s at (Past (r .next))
     unfolding componentVerdict insideOf pick
-    met-space h = record { is = λ ed c o b m e. as-nodes ed (node-literal n q) c b m e ∙ rw (← f, h); fits = (literal-less n q, λ m. ap (insideOf m) (node-literal n q)) }
+    met-space h = record { is = λ ed c o l b m e. as-nodes ed (node-literal n q) c l b m e ∙ rw (← f, h); fits = (literal-less n q, λ m. ap (insideOf m) (node-literal n q)) }
 
     pub met-text : b ≡ false → MetAt k had s at (Stops (Refused 6 at))
     unfolding componentVerdict pick
-    met-text h = record { is = λ ed c o b m e. as-nodes ed (node-literal n q) c b m e ∙ rw (← f, h) (sym (is-frame at)); fits = tt }
+    met-text h = record { is = λ ed c o l b m e. as-nodes ed (node-literal n q) c l b m e ∙ rw (← f, h) (sym (is-frame at)); fits = tt }
 
   module _ (q : r .kind ≡ Element) {x : Which} (y : WhichAt k had (nameOf s r) x) where
-    at-child : (ed : Edition) (c : List ℕ) → k ≡ placeOf c componentNames → (b m : Bool) (e : ℕ) → componentVerdict ed (nodesAt s at) c b (come had false m) e ≡
+    at-child : (ed : Edition) (c : List ℕ) → k ≡ placeOf c componentNames → (l : ℕ) (b m : Bool) (e : ℕ) → componentVerdict ed (nodesAt s at) c l b (come had false m) e ≡
         pick (same (nameOf s r) (ascii "properties") and not had)
-        (propertiesVerdict ed c (nodesAt s (r .inside)) otherwise componentVerdict ed (nodesAt s (r .next)) c b (come true false (methodFor c (readProperties (nodesAt s (r .inside))) m)) e)
+        (propertiesVerdict ed c (nodesAt s (r .inside)) otherwise componentVerdict ed (nodesAt s (r .next)) c l b (come true false (methodFor c (readProperties (nodesAt s (r .inside))) m)) e)
         (pick (same (nameOf s r) (ascii "components") and hasSubs k)
-        (componentsVerdict ed (nodesAt s (r .inside)) c m false (r .end) otherwise componentVerdict ed (nodesAt s (r .next)) c b (come had true m) e)
+        (componentsVerdict ed (nodesAt s (r .inside)) c l m false (r .end) otherwise componentVerdict ed (nodesAt s (r .next)) c l b (come had true m) e)
         (unexpected at (nameOf s r)))
     unfolding componentVerdict
-    at-child ed c o b m e =
-        as-nodes ed (node-element n q) c b m e
+    at-child ed c o l b m e =
+        as-nodes ed (node-element n q) c l b m e
         ∙ not-yet (same (nameOf s r) (ascii "properties")) (not had) (same (nameOf s r) (ascii "components")) (not (isEmpty (subcomponentsOf c))) _ _ _
         ∙ rw (subs-place c o)
 
@@ -263,12 +263,12 @@ module _ (k : ℕ) (had : Bool) {s : List ℕ} {at : ℕ} {r : Node} (n : NodeAt
 
     pub met-other : {j : Judged} → x ≡ Other → unexpected at (nameOf s r) ≡ judgedAs j → MetAt k had s at (Stops j)
     unfolding pick
-    met-other z u = record { is = λ ed c o b m e. at-child ed c o b m e ∙ rw (which-is z .0, which-is z .1) u; fits = tt }
+    met-other z u = record { is = λ ed c o l b m e. at-child ed c o l b m e ∙ rw (which-is z .0, which-is z .1) u; fits = tt }
 
     pub met-components : x ≡ Components → MetAt k had s at (HasComponents (r .inside) (r .end) (r .next))
     unfolding pick insideOf
     met-components z = record {
-      is = λ ed c o b m e. at-child ed c o b m e ∙ rw (which-is z .0, which-is z .1);
+      is = λ ed c o l b m e. at-child ed c o l b m e ∙ rw (which-is z .0, which-is z .1);
       fits = (inside-less n q, ap (insideOf (ascii "components")) (node-element n q) ∙ rw (first-of (same (nameOf s r) (ascii "components")) (hasSubs k) (which-is z .1)));
     }
 
@@ -276,7 +276,7 @@ module _ (k : ℕ) (had : Bool) {s : List ℕ} {at : ℕ} {r : Node} (n : NodeAt
     unfolding pick insideOf
     met-properties z =
         let first : same (nameOf s r) (ascii "properties") ≡ true = first-of (same (nameOf s r) (ascii "properties")) (not had) (which-is z) in record {
-          is = λ ed c o b m e. at-child ed c o b m e ∙ rw (which-is z);
+          is = λ ed c o l b m e. at-child ed c o l b m e ∙ rw (which-is z);
           fits = (
             element-less n q,
             second-not (same (nameOf s r) (ascii "properties")) had (which-is z),
@@ -288,31 +288,31 @@ module _ (k : ℕ) (had : Bool) {s : List ℕ} {at : ℕ} {r : Node} (n : NodeAt
 module _ (ed : Edition) where
   pub head-start : (k : ℕ) (method : Bool) (s : List ℕ) (from e : ℕ) (t : Kept) → Heading ed k method s from e from false t
   unfolding pick
-  head-start k method s from e t = record { is = λ c o b. refl; low = omega arith; inner = refl; unread = λ h. refl; counted = λ h. absurd (false≢true h) }
+  head-start k method s from e t = record { is = λ c o l b. refl; low = omega arith; inner = refl; unread = λ h. refl; counted = λ h. absurd (false≢true h) }
 
   module _ {k : ℕ} {method : Bool} {s : List ℕ} {from e at : ℕ} {had : Bool} {t : Kept} (i : Heading ed k method s from e at had t) {x : Met} (y : MetAt k had s at x) where
     met-is : {v : Met} → x ≡ v → MetAt k had s at v
     met-is z = subst (MetAt k had s at) z y
 
-    as-met : {v : Met} → x ≡ v → (c : List ℕ) → k ≡ placeOf c componentNames → (b : Bool) →
-        componentVerdict ed (nodesAt s from) c b (come false false method) e ≡ metOf ed c b had (methodInside c method had (nodesAt s from)) s e v
-    as-met z c o b = i .is c o b ∙ met-is z .is ed c o b (methodInside c method had (nodesAt s from)) e
+    as-met : {v : Met} → x ≡ v → (c : List ℕ) → k ≡ placeOf c componentNames → (l : ℕ) (b : Bool) →
+        componentVerdict ed (nodesAt s from) c l b (come false false method) e ≡ metOf ed c l b had (methodInside c method had (nodesAt s from)) s e v
+    as-met z c o l b = i .is c o l b ∙ met-is z .is ed c o l b (methodInside c method had (nodesAt s from)) e
 
     pub head-end : {j : Judged} → x ≡ End → EndAt k t had false false method e j → HeadAt ed k method s from e (record { part = Ends j; kept = t })
     unfolding hasElement
     head-end z d = record {
-      is = λ c o. as-met z c o (isComplete c method (nodesAt s from))
+      is = λ c o l. as-met z c o l (isComplete c method (nodesAt s from))
           ∙ d .is c o (isComplete c method (nodesAt s from)) (λ h. complete-is c o method (nodesAt s from) (i .counted h) (sym (ap hasElement (i .inner ∙ met-is z .fits))))
           (methodInside c method had (nodesAt s from));
       fits = tt;
     }
 
     pub head-stops : {j : Judged} → x ≡ Stops j → HeadAt ed k method s from e (record { part = Ends j; kept = t })
-    head-stops z = record { is = λ c o. as-met z c o (isComplete c method (nodesAt s from)); fits = tt }
+    head-stops z = record { is = λ c o l. as-met z c o l (isComplete c method (nodesAt s from)); fits = tt }
 
     pub head-opens : {q z d : ℕ} → x ≡ HasComponents q z d → HeadAt ed k method s from e (record { part = Opens q z d had; kept = t })
     head-opens z = record {
-      is = λ c o. as-met z c o (isComplete c method (nodesAt s from));
+      is = λ c o l. as-met z c o l (isComplete c method (nodesAt s from));
       fits = (omega (arith, i .low, met-is z .fits .0), i .inner ∙ met-is z .fits .1, i .counted);
     }
 
@@ -341,7 +341,7 @@ module _ (ed : Edition) where
         pub head-good : l .judged ≡ Fine → Heading ed k method s from e d true (l .kept)
         unfolding _otherwise_ pick
         head-good h = record {
-          is = λ c o b. as-met z c o b ∙ rw (g .is c o, h, met-is z .fits .1, first);
+          is = λ c o l b. as-met z c o l b ∙ rw (g .is c o, h, met-is z .fits .1, first);
           low = omega (arith, i .low, listed-less);
           inner = i .inner ∙ met-is z .fits .3;
           unread = λ u. absurd (false≢true (sym u));
@@ -350,37 +350,37 @@ module _ (ed : Edition) where
 
         pub head-bad : {a b : ℕ} → l .judged ≡ Refused a b → HeadAt ed k method s from e (record { part = Ends (Refused a b); kept = t })
         unfolding _otherwise_
-        head-bad h = record { is = λ c o. as-met z c o (isComplete c method (nodesAt s from)) ∙ rw (g .is c o, h); fits = tt }
+        head-bad h = record { is = λ c o l. as-met z c o l (isComplete c method (nodesAt s from)) ∙ rw (g .is c o, h); fits = tt }
 
 pub follow-start : (s : List ℕ) (from e : ℕ) (had : Bool) → Following s from e from had
-follow-start s from e had = record { is = λ ed c b m. refl }
+follow-start s from e had = record { is = λ ed c l b m. refl }
 
 module _ (k : ℕ) (t : Kept) (inner method : Bool) {s : List ℕ} {from e at : ℕ} {had : Bool} {r : Node} (i : Following s from e at had) (n : NodeAt s at r) where
-  on-nodes : (ed : Edition) {x : Nodes} → nodesAt s at ≡ x → (c : List ℕ) (b m : Bool) → componentVerdict ed (nodesAt s from) c b (come had true m) e ≡ componentVerdict ed x c b (come had true m) e
-  on-nodes ed h c b m = i .is ed c b m ∙ ap (λ (y : Nodes). componentVerdict ed y c b (come had true m) e) h
+  on-nodes : (ed : Edition) {x : Nodes} → nodesAt s at ≡ x → (c : List ℕ) (l : ℕ) (b m : Bool) → componentVerdict ed (nodesAt s from) c l b (come had true m) e ≡ componentVerdict ed x c l b (come had true m) e
+  on-nodes ed h c l b m = i .is ed c l b m ∙ ap (λ (y : Nodes). componentVerdict ed y c l b (come had true m) e) h
 
   pub follow-none : {j : Judged} → r .kind ≡ None → EndAt k t had true inner method e j → BehindAt k t had inner method s from e j
   unfolding componentVerdict
-  follow-none q d = record { is = λ ed c o b g m. on-nodes ed (node-none n q) c b m ∙ d .is c o b g m }
+  follow-none q d = record { is = λ ed c o l b g m. on-nodes ed (node-none n q) c l b m ∙ d .is c o b g m }
 
   pub follow-referred : r .kind ≡ Referred → BehindAt k t had inner method s from e (Refused 6 at)
   unfolding componentVerdict
-  follow-referred q = record { is = λ ed c o b g m. on-nodes ed (node-referred n q) c b m ∙ sym (is-frame at) }
+  follow-referred q = record { is = λ ed c o l b g m. on-nodes ed (node-referred n q) c l b m ∙ sym (is-frame at) }
 
   module _ (q : r .kind ≡ Literal) {b : Bool} (f : b ≡ isSpace (r .unit)) where
     pub follow-text : b ≡ false → BehindAt k t had inner method s from e (Refused 6 at)
     unfolding componentVerdict pick
-    follow-text h = record { is = λ ed c o b g m. on-nodes ed (node-literal n q) c b m ∙ rw (← f, h) (sym (is-frame at)) }
+    follow-text h = record { is = λ ed c o l b g m. on-nodes ed (node-literal n q) c l b m ∙ rw (← f, h) (sym (is-frame at)) }
 
   pub follow-element : {j : Judged} → r .kind ≡ Element → unexpected at (nameOf s r) ≡ judgedAs j → BehindAt k t had inner method s from e j
   unfolding componentVerdict
   follow-element q u = record {
-    is = λ ed c o b g m. on-nodes ed (node-element n q) c b m ∙ none-behind (same (nameOf s r) (ascii "properties")) (same (nameOf s r) (ascii "components")) (not had) (not (isEmpty (subcomponentsOf c))) _ _ _ ∙ u;
+    is = λ ed c o l b g m. on-nodes ed (node-element n q) c l b m ∙ none-behind (same (nameOf s r) (ascii "properties")) (same (nameOf s r) (ascii "components")) (not had) (not (isEmpty (subcomponentsOf c))) _ _ _ ∙ u;
   }
 
 pub follow-space : {s : List ℕ} {from e at : ℕ} {had : Bool} {r : Node} → Following s from e at had → NodeAt s at r → r .kind ≡ Literal → {b : Bool} → b ≡ isSpace (r .unit) → b ≡ true → Following s from e (r .next) had
 unfolding componentVerdict pick
-follow-space {s} {from} {e} {at} {had} i n q f h = record { is = λ ed c b m. i .is ed c b m ∙ ap (λ (y : Nodes). componentVerdict ed y c b (come had true m) e) (node-literal n q) ∙ rw (← f, h) }
+follow-space {s} {from} {e} {at} {had} i n q f h = record { is = λ ed c l b m. i .is ed c l b m ∙ ap (λ (y : Nodes). componentVerdict ed y c l b (come had true m) e) (node-literal n q) ∙ rw (← f, h) }
 
 pub ruleset ending = (counts-good, counts-bad, end-bare, end-lacking, end-calendar, end-other, ends-any, ends-calendar, ends-timezone, ends-empty, needs)
 

@@ -19,7 +19,7 @@ use Rattle.calendar.specs.Refusal.{_otherwise_}
 use Rattle.schema.specs.Components.{componentNames}
 use Rattle.xml.specs.Nodes.{Nodes}
 use Rattle.xcal.specs.Layout.{unexpected}
-use Rattle.xcal.specs.ComponentNodes.{streamVerdict, rootVerdict}
+use Rattle.xcal.specs.ComponentNodes.{noComponent, streamVerdict, rootVerdict}
 use Rattle.xml.specs.NodesAt.{nodesAt}
 use Rattle.read_xml_nodes.specs.NodeFound.{NodeAt}
 use Rattle.read_xml_nodes.specs.laws.NodeFound.{node-none, node-element, node-literal, node-referred, element-less, literal-less}
@@ -76,11 +76,11 @@ module _ (ed : Edition) where
       stream-text h = record { is = in-nodes (node-literal n q) ∙ rw (← f, h) (sym (is-frame at)) }
 
     module _ (q : r .kind ≡ Element) {b : Bool} (f : b ≡ same (rest 0 (take (r .«name_end») s) (r .name)) (ascii "vcalendar")) where
-      pub stream-other : {j : Judged} → b ≡ false → unexpected at (rest 0 (take (r .«name_end») s) (r .name)) ≡ judgedAs j → StreamAt ed s from e j
+      pub stream-other : {j : Judged} → b ≡ false → noComponent at (rest 0 (take (r .«name_end») s) (r .name)) ≡ judgedAs j → StreamAt ed s from e j
       unfolding streamVerdict pick
       stream-other h u = record { is = in-nodes (node-element n q) ∙ rw (← f, h) u }
 
-      module _ (h : b ≡ true) {j : Judged} (d : ComponentAt ed 0 false s (r .inside) (r .end) j) where
+      module _ (h : b ≡ true) {j : Judged} (d : ComponentAt ed 0 8 false s (r .inside) (r .end) j) where
         pub stream-good : j ≡ Fine → Streaming ed s from e (r .next) true
         unfolding streamVerdict pick _otherwise_
         stream-good g = record { is = in-nodes (node-element n q) ∙ rw (← f, h, d .is (ascii "VCALENDAR") calendar-zero, g) }

@@ -4,33 +4,36 @@
 --     Among    the invariant of the walk over `components`;   among: the rules
 use Prim.{tt}
 use mathlib.Core.Path.{_≡_, refl, sym, ap, subst, _∙_}
-use mathlib.Core.Bool.{Bool, true, false, false≢true}
+use mathlib.Core.Bool.{Bool, true, false, not, false≢true}
 use mathlib.Core.List.{List, []}
-use Prim.Native.Nat.{ℕ, _-_, _≤_, _<_}
+use Prim.Native.Nat.{ℕ, _+_, _*_, _-_, _≤_, _<_}
 use native.Mathlib.Omega.{arith}
+use lib.Dec.{ltb}
 use lib.ListN.{length}
 use lib.Seq.{length-take-le}
 use borrow.Author.Needs.{needs}
+use borrow.Author.Tests.{lt-ltb, le-ltb}
 use Rattle.octets.specs.Ascii.{ascii}
 use Rattle.octets.specs.Pick.{pick, _and_, _or_}
 use Rattle.octets.specs.Class.{upper, isSpace}
 use Rattle.names.specs.Table.{placeOf}
 use Rattle.calendar.specs.Refusal.{NAME, FRAME, fine, refuse, _otherwise_}
-use Rattle.schema.specs.Components.{componentNames}
+use Rattle.schema.specs.Components.{componentNames, mayContain}
 use Rattle.schema.specs.Counts.{methodFor}
 use Rattle.schema.specs.Completing.{methodAt}
 use Rattle.schema.specs.laws.Completing.{method-tallies}
 use Rattle.schema.specs.Columns.{mayBegin}
 use Rattle.schema.specs.laws.Columns.{begin-place}
 use Rattle.xml.specs.Nodes.{Nodes, hasElement}
-use Rattle.xcal.specs.Layout.{hasCapital, unexpected}
+use Rattle.read_text_line.specs.Names.{isCarriedName}
+use Rattle.xcal.specs.Layout.{hasCapital}
 use Rattle.xcal.specs.PropertyNodes.{readProperties}
-use Rattle.xcal.specs.ComponentNodes.{insideOf, isComplete, componentsVerdict}
+use Rattle.xcal.specs.ComponentNodes.{insideOf, isComplete, badComponent, noComponent, componentsVerdict}
 use Rattle.xml.specs.NodesAt.{nodesAt}
 use Rattle.read_xml_nodes.specs.NodeFound.{NodeAt}
 use Rattle.read_xml_nodes.specs.laws.NodeFound.{node-none, node-element, node-literal, node-referred, element-less, inside-less, literal-less}
 use Rattle.read_xml_nodes.specs.Judging.{judgedAs}
-use Rattle.read_xml_nodes.specs.laws.Judging.{is-frame}
+use Rattle.read_xml_nodes.specs.laws.Judging.{is-name, is-frame}
 use Rattle.read_xml_nodes.specs.declared.Node.{Node}
 use Rattle.read_xml_nodes.specs.declared.NodeKind.the-variants.{None, Element, Literal, Referred}
 use Rattle.read_xml_nodes.specs.declared.Judged.{Judged}
@@ -42,7 +45,7 @@ use Rattle.read_xml.specs.laws.Properties.{not-fine}
 use Rattle.read_xml.specs.Counting.{Counted}
 use Rattle.read_xml.specs.Components.{methodInside, EndsAt, PartFits, HeadAt, BehindAt}
 use Rattle.read_xml.specs.laws.Components.{complete-is}
-use Rattle.read_xml.specs.Subcomponents.{NumberedAt, ComponentAt, methodKept, SubAt, HeldIs, CompsAt}
+use Rattle.read_xml.specs.Subcomponents.{NumberIs, NumberedAt, ComponentAt, methodKept, SubAt, HeldIs, CompsAt}
 use Rattle.read_xml.specs.declared.Kept.{Kept}
 use Rattle.read_xml.specs.declared.Begun.{Begun}
 use Rattle.read_xml.specs.declared.Part.the-variants.{Ends, Opens}
@@ -55,19 +58,51 @@ use Rattle.read_xml.specs.declared.Held.the-variants.{Holds, Fails}
 
 -- ---- the number of a component
 
-module _ (k : ℕ) (m : List ℕ) {b : Bool} (e : b ≡ hasCapital m) where
-  pub number-capital : b ≡ true → NumberedAt k m Other
+module _ (m : List ℕ) {b : Bool} (e : b ≡ hasCapital m) where
+  pub bad-capital : b ≡ true → true ≡ badComponent m
+  unfolding _or_
+  bad-capital h = rw (← e, h)
+
+  module _ (h : b ≡ false) {d : Bool} (f : d ≡ isCarriedName m) where
+    pub bad-carried : d ≡ false → true ≡ badComponent m
+    unfolding _or_
+    bad-carried g = rw (← e, h, ← f, g)
+
+    pub good-carried : d ≡ true → false ≡ badComponent m
+    unfolding _or_
+    good-carried g = rw (← e, h, ← f, g)
+
+-- the refusal of an element that is no component
+module _ (p : ℕ) (m : List ℕ) {b : Bool} (e : b ≡ badComponent m) where
+  pub none-named : b ≡ true → noComponent p m ≡ judgedAs (Refused 5 p)
+  unfolding pick
+  none-named h = rw (← e, h) (sym (is-name p))
+
+  pub none-placed : b ≡ false → noComponent p m ≡ judgedAs (Refused 6 p)
+  unfolding pick
+  none-placed h = rw (← e, h) (sym (is-frame p))
+
+module _ (k l : ℕ) (m : List ℕ) {b : Bool} (e : b ≡ badComponent m) where
+  pub number-bad : b ≡ true → NumberedAt k l m Other
   unfolding _and_
-  number-capital h = record { is = λ c o. rw (← e, h); number = tt }
+  number-bad h = record { is = λ c o. rw (← e, h); number = tt }
 
   module _ (h : b ≡ false) {n : ℕ} (f : n ≡ placeOf (upper m) componentNames) {d : Bool} (g : d ≡ mayBegin k n) where
-    pub number-may : d ≡ true → NumberedAt k m (Number n)
+    numbers : (c : List ℕ) → k ≡ placeOf c componentNames → (not (badComponent m) and mayContain c (upper m) and ltb 0 l) ≡ (d and ltb 0 l)
     unfolding _and_
-    number-may z = record { is = λ c o. rw (← e, h, begin-place c (upper m), ← o, ← f, ← g, z); number = f }
+    numbers c o = rw (← e, h, begin-place c (upper m), ← o, ← f, ← g)
 
-    pub number-not : d ≡ false → NumberedAt k m Other
+    pub number-not : d ≡ false → NumberedAt k l m Other
     unfolding _and_
-    number-not z = record { is = λ c o. rw (← e, h, begin-place c (upper m), ← o, ← f, ← g, z); number = tt }
+    number-not z = record { is = λ c o. numbers c o ∙ rw z; number = tt }
+
+    pub number-may : d ≡ true → 0 < l → NumberedAt k l m (Number n)
+    unfolding _and_
+    number-may z y = record { is = λ c o. numbers c o ∙ rw (z, lt-ltb 0 l y); number = (f, y) }
+
+    pub number-deep : d ≡ true → l ≤ 0 → NumberedAt k l m Other
+    unfolding _and_
+    number-deep z y = record { is = λ c o. numbers c o ∙ rw (z, le-ltb 0 l y); number = tt }
 
 -- ---- a component
 
@@ -89,9 +124,9 @@ method-bare k t h = rw h
 -- ---- a node of `components`
 
 -- an element that has no place is refused
-not-unexpected : (p : ℕ) (m : List ℕ) {j : Judged} → unexpected p m ≡ judgedAs j → j ≡ Fine → ⊥
+not-there : (p : ℕ) (m : List ℕ) {j : Judged} → noComponent p m ≡ judgedAs j → j ≡ Fine → ⊥
 unfolding pick
-not-unexpected p m {j} u h = go (hasCapital m) (rw h at u)
+not-there p m {j} u h = go (badComponent m) (rw h at u)
   where
     go : (b : Bool) → pick b (refuse NAME p) (refuse FRAME p) ≡ fine → ⊥
     go true v = let z : _≡_ {A = Bool} false true = cc in absurd (false≢true z)
@@ -107,132 +142,133 @@ unfolding _or_
 or-true true b = refl
 or-true false b = refl
 
--- a measure that is known
-pub falls-under : {a b t : ℕ} → a < b → t ≡ b → a < t
-falls-under l e = omega arith
-
-pub falls-below : {a b t : ℕ} → a < b → b ≡ t → a < t
-falls-below l e = omega arith
+-- the measure of a component, by the levels that are left, and that of its subcomponents
+pub fall-in : (l : ℕ) {t : ℕ} → t ≡ 2 * l + 1 → 2 * l < t
+fall-in l e = omega arith
 
 module _ (ed : Edition) where
   -- ---- the walk
 
-  pub record Among (k : ℕ) (method : Bool) (s : List ℕ) (from e at : ℕ) (any : Bool) : Type 0 where
-    pub is : (c : List ℕ) → k ≡ placeOf c componentNames → componentsVerdict ed (nodesAt s from) c method false e ≡ componentsVerdict ed (nodesAt s at) c method any e
+  pub record Among (k l : ℕ) (method : Bool) (s : List ℕ) (from e at : ℕ) (any : Bool) : Type 0 where
+    pub is : (c : List ℕ) → k ≡ placeOf c componentNames → componentsVerdict ed (nodesAt s from) c l method false e ≡ componentsVerdict ed (nodesAt s at) c l method any e
     pub low : length s - at ≤ length s - from
     pub held : hasElement (nodesAt s from) ≡ (any or hasElement (nodesAt s at))
 
-module _ (k : ℕ) {s : List ℕ} (e : ℕ) {at : ℕ} (any : Bool) {r : Node} (n : NodeAt s at r) where
-  with-nodes : (ed : Edition) (c : List ℕ) (m : Bool) {x : Nodes} → nodesAt s at ≡ x → componentsVerdict ed (nodesAt s at) c m any e ≡ componentsVerdict ed x c m any e
-  with-nodes ed c m h = ap (λ (y : Nodes). componentsVerdict ed y c m any e) h
+module _ (k l : ℕ) {s : List ℕ} (e : ℕ) {at : ℕ} (any : Bool) {r : Node} (n : NodeAt s at r) where
+  with-nodes : (ed : Edition) (c : List ℕ) (m : Bool) {x : Nodes} → nodesAt s at ≡ x → componentsVerdict ed (nodesAt s at) c l m any e ≡ componentsVerdict ed x c l m any e
+  with-nodes ed c m h = ap (λ (y : Nodes). componentsVerdict ed y c l m any e) h
 
-  pub sub-none : {j : Judged} → r .kind ≡ None → EndsAt k any e j → SubAt k s e at any (Done j)
+  pub sub-none : {j : Judged} → r .kind ≡ None → EndsAt k any e j → SubAt k l s e at any (Done j)
   unfolding componentsVerdict hasElement
   sub-none q d = record { inner = []; is = λ ed c o m. with-nodes ed c m (node-none n q) ∙ d .is c o; fits = λ h. ap hasElement (node-none n q) }
 
-  pub sub-referred : r .kind ≡ Referred → SubAt k s e at any (Done (Refused 6 at))
+  pub sub-referred : r .kind ≡ Referred → SubAt k l s e at any (Done (Refused 6 at))
   unfolding componentsVerdict
   sub-referred q = record { inner = []; is = λ ed c o m. with-nodes ed c m (node-referred n q) ∙ sym (is-frame at); fits = λ h. absurd (not-fine h) }
 
   module _ (q : r .kind ≡ Literal) {b : Bool} (f : b ≡ isSpace (r .unit)) where
-    pub sub-space : b ≡ true → SubAt k s e at any (Past (r .next))
+    pub sub-space : b ≡ true → SubAt k l s e at any (Past (r .next))
     unfolding componentsVerdict hasElement pick
     sub-space h = record { inner = []; is = λ ed c o m. with-nodes ed c m (node-literal n q) ∙ rw (← f, h); fits = (literal-less n q, ap hasElement (node-literal n q)) }
 
-    pub sub-text : b ≡ false → SubAt k s e at any (Done (Refused 6 at))
+    pub sub-text : b ≡ false → SubAt k l s e at any (Done (Refused 6 at))
     unfolding componentsVerdict pick
     sub-text h = record { inner = []; is = λ ed c o m. with-nodes ed c m (node-literal n q) ∙ rw (← f, h) (sym (is-frame at)); fits = λ h. absurd (not-fine h) }
 
-  module _ (q : r .kind ≡ Element) {t : Numbered} (d : NumberedAt k (nameOf s r) t) where
-    pub sub-other : {j : Judged} → t ≡ Other → unexpected at (nameOf s r) ≡ judgedAs j → SubAt k s e at any (Done j)
+  module _ (q : r .kind ≡ Element) {t : Numbered} (d : NumberedAt k l (nameOf s r) t) where
+    pub sub-other : {j : Judged} → t ≡ Other → noComponent at (nameOf s r) ≡ judgedAs j → SubAt k l s e at any (Done j)
     unfolding componentsVerdict pick
-    sub-other z u = record { inner = []; is = λ ed c o m. with-nodes ed c m (node-element n q) ∙ rw (d .is c o, z) u; fits = λ h. absurd (not-unexpected at (nameOf s r) u h) }
+    sub-other z u = record { inner = []; is = λ ed c o m. with-nodes ed c m (node-element n q) ∙ rw (d .is c o, z) u; fits = λ h. absurd (not-there at (nameOf s r) u h) }
 
-    pub sub-begins : {i : ℕ} → t ≡ Number i → SubAt k s e at any (Begins i (r .inside) (r .end) (r .next))
+    number-of : {i : ℕ} → t ≡ Number i → NumberIs l (nameOf s r) (Number i)
+    number-of z = subst (NumberIs l (nameOf s r)) z (d .number)
+
+    pub sub-begins : {i : ℕ} → t ≡ Number i → SubAt k l s e at any (Begins i (r .inside) (r .end) (r .next))
     unfolding componentsVerdict hasElement pick
     sub-begins z = record {
       inner = upper (nameOf s r);
       is = λ ed c o m. with-nodes ed c m (node-element n q) ∙ rw (d .is c o, z);
-      fits = (subst (NumberedAt k (nameOf s r)) z d .number, inside-less n q, element-less n q, ap hasElement (node-element n q));
+      fits = (number-of z .0, inside-less n q, element-less n q, ap hasElement (node-element n q), number-of z .1);
     }
 
 module _ (ed : Edition) where
-  module _ {k : ℕ} {method : Bool} {s : List ℕ} {from e : ℕ} {b : Begun} (h : HeadAt ed k method s from e b) where
-    pub whole-ends : {j : Judged} → b .part ≡ Ends j → ComponentAt ed k method s from e j
-    whole-ends z = record { is = λ c o. h .is c o ∙ rw z }
+  module _ {k : ℕ} {method : Bool} {s : List ℕ} {from e : ℕ} {b : Begun} (l : ℕ) (h : HeadAt ed k method s from e b) where
+    pub whole-ends : {j : Judged} → b .part ≡ Ends j → ComponentAt ed k l method s from e j
+    whole-ends z = record { is = λ c o. h .is c o l ∙ rw z }
 
     module _ {q x after : ℕ} {had : Bool} (z : b .part ≡ Opens q x after had) where
       opened : PartFits s from (b .kept) (Opens q x after had)
       opened = subst (PartFits s from (b .kept)) z (h .fits)
 
-      pub whole-falls : length s - q < length s - from
-      whole-falls = opened .0
-
-      module _ {m : Bool} (u : m ≡ methodKept k (b .kept) had method) {r : Held} (d : CompsAt ed k m s q x r) where
+      module _ {m : Bool} (u : m ≡ methodKept k (b .kept) had method) {r : Held} (d : CompsAt ed k l m s q x r) where
         given : (c : List ℕ) → k ≡ placeOf c componentNames → methodInside c method had (nodesAt s from) ≡ m
         given c o = handed c o method had (nodesAt s from) (b .kept) (opened .2) ∙ sym u
 
-        pub whole-fails : {f y : ℕ} → r ≡ Fails f y → ComponentAt ed k method s from e (Refused f y)
+        pub whole-fails : {f y : ℕ} → r ≡ Fails f y → ComponentAt ed k l method s from e (Refused f y)
         unfolding _otherwise_
-        whole-fails g = record { is = λ c o. h .is c o ∙ rw (z, given c o, d .is c o, g) }
+        whole-fails g = record { is = λ c o. h .is c o l ∙ rw (z, given c o, d .is c o, g) }
 
-        pub whole-behind : {inner : Bool} {v : Judged} → r ≡ Holds inner → BehindAt k (b .kept) had inner method s after e v → ComponentAt ed k method s from e v
+        pub whole-behind : {inner : Bool} {v : Judged} → r ≡ Holds inner → BehindAt k (b .kept) had inner method s after e v → ComponentAt ed k l method s from e v
         unfolding _otherwise_
         whole-behind g w = record {
-          is = λ c o. h .is c o ∙ rw (z, given c o, d .is c o, g)
-              (w .is ed c o (isComplete c method (nodesAt s from))
-              (λ l. complete-is c o method (nodesAt s from) (opened .2 l) (subst (HeldIs (hasElement (nodesAt s q))) g (d .held) ∙ sym (ap hasElement (opened .1)))) m);
+          is = λ c o. h .is c o l ∙ rw (z, given c o, d .is c o, g)
+              (w .is ed c o l (isComplete c method (nodesAt s from))
+              (λ y. complete-is c o method (nodesAt s from) (opened .2 y) (subst (HeldIs (hasElement (nodesAt s q))) g (d .held) ∙ sym (ap hasElement (opened .1)))) m);
         }
 
-  pub among-start : (k : ℕ) (method : Bool) (s : List ℕ) (from e : ℕ) → Among ed k method s from e from false
+  pub among-start : (k l : ℕ) (method : Bool) (s : List ℕ) (from e : ℕ) → Among ed k l method s from e from false
   unfolding _or_
-  among-start k method s from e = record { is = λ c o. refl; low = omega arith; held = refl }
+  among-start k l method s from e = record { is = λ c o. refl; low = omega arith; held = refl }
 
-  module _ {k : ℕ} {method : Bool} {s : List ℕ} {from e at : ℕ} {any : Bool} (m : Among ed k method s from e at any) {t : Sub} (u : SubAt k s e at any t) where
+  module _ {k l : ℕ} {method : Bool} {s : List ℕ} {from e at : ℕ} {any : Bool} (m : Among ed k l method s from e at any) {t : Sub} (u : SubAt k l s e at any t) where
     module _ {j : Judged} (y : t ≡ Done j) where
-      done : SubAt k s e at any (Done j)
-      done = subst (SubAt k s e at any) y u
+      done : SubAt k l s e at any (Done j)
+      done = subst (SubAt k l s e at any) y u
 
-      pub among-fine : j ≡ Fine → CompsAt ed k method s from e (Holds any)
+      pub among-fine : j ≡ Fine → CompsAt ed k l method s from e (Holds any)
       among-fine h = record { is = λ c o. m .is c o ∙ done .is ed c o method ∙ rw h; held = sym (m .held ∙ ap (λ (b : Bool). any or b) (done .fits h) ∙ or-false any) }
 
-      pub among-refused : {f p : ℕ} → j ≡ Refused f p → CompsAt ed k method s from e (Fails f p)
+      pub among-refused : {f p : ℕ} → j ≡ Refused f p → CompsAt ed k l method s from e (Fails f p)
       among-refused h = record { is = λ c o. m .is c o ∙ done .is ed c o method ∙ rw h; held = tt }
 
     module _ {d : ℕ} (y : t ≡ Past d) where
-      past : SubAt k s e at any (Past d)
-      past = subst (SubAt k s e at any) y u
+      past : SubAt k l s e at any (Past d)
+      past = subst (SubAt k l s e at any) y u
 
-      pub among-past : Among ed k method s from e d any
+      pub among-past : Among ed k l method s from e d any
       among-past = record { is = λ c o. m .is c o ∙ past .is ed c o method; low = omega (arith, m .low, past .fits .0); held = m .held ∙ ap (λ (b : Bool). any or b) (past .fits .1) }
 
       pub past-less : length s - d < length s - at
       past-less = past .fits .0
 
     module _ {n q z d : ℕ} (y : t ≡ Begins n q z d) where
-      begun : SubAt k s e at any (Begins n q z d)
-      begun = subst (SubAt k s e at any) y u
+      begun : SubAt k l s e at any (Begins n q z d)
+      begun = subst (SubAt k l s e at any) y u
 
-      pub begun-falls : length s - q < length s - from
-      begun-falls = omega (arith, m .low, begun .fits .1)
+      pub begun-left : 1 ≤ l
+      begun-left = begun .fits .4
 
       pub begun-less : length s - d < length s - at
       begun-less = begun .fits .2
 
-      module _ {v : Judged} (w : ComponentAt ed n method s q z v) where
-        pub among-bad : {f p : ℕ} → v ≡ Refused f p → CompsAt ed k method s from e (Fails f p)
+      module _ {v : Judged} (w : ComponentAt ed n (l - 1) method s q z v) where
+        pub among-bad : {f p : ℕ} → v ≡ Refused f p → CompsAt ed k l method s from e (Fails f p)
         unfolding _otherwise_
-        among-bad l = record { is = λ c o. m .is c o ∙ begun .is ed c o method ∙ rw (w .is (begun .inner) (begun .fits .0), l); held = tt }
+        among-bad y = record { is = λ c o. m .is c o ∙ begun .is ed c o method ∙ rw (w .is (begun .inner) (begun .fits .0), y); held = tt }
 
-        pub among-good : v ≡ Fine → Among ed k method s from e d true
+        pub among-good : v ≡ Fine → Among ed k l method s from e d true
         unfolding _otherwise_
-        among-good l = record {
-          is = λ c o. m .is c o ∙ begun .is ed c o method ∙ rw (w .is (begun .inner) (begun .fits .0), l);
+        among-good y = record {
+          is = λ c o. m .is c o ∙ begun .is ed c o method ∙ rw (w .is (begun .inner) (begun .fits .0), y);
           low = omega (arith, m .low, begun .fits .2);
           held = m .held ∙ ap (λ (b : Bool). any or b) (begun .fits .3) ∙ or-true any (hasElement (nodesAt s d));
         }
 
-pub ruleset numbering = (number-capital, number-may, number-not, length-take-le, needs)
+pub ruleset naming = (bad-capital, bad-carried, good-carried, length-take-le, needs)
+
+pub ruleset refusing = (none-named, none-placed, needs)
+
+pub ruleset numbering = (number-bad, number-may, number-not, number-deep, length-take-le, needs)
 
 pub ruleset handing = (method-had, method-bare, needs)
 
@@ -240,4 +276,4 @@ pub ruleset wholes = (whole-ends, whole-fails, whole-behind, needs)
 
 pub ruleset subs = (sub-none, sub-referred, sub-space, sub-text, sub-other, sub-begins, name-inside, needs)
 
-pub ruleset among = (among-start, among-fine, among-refused, among-past, past-less, begun-less, among-bad, among-good, needs)
+pub ruleset among = (among-start, among-fine, among-refused, among-past, past-less, begun-less, begun-left, among-bad, among-good, needs)

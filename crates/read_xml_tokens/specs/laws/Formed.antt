@@ -31,7 +31,7 @@ use Rattle.read_xml_tokens.specs.declared.Xml.the-variants.{Fine, Refuse
 use Rattle.read_xml_tokens.specs.declared.TokenAt.{TokenAt}
 use Rattle.read_xml_tokens.specs.declared.TokenKind.the-variants.{Start, Empty, End, Char, Reference as Refer, Fault as None}
 
-pub ongoing-start : (s a e : List ℕ) (d at : ℕ) → d ≤ 16 → length a ≡ 16 → length e ≡ 16 → at ≤ length s → Ongoing (verdictAt s a e d at) s a e d at
+pub ongoing-start : (s a e : List ℕ) (d at : ℕ) → d ≤ 32 → length a ≡ 32 → length e ≡ 32 → at ≤ length s → Ongoing (verdictAt s a e d at) s a e d at
 ongoing-start s a e d at h i j k = record { deep = h; begun = i; ended = j; inside = k; left = refl }
 
 module _ {v : Verdict} {s a e : List ℕ} {d at : ℕ} {t : TokenAt} (o : Ongoing v s a e d at) (x : Reads tokenIn s at at t) where
@@ -110,10 +110,10 @@ module _ {v : Verdict} {s a e : List ℕ} {d at : ℕ} {t : TokenAt} (o : Ongoin
   unfolding check move followed
   fault-stop k h = stopped (rw (marks-fault x k h))
 
--- ---- how many elements are open behind a token; 17 where it may not stand there
+-- ---- how many elements are open behind a token; 33 where it may not stand there
 
 module _ {v : Verdict} {s a e : List ℕ} {d at : ℕ} {t : TokenAt} (o : Ongoing v s a e d at) (x : Reads tokenIn s at at t) where
-  pub turn-stop : Formed v (length s) (Refused at) → Turn v s a e d at t 17
+  pub turn-stop : Formed v (length s) (Refused at) → Turn v s a e d at t 33
   turn-stop f = record { stops = λ h. f; opens = λ h k. absurd (omega arith); stays = λ h. absurd (omega (arith, o .deep)); less = λ h. absurd (omega arith) }
 
   pub turn-open : (t .kind ≡ None → ⊥) → Ongoing v s (set a d (t .name)) (set e d (t .«name_end»)) (d + 1) (t .next) → Turn v s a e d at t (d + 1)

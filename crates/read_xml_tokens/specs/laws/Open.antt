@@ -58,13 +58,13 @@ pub room-is : (s a e : List ℕ) (d : ℕ) → hasRoom true (opened s a e d) ≡
 unfolding hasRoom
 room-is s a e d = rw (opened-empty s a e d, opened-length s a e d)
 
-pub room-low : (d : ℕ) → roomAt d ≡ true → d < 16
+pub room-low : (d : ℕ) → roomAt d ≡ true → d < 32
 unfolding pick
 room-low d h = go (eqb d 0) h
   where
-    go : (t : Bool) → pick t false (ltb d 16) ≡ true → d < 16
+    go : (t : Bool) → pick t false (ltb d 32) ≡ true → d < 32
     go true k = absurd (false≢true k)
-    go false k = ltb-true d 16 k
+    go false k = ltb-true d 32 k
 
 pub closes-is : (s a e : List ℕ) (d v w p : ℕ) → closesTop (rest 0 (take w s) v) true (opened s a e d) p ≡ pick (closesAt s a e d v w) (onward true (opened s a e (d - 1))) (stop p)
 unfolding closesTop pick

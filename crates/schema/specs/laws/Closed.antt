@@ -21,14 +21,14 @@ use Rattle.octets.specs.laws.Words.{empty-is}
 use Rattle.octets.specs.laws.Tables.{row-any-passes, row-none, row-passes}
 use Rattle.octets.specs.Lists.{every}
 use Rattle.octets.specs.laws.Lists.{word-passes}
-use Rattle.octets.specs.Reading.{andThen, isRead}
+use Rattle.octets.specs.Reading.{andThen, isRead, readOr}
 use Rattle.octets.specs.laws.Reading.{none-some}
 use Rattle.octets.specs.Computing.{octets-compute}
 use Rattle.calendar.specs.Calendar.{TEXT}
 use Rattle.schema.specs.Types.{sameType}
 use Rattle.schema.specs.laws.Types.{same-type-true}
 use Rattle.schema.specs.Parameters.{isListedParameter, parameterTable, parameterRow, unrecognisedParameter, parameterType, parameterWords}
-use Rattle.schema.specs.Properties.{isListedProperty, propertyRow, defaultType, permittedTypes, propertyWords, wordsTable, statusTable, WordsRow}
+use Rattle.schema.specs.Properties.{isListedProperty, propertyRow, defaultType, permittedTypes, propertyWords, wordsTable, statusTable, elsewhere, WordsRow}
 
 -- ---- closed sets
 
@@ -66,13 +66,13 @@ sets-plain : every (λ r. every isPlain (r .words)) wordsTable ≡ true
 unfolding octets-compute
 sets-plain = refl
 
-status-plain : every (λ r. every isPlain (r .words)) statusTable ≡ true
-unfolding octets-compute
-status-plain = refl
+status-words : (c : List ℕ) → everyPlain (some (readOr elsewhere (rowOf (λ r. r .name) c statusTable) .words)) ≡ true
+unfolding octets-compute everyPlain
+status-words c = row-any-passes (λ r. r .name) c (λ r. every isPlain (r .words)) elsewhere statusTable refl refl
 
 properties-plain : (c p : List ℕ) → everyPlain (propertyWords c p) ≡ true
 unfolding propertyWords
-properties-plain c p = pick-either (λ o. everyPlain o ≡ true) (same p (ascii "STATUS")) _ _ (words-plain c statusTable status-plain) (words-plain p wordsTable sets-plain)
+properties-plain c p = pick-either (λ o. everyPlain o ≡ true) (same p (ascii "STATUS")) _ _ (status-words c) (words-plain p wordsTable sets-plain)
 
 pub parameter-words-plain : (q : List ℕ) (ws : List (List ℕ)) (w : List ℕ) → parameterWords q ≡ some ws → isOneOf w ws ≡ true → isPlain w ≡ true
 parameter-words-plain q ws w e h = plain-of (parameterWords q) ws w (parameters-plain q) e h
@@ -110,7 +110,7 @@ closed-named c p ws e = go (same p (ascii "STATUS")) e
     rows true h k = refl
     rows false h k = let z : _≡_ {A = ℕ} 0 1 = cc (row-none (λ r. r .name) p wordsTable h) in absurd (omega arith)
 
-    go : (b : Bool) → pick b (andThen (rowOf (λ r. r .name) c statusTable) (λ r. some (r .words))) (andThen (rowOf (λ r. r .name) p wordsTable) (λ r. some (r .words))) ≡ some ws →
+    go : (b : Bool) → pick b (some (readOr elsewhere (rowOf (λ r. r .name) c statusTable) .words)) (andThen (rowOf (λ r. r .name) p wordsTable) (λ r. some (r .words))) ≡ some ws →
         (b or isOneOf p (map (λ r. r .name) wordsTable)) ≡ true
     go true k = refl
     go false k = rows _ refl k

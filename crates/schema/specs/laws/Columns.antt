@@ -3,26 +3,25 @@
 --     default-at, listed-at, types-at     the same of the table's row
 --     number-place, default-place, listed-place, permits-type-place, permits-place, stand-place, begin-place, alarm-place     the same of a name and its number
 --     inner-at, flag-at   the entries of the code's tables
---     stand-none, stand-nowhere, begin-none ..   unrecognised ones
+--     begin-in-unknown ..   unrecognised ones
 use mathlib.Core.Path.{_≡_, refl, sym, ap, _∙_}
 use mathlib.Core.Bool.{Bool, true, false, not, false≢true}
 use mathlib.Core.List.{List, [], _∷_, map}
-use Prim.Native.Nat.{ℕ, _+_, _*_, _^_, _≤_, _<_}
+use Prim.Native.Nat.{ℕ, _+_, _*_, _≤_, _<_, min}
 use native.Mathlib.Omega.{arith}
 use native.Mathlib.Decide.{decLe}
 use lib.Dec.{eqb, ltb}
 use lib.ListN.{length, getD, List·getD-map, List·getD-eq-default}
-use borrow.Author.Tests.{not-true, ltb-true, ltb-false}
+use borrow.Author.Tests.{not-true, lt-ltb, le-ltb, ltb-true, ltb-false}
 use Rattle.bits.specs.Masks.{has}
-use Rattle.bits.specs.laws.Masks.{has-past, has-none}
+use Rattle.bits.specs.laws.Masks.{has-none}
 use Rattle.octets.specs.Ascii.{ascii}
-use Rattle.octets.specs.Pick.{pick, _and_}
+use Rattle.octets.specs.Pick.{pick, _and_, _or_}
 use Rattle.octets.specs.laws.Pick.{and-both}
 use Rattle.octets.specs.Append.{_⊕_}
 use Rattle.octets.specs.Words.{isOneOf}
 use Rattle.octets.specs.laws.Words.{same-swap, same-apart}
-use Rattle.octets.specs.laws.Tables.{row-none, row-any-passes}
-use Rattle.octets.specs.Reading.{readOr}
+use Rattle.octets.specs.laws.Tables.{row-any-passes}
 use Rattle.octets.specs.Lists.{every}
 use Rattle.octets.specs.laws.Lists.{word-passes}
 use Rattle.octets.specs.Computing.{octets-compute}
@@ -33,10 +32,12 @@ use Rattle.calendar.specs.Calendar.{ValueType, UNKNOWN}
 use Rattle.schema.specs.Types.{valueTypes, typePlace, sameType, isTypeOf}
 use Rattle.schema.specs.laws.Types.{place-type, type-passes}
 use Rattle.schema.specs.Parameters.{parameterNames, isKnownParameter}
-use Rattle.schema.specs.Components.{ComponentRow, audioprop, dispprop, emailprop, componentTable, componentNames, componentRow, unknownComponent, subcomponentsOf, isAlarm, mayStand}
+use Rattle.schema.specs.Components.{ComponentRow, audioprop, dispprop, emailprop, componentTable, componentNames, componentRow, unknownComponent, subcomponentsOf, isKnownComponent, mayContain, isAlarm, mayStand}
 use Rattle.schema.specs.Properties.{PropertyRow, defaultType, permittedTypes, isListedProperty, propertyTable, propertyNames, propertyRow, unrecognisedProperty, isKnownProperty, permitsParameter}
 use Rattle.schema.specs.laws.Rows.{stand-known, subcomponents-known}
-use Rattle.schema.specs.Numbers.{typeAt, propertyAt, componentName, propertyName, parameterName}
+use Rattle.schema.specs.laws.Unknown.{unknown-stands, outside-row}
+use Rattle.schema.specs.laws.Sets.{calendar-place}
+use Rattle.schema.specs.Numbers.{typeAt, componentAt, propertyAt, componentName, propertyName, parameterName}
 use Rattle.schema.specs.laws.Numbers.{property-place, component-place}
 use Rattle.schema.specs.laws.Places.{known-component, component-at, property-at, no-property}
 use Rattle.schema.specs.laws.Cells.{digit, digit-is, grid, cell-at, column-at, at-passes, row-at-passes}
@@ -182,25 +183,25 @@ none-unknown : isKnownProperty [] ≡ false
 unfolding octets-compute isKnownProperty
 none-unknown = refl
 
-stand-nowhere : (w : List ℕ) → mayStand [] w ≡ false
+pub stand-outside : (c w : List ℕ) → isOneOf c componentNames ≡ false → mayStand c w ≡ mayStand [] w
 unfolding octets-compute mayStand componentRow
-stand-nowhere w = refl
-
-outside-row : (c : List ℕ) → isOneOf c componentNames ≡ false → componentRow c ≡ unknownComponent
-unfolding componentRow readOr
-outside-row c u = rw (row-none (λ r. r .name) c componentTable u)
-
-pub stand-outside : (c w : List ℕ) → isOneOf c componentNames ≡ false → mayStand c w ≡ false
-unfolding mayStand isOneOf pick
 stand-outside c w u = go (isAlarm c) (same-swap (ascii "VALARM") c (same-apart (λ v. isOneOf v componentNames) (ascii "VALARM") c alarm-known u)) (componentRow c) (outside-row c u)
   where
     go : (b : Bool) → b ≡ false → (r : ComponentRow) → r ≡ unknownComponent →
-        isOneOf w (map (λ o. o .property) (pick b (audioprop ⊕ dispprop ⊕ emailprop) (r .occurrences))) ≡ false
+        isOneOf w (map (λ o. o .property) (pick b (audioprop ⊕ dispprop ⊕ emailprop) (r .occurrences))) ≡ isOneOf w (map (λ o. o .property) (unknownComponent .occurrences))
     go true e r f = absurd (false≢true (sym e))
     go false e r f = ap (λ (x : ComponentRow). isOneOf w (map (λ o. o .property) (x .occurrences))) f
 
-pub stand-past-component : (k : ℕ) (w : List ℕ) → 9 ≤ k → false ≡ mayStand (componentName k) w
-stand-past-component k w h = rw (List·getD-eq-default componentNames [] h) (sym (stand-nowhere w))
+all-known : every (λ w. isKnownProperty w) propertyNames ≡ true
+unfolding octets-compute isKnownProperty
+all-known = refl
+
+known-below : (p : ℕ) (b : Bool) → ltb p 46 ≡ b → b ≡ isKnownProperty (propertyName p)
+known-below p true e = sym (row-at-passes (λ w. isKnownProperty w) [] propertyNames p all-known (ltb-true p 46 e))
+known-below p false e = rw (List·getD-eq-default propertyNames [] (ltb-false p 46 e)) (sym none-unknown)
+
+pub stand-past-component : (k p : ℕ) → 9 ≤ k → ltb p 46 ≡ mayStand (componentName k) (propertyName p)
+stand-past-component k p h = rw (List·getD-eq-default componentNames [] h, unknown-stands (propertyName p)) (known-below p (ltb p 46) refl)
 
 pub stand-past-property : (c : List ℕ) (p : ℕ) → 46 ≤ p → false ≡ mayStand c (propertyName p)
 stand-past-property c p h = rw (List·getD-eq-default propertyNames [] h) (sym (stand-unknown c [] none-unknown))
@@ -211,7 +212,7 @@ stand-place c w = rw (placed c componentNames, placed w propertyNames) (one (isO
   where
     one : (b : Bool) → isOneOf c componentNames ≡ b → mayStand c w ≡ mayStand (pick b c []) w
     one true e = refl
-    one false e = stand-outside c w e ∙ sym (stand-nowhere w)
+    one false e = stand-outside c w e
 
     two : (b : Bool) → isOneOf w propertyNames ≡ b → (d : List ℕ) → mayStand d w ≡ mayStand d (pick b w [])
     two true e d = refl
@@ -225,59 +226,94 @@ all-standing : every standsMasked propertyTable ≡ true
 unfolding schema-compute columns standsMasked even
 all-standing = refl
 
-narrow : PropertyRow → Bool
-narrow r = ltb (coded r .components) (2 ^ 9)
-
-all-narrow : every narrow (unrecognisedProperty ∷ propertyTable) ≡ true
-unfolding schema-compute columns narrow
-all-narrow = refl
-
 nowhere : coded unrecognisedProperty .components ≡ 0
 unfolding columns pick
 nowhere = refl
 
+below-min : (p : ℕ) (b : Bool) → ltb p 46 ≡ b → ltb (min p 46) 46 ≡ b
+below-min p true e = lt-ltb (min p 46) 46 (omega (arith, ltb-true p 46 e))
+below-min p false e = le-ltb (min p 46) 46 (omega (arith, ltb-false p 46 e))
+
 pub row-stands : (k p : ℕ) → standsAt k (rowAt p) ≡ mayStand (componentName k) (propertyName p)
-unfolding standsAt rowAt narrow standsMasked _and_ every
+unfolding standsAt rowAt standsMasked _and_ every pick
 row-stands k p = go (decLe 9 k) (decLe 46 p)
   where
-    small : coded (propertyAt p) .components < 2 ^ 9
-    small = let a = and-both _ _ all-narrow in ltb-true _ _ (at-passes narrow unrecognisedProperty propertyTable p (a .1) (a .0))
-
-    go : Dec (9 ≤ k) → Dec (46 ≤ p) → has (coded (propertyAt p) .components) k ≡ mayStand (componentName k) (propertyName p)
-    go (yes h) l = has-past 9 (coded (propertyAt p) .components) k small h ∙ stand-past-component k (propertyName p) h
-    go (no h) (yes l) = ap (λ (r : PropertyRow). has (coded r .components) k) (List·getD-eq-default propertyTable unrecognisedProperty l) ∙ ap (λ (m : ℕ). has m k) nowhere ∙ has-none k ∙ stand-past-property (componentName k) p l
+    go : Dec (9 ≤ k) → Dec (46 ≤ p) → pick (ltb k 9) (has (coded (propertyAt p) .components) k) (ltb (min p 46) 46) ≡ mayStand (componentName k) (propertyName p)
+    go (yes h) l = rw (le-ltb k 9 h) (below-min p (ltb p 46) refl ∙ stand-past-component k p h)
+    go (no h) (yes l) =
+        rw (lt-ltb k 9 (omega (arith, h)))
+        (ap (λ (r : PropertyRow). has (coded r .components) k) (List·getD-eq-default propertyTable unrecognisedProperty l) ∙ ap (λ (m : ℕ). has m k) nowhere ∙ has-none k ∙ stand-past-property (componentName k) p l)
     go (no h) (no l) =
         let b : k < 9 = omega (arith, h) in
         let c : p < 46 = omega (arith, l) in
-        ap (has (coded (propertyAt p) .components)) (sym (component-at k b))
+        rw (lt-ltb k 9 b)
+        (ap (has (coded (propertyAt p) .components)) (sym (component-at k b))
         ∙ even-is _ _ (word-passes (λ c. even (has (coded (propertyAt p) .components) (placeOf c componentNames)) (mayStand c (propertyAt p .name))) componentNames (componentName k)
         (row-at-passes standsMasked unrecognisedProperty propertyTable p all-standing c) (known-component k b))
-        ∙ ap (mayStand (componentName k)) (sym (List·getD-map (λ r. r .name) propertyTable p unrecognisedProperty))
+        ∙ ap (mayStand (componentName k)) (sym (List·getD-map (λ r. r .name) propertyTable p unrecognisedProperty)))
 
 -- ---- components in a component
 
-pub begin-none : (c k : ℕ) → 9 ≤ k → false ≡ mayBegin c k
+unlisted : (c : ℕ) → isOneOf [] (componentAt c .subcomponents) ≡ false
 unfolding octets-compute
-begin-none c k h =
-    rw (List·getD-eq-default componentNames [] h)
-    (sym (not-true _ (at-passes (λ r. not (isOneOf [] (r .subcomponents))) unknownComponent componentTable c refl refl)))
+unlisted c = not-true _ (at-passes (λ r. not (isOneOf [] (r .subcomponents))) unknownComponent componentTable c refl refl)
 
-pub begin-nowhere : (c k : ℕ) → 9 ≤ c → false ≡ mayBegin c k
-unfolding isOneOf
-begin-nowhere c k h = rw (List·getD-eq-default componentTable unknownComponent h)
+pub begin-unknown : (c k : ℕ) → 9 ≤ k → (eqb c 0 or not (ltb c 9)) ≡ mayBegin c k
+begin-unknown c k h = rw (List·getD-eq-default componentNames [] h, unlisted c, le-ltb k 9 h) (go (eqb c 0 or not (ltb c 9)))
+  where
+    go : (b : Bool) → b ≡ (false or (b and true))
+    go true = unfold _and_ _or_ in refl
+    go false = unfold _and_ _or_ in refl
+
+pub begin-known : (c k : ℕ) → k < 9 → isOneOf (componentName k) (componentAt c .subcomponents) ≡ mayBegin c k
+begin-known c k h = rw (lt-ltb k 9 h) (go (eqb c 0 or not (ltb c 9)) (isOneOf (componentName k) (componentAt c .subcomponents)))
+  where
+    go : (b a : Bool) → a ≡ (a or (b and false))
+    go true true = unfold _and_ _or_ in refl
+    go true false = unfold _and_ _or_ in refl
+    go false true = unfold _and_ _or_ in refl
+    go false false = unfold _and_ _or_ in refl
+
+-- an unrecognised one in a known one, and in an unrecognised one; a known one in an unrecognised one
+pub begin-in-known : (c k : ℕ) → c < 9 → 9 ≤ k → eqb c 0 ≡ mayBegin c k
+begin-in-known c k l h = go (eqb c 0) ∙ begin-unknown c k h
+  where
+    go : (b : Bool) → b ≡ (b or not (ltb c 9))
+    go true = unfold _or_ in refl
+    go false = rw (lt-ltb c 9 l) (unfold _or_ in refl)
+
+pub begin-in-unknown : (c k : ℕ) → 9 ≤ c → 9 ≤ k → true ≡ mayBegin c k
+begin-in-unknown c k l h = go (eqb c 0) ∙ begin-unknown c k h
+  where
+    go : (b : Bool) → true ≡ (b or not (ltb c 9))
+    go true = unfold _or_ in refl
+    go false = rw (le-ltb c 9 l) (unfold _or_ in refl)
+
+pub known-in-unknown : (c k : ℕ) → 9 ≤ c → k < 9 → isOneOf (componentName k) (unknownComponent .subcomponents) ≡ mayBegin c k
+known-in-unknown c k l h =
+    ap (λ (r : ComponentRow). isOneOf (componentName k) (r .subcomponents)) (sym (List·getD-eq-default componentTable unknownComponent l)) ∙ begin-known c k h
 
 none-stands : (c : List ℕ) → false ≡ isOneOf [] (subcomponentsOf c)
 unfolding octets-compute componentRow
 none-stands c = sym (not-true _ (row-any-passes (λ r. r .name) c (λ r. not (isOneOf [] (r .subcomponents))) unknownComponent componentTable refl refl))
 
-pub begin-place : (c w : List ℕ) → isOneOf w (subcomponentsOf c) ≡ mayBegin (placeOf c componentNames) (placeOf w componentNames)
+-- which of the schema's components
+sub-place : (c w : List ℕ) → isOneOf w (subcomponentsOf c) ≡ isOneOf (componentName (placeOf w componentNames)) (componentAt (placeOf c componentNames) .subcomponents)
 unfolding pick
-begin-place c w = rw (← (component-place c), placed w componentNames) (go (isOneOf w componentNames) refl (isOneOf w (subcomponentsOf c)) refl)
+sub-place c w = rw (← (component-place c), placed w componentNames) (go (isOneOf w componentNames) refl (isOneOf w (subcomponentsOf c)) refl)
   where
     go : (b : Bool) → isOneOf w componentNames ≡ b → (a : Bool) → isOneOf w (subcomponentsOf c) ≡ a → a ≡ isOneOf (pick b w []) (subcomponentsOf c)
     go true e a f = sym f
     go false e true f = absurd (false≢true (sym e ∙ subcomponents-known c w f))
     go false e false f = none-stands c
+
+pub known-place : (c : List ℕ) → isKnownComponent c ≡ ltb (placeOf c componentNames) 9
+unfolding isKnownComponent
+known-place c = one-of-place c componentNames
+
+pub begin-place : (c w : List ℕ) → mayContain c w ≡ mayBegin (placeOf c componentNames) (placeOf w componentNames)
+unfolding mayContain
+begin-place c w = rw (sub-place c w, known-place c, known-place w, calendar-place c)
 
 pub alarm-place : (c : List ℕ) → isAlarm c ≡ eqb (placeOf c componentNames) 8
 alarm-place c = same-place c (ascii "VALARM") componentNames alarm-known ∙ rw alarm-at

@@ -29,6 +29,7 @@ use Rattle.schema.specs.Components.{Occurrence, ComponentRow, componentT
 use Rattle.schema.specs.Properties.{PropertyRow, propertyTable, unrecognisedProperty, propertyNames}
 use Rattle.schema.specs.Counts.{tally, occurrenceIn, isAtMost, isOften, eachOften, Around, methodFor, pairsOf, actionOf, listFor, oftenFor, complete}
 use Rattle.schema.specs.laws.Tallies.{often-at}
+use Rattle.schema.specs.laws.Unknown.{unknown-often}
 use Rattle.schema.specs.Numbers.{componentAt, propertyAt, propertyName}
 use Rattle.schema.specs.laws.Numbers.{component-place}
 use Rattle.schema.specs.laws.Cells.{row-at-passes, below-passes}
@@ -199,45 +200,27 @@ of-alarm (some w) ps = rw (row-then (λ r. r .action) w (λ r. some (r .occurren
     go n true e = let h = ltb-true n 3 e in rw (alarm-list n h, all-often (n + 8) ps (omega (arith, h)))
     go n false e = rw (List·getD-eq-default (map (λ r. some (r .occurrences)) alarmTable) none (ltb-false n 3 e))
 
--- the list of a component other than VALARM; 11 is no list
-no-list : listIn 11 ≡ []
-unfolding schema-compute
-no-list = refl
-
-component-list : (k : ℕ) (b : Bool) → ltb k 9 ≡ b → eqb k 8 ≡ false → componentAt k .occurrences ≡ listIn (pick b k 11)
-unfolding pick
-component-list k true e f = go k (ltb-true k 9 e) f
-  where
-    go : (k : ℕ) → k < 9 → eqb k 8 ≡ false → componentAt k .occurrences ≡ listIn k
-    go zero h f = refl
-    go (suc zero) h f = refl
-    go (suc (suc zero)) h f = refl
-    go (suc (suc (suc zero))) h f = refl
-    go (suc (suc (suc (suc zero)))) h f = refl
-    go (suc (suc (suc (suc (suc zero))))) h f = refl
-    go (suc (suc (suc (suc (suc (suc zero)))))) h f = refl
-    go (suc (suc (suc (suc (suc (suc (suc zero))))))) h f = refl
-    go (suc (suc (suc (suc (suc (suc (suc (suc zero)))))))) h f = absurd (false≢true (sym f))
-    go (suc (suc (suc (suc (suc (suc (suc (suc (suc n))))))))) h f = absurd (omega (arith, h))
-component-list k false e f = ap (λ (r : ComponentRow). r .occurrences) (List·getD-eq-default componentTable unknownComponent (ltb-false k 9 e)) ∙ sym no-list
-
-pick-through : (m n : ℕ) (f : ℕ → Bool) (b : Bool) → f (pick b m n) ≡ pick b (f m) (f n)
-unfolding pick
-pick-through m n f true = refl
-pick-through m n f false = refl
+-- the list of a known component other than VALARM
+component-list : (k : ℕ) → k < 9 → eqb k 8 ≡ false → componentAt k .occurrences ≡ listIn k
+component-list zero h f = refl
+component-list (suc zero) h f = refl
+component-list (suc (suc zero)) h f = refl
+component-list (suc (suc (suc zero))) h f = refl
+component-list (suc (suc (suc (suc zero)))) h f = refl
+component-list (suc (suc (suc (suc (suc zero))))) h f = refl
+component-list (suc (suc (suc (suc (suc (suc zero)))))) h f = refl
+component-list (suc (suc (suc (suc (suc (suc (suc zero))))))) h f = refl
+component-list (suc (suc (suc (suc (suc (suc (suc (suc zero)))))))) h f = absurd (false≢true (sym f))
+component-list (suc (suc (suc (suc (suc (suc (suc (suc (suc n))))))))) h f = absurd (omega (arith, h))
 
 of-component : (c : List ℕ) (ps : List Property) → eqb (placeOf c componentNames) 8 ≡ false → eachOften propertyNames (occurrencesOf c) ps ≡
-    pick (ltb (placeOf c componentNames) 9) (allOften (placeOf c componentNames) (tallies ps)) (allOften 11 (tallies ps))
+    pick (ltb (placeOf c componentNames) 9) (allOften (placeOf c componentNames) (tallies ps)) true
 unfolding pick
-of-component c ps f =
-    ap (λ (r : ComponentRow). eachOften propertyNames (r .occurrences) ps) (component-place c)
-    ∙ ap (λ (os : List Occurrence). eachOften propertyNames os ps) (component-list (placeOf c componentNames) (ltb (placeOf c componentNames) 9) refl f)
-    ∙ sym (all-often (pick (ltb (placeOf c componentNames) 9) (placeOf c componentNames) 11) ps (small (ltb (placeOf c componentNames) 9) refl))
-    ∙ pick-through (placeOf c componentNames) 11 (λ l. allOften l (tallies ps)) (ltb (placeOf c componentNames) 9)
+of-component c ps f = ap (λ (r : ComponentRow). eachOften propertyNames (r .occurrences) ps) (component-place c) ∙ go (placeOf c componentNames) (ltb (placeOf c componentNames) 9) refl f
   where
-    small : (b : Bool) → ltb (placeOf c componentNames) 9 ≡ b → pick b (placeOf c componentNames) 11 < 12
-    small true e = omega (arith, ltb-true (placeOf c componentNames) 9 e)
-    small false e = omega arith
+    go : (k : ℕ) (b : Bool) → ltb k 9 ≡ b → eqb k 8 ≡ false → eachOften propertyNames (componentAt k .occurrences) ps ≡ pick b (allOften k (tallies ps)) true
+    go k true e f = let h = ltb-true k 9 e in ap (λ (os : List Occurrence). eachOften propertyNames os ps) (component-list k h f) ∙ sym (all-often k ps (omega (arith, h)))
+    go k false e f = ap (λ (r : ComponentRow). eachOften propertyNames (r .occurrences) ps) (List·getD-eq-default componentTable unknownComponent (ltb-false k 9 e)) ∙ unknown-often ps
 
 often-number : (c : List ℕ) (ps : List Property) → oftenFor (listFor c ps) ps ≡ oftenAt (placeOf c componentNames) (tallies ps) (actionNumber (actionOf ps))
 unfolding pick
@@ -245,7 +228,7 @@ often-number c ps = rw (← (alarm-place c)) (go (isAlarm c) refl)
   where
     go : (b : Bool) → isAlarm c ≡ b → oftenFor (pick b (andThen (actionOf ps) alarmOccurrences) (some (occurrencesOf c))) ps ≡
         pick b (pick (ltb (actionNumber (actionOf ps)) 3) (allOften (actionNumber (actionOf ps) + 8) (tallies ps)) false)
-        (pick (ltb (placeOf c componentNames) 9) (allOften (placeOf c componentNames) (tallies ps)) (allOften 11 (tallies ps)))
+        (pick (ltb (placeOf c componentNames) 9) (allOften (placeOf c componentNames) (tallies ps)) true)
     go true e = of-alarm (actionOf ps) ps
     go false e = of-component c ps (sym (alarm-place c) ∙ e)
 

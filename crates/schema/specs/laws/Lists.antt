@@ -336,11 +336,12 @@ componentLists =
     record { name = ascii "VALARM"; occurrences = audioprop ⊕ dispprop ⊕ emailprop } ∷
     []
 
-abbrev pub noList : ListRow
-noList = record { name = []; occurrences = [] }
+-- an unrecognised component: every listed property, any number of times
+abbrev pub freeList : ListRow
+freeList = record { name = []; occurrences = map (λ w. record { property = w; least = 0; most = none }) namesListed }
 
 unfoldable pub standsListed : List ℕ → List ℕ → Bool
-standsListed c w = isOneOf w (map (λ o. o .property) (readOr noList (rowOf (λ r. r .name) c componentLists) .occurrences))
+standsListed c w = isOneOf w (map (λ o. o .property) (readOr freeList (rowOf (λ r. r .name) c componentLists) .occurrences))
 
 abbrev pub occurrenceLists : List (List Occurrence)
 occurrenceLists = calprops ∷ eventprop ∷ todoprop ∷ jourprop ∷ fbprop ∷ timezoneprop ∷ tzprop ∷ tzprop ∷ audioprop ∷ dispprop ∷ emailprop ∷ []

@@ -155,11 +155,15 @@ components-known : every (λ r. everyKnown (r .occurrences)) componentTable ≡ 
 unfolding every _and_ everyKnown
 components-known = rw (list-known 0, list-known 1, list-known 2, list-known 3, list-known 4, list-known 5, list-known 6, list-known 7)
 
+unknown-known : everyKnown (unknownComponent .occurrences) ≡ true
+unfolding everyKnown
+unknown-known = table-known
+
 all-known : (c : List ℕ) → every isKnownProperty (standingIn c) ≡ true
 unfolding componentRow everyKnown every
 all-known c = pick-either (λ os. everyKnown os ≡ true) (isAlarm c) (audioprop ⊕ dispprop ⊕ emailprop) (occurrencesOf c)
     (both-known audioprop (dispprop ⊕ emailprop) (list-known 8) (both-known dispprop emailprop (list-known 9) (list-known 10)))
-    (row-any-passes (λ r. r .name) c (λ r. everyKnown (r .occurrences)) unknownComponent componentTable components-known refl)
+    (row-any-passes (λ r. r .name) c (λ r. everyKnown (r .occurrences)) unknownComponent componentTable components-known unknown-known)
 
 all-components : (c : List ℕ) → every (λ w. isOneOf w componentNames) (subcomponentsOf c) ≡ true
 unfolding octets-compute componentRow

@@ -19,14 +19,14 @@ use Rattle.octets.specs.Pick.{pick, _and_}
 use Rattle.octets.specs.laws.Pick.{and-both}
 use Rattle.octets.specs.Words.{same, rowOf}
 use Rattle.octets.specs.laws.Words.{same-true}
-use Rattle.octets.specs.Reading.{andThen, isRead}
+use Rattle.octets.specs.Reading.{andThen, isRead, readOr}
 use Rattle.octets.specs.Computing.{octets-compute}
 use Rattle.names.specs.Table.{placeOf, namesIn, nth}
 use Rattle.names.specs.laws.Table.{one-of-place}
 use Rattle.names.specs.laws.Places.{same-place, same-place-first}
 use Rattle.schema.specs.Parameters.{ParameterRow, parameterTable, unrecognisedParameter, parameterNames, parameterWords}
 use Rattle.schema.specs.Components.{componentNames}
-use Rattle.schema.specs.Properties.{WordsRow, propertyNames, wordsTable, statusTable, propertyWords}
+use Rattle.schema.specs.Properties.{WordsRow, propertyNames, wordsTable, statusTable, elsewhere, propertyWords}
 use Rattle.schema.specs.laws.Numbers.{parameter-place}
 use Rattle.schema.specs.Arrays.{eachFrom}
 use Rattle.schema.specs.laws.Cells.{below-passes}
@@ -112,15 +112,24 @@ unfolding pick
 choose m n true f g = f
 choose m n false f g = g
 
-of-status : (c : List ℕ) → wordsOf (rowOf (λ r. r .name) c statusTable) ≡
+-- the same where there is a set for the rest
+abbrev orElse : Option WordsRow → Option (List (List ℕ))
+orElse o = some (readOr elsewhere o .words)
+
+step-else : (a : Bool) (r : WordsRow) (o : Option WordsRow) (i n : ℕ) → nth wordSets i ≡ some (r .words) → orElse o ≡ nth wordSets n → orElse (pick a (some r) o) ≡ nth wordSets (pick a i n)
+unfolding pick readOr
+step-else true r o i n e f = sym e
+step-else false r o i n e f = f
+
+of-status : (c : List ℕ) → orElse (rowOf (λ r. r .name) c statusTable) ≡
     nth wordSets (pick (same c (ascii "VEVENT")) 5 (pick (same c (ascii "VTODO")) 6 (pick (same c (ascii "VJOURNAL")) 7 16)))
-unfolding rowOf andThen nth
-of-status c = step _ _ _ 5 _ refl (step _ _ _ 6 _ refl (step _ _ _ 7 16 refl refl))
+unfolding rowOf andThen readOr nth
+of-status c = step-else _ _ _ 5 _ refl (step-else _ _ _ 6 _ refl (step-else _ _ _ 7 16 refl refl))
 
 of-property : (p : List ℕ) → wordsOf (rowOf (λ r. r .name) p wordsTable) ≡
-    nth wordSets (pick (same p (ascii "CALSCALE")) 0 (pick (same p (ascii "VERSION")) 1 (pick (same p (ascii "CLASS")) 2 (pick (same p (ascii "TRANSP")) 3 (pick (same p (ascii "ACTION")) 4 16)))))
+    nth wordSets (pick (same p (ascii "CALSCALE")) 0 (pick (same p (ascii "VERSION")) 1 (pick (same p (ascii "CLASS")) 2 (pick (same p (ascii "TRANSP")) 3 (pick (same p (ascii "ACTION")) 4 17)))))
 unfolding rowOf andThen nth
-of-property p = step _ _ _ 0 _ refl (step _ _ _ 1 _ refl (step _ _ _ 2 _ refl (step _ _ _ 3 _ refl (step _ _ _ 4 16 refl refl))))
+of-property p = step _ _ _ 0 _ refl (step _ _ _ 1 _ refl (step _ _ _ 2 _ refl (step _ _ _ 3 _ refl (step _ _ _ 4 17 refl refl))))
 
 pub words-place : (c p : List ℕ) → propertyWords c p ≡ wordsAt (placeOf c componentNames) (placeOf p propertyNames)
 unfolding propertyWords
@@ -133,7 +142,7 @@ parameter-words-place w = ap (λ (r : ParameterRow). r .words) (parameter-place 
 
 pub parameter-set : (q : ℕ) → nth wordSets (parameterSet q) ≡ parameterWordsAt q
 unfolding nth
-parameter-set q = sym (List·getD-map (nth wordSets) parameterSetNumbers q 16) ∙ List·getD-map (λ r. r .words) parameterTable q unrecognisedParameter
+parameter-set q = sym (List·getD-map (nth wordSets) parameterSetNumbers q 17) ∙ List·getD-map (λ r. r .words) parameterTable q unrecognisedParameter
 
 -- ---- for code
 
@@ -169,9 +178,9 @@ bytesOf n = take (getD setStarts (n + 1) 0 - getD setStarts n 0) (drop (getD set
 isStored : ℕ → Bool
 isStored n =
     sameWords (namesIn (bytesOf n)) (getD wordSets n []) and eqb (getD setSizes n 0) (length (getD wordSets n []))
-    and leb (getD setStarts n 0) (getD setStarts (n + 1) 0) and leb (getD setStarts (n + 1) 0) 441
+    and leb (getD setStarts n 0) (getD setStarts (n + 1) 0) and leb (getD setStarts (n + 1) 0) 517
 
-all-stored : eachFrom 0 16 isStored ≡ true
+all-stored : eachFrom 0 17 isStored ≡ true
 unfolding octets-compute namesIn eachFrom sameWords bytesOf isStored
 all-stored = refl
 
@@ -179,12 +188,12 @@ pub record Stored (n : ℕ) : Type 0 where
   pub words : namesIn (take (getD setStarts (n + 1) 0 - getD setStarts n 0) (drop (getD setStarts n 0) wordBytes)) ≡ getD wordSets n []
   pub size : getD setSizes n 0 ≡ length (getD wordSets n [])
   pub rises : getD setStarts n 0 ≤ getD setStarts (n + 1) 0
-  pub within : getD setStarts (n + 1) 0 ≤ 441
+  pub within : getD setStarts (n + 1) 0 ≤ 517
 
-pub stored : (n : ℕ) → n < 16 → Stored n
+pub stored : (n : ℕ) → n < 17 → Stored n
 unfolding isStored bytesOf
 stored n h =
-    let a = and-both (sameWords (namesIn (bytesOf n)) (getD wordSets n [])) _ (below-passes isStored 16 n all-stored h) in
+    let a = and-both (sameWords (namesIn (bytesOf n)) (getD wordSets n [])) _ (below-passes isStored 17 n all-stored h) in
     let b = and-both (eqb (getD setSizes n 0) (length (getD wordSets n []))) _ (a .1) in
     let c = and-both (leb (getD setStarts n 0) (getD setStarts (n + 1) 0)) _ (b .1) in
     record { words = words-are _ _ (a .0); size = eqb-true _ _ (b .0); rises = leb-true _ _ (c .0); within = leb-true _ _ (c .1) }
@@ -196,7 +205,7 @@ nth-some (a ∷ l) d zero h = refl
 nth-some (a ∷ l) d (suc n) h = nth-some l d n (le-of-suc-le-suc h)
 
 -- a word found at the place i among those of the set n, or at no place of it
-module _ (w : List ℕ) {n i : ℕ} (h : n < 16)
+module _ (w : List ℕ) {n i : ℕ} (h : n < 17)
     (e : i ≡ placeOf w (namesIn (take (getD setStarts (n + 1) 0 - getD setStarts n 0) (drop (getD setStarts n 0) wordBytes)))) where
   set-place : wordIn (nth wordSets n) w ≡ wordAmong (getD setSizes n 0) i
   set-place = let s = stored n h in rw (nth-some wordSets [] n h, s .size, e, s .words)

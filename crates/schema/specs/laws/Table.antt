@@ -29,9 +29,10 @@ use Rattle.schema.specs.Computing.{schema-compute}
 use Rattle.schema.specs.laws.Rows.{unrecognised-property, unrecognised-permits, list-names-known}
 use Rattle.schema.specs.laws.Cells.{at-passes, below-passes}
 use Rattle.schema.specs.laws.Columns.{even, even-is, stand-outside, stand-unknown}
+use Rattle.schema.specs.laws.Unknown.{unknown-stands}
 use Rattle.schema.specs.laws.Completing.{evenMost, most-is}
 use Rattle.schema.specs.laws.Sets.{sameWords, words-are}
-use Rattle.schema.specs.laws.Lists.{ListedRow, unlisted, namesListed, rowListed, listedRows, ListRow, componentLists, noList, standsListed, occurrenceLists, listListed}
+use Rattle.schema.specs.laws.Lists.{ListedRow, unlisted, namesListed, rowListed, listedRows, ListRow, componentLists, freeList, standsListed, occurrenceLists, listListed}
 
 -- what the lists say of a parameter: unrecognised ones stand anywhere; RELATED exactly with DURATION
 unfoldable pub permitsListed : List ℕ → ValueType → List ℕ → Bool
@@ -116,7 +117,7 @@ parameters-same w e t q = rw (known-same w, e)
 namesOf : ListRow → List (List ℕ)
 namesOf r = map (λ o. o .property) (r .occurrences)
 
-outside-listed : (c w : List ℕ) → isOneOf c componentNames ≡ false → standsListed c w ≡ false
+outside-listed : (c w : List ℕ) → isOneOf c componentNames ≡ false → standsListed c w ≡ isOneOf w namesListed
 unfolding standsListed readOr octets-compute
 outside-listed c w u = rw (row-none (λ r. r .name) c componentLists (apart (λ v. isOneOf v componentNames) c (map (λ r. r .name) componentLists) refl u))
 
@@ -126,13 +127,13 @@ stands-same w h c = go (isOneOf c componentNames) refl
   where
     go : (b : Bool) → isOneOf c componentNames ≡ b → mayStand c w ≡ standsListed c w
     go true e = even-is _ _ (word-passes (λ c. even (mayStand c w) (standsListed c w)) componentNames c h e)
-    go false e = stand-outside c w e ∙ sym (outside-listed c w e)
+    go false e = stand-outside c w e ∙ unknown-stands w ∙ known-same w ∙ sym (outside-listed c w e)
 
-unknown-stands : (c w : List ℕ) → isKnownProperty w ≡ false → standsListed c w ≡ false
+unlisted-stands : (c w : List ℕ) → isKnownProperty w ≡ false → standsListed c w ≡ false
 unfolding standsListed octets-compute namesOf isKnownProperty
-unknown-stands c w u =
-    apart isKnownProperty w (namesOf (readOr noList (rowOf (λ r. r .name) c componentLists)))
-    (row-any-passes (λ r. r .name) c (λ r. every isKnownProperty (namesOf r)) noList componentLists refl refl) u
+unlisted-stands c w u =
+    apart isKnownProperty w (namesOf (readOr freeList (rowOf (λ r. r .name) c componentLists)))
+    (row-any-passes (λ r. r .name) c (λ r. every isKnownProperty (namesOf r)) freeList componentLists refl refl) u
 
 -- ---- lists
 
@@ -177,7 +178,7 @@ unknown-row w u =
       types = ap (λ (r : PropertyRow). r .default ∷ r .others) p ∙ sym (ap (λ (r : ListedRow). r .default ∷ r .others) q);
       listed = ap (λ (r : PropertyRow). r .listed) p ∙ sym (ap (λ (r : ListedRow). r .listed) q);
       parameters = parameters-same w (ap (λ (r : PropertyRow). r .parameters) p ∙ sym (ap (λ (r : ListedRow). r .parameters) q));
-      stands = λ c. stand-unknown c w u ∙ sym (unknown-stands c w u);
+      stands = λ c. stand-unknown c w u ∙ sym (unlisted-stands c w u);
       least = λ l k. ap (λ (o : Occurrence). o .least) (absent-in (listIn l) w (list-names-known l) u ∙ sym (absent-in (listListed l) w (listed-known l) u));
       most = λ l k. ap (λ (o : Occurrence). o .most) (absent-in (listIn l) w (list-names-known l) u ∙ sym (absent-in (listListed l) w (listed-known l) u));
     }

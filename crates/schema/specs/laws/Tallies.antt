@@ -1,8 +1,8 @@
 -- Laws of counting: only tallies and the word of ACTION matter, unrecognised properties count for nothing, and what is complete holds only what may stand.
---     complete-same           the tallies of known properties and the word of ACTION decide
+--     complete-same           the tallies of known properties and the word of ACTION decide;   complete-plain: outside a VALARM the tallies alone
 --     complete-unrecognised   an unrecognised property changes nothing
 --     complete-stands         every known property of a complete component may stand in it
-use mathlib.Core.Path.{_≡_, refl, sym, _∙_}
+use mathlib.Core.Path.{_≡_, refl, sym, ap, _∙_}
 use mathlib.Core.Bool.{Bool, true, false, false≢true}
 use mathlib.Core.List.{List, [], _∷_, map}
 use mathlib.Core.Option.{Option, none, some}
@@ -10,7 +10,7 @@ use Prim.Native.Nat.{ℕ, _≤_}
 use native.Mathlib.Omega.{arith}
 use borrow.Author.Tests.{leb-true}
 use Rattle.octets.specs.Ascii.{ascii}
-use Rattle.octets.specs.Pick.{pick, _or_}
+use Rattle.octets.specs.Pick.{pick, _and_, _or_}
 use Rattle.octets.specs.laws.Pick.{or-left, or-right, and-both}
 use Rattle.octets.specs.Append.{_⊕_}
 use Rattle.octets.specs.Words.{same, isOneOf, rowOf}
@@ -53,6 +53,20 @@ pub complete-same : (c : List ℕ) (sub : Around) (ps qs : List Property) →
     ((w : List ℕ) → isKnownProperty w ≡ true → tally w ps ≡ tally w qs) → actionOf ps ≡ actionOf qs → complete c ps sub ≡ complete c qs sub
 unfolding complete
 complete-same c sub ps qs h a = rw (a, often-same (listFor c qs) ps qs h, pairs-same c sub ps qs h)
+
+-- ACTION only matters in a VALARM
+plain-list : (c : List ℕ) (ps : List Property) → isAlarm c ≡ false → listFor c ps ≡ some (occurrencesOf c)
+unfolding pick
+plain-list c ps a = rw a
+
+pub complete-plain : (c : List ℕ) (sub : Around) (ps qs : List Property) → isAlarm c ≡ false →
+    ((w : List ℕ) → isKnownProperty w ≡ true → tally w ps ≡ tally w qs) → complete c ps sub ≡ complete c qs sub
+unfolding complete
+complete-plain c sub ps qs a h =
+    ap (λ (o : Option (List Occurrence)). oftenFor o ps and pairsOf c ps sub) (plain-list c ps a)
+    ∙ ap (λ (b : Bool). b and pairsOf c ps sub) (often-same (some (occurrencesOf c)) ps qs h)
+    ∙ ap (λ (b : Bool). oftenFor (some (occurrencesOf c)) qs and b) (pairs-same c sub ps qs h)
+    ∙ ap (λ (o : Option (List Occurrence)). oftenFor o qs and pairsOf c qs sub) (sym (plain-list c qs a))
 
 -- ---- unrecognised properties
 

@@ -5,21 +5,26 @@ use mathlib.Core.Path.{_≡_, refl, _∙_}
 use mathlib.Core.Bool.{Bool, true, false, not, false≢true}
 use mathlib.Core.List.{List, [], _∷_, map}
 use mathlib.Core.Option.{Option, none, some, Option·map}
-use Prim.Native.Nat.{ℕ, suc}
+use Prim.Native.Nat.{ℕ, suc, _-_, _<_}
 use native.Mathlib.Omega.{arith}
+use lib.Dec.{ltb}
+use lib.ListN.{length}
+use borrow.Author.Tests.{lt-ltb, ltb-true}
 use Rattle.octets.specs.Ascii.{ascii}
 use Rattle.octets.specs.Pick.{pick, _and_, _or_}
-use Rattle.octets.specs.laws.Pick.{and-yes, and-both, or-left, or-right, or-false}
+use Rattle.octets.specs.laws.Pick.{and-yes, and-both, or-right, or-false}
 use Rattle.octets.specs.Class.{upper}
-use Rattle.octets.specs.Words.{same, isOneOf, isEmpty}
-use Rattle.octets.specs.laws.Words.{same-true}
+use Rattle.octets.specs.Words.{same, isEmpty}
+use Rattle.octets.specs.laws.Words.{same-true, same-self}
+use Rattle.octets.specs.laws.Letters.{upper-twice}
 use Rattle.octets.specs.Lists.{every}
 use Rattle.octets.specs.laws.Lists.{every-both, every-weaker, every-and}
 use Rattle.octets.specs.Computing.{octets-compute}
 use Rattle.calendar.specs.Calendar.{Parameter, Property, Components, component}
+use Rattle.calendar.specs.Levels.{levels, shallow}
 use Rattle.calendar.specs.Refusal.{Refusal, Verdict, fine}
 use Rattle.calendar.specs.laws.Refusal.{refused-not}
-use Rattle.schema.specs.Components.{subcomponentsOf, mayStand}
+use Rattle.schema.specs.Components.{mayContain, mayStand}
 use Rattle.schema.specs.Properties.{isKnownProperty}
 use Rattle.schema.specs.Counts.{Around, methodFor, complete}
 use Rattle.utf8.specs.Utf8.{firstBad, wellFormed}
@@ -27,18 +32,18 @@ use Rattle.utf8.specs.laws.Utf8.{well-formed-good}
 use Rattle.folding.specs.Lines.{Line, whole, loose}
 use Rattle.values.specs.Valid.{isParameter, areParameters, isProperty}
 use Rattle.read_text_line.specs.ContentLine.{RawParameter, ContentLine, isName, isContentLine, contentLine}
-use Rattle.read_text_line.specs.Names.{isCarriedName}
+use Rattle.read_text_line.specs.Names.{isCarriedName, isComponentName}
 use Rattle.read_text_line.specs.laws.Names.{carried-name-upper}
 use Rattle.read_text_line.specs.Write.{writeContentLine}
 use Rattle.read_text_line.specs.Decoded.{decodedLine, readLine}
 use Rattle.read_text_line.specs.laws.Accepted.{content-line-accepted, content-line-write-back}
-use Rattle.validity.specs.ValidCalendar.{isValidParameter, isValidProperty, hasComponents, areValid, atTop}
-use Rattle.validity.specs.laws.ValidCalendar.{component-valid}
+use Rattle.validity.specs.ValidCalendar.{isKeptName, isValidParameter, isValidProperty, hasComponents, areValid, atTop}
+use Rattle.validity.specs.laws.ValidCalendar.{component-valid, valid-shallow}
 use Rattle.edition.specs.declared.Edition.{Edition}
 use Rattle.text.specs.Faults.{Fault, fault, lineStart}
 use Rattle.text.specs.laws.Faults.{fault-not}
 use Rattle.text.specs.Statement.{propertyOf, propertyFault}
-use Rattle.text.specs.Nesting.{Open, Move, on, stop, opened, mayBegin, beginIn, begins, methodIn, ends, mayHold, told, states, namesCarried, moveBy, moveOf, move, onward, ended, nesting}
+use Rattle.text.specs.Nesting.{Open, Move, on, stop, opened, hasLevel, mayBegin, beginIn, begins, methodIn, ends, mayHold, told, states, namesCarried, moveBy, moveOf, move, onward, ended, nesting}
 use Rattle.text.specs.Tree.{Entry, begin, end, property, entryBy, entryOf, ownOf, innerOf, calendarOf}
 use Rattle.text.specs.laws.AcceptedLine.{isLineParameter, line-accepted, line-property}
 use Rattle.text.specs.laws.AcceptedCharacters.{isGoodParameter, property-good}
@@ -84,17 +89,17 @@ module _ (ed : Edition) where
 
   -- ---- open components
 
-  -- a component that is open, with the properties and subcomponents that are still to come, in a calendar with METHOD or without.
+  -- a component that is open, with so many levels left in it, with the properties and subcomponents that are still to come, in a calendar with METHOD or without.
   -- Once a subcomponent has come, whether METHOD stands is settled
-  record Body (f : Open) (m : Bool) (ps : List Property) (c : Components) : Type 0 where
+  record Body (f : Open) (m : Bool) (l : ℕ) (ps : List Property) (c : Components) : Type 0 where
     own : every (isValidProperty ed (f .name)) ps ≡ true
-    inside : areValid ed (subcomponentsOf (f .name)) (methodFor (f .name) (turned ps (f .seen)) m) c ≡ true
+    inside : areValid ed l (mayContain (f .name)) (methodFor (f .name) (turned ps (f .seen)) m) c ≡ true
     counts : complete (f .name) (turned ps (f .seen)) (record { inner = f .inner or hasComponents c; method = m }) ≡ true
     settled : f .inner ≡ true → methodFor (f .name) (turned ps (f .seen)) m ≡ methodFor (f .name) (f .seen) m
 
   abbrev Frames : List Open → List Entry → ℕ → Type 0
-  Frames [] es d = areValid ed atTop false (innerOf es d) ≡ true
-  Frames (f ∷ st) es d = Body f (methodIn st) (ownOf (f .name) es d) (innerOf es d) × Frames st es (suc d)
+  Frames [] es d = areValid ed levels atTop false (innerOf es d) ≡ true
+  Frames (f ∷ st) es d = Body f (methodIn st) (levels - length (f ∷ st)) (ownOf (f .name) es d) (innerOf es d) × Frames st es (suc d)
 
   frames-begin : (st : List Open) (k : List ℕ) (es : List Entry) (d : ℕ) → Frames st es (suc (suc d)) → Frames st (begin k ∷ es) (suc d)
   unfolding ownOf innerOf
@@ -116,50 +121,70 @@ module _ (ed : Edition) where
   stop-on : {X : Type 0} {r : Fault} {u : List Open} → stop r ≡ on u → X
   stop-on e = let z : _≡_ {A = ℕ} 0 1 = cc in absurd (omega arith)
 
-  begun : (a b : Bool) (r q : Fault) (v u : List Open) → pick a (pick b (on v) (stop r)) (stop q) ≡ on u → (a ≡ true) × (v ≡ u)
+  begun : (n a b : Bool) (o r q : Fault) (v u : List Open) → pick n (pick a (pick b (on v) (stop r)) (stop q)) (stop o) ≡ on u → (n ≡ true) × (a ≡ true) × (v ≡ u)
   unfolding pick
-  begun true true r q v u h = (refl, cc)
-  begun true false r q v u h = stop-on h
-  begun false b r q v u h = stop-on h
+  begun true true true o r q v u h = (refl, refl, cc)
+  begun true true false o r q v u h = stop-on h
+  begun true false b o r q v u h = stop-on h
+  begun false a b o r q v u h = stop-on h
 
   -- the component that begins
-  inner-valid : (k : List ℕ) (m : Bool) (ps : List Property) (c : Components) → Body (opened k) m ps c → complete k ps (record { inner = hasComponents c; method = m }) ≡ true
+  inner-valid : (k : List ℕ) (m : Bool) (l : ℕ) (ps : List Property) (c : Components) → Body (opened k) m l ps c → complete k ps (record { inner = hasComponents c; method = m }) ≡ true
   unfolding _or_
-  inner-valid k m ps c b = complete-turned-back k ps (record { inner = hasComponents c; method = m }) (b .counts)
+  inner-valid k m l ps c b = complete-turned-back k ps (record { inner = hasComponents c; method = m }) (b .counts)
 
-  inside-valid : (k : List ℕ) (m : Bool) (ps : List Property) (c : Components) → Body (opened k) m ps c → areValid ed (subcomponentsOf k) (methodFor k ps m) c ≡ true
-  inside-valid k m ps c b = rw (method-turned k ps m) at (b .inside)
+  inside-valid : (k : List ℕ) (m : Bool) (l : ℕ) (ps : List Property) (c : Components) → Body (opened k) m l ps c → areValid ed l (mayContain k) (methodFor k ps m) c ≡ true
+  inside-valid k m l ps c b = rw (method-turned k ps m) at (b .inside)
 
-  method-same : (ks : List (List ℕ)) (c : Components) (m n : Bool) → m ≡ n → areValid ed ks n c ≡ true → areValid ed ks m c ≡ true
-  method-same ks c m n e h = rw e h
+  method-same : (l : ℕ) (may : List ℕ → Bool) (c : Components) (m n : Bool) → m ≡ n → areValid ed l may n c ≡ true → areValid ed l may m c ≡ true
+  method-same l may c m n e h = rw e h
 
-  begun-valid : (ks : List (List ℕ)) (m : Bool) (k : List ℕ) (ps : List Property) (c next : Components) → isOneOf k ks ≡ true → Body (opened k) m ps c → areValid ed ks m next ≡ true →
-      areValid ed ks m (component k ps c next) ≡ true
-  begun-valid ks m k ps c next o b h =
-      component-valid ed ks m k ps c next (record { named = o; properties = b .own; counts = inner-valid k m ps c b; inside = inside-valid k m ps c b; after = h })
+  begun-valid : (l : ℕ) (may : List ℕ → Bool) (m : Bool) (k : List ℕ) (ps : List Property) (c next : Components) → ltb 0 l ≡ true → isKeptName k ≡ true → may k ≡ true →
+      Body (opened k) m (l - 1) ps c → areValid ed l may m next ≡ true → areValid ed l may m (component k ps c next) ≡ true
+  begun-valid l may m k ps c next v n o b h =
+      component-valid ed l may m k ps c next (record {
+        level = v;
+        kept = n;
+        named = o;
+        properties = b .own;
+        counts = inner-valid k m (l - 1) ps c b;
+        inside = inside-valid k m (l - 1) ps c b;
+        after = h;
+      })
 
-  begin-in : (k : List ℕ) (st : List Open) (es : List Entry) → mayBegin k st ≡ true → Frames (beginIn k st) es 0 → Frames st (begin k ∷ es) 0
+  -- the level inside
+  level-one : (n : ℕ) → ltb n levels ≡ true → ltb 0 (levels - n) ≡ true
+  level-one n h = lt-ltb 0 (levels - n) (omega (arith, ltb-true n levels h))
+
+  level-less : (n : ℕ) → levels - suc n ≡ levels - n - 1
+  level-less n = omega arith
+
+  begin-in : (k : List ℕ) (st : List Open) (es : List Entry) → isKeptName k ≡ true → mayBegin k st ≡ true → Frames (beginIn k st) es 0 → Frames st (begin k ∷ es) 0
   unfolding ownOf innerOf
-  begin-in k [] es m h = begun-valid atTop false k _ _ _ (unfold isOneOf in or-left _ _ m) (h .0) (h .1)
-  begin-in k (f ∷ st) es m h =
+  begin-in k [] es n m h = begun-valid levels atTop false k _ _ _ refl n m (h .0) (h .1)
+  begin-in k (f ∷ st) es n m h =
+      let o = and-both (mayContain (f .name) k) _ m in
       let b = h .1 .0 in
+      let a = rw (level-less (length (f ∷ st))) at (h .0) in
       let s = b .settled refl in (
         record {
           own = b .own;
-          inside = method-same _ _ _ _ s (begun-valid (subcomponentsOf (f .name)) (methodIn (f ∷ st)) k _ _ _ m (h .0) (rw s at (b .inside)));
+          inside = method-same _ _ _ _ _ s (begun-valid (levels - length (f ∷ st)) (mayContain (f .name)) (methodIn (f ∷ st)) k _ _ _ (level-one (length (f ∷ st)) (o .1)) n (o .0) a (rw s at (b .inside)));
           counts = rw (or-right (f .inner) true refl) (later b);
           settled = λ e. s;
         },
         frames-begin st k es 0 (h .1 .1),
       )
     where
-      later : Body (record { name = f .name; seen = f .seen; inner = true }) (methodIn st) (ownOf (f .name) es 1) (innerOf es 1) →
+      later : Body (record { name = f .name; seen = f .seen; inner = true }) (methodIn st) (levels - length (f ∷ st)) (ownOf (f .name) es 1) (innerOf es 1) →
           complete (f .name) (turned (ownOf (f .name) es 1) (f .seen)) (record { inner = true; method = methodIn st }) ≡ true
       later b = unfold _or_ in b .counts
 
-  begin-step : (k : List ℕ) (ps : List RawParameter) (st u : List Open) (es : List Entry) → begins k ps st ≡ on u → Frames u es 0 → Frames st (begin k ∷ es) 0
+  begin-step : (v : List ℕ) (ps : List RawParameter) (st u : List Open) (es : List Entry) → begins (upper v) ps st ≡ on u → Frames u es 0 → Frames st (begin (upper v) ∷ es) 0
   unfolding begins
-  begin-step k ps st u es m h = let e = begun (mayBegin k st) (isEmpty ps) _ _ (beginIn k st) u m in begin-in k st es (e .0) (rw (← (e .1)) at h)
+  begin-step v ps st u es m h =
+      let e = begun (isComponentName (upper v)) (mayBegin (upper v) st) (isEmpty ps) _ _ _ (beginIn (upper v) st) u m in
+      begin-in (upper v) st es (and-yes _ _ (rw (upper-twice v) (same-self (upper v))) (e .0)) (e .1) (rw (← (e .2)) at h)
 
   closed : (a b c : Bool) (r q o : Fault) (v u : List Open) → pick a (pick b (pick c (on v) (stop o)) (stop r)) (stop q) ≡ on u → (c ≡ true) × (v ≡ u)
   unfolding pick
@@ -217,7 +242,7 @@ module _ (ed : Edition) where
           pick c (pick b (begins (upper (l .value)) (decodedLine ed l .parameters) st) (pick e (ends (upper (l .value)) (decodedLine ed l .parameters) st) (states (decodedLine ed l) st))) (stop (fault Refusal.NAME lineStart)) ≡ on u →
           Frames st (pick b (begin (upper (l .value))) (pick e end (property (decodedLine ed l))) ∷ es) 0
       by l i false b e c₁ b₁ e₁ k = stop-on k
-      by l i true true e c₁ b₁ e₁ k = begin-step (upper (l .value)) (decodedLine ed l .parameters) st u es k h
+      by l i true true e c₁ b₁ e₁ k = begin-step (l .value) (decodedLine ed l .parameters) st u es k h
       by l i true false true c₁ b₁ e₁ k = end-step (upper (l .value)) (decodedLine ed l .parameters) st u es k h
       by l i true false false c₁ b₁ e₁ k =
           property-step l st u es (content-line-accepted s l i) (rw (content-line-write-back s l i) g) c₁ b₁ e₁ k h
@@ -243,24 +268,24 @@ module _ (ed : Edition) where
       let m = moved-on (move ed s st) p s (nesting ed e ls) h in
       line-step s st (m .0) (map (entryOf ed) ls) (well-formed-good s (a .0)) (m .1) (all-frames ls e (m .0) (a .1) (m .2))
 
-  pub tree-accepted : (ls : List Line) (e : ℕ) → every isGoodOne ls ≡ true → nesting ed e ls [] ≡ fine → areValid ed atTop false (calendarOf ed ls) ≡ true
+  pub tree-accepted : (ls : List Line) (e : ℕ) → every isGoodOne ls ≡ true → nesting ed e ls [] ≡ fine → areValid ed levels atTop false (calendarOf ed ls) ≡ true
   unfolding calendarOf
-  tree-accepted ls e g h = all-frames ls e [] g h
+  tree-accepted ls e g h = let v = all-frames ls e [] g h in rw (valid-shallow ed (innerOf (map (entryOf ed) ls) 0) levels atTop false v) v
 
   -- ---- the first line begins a component
 
-  first-begins : (s : List ℕ) (u : List Open) (es : List Entry) → move ed s [] ≡ on u → hasComponents (innerOf (entryBy (readLine ed s) ∷ es) 0) ≡ true
-  unfolding moveOf moveBy entryBy pick innerOf ends states
+  first-begins : (s : List ℕ) (u : List Open) (es : List Entry) → move ed s [] ≡ on u → hasComponents (shallow levels (innerOf (entryBy (readLine ed s) ∷ es) 0)) ≡ true
+  unfolding moveOf moveBy entryBy pick innerOf shallow ends states
   first-begins s u es m = go (readLine ed s) m
     where
       by : (l : ContentLine) (c b e : Bool) → pick c (pick b (begins (upper (l .value)) (l .parameters) []) (pick e (ends (upper (l .value)) (l .parameters) []) (states l []))) (stop (fault Refusal.NAME lineStart)) ≡ on u →
-          hasComponents (innerOf (pick b (begin (upper (l .value))) (pick e end (property l)) ∷ es) 0) ≡ true
+          hasComponents (shallow levels (innerOf (pick b (begin (upper (l .value))) (pick e end (property l)) ∷ es) 0)) ≡ true
       by l false b e k = stop-on k
       by l true true e k = refl
       by l true false true k = stop-on k
       by l true false false k = stop-on k
 
-      go : (o : Option ContentLine) → moveOf o [] ≡ on u → hasComponents (innerOf (entryBy o ∷ es) 0) ≡ true
+      go : (o : Option ContentLine) → moveOf o [] ≡ on u → hasComponents (shallow levels (innerOf (entryBy o ∷ es) 0)) ≡ true
       go none k = stop-on k
       go (some l) k = by l (namesCarried l) (same (upper (l .name)) (ascii "BEGIN")) (same (upper (l .name)) (ascii "END")) k
 

@@ -11,7 +11,7 @@ use Rattle.edition.specs.declared.Edition.{Edition}
 use Rattle.read_text_line.specs.ContentLine.{ContentLine}
 use Rattle.read_text_line.specs.Decoded.{readLine}
 use Rattle.text.specs.Faults.{Fault}
-use Rattle.text.specs.Nesting.{Open, on, begins, ends, states, told, moveBy, moveOf, move}
+use Rattle.text.specs.Nesting.{Open, on, hasLevel, begins, ends, states, told, moveBy, moveOf, move}
 use Rattle.text.specs.LineKind.{LineKind, heldBy, kindBy, kindOf, lineKind, step}
 
 -- ---- what it does
@@ -27,10 +27,10 @@ unfolding step
 step-held none p f st = refl
 step-held (some r) p f st = refl
 
-move-by : (o : Option ContentLine) (f : Open) (st : List Open) → moveOf o (f ∷ st) ≡ step (kindOf (f .name) (f .inner) o) f st
+move-by : (o : Option ContentLine) (f : Open) (st : List Open) → moveOf o (f ∷ st) ≡ step (kindOf (f .name) (hasLevel (f ∷ st)) (f .inner) o) f st
 unfolding moveOf kindOf
 move-by none f st = unfold step in refl
 move-by (some l) f st = unfold moveBy kindBy begins ends states in simp (step-pick, step-held) (unfold step in refl)
 
-pub move-is : (ed : Edition) (s : List ℕ) (f : Open) (st : List Open) → move ed s (f ∷ st) ≡ step (lineKind ed (f .name) (f .inner) s) f st
+pub move-is : (ed : Edition) (s : List ℕ) (f : Open) (st : List Open) → move ed s (f ∷ st) ≡ step (lineKind ed (f .name) (hasLevel (f ∷ st)) (f .inner) s) f st
 move-is ed s f st = move-by (readLine ed s) f st

@@ -3,7 +3,10 @@
 use mathlib.Core.Path.{_≡_, refl, _∙_}
 use mathlib.Core.Bool.{Bool, true, false}
 use mathlib.Core.List.{List, [], _∷_, map}
-use Prim.Native.Nat.{ℕ, _+_}
+use Prim.Native.Nat.{ℕ, _+_, _-_, _≤_}
+use native.Mathlib.Omega.{arith}
+use borrow.Author.Tests.{lt-ltb, ltb-true}
+use lib.Dec.{ltb}
 use lib.ListN.{length}
 use Rattle.octets.specs.Ascii.{ascii}
 use Rattle.octets.specs.Pick.{pick, _and_, _or_}
@@ -15,23 +18,24 @@ use Rattle.octets.specs.Lists.{every}
 use Rattle.octets.specs.laws.Lists.{every-both}
 use Rattle.octets.specs.Computing.{octets-compute}
 use Rattle.calendar.specs.Calendar.{Parameter, Property, Components, noMore, component}
+use Rattle.calendar.specs.Levels.{levels}
 use Rattle.calendar.specs.Refusal.{fine}
 use Rattle.schema.specs.Types.{sameType}
-use Rattle.schema.specs.Components.{subcomponentsOf}
+use Rattle.schema.specs.Components.{mayContain}
 use Rattle.schema.specs.Properties.{defaultType}
 use Rattle.schema.specs.Counts.{Around, methodFor, complete}
 use Rattle.values.specs.WriteValue.{typeOfAll}
 use Rattle.folding.specs.Text.{wholeLines}
-use Rattle.read_text_line.specs.Names.{startsOffName, isCarriedName}
+use Rattle.read_text_line.specs.Names.{startsOffName, isCarriedName, isComponentName}
 use Rattle.read_text_line.specs.Carried.{carriesName}
 use Rattle.validity.specs.ValidCalendar.{isValidParameter, isValidProperty, hasComponents, areValid, atTop}
-use Rattle.validity.specs.laws.ValidCalendar.{kept-parts, inside-kept, top-kept, top-name, valid-parameter, ValidProperty, valid-property, valid-component}
+use Rattle.validity.specs.laws.ValidCalendar.{kept-parts, component-name, valid-parameter, ValidProperty, valid-property, valid-component}
 use Rattle.edition.specs.declared.Edition.{Edition}
-use Rattle.text.specs.Nesting.{Open, on, opened, mayBegin, beginIn, begins, methodIn, ends, states, namesCarried, moveBy, moveOf, move, onward, ended, nesting}
+use Rattle.text.specs.Nesting.{Open, on, opened, hasLevel, mayBegin, beginIn, begins, methodIn, ends, states, namesCarried, moveBy, moveOf, move, onward, ended, nesting}
 use Rattle.text.specs.WriteText.{rawOf, valueParameter, withValue, contentLineOf}
 use Rattle.text.specs.laws.PropertyLaws.{property-read-back, property-no-fault}
 use Rattle.text.specs.laws.Turned.{turned, complete-turned, method-turned}
-use Rattle.text.specs.laws.TreeBack.{beginOf, endOf, lineOf, propertiesBefore, linesBefore, linesOf, framing, begin-line, end-line, property-line, component-name}
+use Rattle.text.specs.laws.TreeBack.{beginOf, endOf, lineOf, propertiesBefore, linesBefore, linesOf, framing, begin-line, end-line, property-line}
 
 -- ---- an open component
 
@@ -57,9 +61,9 @@ unfolding moveBy octets-compute
 end-by k st = rw (end-carried k)
 
 module _ (ed : Edition) where
-  begin-move : (k : List ℕ) (st : List Open) → upper k ≡ k → allOf isVisible k ≡ true → mayBegin k st ≡ true → move ed (beginOf k) st ≡ on (beginIn k st)
+  begin-move : (k : List ℕ) (st : List Open) → (upper k ≡ k) × (allOf isVisible k ≡ true) × (isComponentName k ≡ true) → mayBegin k st ≡ true → move ed (beginOf k) st ≡ on (beginIn k st)
   unfolding moveOf begins pick
-  begin-move k st u h m = rw (begin-line ed k h) (begin-by k st ∙ rw (u, m))
+  begin-move k st n m = rw (begin-line ed k (n .1)) (begin-by k st ∙ rw (n .0, n .2, m))
 
   end-move : (k : List ℕ) (seen : List Property) (inner : Bool) (st : List Open) → upper k ≡ k → allOf isVisible k ≡ true → complete k seen (record { inner = inner; method = methodIn st }) ≡ true →
       move ed (endOf k) (frame k seen inner ∷ st) ≡ on st
@@ -124,9 +128,13 @@ module _ (ed : Edition) where
       complete k (turned ps []) (record { inner = flagAfter inner false; method = m }) ≡ true
   ok-counts k ps inner m h = rw (flag-has inner) (complete-turned k ps (record { inner = hasComponents inner; method = m }) h)
 
-  ok-inside : (k : List ℕ) (ps : List Property) (inner : Components) (m : Bool) → areValid ed (subcomponentsOf k) (methodFor k ps m) inner ≡ true →
-      areValid ed (subcomponentsOf k) (methodFor k (turned ps []) m) inner ≡ true
-  ok-inside k ps inner m h = rw (method-turned k ps m) h
+  ok-inside : (k : List ℕ) (ps : List Property) (inner : Components) (l : ℕ) (m : Bool) → areValid ed l (mayContain k) (methodFor k ps m) inner ≡ true →
+      areValid ed l (mayContain k) (methodFor k (turned ps []) m) inner ≡ true
+  ok-inside k ps inner l m h = rw (method-turned k ps m) h
+
+  -- where l levels are left beside those that are open
+  level-left : (l n : ℕ) → ltb 0 l ≡ true → n + l ≤ levels → ltb n levels ≡ true
+  level-left l n h q = lt-ltb n levels (omega (arith, ltb-true 0 l h))
 
   module _ (e : ℕ) where
     -- the check of lines from any place on, with these components open, ends well
@@ -145,38 +153,38 @@ module _ (ed : Edition) where
         let a = every-both (isValidProperty ed k) p ps h in
         ok-line (lineOf ed p) (propertiesBefore ed ps r) (frame k seen false ∷ st) (frame k (p ∷ seen) false ∷ st) (property-move k p (a .0) seen st) (ok-properties k ps (a .1) (p ∷ seen) st r o)
 
-    ok-components : (c : Components) (j : List ℕ) (seen : List Property) (b : Bool) (st : List Open) (r : List (List ℕ)) → areValid ed (subcomponentsOf j) (methodFor j seen (methodIn st)) c ≡ true →
-        Ok r (frame j seen (flagAfter c b) ∷ st) → Ok (linesBefore ed c r) (frame j seen b ∷ st)
+    ok-components : (c : Components) (j : List ℕ) (seen : List Property) (b : Bool) (st : List Open) (r : List (List ℕ)) (l : ℕ) → length st + 1 + l ≤ levels →
+        areValid ed l (mayContain j) (methodFor j seen (methodIn st)) c ≡ true → Ok r (frame j seen (flagAfter c b) ∷ st) → Ok (linesBefore ed c r) (frame j seen b ∷ st)
     unfolding flagAfter linesBefore
-    ok-components noMore j seen b st r v o = o
-    ok-components (component k ps inner next) j seen b st r h o =
+    ok-components noMore j seen b st r l q v o = o
+    ok-components (component k ps inner next) j seen b st r l q h o =
         let m : Bool = methodFor j seen (methodIn st) in
-        let v = valid-component ed (subcomponentsOf j) m k ps inner next h in
-        let n = component-name (subcomponentsOf j) k (inside-kept j) (v .named) in
+        let v = valid-component ed l (mayContain j) m k ps inner next h in
+        let n = component-name k (v .kept) in
         let st₁ : List Open = frame j seen true ∷ st in
         let x : List (List ℕ) = endOf k ∷ (linesBefore ed) next r in
         let done = ok-counts k ps inner m (v .counts) in
         let z : Ok x (frame k (turned ps []) (flagAfter inner false) ∷ st₁) =
-        ok-line (endOf k) (linesBefore ed next r) (frame k (turned ps []) (flagAfter inner false) ∷ st₁) st₁ (end-move k (turned ps []) (flagAfter inner false) st₁ (n .0) (n .1) done) (ok-components next j seen true st r (v .after) o) in
-        ok-line (beginOf k) (propertiesBefore ed ps (linesBefore ed inner x)) (frame j seen b ∷ st) (opened k ∷ st₁) (begin-move k (frame j seen b ∷ st) (n .0) (n .1) (v .named))
-        (ok-properties k ps (v .properties) [] st₁ (linesBefore ed inner x) (ok-components inner k (turned ps []) false st₁ x (ok-inside k ps inner m (v .inside)) z))
+        ok-line (endOf k) (linesBefore ed next r) (frame k (turned ps []) (flagAfter inner false) ∷ st₁) st₁ (end-move k (turned ps []) (flagAfter inner false) st₁ (n .0) (n .1) done) (ok-components next j seen true st r l q (v .after) o) in
+        ok-line (beginOf k) (propertiesBefore ed ps (linesBefore ed inner x)) (frame j seen b ∷ st) (opened k ∷ st₁) (begin-move k (frame j seen b ∷ st) n (and-yes _ _ (v .named) (level-left l (length (frame j seen b ∷ st)) (v .level) (omega arith))))
+        (ok-properties k ps (v .properties) [] st₁ (linesBefore ed inner x) (ok-components inner k (turned ps []) false st₁ x (l - 1) (omega (arith, ltb-true 0 l (v .level))) (ok-inside k ps inner (l - 1) m (v .inside)) z))
 
-    ok-tops : (c : Components) → areValid ed atTop false c ≡ true → (r : List (List ℕ)) → Ok r [] → Ok (linesBefore ed c r) []
+    ok-tops : (c : Components) → areValid ed levels atTop false c ≡ true → (r : List (List ℕ)) → Ok r [] → Ok (linesBefore ed c r) []
     unfolding linesBefore
     ok-tops noMore v r o = o
     ok-tops (component k ps inner next) h r o =
-        let v = valid-component ed atTop false k ps inner next h in
-        let n = component-name atTop k top-kept (v .named) in
+        let v = valid-component ed levels atTop false k ps inner next h in
+        let n = component-name k (v .kept) in
         let x : List (List ℕ) = endOf k ∷ (linesBefore ed) next r in
         let done = ok-counts k ps inner false (v .counts) in
         let z : Ok x (frame k (turned ps []) (flagAfter inner false) ∷ []) =
         ok-line (endOf k) (linesBefore ed next r) (frame k (turned ps []) (flagAfter inner false) ∷ []) [] (end-move k (turned ps []) (flagAfter inner false) [] (n .0) (n .1) done) (ok-tops next (v .after) r o) in
-        ok-line (beginOf k) (propertiesBefore ed ps (linesBefore ed inner x)) [] (opened k ∷ []) (begin-move k [] (n .0) (n .1) (top-name k (v .named)))
-        (ok-properties k ps (v .properties) [] [] (linesBefore ed inner x) (ok-components inner k (turned ps []) false [] x (ok-inside k ps inner false (v .inside)) z))
+        ok-line (beginOf k) (propertiesBefore ed ps (linesBefore ed inner x)) [] (opened k ∷ []) (begin-move k [] n (v .named))
+        (ok-properties k ps (v .properties) [] [] (linesBefore ed inner x) (ok-components inner k (turned ps []) false [] x (levels - 1) (omega arith) (ok-inside k ps inner (levels - 1) false (v .inside)) z))
 
     ok-end : Ok [] []
     unfolding wholeLines nesting ended
     ok-end p = refl
 
-    pub nesting-back : (c : Components) (p : ℕ) → areValid ed atTop false c ≡ true → nesting ed e (wholeLines p (linesOf ed c)) [] ≡ fine
+    pub nesting-back : (c : Components) (p : ℕ) → areValid ed levels atTop false c ≡ true → nesting ed e (wholeLines p (linesOf ed c)) [] ≡ fine
     nesting-back c p v = ok-tops c v [] ok-end p

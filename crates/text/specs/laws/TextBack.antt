@@ -5,7 +5,7 @@ use mathlib.Core.Path.{_≡_, refl, sym, ap, _∙_}
 use mathlib.Core.Bool.{Bool, true, false, not, false≢true}
 use mathlib.Core.List.{List, [], _∷_}
 use mathlib.Core.Option.{none}
-use Prim.Native.Nat.{ℕ, _≤_}
+use Prim.Native.Nat.{ℕ, _-_, _≤_}
 use lib.ListN.{length}
 use borrow.Author.Tests.{le-leb, not-true}
 use Rattle.octets.specs.Pick.{pick, _and_, _or_}
@@ -16,8 +16,9 @@ use Rattle.octets.specs.Words.{holds, noneHolds}
 use Rattle.octets.specs.Lists.{every}
 use Rattle.octets.specs.laws.Lists.{every-both}
 use Rattle.calendar.specs.Calendar.{Property, Components, noMore, component}
+use Rattle.calendar.specs.Levels.{levels}
 use Rattle.calendar.specs.Refusal.{fine, _otherwise_, accepted, limit}
-use Rattle.schema.specs.Components.{subcomponentsOf}
+use Rattle.schema.specs.Components.{mayContain}
 use Rattle.schema.specs.Counts.{methodFor}
 use Rattle.utf8.specs.Utf8.{badFrom, firstBad}
 use Rattle.utf8.specs.laws.Utf8.{well-formed-good, good-append, ascii-first}
@@ -25,13 +26,13 @@ use Rattle.folding.specs.Unfold.{crlf, blankAt, unfolded}
 use Rattle.folding.specs.Lines.{Line, lines}
 use Rattle.folding.specs.Text.{foldedText, noneBlank, wholeLines}
 use Rattle.folding.specs.laws.Text.{ended, plainText, text-unfolded, text-lines}
-use Rattle.validity.specs.ValidCalendar.{isKeptName, isValidProperty, hasComponents, areValid, atTop, isValid}
-use Rattle.validity.specs.laws.ValidCalendar.{inside-kept, top-kept, valid-component, valid-parts}
+use Rattle.validity.specs.ValidCalendar.{isValidProperty, hasComponents, areValid, atTop, isValid}
+use Rattle.validity.specs.laws.ValidCalendar.{component-name, valid-component, valid-parts}
 use Rattle.edition.specs.declared.Edition.{Edition}
 use Rattle.text.specs.Nesting.{nesting}
 use Rattle.text.specs.ReadText.{linesVerdict, keptVerdict, placed, textVerdict, readCalendar}
 use Rattle.text.specs.WriteText.{propertyLine, propertyLines, beginLine, endLine, writeCalendar}
-use Rattle.text.specs.laws.TreeBack.{endOf, propertiesBefore, linesBefore, linesOf, component-name, tree-back}
+use Rattle.text.specs.laws.TreeBack.{endOf, propertiesBefore, linesBefore, linesOf, tree-back}
 use Rattle.text.specs.laws.NestingBack.{nesting-back}
 use Rattle.text.specs.laws.WrittenLine.{isGoodLine, begin-good, end-good, property-good}
 
@@ -67,14 +68,14 @@ module _ (ed : Edition) where
   good-properties k [] r h g = g
   good-properties k (p ∷ ps) r h g = let a = every-both (isValidProperty ed k) p ps h in and-yes _ _ (property-good ed k p (a .0)) (good-properties k ps r (a .1) g)
 
-  good-components : (c : Components) (ks : List (List ℕ)) (m : Bool) → every isKeptName ks ≡ true → areValid ed ks m c ≡ true → (r : List (List ℕ)) → every isGoodLine r ≡ true → every isGoodLine (linesBefore ed c r) ≡ true
+  good-components : (c : Components) (l : ℕ) (may : List ℕ → Bool) (m : Bool) → areValid ed l may m c ≡ true → (r : List (List ℕ)) → every isGoodLine r ≡ true → every isGoodLine (linesBefore ed c r) ≡ true
   unfolding linesBefore every
-  good-components noMore ks m a v r g = g
-  good-components (component k ps inner next) ks m a h r g =
-      let v = valid-component ed ks m k ps inner next h in
-      let n = component-name ks k a (v .named) in
+  good-components noMore l may m v r g = g
+  good-components (component k ps inner next) l may m h r g =
+      let v = valid-component ed l may m k ps inner next h in
+      let n = component-name k (v .kept) in
       and-yes _ _ (begin-good k (n .1))
-      (good-properties k ps _ (v .properties) (good-components inner (subcomponentsOf k) (methodFor k ps m) (inside-kept k) (v .inside) _ (and-yes _ _ (end-good k (n .1)) (good-components next ks m a (v .after) r g))))
+      (good-properties k ps _ (v .properties) (good-components inner (l - 1) (mayContain k) (methodFor k ps m) (v .inside) _ (and-yes _ _ (end-good k (n .1)) (good-components next l may m (v .after) r g))))
 
   -- what good lines are
   record Good (s : List ℕ) : Type 0 where
@@ -131,7 +132,7 @@ module _ (ed : Edition) where
   text-back c room h l r =
       let n = valid-parts ed c h in
       let v = n .1 in
-      let g : every isGoodLine (linesOf ed c) ≡ true = good-components c atTop false top-kept v [] refl in
+      let g : every isGoodLine (linesOf ed c) ≡ true = good-components c levels atTop false v [] refl in
       let nr = lines-no-return (linesOf ed c) g in
       let u : unfolded (writeCalendar ed c) ≡ plainText (linesOf ed c) = ap unfolded (text-written c) ∙ text-unfolded (linesOf ed c) nr (lines-no-blank (linesOf ed c) g) in
       let w : lines (plainText (linesOf ed c)) ≡ wholeLines 0 (linesOf ed c) = text-lines (linesOf ed c) 0 nr in

@@ -7,7 +7,7 @@ use mathlib.Core.Path.{_≡_, refl, sym, ap, _∙_}
 use mathlib.Core.Bool.{Bool, true, false}
 use mathlib.Core.List.{List, [], _∷_, map}
 use mathlib.Core.Option.{some, Option·map}
-use Prim.Native.Nat.{ℕ, suc, _+_}
+use Prim.Native.Nat.{ℕ, suc, _+_, _-_}
 use lib.ListN.{length}
 use Rattle.octets.specs.Ascii.{ascii}
 use Rattle.octets.specs.Pick.{pick}
@@ -15,12 +15,12 @@ use Rattle.octets.specs.laws.Pick.{and-yes}
 use Rattle.octets.specs.Scan.{allOf}
 use Rattle.octets.specs.Append.{_⊕_, joined}
 use Rattle.octets.specs.Class.{isVisible, upper}
-use Rattle.octets.specs.Words.{isOneOf}
 use Rattle.octets.specs.Lists.{every}
-use Rattle.octets.specs.laws.Lists.{every-both, word-passes}
+use Rattle.octets.specs.laws.Lists.{every-both}
 use Rattle.octets.specs.Computing.{octets-compute}
 use Rattle.calendar.specs.Calendar.{Property, Components, noMore, component}
-use Rattle.schema.specs.Components.{subcomponentsOf}
+use Rattle.calendar.specs.Levels.{levels}
+use Rattle.schema.specs.Components.{mayContain}
 use Rattle.schema.specs.Counts.{methodFor}
 use Rattle.folding.specs.Text.{wholeLines}
 use Rattle.read_text_line.specs.ContentLine.{ContentLine, isName, isContentLine, contentLine}
@@ -28,8 +28,8 @@ use Rattle.read_text_line.specs.Decoded.{decodedLine, readLine, writeLine}
 use Rattle.read_text_line.specs.laws.Chars.{visible-value}
 use Rattle.read_text_line.specs.Write.{writeContentLine}
 use Rattle.read_text_line.specs.laws.RoundTrip.{content-line-read-back}
-use Rattle.validity.specs.ValidCalendar.{isKeptName, isValidProperty, areValid, atTop}
-use Rattle.validity.specs.laws.ValidCalendar.{kept-parts, name-visible, inside-kept, top-kept, ValidProperty, valid-property, valid-component}
+use Rattle.validity.specs.ValidCalendar.{isValidProperty, areValid, atTop}
+use Rattle.validity.specs.laws.ValidCalendar.{kept-parts, component-name, ValidProperty, valid-property, valid-component, valid-shallow}
 use Rattle.edition.specs.declared.Edition.{Edition}
 use Rattle.text.specs.Statement.{propertyOf}
 use Rattle.text.specs.Tree.{Entry, begin, end, property, entryBy, entryOf, ownOf, innerOf, calendarOf}
@@ -76,10 +76,6 @@ begin-content k h = ap contentLine (sym (begin-written k)) ∙ content-line-read
 
 end-content : (k : List ℕ) → allOf isVisible k ≡ true → contentLine (endOf k) ≡ some (framing (ascii "END") k)
 end-content k h = ap contentLine (sym (end-written k)) ∙ content-line-read-back (framing (ascii "END") k) (framing-line (ascii "END") k end-name h)
-
--- the name of a component is in capitals, and shows
-pub component-name : (ks : List (List ℕ)) (k : List ℕ) → every isKeptName ks ≡ true → isOneOf k ks ≡ true → (upper k ≡ k) × (allOf isVisible k ≡ true)
-component-name ks k a h = let n = kept-parts k (word-passes isKeptName ks k a h) in (n .0, name-visible k (n .1))
 
 module _ (ed : Edition) where
   -- ---- the lines of a calendar
@@ -169,46 +165,46 @@ module _ (ed : Edition) where
 
   -- ---- components
 
-  own-components : (c : Components) (ks : List (List ℕ)) (m : Bool) → every isKeptName ks ≡ true → areValid ed ks m c ≡ true → (j : List ℕ) (d : ℕ) (r : List (List ℕ)) → ownOf j (entries (linesBefore c r)) d ≡ ownOf j (entries r) d
+  own-components : (c : Components) (l : ℕ) (may : List ℕ → Bool) (m : Bool) → areValid ed l may m c ≡ true → (j : List ℕ) (d : ℕ) (r : List (List ℕ)) → ownOf j (entries (linesBefore c r)) d ≡ ownOf j (entries r) d
   unfolding linesBefore ownOf
-  own-components noMore ks m a v j d r = refl
-  own-components (component k ps inner next) ks m a h j d r =
-      let v = valid-component ed ks m k ps inner next h in
-      let n = component-name ks k a (v .named) in
+  own-components noMore l may m v j d r = refl
+  own-components (component k ps inner next) l may m h j d r =
+      let v = valid-component ed l may m k ps inner next h in
+      let n = component-name k (v .kept) in
       let e = end-entry k (n .1) in
       rw (begin-entry k (n .0) (n .1))
-      (deep-properties j k d ps _ (v .properties) ∙ own-components inner (subcomponentsOf k) (methodFor k ps m) (inside-kept k) (v .inside) j (suc d) _ ∙ rw e (own-components next ks m a (v .after) j d r))
+      (deep-properties j k d ps _ (v .properties) ∙ own-components inner (l - 1) (mayContain k) (methodFor k ps m) (v .inside) j (suc d) _ ∙ rw e (own-components next l may m (v .after) j d r))
 
-  inner-deep : (c : Components) (ks : List (List ℕ)) (m : Bool) → every isKeptName ks ≡ true → areValid ed ks m c ≡ true → (d : ℕ) (r : List (List ℕ)) → innerOf (entries (linesBefore c r)) (suc d) ≡ innerOf (entries r) (suc d)
+  inner-deep : (c : Components) (l : ℕ) (may : List ℕ → Bool) (m : Bool) → areValid ed l may m c ≡ true → (d : ℕ) (r : List (List ℕ)) → innerOf (entries (linesBefore c r)) (suc d) ≡ innerOf (entries r) (suc d)
   unfolding linesBefore innerOf
-  inner-deep noMore ks m a v d r = refl
-  inner-deep (component k ps inner next) ks m a h d r =
-      let v = valid-component ed ks m k ps inner next h in
-      let n = component-name ks k a (v .named) in
+  inner-deep noMore l may m v d r = refl
+  inner-deep (component k ps inner next) l may m h d r =
+      let v = valid-component ed l may m k ps inner next h in
+      let n = component-name k (v .kept) in
       let e = end-entry k (n .1) in
       rw (begin-entry k (n .0) (n .1))
-      (inner-properties k (suc (suc d)) ps _ (v .properties) ∙ inner-deep inner (subcomponentsOf k) (methodFor k ps m) (inside-kept k) (v .inside) (suc d) _ ∙ rw e (inner-deep next ks m a (v .after) d r))
+      (inner-properties k (suc (suc d)) ps _ (v .properties) ∙ inner-deep inner (l - 1) (mayContain k) (methodFor k ps m) (v .inside) (suc d) _ ∙ rw e (inner-deep next l may m (v .after) d r))
 
-  inner-own : (c : Components) (ks : List (List ℕ)) (m : Bool) → every isKeptName ks ≡ true → areValid ed ks m c ≡ true → (r : List (List ℕ)) → innerOf (entries r) 0 ≡ noMore → innerOf (entries (linesBefore c r)) 0 ≡ c
+  inner-own : (c : Components) (l : ℕ) (may : List ℕ → Bool) (m : Bool) → areValid ed l may m c ≡ true → (r : List (List ℕ)) → innerOf (entries r) 0 ≡ noMore → innerOf (entries (linesBefore c r)) 0 ≡ c
   unfolding linesBefore innerOf ownOf
-  inner-own noMore ks m a v r h = h
-  inner-own (component k ps inner next) ks m a w r h =
-      let v = valid-component ed ks m k ps inner next w in
-      let n = component-name ks k a (v .named) in
+  inner-own noMore l may m v r h = h
+  inner-own (component k ps inner next) l may m w r h =
+      let v = valid-component ed l may m k ps inner next w in
+      let n = component-name k (v .kept) in
       let e = end-entry k (n .1) in
       let x : List (List ℕ) = endOf k ∷ linesBefore next r in
       let y : List (List ℕ) = linesBefore inner x in
       let own : ownOf k (entries (propertiesBefore ps y)) 0 ≡ ps =
-      own-properties k ps y (v .properties) (own-components inner (subcomponentsOf k) (methodFor k ps m) (inside-kept k) (v .inside) k 0 x ∙ rw e) in
+      own-properties k ps y (v .properties) (own-components inner (l - 1) (mayContain k) (methodFor k ps m) (v .inside) k 0 x ∙ rw e) in
       let ours : innerOf (entries (propertiesBefore ps y)) 0 ≡ inner =
-      inner-properties k 0 ps y (v .properties) ∙ inner-own inner (subcomponentsOf k) (methodFor k ps m) (inside-kept k) (v .inside) x (rw e) in
+      inner-properties k 0 ps y (v .properties) ∙ inner-own inner (l - 1) (mayContain k) (methodFor k ps m) (v .inside) x (rw e) in
       let after : innerOf (entries (propertiesBefore ps y)) 1 ≡ next =
-      inner-properties k 1 ps y (v .properties) ∙ inner-deep inner (subcomponentsOf k) (methodFor k ps m) (inside-kept k) (v .inside) 0 x ∙ rw e (inner-own next ks m a (v .after) r h) in
+      inner-properties k 1 ps y (v .properties) ∙ inner-deep inner (l - 1) (mayContain k) (methodFor k ps m) (v .inside) 0 x ∙ rw e (inner-own next l may m (v .after) r h) in
       rw (begin-entry k (n .0) (n .1)) (rw (own, ours, after))
 
-  pub tree-back : (c : Components) (p : ℕ) → areValid ed atTop false c ≡ true → calendarOf ed (wholeLines p (linesOf c)) ≡ c
+  pub tree-back : (c : Components) (p : ℕ) → areValid ed levels atTop false c ≡ true → calendarOf ed (wholeLines p (linesOf c)) ≡ c
   unfolding calendarOf
-  tree-back c p v = rw (placeless (linesOf c) p) (inner-own c atTop false top-kept v [] done)
+  tree-back c p v = rw (placeless (linesOf c) p, inner-own c levels atTop false v [] done) (valid-shallow ed c levels atTop false v)
     where
       done : innerOf [] 0 ≡ noMore
       done = unfold innerOf in refl

@@ -1,4 +1,4 @@
--- The properties of a component with the last first, as an open component keeps them: the schema's counts do not mind the order, for ACTION stands at most once.
+-- The properties of a component with the last first, as an open component keeps them: the schema's counts do not mind the order, for ACTION only matters in a VALARM, where it stands at most once.
 --     turned ps seen     the properties ps, the last first, in front of those seen before
 --     complete-turned, complete-turned-back    what is complete in one order is complete in the other
 --     method-turned      and METHOD stands in both or in none
@@ -13,15 +13,15 @@ use Rattle.octets.specs.Pick.{pick}
 use Rattle.octets.specs.laws.Pick.{and-both}
 use Rattle.octets.specs.Words.{same, isOneOf, rowOf}
 use Rattle.octets.specs.Lists.{every}
-use Rattle.octets.specs.laws.Tables.{row-any-passes, row-passes}
+use Rattle.octets.specs.laws.Tables.{row-passes}
 use Rattle.octets.specs.Reading.{andThen}
 use Rattle.octets.specs.laws.Reading.{andThen-some}
 use Rattle.octets.specs.Computing.{octets-compute}
 use Rattle.calendar.specs.Calendar.{Property}
-use Rattle.schema.specs.Components.{Occurrence, standing, alarmTable, componentTable, componentRow, unknownComponent, occurrencesOf, alarmOccurrences, isAlarm}
-use Rattle.schema.specs.Properties.{propertyNames}
+use Rattle.schema.specs.Components.{Occurrence, standing, alarmTable, alarmOccurrences, isAlarm}
+use Rattle.schema.specs.Properties.{propertyNames, isKnownProperty}
 use Rattle.schema.specs.Counts.{tally, occurrenceIn, Around, methodFor, firstText, actionOf, listFor, oftenFor, complete}
-use Rattle.schema.specs.laws.Tallies.{complete-same, often-at}
+use Rattle.schema.specs.laws.Tallies.{complete-same, complete-plain, often-at}
 use Rattle.schema.specs.laws.Completing.{isOnce, once-short}
 
 unfoldable pub turned : List Property → List Property → List Property
@@ -47,21 +47,9 @@ action = ascii "ACTION"
 abbrev isOnceIn : List Occurrence → Bool
 isOnceIn os = isOnce (occurrenceIn os action .most)
 
-component-rows : every (λ r. isOnceIn (r .occurrences)) componentTable ≡ true
-unfolding octets-compute standing
-component-rows = refl
-
 alarm-rows : every (λ r. isOnceIn (r .occurrences)) alarmTable ≡ true
 unfolding octets-compute standing
 alarm-rows = refl
-
-none-once : isOnceIn [] ≡ true
-unfolding octets-compute
-none-once = refl
-
-component-once : (c : List ℕ) → isOnceIn (occurrencesOf c) ≡ true
-unfolding componentRow
-component-once c = row-any-passes (λ r. r .name) c (λ r. isOnceIn (r .occurrences)) unknownComponent componentTable component-rows none-once
 
 alarm-once : (a : Option (List ℕ)) (os : List Occurrence) → andThen a alarmOccurrences ≡ some os → isOnceIn os ≡ true
 unfolding alarmOccurrences
@@ -71,25 +59,21 @@ alarm-once a os e =
     let q : g .0 .occurrences ≡ os = cc in
     rw (← q) (row-passes (λ r. r .action) (f .0) (λ r. isOnceIn (r .occurrences)) alarmTable (g .0) alarm-rows (g .1))
 
-listed-once : (c : List ℕ) (ps : List Property) (os : List Occurrence) → listFor c ps ≡ some os → isOnceIn os ≡ true
+listed-once : (c : List ℕ) (ps : List Property) (os : List Occurrence) → isAlarm c ≡ true → listFor c ps ≡ some os → isOnceIn os ≡ true
 unfolding pick
-listed-once c ps os h = go (isAlarm c) h
-  where
-    go : (b : Bool) → pick b (andThen (actionOf ps) alarmOccurrences) (some (occurrencesOf c)) ≡ some os → isOnceIn os ≡ true
-    go true k = alarm-once (actionOf ps) os k
-    go false k = let q : occurrencesOf c ≡ os = cc in rw (← q) (component-once c)
+listed-once c ps os a h = alarm-once (actionOf ps) os (rw a at h)
 
 action-known : isOneOf action propertyNames ≡ true
 unfolding octets-compute
 action-known = refl
 
-action-once : (c : List ℕ) (ps : List Property) (sub : Around) → complete c ps sub ≡ true → tally action ps ≤ 1
+action-once : (c : List ℕ) (ps : List Property) (sub : Around) → isAlarm c ≡ true → complete c ps sub ≡ true → tally action ps ≤ 1
 unfolding complete
-action-once c ps sub h = go (listFor c ps) refl (and-both _ _ h .0)
+action-once c ps sub a h = go (listFor c ps) refl (and-both _ _ h .0)
   where
     go : (o : Option (List Occurrence)) → listFor c ps ≡ o → oftenFor o ps ≡ true → tally action ps ≤ 1
     go none e k = absurd (false≢true k)
-    go (some os) e k = once-short (occurrenceIn os action .most) (tally action ps) (listed-once c ps os e) (and-both _ _ (often-at propertyNames os ps action k action-known) .1)
+    go (some os) e k = once-short (occurrenceIn os action .most) (tally action ps) (listed-once c ps os a e) (and-both _ _ (often-at propertyNames os ps action k action-known) .1)
 
 -- ---- the word of ACTION
 
@@ -123,19 +107,25 @@ action-turned (p ∷ ps) seen h n = go (same action (p .name)) refl h (action-tu
     go true e k ih = action-seen ps (p ∷ seen) (omega arith) ∙ rw e
     go false e k ih = ih k (rw e n)
 
-same-turned : (c : List ℕ) (ps : List Property) (sub : Around) → tally action ps ≤ 1 → complete c (turned ps []) sub ≡ complete c ps sub
+all-turned : (ps : List Property) (w : List ℕ) → isKnownProperty w ≡ true → tally w (turned ps []) ≡ tally w ps
 unfolding tally
-same-turned c ps sub n = complete-same c sub (turned ps []) ps (λ w k. tally-turned w ps [] ∙ omega arith) (action-turned ps [] n refl)
+all-turned ps w k = tally-turned w ps [] ∙ omega arith
+
+same-turned : (c : List ℕ) (ps : List Property) (sub : Around) → (isAlarm c ≡ true → tally action ps ≤ 1) → complete c (turned ps []) sub ≡ complete c ps sub
+unfolding tally
+same-turned c ps sub n = go (isAlarm c) refl
+  where
+    go : (b : Bool) → isAlarm c ≡ b → complete c (turned ps []) sub ≡ complete c ps sub
+    go true e = complete-same c sub (turned ps []) ps (all-turned ps) (action-turned ps [] (n e) refl)
+    go false e = complete-plain c sub (turned ps []) ps e (all-turned ps)
 
 pub complete-turned : (c : List ℕ) (ps : List Property) (sub : Around) → complete c ps sub ≡ true → complete c (turned ps []) sub ≡ true
-complete-turned c ps sub h = same-turned c ps sub (action-once c ps sub h) ∙ h
+complete-turned c ps sub h = same-turned c ps sub (λ a. action-once c ps sub a h) ∙ h
 
 pub complete-turned-back : (c : List ℕ) (ps : List Property) (sub : Around) → complete c (turned ps []) sub ≡ true → complete c ps sub ≡ true
 unfolding tally
 complete-turned-back c ps sub h =
-    let e = tally-turned action ps [] in
-    let n = action-once c (turned ps []) sub h in
-    sym (same-turned c ps sub (omega arith)) ∙ h
+    sym (same-turned c ps sub (λ a. let e = tally-turned action ps [] in let n = action-once c (turned ps []) sub a h in omega arith)) ∙ h
 
 pub method-turned : (c : List ℕ) (ps : List Property) (m : Bool) → methodFor c (turned ps []) m ≡ methodFor c ps m
 unfolding methodFor tally

@@ -13,12 +13,13 @@ use Rattle.octets.specs.laws.Append.{append-none}
 use Rattle.octets.specs.Lists.{every}
 use Rattle.octets.specs.laws.Lists.{every-both}
 use Rattle.calendar.specs.Calendar.{Calendar}
+use Rattle.calendar.specs.Levels.{levels, shallow}
 use Rattle.validity.specs.ValidCalendar.{atTop, isValid}
-use Rattle.validity.specs.laws.ValidCalendar.{top-kept, valid-parts}
+use Rattle.validity.specs.laws.ValidCalendar.{valid-parts, valid-shallow}
 use Rattle.text.specs.laws.TextBack.{regrouped}
 use Rattle.xml.specs.Escape.{declarationLine, rootStart, endTag}
 use Rattle.xml.specs.Marks.{Mark, opens, marks, documentMarks}
-use Rattle.xml.specs.Nodes.{rootBy, rootNode, documentNodes}
+use Rattle.xml.specs.Nodes.{Nodes, rootBy, rootNode, documentNodes}
 use Rattle.xml.specs.Content.{written}
 use Rattle.xml.specs.laws.ReadBack.{content-nodes}
 use Rattle.xml.specs.Computing.{xml-compute}
@@ -73,8 +74,9 @@ module _ (ed : Edition) where
       ap (λ (s : List ℕ). readBytes (s ⊕ x)) (document-written c)
       ∙ ap readBytes (regrouped declarationLine rootStart (written (calendarContent c)) (endTag (ascii "icalendar")) (ascii "\n") x)
       ∙ marks-root 39 (ascii "icalendar") (written (calendarContent c) ⊕ (endTag (ascii "icalendar") ⊕ (ascii "\n" ⊕ x))) _ (root-front _)
-      ∙ ap readComponents (content-nodes (calendarContent c) 15 (ascii "icalendar") (ascii "\n" ⊕ x) 95 (sound-writable (calendarContent c) 15 (calendar-sound ed c v)) (unfold xml-compute in refl))
-      ∙ components-back ed c atTop false top-kept v 95
+      ∙ ap (λ (ns : Nodes). shallow levels (readComponents ns)) (content-nodes (calendarContent c) 31 (ascii "icalendar") (ascii "\n" ⊕ x) 95 (sound-writable (calendarContent c) 31 (calendar-sound ed c v)) (unfold xml-compute in refl))
+      ∙ ap (shallow levels) (components-back ed c levels atTop false v 95)
+      ∙ valid-shallow ed c levels atTop false v
 
   pub document-unique : (c d : Calendar) (x y : List ℕ) → isValid ed c ≡ true → isValid ed d ≡ true → writeDocument c ⊕ x ≡ writeDocument d ⊕ y → (c ≡ d) × (x ≡ y)
   document-unique c d x y h k e =

@@ -1,30 +1,32 @@
 -- Laws of what specs/ValidCalendar.antt defines.
---     kept-parts, name-visible    what a kept name is;   inside-kept, top-kept: names of components are such;   top-name: at the top it is VCALENDAR
+--     kept-parts, name-visible    what a kept name is;   component-name: as BEGIN has it
 --     valid-parameter, valid-property, valid-component    what a valid one is;   valid-parts: of a calendar;   component-valid: and back
 --     parameter-value             the value of a parameter, by cases;   parameter-text, nothing-free: its free characters
+--     valid-shallow               nothing in valid components stands too deep
 use mathlib.Core.Path.{_≡_, refl}
 use mathlib.Core.Bool.{Bool, true, false, not, false≢true}
 use mathlib.Core.List.{List, []}
 use mathlib.Core.Option.{Option, none, some}
-use Prim.Native.Nat.{ℕ}
+use Prim.Native.Nat.{ℕ, _-_}
+use lib.Dec.{ltb}
 use borrow.Author.Tests.{not-true}
 use Rattle.octets.specs.Ascii.{ascii}
-use Rattle.octets.specs.Pick.{_and_, _or_}
-use Rattle.octets.specs.laws.Pick.{pick-second, and-both, and-yes, or-cases}
+use Rattle.octets.specs.Pick.{pick, _and_, _or_}
+use Rattle.octets.specs.laws.Pick.{pick-second, and-both, and-yes}
 use Rattle.octets.specs.Scan.{allOf}
 use Rattle.octets.specs.laws.Scan.{all-weaker}
 use Rattle.octets.specs.Class.{isNameChar, isVisible, upper}
 use Rattle.octets.specs.laws.Class.{name-char-visible}
-use Rattle.octets.specs.Words.{same, isOneOf, noneHolds}
+use Rattle.octets.specs.Words.{same, noneHolds}
 use Rattle.octets.specs.laws.Words.{same-true}
 use Rattle.octets.specs.Lists.{every}
-use Rattle.octets.specs.laws.Tables.{row-any-passes}
-use Rattle.calendar.specs.Calendar.{UNKNOWN, Value, binary, boolean, calAddress, date, dateTime, duration, float, integer, periodExplicit, periodStart, recur, text, time, uri, utcOffset, unknown, geo, requestStatus, typeOf, textIn, Parameter, Property, Components, component}
+use Rattle.calendar.specs.Calendar.{UNKNOWN, Value, binary, boolean, calAddress, date, dateTime, duration, float, integer, periodExplicit, periodStart, recur, text, time, uri, utcOffset, unknown, geo, requestStatus, typeOf, textIn, Parameter, Property, Components, noMore, component}
+use Rattle.calendar.specs.Levels.{levels, shallow}
 use Rattle.schema.specs.Types.{sameType, isTypeOf}
 use Rattle.schema.specs.laws.Types.{same-type-true}
 use Rattle.schema.specs.Parameters.{parameterType, isListedParameter, parameterWords}
 use Rattle.schema.specs.Properties.{isKnownProperty}
-use Rattle.schema.specs.Components.{componentTable, unknownComponent, subcomponentsOf, mayStand}
+use Rattle.schema.specs.Components.{mayContain, mayStand}
 use Rattle.schema.specs.Counts.{Around, methodFor, complete}
 use Rattle.schema.specs.Computing.{schema-compute}
 use Rattle.schema.specs.laws.Rows.{parameterTypes, parameter-type}
@@ -35,8 +37,7 @@ use Rattle.values.specs.Valid.{isAmount, isWordIn, isParameterValue, isParamete
 use Rattle.values.specs.laws.Valid.{text-in}
 use Rattle.values.specs.Characters.{freeIn, isValueText}
 use Rattle.read_text_line.specs.ContentLine.{isName}
-use Rattle.read_text_line.specs.Names.{isCarriedName}
-use Rattle.read_text_line.specs.Computing.{lines-compute}
+use Rattle.read_text_line.specs.Names.{isCarriedName, isComponentName}
 use Rattle.edition.specs.declared.Edition.{Edition}
 use Rattle.edition.specs.declared.Edition.the-variants.{Rfc5545, Rfc6868}
 use Rattle.validity.specs.ValidCalendar.{isKeptName, isPermitted, isParameterText, isValidParameter, isValidProperty, hasComponents, areValid, atTop, isValid}
@@ -53,17 +54,9 @@ pub name-visible : (n : List ℕ) → isName n ≡ true → allOf isVisible n �
 unfolding isName
 name-visible n h = all-weaker isNameChar isVisible name-char-visible n (pick-second _ _ h .1)
 
-pub inside-kept : (k : List ℕ) → every isKeptName (subcomponentsOf k) ≡ true
-unfolding schema-compute lines-compute
-inside-kept k = row-any-passes (λ r. r .name) k (λ r. every isKeptName (r .subcomponents)) unknownComponent componentTable refl refl
-
-pub top-kept : every isKeptName atTop ≡ true
-unfolding lines-compute
-top-kept = refl
-
-pub top-name : (k : List ℕ) → isOneOf k atTop ≡ true → same k (ascii "VCALENDAR") ≡ true
-unfolding isOneOf
-top-name k h = or-cases (same k (ascii "VCALENDAR")) false h (λ e. e) (λ e. absurd (false≢true e))
+-- in capitals, it shows, and BEGIN may state it
+pub component-name : (k : List ℕ) → isKeptName k ≡ true → (upper k ≡ k) × (allOf isVisible k ≡ true) × (isComponentName k ≡ true)
+component-name k h = let n = kept-parts k h in (n .0, name-visible k (n .1), and-yes _ _ (n .1) (n .2))
 
 -- ---- parameters
 
@@ -176,28 +169,42 @@ module _ (ed : Edition) where
 
   -- ---- components
 
-  pub record ValidComponent (ks : List (List ℕ)) (m : Bool) (k : List ℕ) (ps : List Property) (inner next : Components) : Type 0 where
-    pub named : isOneOf k ks ≡ true
+  pub record ValidComponent (l : ℕ) (may : List ℕ → Bool) (m : Bool) (k : List ℕ) (ps : List Property) (inner next : Components) : Type 0 where
+    pub level : ltb 0 l ≡ true
+    pub kept : isKeptName k ≡ true
+    pub named : may k ≡ true
     pub properties : every (isValidProperty ed k) ps ≡ true
     pub counts : complete k ps (record { inner = hasComponents inner; method = m }) ≡ true
-    pub inside : areValid ed (subcomponentsOf k) (methodFor k ps m) inner ≡ true
-    pub after : areValid ed ks m next ≡ true
+    pub inside : areValid ed (l - 1) (mayContain k) (methodFor k ps m) inner ≡ true
+    pub after : areValid ed l may m next ≡ true
 
-  pub valid-component : (ks : List (List ℕ)) (m : Bool) (k : List ℕ) (ps : List Property) (inner next : Components) → areValid ed ks m (component k ps inner next) ≡ true →
-      ValidComponent ks m k ps inner next
+  pub valid-component : (l : ℕ) (may : List ℕ → Bool) (m : Bool) (k : List ℕ) (ps : List Property) (inner next : Components) → areValid ed l may m (component k ps inner next) ≡ true →
+      ValidComponent l may m k ps inner next
   unfolding areValid
-  valid-component ks m k ps inner next h =
-      let a = and-both (isOneOf k ks) _ h in
+  valid-component l may m k ps inner next h =
+      let a = and-both (ltb 0 l and isKeptName k and may k) _ h in
+      let s = and-both (ltb 0 l) _ (a .0) in
+      let t = and-both (isKeptName k) (may k) (s .1) in
       let b = and-both (every (isValidProperty ed k) ps) _ (a .1) in
       let c = and-both (complete k ps (record { inner = hasComponents inner; method = m })) _ (b .1) in
-      let d = and-both (areValid ed (subcomponentsOf k) (methodFor k ps m) inner) _ (c .1) in
-      record { named = a .0; properties = b .0; counts = c .0; inside = d .0; after = d .1 }
+      let d = and-both (areValid ed (l - 1) (mayContain k) (methodFor k ps m) inner) _ (c .1) in
+      record { level = s .0; kept = t .0; named = t .1; properties = b .0; counts = c .0; inside = d .0; after = d .1 }
 
-  pub component-valid : (ks : List (List ℕ)) (m : Bool) (k : List ℕ) (ps : List Property) (inner next : Components) → ValidComponent ks m k ps inner next →
-      areValid ed ks m (component k ps inner next) ≡ true
+  pub component-valid : (l : ℕ) (may : List ℕ → Bool) (m : Bool) (k : List ℕ) (ps : List Property) (inner next : Components) → ValidComponent l may m k ps inner next →
+      areValid ed l may m (component k ps inner next) ≡ true
   unfolding areValid
-  component-valid ks m k ps inner next v = and-yes _ _ (v .named) (and-yes _ _ (v .properties) (and-yes _ _ (v .counts) (and-yes _ _ (v .inside) (v .after))))
+  component-valid l may m k ps inner next v =
+      and-yes _ _ (and-yes _ _ (v .level) (and-yes _ _ (v .kept) (v .named))) (and-yes _ _ (v .properties) (and-yes _ _ (v .counts) (and-yes _ _ (v .inside) (v .after))))
 
-  pub valid-parts : (c : Components) → isValid ed c ≡ true → (hasComponents c ≡ true) × (areValid ed atTop false c ≡ true)
+  pub valid-parts : (c : Components) → isValid ed c ≡ true → (hasComponents c ≡ true) × (areValid ed levels atTop false c ≡ true)
   unfolding isValid
-  valid-parts c h = and-both (hasComponents c) (areValid ed atTop false c) h
+  valid-parts c h = and-both (hasComponents c) (areValid ed levels atTop false c) h
+
+  -- ---- levels
+
+  pub valid-shallow : (c : Components) (l : ℕ) (may : List ℕ → Bool) (m : Bool) → areValid ed l may m c ≡ true → shallow l c ≡ c
+  unfolding shallow pick
+  valid-shallow noMore l may m h = refl
+  valid-shallow (component k ps inner next) l may m h =
+      let v = valid-component l may m k ps inner next h in
+      rw (v .level, valid-shallow inner (l - 1) (mayContain k) (methodFor k ps m) (v .inside), valid-shallow next l may m (v .after))

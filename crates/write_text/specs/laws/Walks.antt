@@ -7,12 +7,16 @@ use Prim.Native.Nat.{ℕ, _-_, _*_, _^_, _≤_, _<_}
 use native.Mathlib.Omega.{arith}
 use lib.ListN.{length}
 use borrow.Author.Needs.{needs}
+use borrow.Author.Tests.{lt-ltb}
+use Rattle.octets.specs.Pick.{pick}
 use Rattle.octets.specs.Ascii.{ascii}
 use Rattle.octets.specs.Append.{_⊕_}
 use Rattle.octets.specs.laws.Append.{append-is, append-regroup}
 use Rattle.octets.specs.Class.{upper}
 use Rattle.sink.specs.Sink.{overwrite, Put, Todo}
-use Rattle.sink.specs.laws.Sink.{put-length, _▷_, todo-all, todo-step, todo-done}
+use Rattle.calendar.specs.Calendar.{Components, noMore, component}
+use Rattle.calendar.specs.Levels.{shallow}
+use Rattle.sink.specs.laws.Sink.{put-none, put-length, _▷_, todo-all, todo-step, todo-done}
 use Rattle.folding.specs.Fold.{foldedLine}
 use Rattle.text.specs.WriteText.{propertyLines, beginLine, endLine, writeCalendar}
 use Rattle.xml.specs.Nodes.{Nodes, noNodes, element, literal, referred}
@@ -21,7 +25,7 @@ use Rattle.xcal.specs.ComponentNodes.{insideOf, readComponents}
 use Rattle.xcal.specs.laws.ComponentsAccepted.{inner-components}
 use Rattle.xml.specs.NodesAt.{nodesAt}
 use Rattle.read_xml_nodes.specs.NodeFound.{NodeAt}
-use Rattle.read_xml_nodes.specs.laws.NodeFound.{node-none, node-element, node-literal, node-referred, element-less, inside-less, literal-less, referred-less}
+use Rattle.read_xml_nodes.specs.laws.NodeFound.{node-none, node-element, node-literal, node-referred, element-less, literal-less, referred-less}
 use Rattle.read_xml_nodes.specs.declared.Node.{Node}
 use Rattle.read_xml_nodes.specs.declared.NodeKind.the-variants.{None, Element, Literal, Referred}
 use Rattle.edition.specs.declared.Edition.{Edition}
@@ -35,23 +39,24 @@ use Rattle.write_text.specs.Walks.{headText}
 
 pub data Walk : Type 0 where
   own : Walk
-  inner : Walk
+  inner : ℕ → Walk
 
 module _ (ed : Edition) where
   unfoldable pub propertiesText : Nodes → List ℕ
   propertiesText ns = propertyLines ed (readProperties ns)
 
-  unfoldable pub calendarText : Nodes → List ℕ
-  calendarText ns = writeCalendar ed (readComponents ns)
+  -- of components l levels deep
+  unfoldable pub calendarText : ℕ → Nodes → List ℕ
+  calendarText l ns = writeCalendar ed (shallow l (readComponents ns))
 
   abbrev pub textOf : Walk → Nodes → List ℕ
   textOf own ns = propertiesText ns
-  textOf inner ns = calendarText ns
+  textOf (inner v) ns = calendarText v ns
 
   -- what the room becomes
   unfoldable pub roomOf : Walk → Nodes → List ℕ → List ℕ
   roomOf own ns k = propertiesRoom ed (readProperties ns) k
-  roomOf inner ns k = calendarRoom ed (readComponents ns) k
+  roomOf (inner v) ns k = calendarRoom ed (shallow v (readComponents ns)) k
 
   -- it began at the node at `from` with d, o and the room k, and has come with e, p and the room l to the node at `at`
   pub record Walking (w : Walk) (s : List ℕ) (from : ℕ) (d : List ℕ) (o : ℕ) (k : List ℕ) (e : List ℕ) (p : ℕ) (l : List ℕ) (at : ℕ) : Type 0 where
@@ -61,15 +66,21 @@ module _ (ed : Edition) where
     pub room : length l ≡ length k
     pub left : roomOf w (nodesAt s from) k ≡ roomOf w (nodesAt s at) l
 
+-- nothing of components where no level is left
+shallow-none : (c : Components) → shallow 0 c ≡ noMore
+unfolding shallow pick
+shallow-none noMore = refl
+shallow-none (component n ps i x) = refl
+
 module _ (ed : Edition) where
   -- ---- the components inside
 
   -- a component's lines, in three parts, and those of the next ones
-  component-parts : (p : ℕ) (m : List ℕ) (x : ℕ) (kids more : Nodes) →
-      calendarText ed (element p m x kids more)
-      ≡ (headText ed m kids ⊕ calendarText ed (insideOf (ascii "components") kids) ⊕ endLine (upper m)) ⊕ calendarText ed more
-  unfolding calendarText headText readComponents writeCalendar
-  component-parts p m x kids more = rw (inner-components kids) (sym (regroup (beginLine (upper m)) _ _ (endLine (upper m)) (writeCalendar ed (readComponents more))))
+  component-parts : (l p : ℕ) (m : List ℕ) (x : ℕ) (kids more : Nodes) → 1 ≤ l →
+      calendarText ed l (element p m x kids more)
+      ≡ (headText ed m kids ⊕ calendarText ed (l - 1) (insideOf (ascii "components") kids) ⊕ endLine (upper m)) ⊕ calendarText ed l more
+  unfolding calendarText headText readComponents shallow pick writeCalendar
+  component-parts l p m x kids more h = rw (lt-ltb 0 l h, inner-components kids) (sym (regroup (beginLine (upper m)) _ _ (endLine (upper m)) (writeCalendar ed (shallow l (readComponents more)))))
     where
       regroup : (a b c d f : List ℕ) → ((a ⊕ b) ⊕ c ⊕ d) ⊕ f ≡ a ⊕ b ⊕ c ⊕ d ⊕ f
       regroup a b c d f = rw (append-regroup (a ⊕ b) (c ⊕ d) f, append-regroup a b ((c ⊕ d) ⊕ f), append-regroup c d f)
@@ -92,43 +103,43 @@ module _ (ed : Edition) where
   walk-start w s from d o k h = record { onward = omega arith; todo = todo-all d o (textOf ed w (nodesAt s from)) h; kept = refl; room = refl; left = refl }
 
   text-none : (w : Walk) → textOf ed w noNodes ≡ []
-  unfolding propertiesText readProperties propertyLines calendarText readComponents writeCalendar
+  unfolding propertiesText readProperties propertyLines calendarText readComponents shallow writeCalendar
   text-none own = refl
-  text-none inner = refl
+  text-none (inner v) = refl
 
   text-literal : (w : Walk) (p b : ℕ) (more : Nodes) → textOf ed w (literal p b more) ≡ textOf ed w more
   unfolding propertiesText readProperties calendarText readComponents
   text-literal own p b more = refl
-  text-literal inner p b more = refl
+  text-literal (inner v) p b more = refl
 
   text-referred : (w : Walk) (p : ℕ) (bs : List ℕ) (more : Nodes) → textOf ed w (referred p bs more) ≡ textOf ed w more
   unfolding propertiesText readProperties calendarText readComponents
   text-referred own p bs more = refl
-  text-referred inner p bs more = refl
+  text-referred (inner v) p bs more = refl
 
   room-none : (w : Walk) (k : List ℕ) → roomOf ed w noNodes k ≡ k
-  unfolding roomOf propertiesRoom calendarRoom readProperties readComponents
+  unfolding roomOf propertiesRoom calendarRoom readProperties readComponents shallow
   room-none own k = refl
-  room-none inner k = refl
+  room-none (inner v) k = refl
 
   room-literal : (w : Walk) (p b : ℕ) (more : Nodes) (k : List ℕ) → roomOf ed w (literal p b more) k ≡ roomOf ed w more k
   unfolding roomOf readProperties readComponents
   room-literal own p b more k = refl
-  room-literal inner p b more k = refl
+  room-literal (inner v) p b more k = refl
 
   room-referred : (w : Walk) (p : ℕ) (bs : List ℕ) (more : Nodes) (k : List ℕ) → roomOf ed w (referred p bs more) k ≡ roomOf ed w more k
   unfolding roomOf readProperties readComponents
   room-referred own p bs more k = refl
-  room-referred inner p bs more k = refl
+  room-referred (inner v) p bs more k = refl
 
   own-room : (p : ℕ) (m : List ℕ) (x : ℕ) (kids more : Nodes) (k : List ℕ) → roomOf ed own (element p m x kids more) k ≡ roomOf ed own more (overwrite k 0 (lineText ed m kids))
   unfolding roomOf propertiesRoom readProperties lineText
   own-room p m x kids more k = refl
 
-  inner-room : (p : ℕ) (m : List ℕ) (x : ℕ) (kids more : Nodes) (k : List ℕ) → roomOf ed inner (element p m x kids more) k ≡
-      roomOf ed inner more (overwrite (calendarRoom ed (readComponents (insideOf (ascii "components") kids)) (headRoom ed m kids k)) 0 (ascii "END:" ⊕ upper m))
-  unfolding roomOf calendarRoom readComponents headRoom
-  inner-room p m x kids more k = rw (inner-components kids)
+  inner-room : (v p : ℕ) (m : List ℕ) (x : ℕ) (kids more : Nodes) (k : List ℕ) → 1 ≤ v → roomOf ed (inner v) (element p m x kids more) k ≡
+      roomOf ed (inner v) more (overwrite (calendarRoom ed (shallow (v - 1) (readComponents (insideOf (ascii "components") kids))) (headRoom ed m kids k)) 0 (ascii "END:" ⊕ upper m))
+  unfolding roomOf calendarRoom readComponents shallow pick headRoom
+  inner-room v p m x kids more k h = rw (lt-ltb 0 v h, inner-components kids)
 
   module _ {w : Walk} {s : List ℕ} {from : ℕ} {d : List ℕ} {o : ℕ} {k e : List ℕ} {p : ℕ} {l : List ℕ} {at : ℕ} (m : Walking ed w s from d o k e p l at) where
     pub walk-length : length e ≡ length d
@@ -188,26 +199,29 @@ module _ (ed : Edition) where
 
   -- ---- the components
 
-  module _ {s : List ℕ} {from : ℕ} {d : List ℕ} {o : ℕ} {k e : List ℕ} {p : ℕ} {l : List ℕ} {at : ℕ} (m : Walking ed inner s from d o k e p l at) {r : Node} (n : NodeAt s at r) where
-    pub inner-end : r .kind ≡ None → PutBy d e o p (writeCalendar ed (readComponents (nodesAt s from))) l (calendarRoom ed (readComponents (nodesAt s from)) k)
+  pub none-left : (v : ℕ) (s : List ℕ) (from : ℕ) (d : List ℕ) (o : ℕ) (k : List ℕ) → v < 1 → length d * 1 < 2 ^ 63 →
+      PutBy d d o o (writeCalendar ed (shallow v (readComponents (nodesAt s from)))) k (calendarRoom ed (shallow v (readComponents (nodesAt s from))) k)
+  unfolding writeCalendar calendarRoom
+  none-left v s from d o k h z =
+      let q : v ≡ 0 = omega arith in
+      rw (q, shallow-none (readComponents (nodesAt s from))) (record { put = put-none d o z; room = refl })
+
+  module _ {v : ℕ} {s : List ℕ} {from : ℕ} {d : List ℕ} {o : ℕ} {k e : List ℕ} {p : ℕ} {l : List ℕ} {at : ℕ} (m : Walking ed (inner v) s from d o k e p l at) {r : Node} (n : NodeAt s at r) where
+    pub inner-end : r .kind ≡ None → PutBy d e o p (writeCalendar ed (shallow v (readComponents (nodesAt s from)))) l (calendarRoom ed (shallow v (readComponents (nodesAt s from))) k)
     unfolding calendarText roomOf
     inner-end q = walk-end m n q
 
-    -- the components inside stand further on
-    pub inner-less : {i : ℕ} {v : List ℕ} → r .kind ≡ Element → InsideAt v s (r .inside) i → length s - i < length s - from
-    inner-less q i = omega (arith, m .onward, inside-less n q, i .onward)
-
     -- a component whose three parts were put
-    pub inner-put : {f g h : List ℕ} {a b c i : ℕ} {j₁ j₂ j : List ℕ} → r .kind ≡ Element → InsideAt (ascii "components") s (r .inside) i →
+    pub inner-put : {f g h : List ℕ} {a b c i : ℕ} {j₁ j₂ j : List ℕ} → 1 ≤ v → r .kind ≡ Element → InsideAt (ascii "components") s (r .inside) i →
         PutBy e f p a (headText ed (nameIn s (r .name) (r .«name_end»)) (nodesAt s (r .inside))) j₁ (headRoom ed (nameIn s (r .name) (r .«name_end»)) (nodesAt s (r .inside)) l) →
-        PutBy f g a b (writeCalendar ed (readComponents (nodesAt s i))) j₂ (calendarRoom ed (readComponents (nodesAt s i)) j₁) →
+        PutBy f g a b (writeCalendar ed (shallow (v - 1) (readComponents (nodesAt s i)))) j₂ (calendarRoom ed (shallow (v - 1) (readComponents (nodesAt s i))) j₁) →
         PutBy g h b c (endLine (upper (nameIn s (r .name) (r .«name_end»)))) j (overwrite j₂ 0 (ascii "END:" ⊕ upper (nameIn s (r .name) (r .«name_end»)))) →
-        length j ≡ length l → Walking ed inner s from d o k h c j (r .next)
+        length j ≡ length l → Walking ed (inner v) s from d o k h c j (r .next)
     unfolding calendarText
-    inner-put {f} {g} {h} {a} {b} {c} {i} q y u v t z =
-        walk-put m n _ _ q (node-element n q) (component-parts _ _ _ _ _) (u .put ▷ subst (λ (ns : Nodes). Put f g a b (writeCalendar ed (readComponents ns))) (sym (y .is)) (v .put) ▷ t .put) z
-        (inner-room _ _ _ _ _ l ∙ ap (roomOf ed inner (nodesAt s (r .next))) (sym (t .room ∙ rw (v .room, u .room, y .is))))
+    inner-put {f} {g} {h} {a} {b} {c} {i} x q y u w t z =
+        walk-put m n _ _ q (node-element n q) (component-parts v _ _ _ _ _ x) (u .put ▷ subst (λ (ns : Nodes). Put f g a b (writeCalendar ed (shallow (v - 1) (readComponents ns)))) (sym (y .is)) (w .put) ▷ t .put) z
+        (inner-room v _ _ _ _ _ l x ∙ ap (roomOf ed (inner v) (nodesAt s (r .next))) (sym (t .room ∙ rw (w .room, u .room, y .is))))
 
 pub ruleset owns = (walk-start, walk-length, walk-room, walk-literal, walk-referred, own-end, own-fits, own-put, element-less, literal-less, referred-less, needs)
 
-pub ruleset inners = (walk-start, walk-length, walk-room, walk-literal, walk-referred, inner-end, inner-less, inner-put, element-less, literal-less, referred-less, needs)
+pub ruleset inners = (walk-start, walk-length, walk-room, walk-literal, walk-referred, none-left, inner-end, inner-put, element-less, literal-less, referred-less, needs)

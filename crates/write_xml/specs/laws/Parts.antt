@@ -4,7 +4,8 @@
 use mathlib.Core.Path.{_≡_, refl, sym, ap, subst, _∙_}
 use mathlib.Core.Bool.{Bool, true, false}
 use mathlib.Core.List.{List, [], _∷_}
-use Prim.Native.Nat.{ℕ}
+use Prim.Native.Nat.{ℕ, _-_, _≤_}
+use borrow.Author.Tests.{lt-ltb}
 use Rattle.octets.specs.Ascii.{ascii}
 use Rattle.octets.specs.Pick.{pick}
 use Rattle.octets.specs.Append.{_⊕_}
@@ -18,6 +19,7 @@ use Rattle.schema.specs.Numbers.{componentName}
 use Rattle.sink.specs.Sink.{Put}
 use Rattle.sink.specs.laws.Sink.{_▷_}
 use Rattle.calendar.specs.Calendar.{Components, noMore, component}
+use Rattle.calendar.specs.Levels.{shallow}
 use Rattle.xml.specs.Escape.{startTag, endTag, elementOf}
 use Rattle.text.specs.Tree.{Entry, begin, innerOf}
 use Rattle.xcal.specs.WriteXml.{isNoMore, propertiesXml, componentsElement, componentsXml}
@@ -44,9 +46,11 @@ element-parts n c = go (same n (ascii "VCALENDAR")) c
 regroup : (a b c x d e f : List ℕ) → (a ⊕ (b ⊕ (c ⊕ x ⊕ d)) ⊕ e) ⊕ f ≡ ((a ⊕ b ⊕ c) ⊕ x ⊕ (d ⊕ e)) ⊕ f
 regroup a b c x d e f = simp append-regroup
 
-pub component-parts : (n : List ℕ) (es : List Entry) → innerXml (begin n ∷ es) ≡ (headXml n (isNoMore (innerOf es 0)) es ⊕ innerXml es ⊕ tailXml n (isNoMore (innerOf es 0))) ⊕ innerXml (behind es 0)
-unfolding innerOf componentsXml
-component-parts n es = rw (element-parts n (innerOf es 0), inner-deeper es 0) (regroup (startTag (lower n)) (elementOf (ascii "properties") (ownXml n es)) _ _ _ _ _)
+-- l levels deep
+pub component-parts : (l : ℕ) (n : List ℕ) (es : List Entry) → 1 ≤ l → innerXml l (begin n ∷ es) ≡
+    (headXml n (isNoMore (shallow (l - 1) (innerOf es 0))) es ⊕ innerXml (l - 1) es ⊕ tailXml n (isNoMore (shallow (l - 1) (innerOf es 0)))) ⊕ innerXml l (behind es 0)
+unfolding innerOf shallow pick componentsXml
+component-parts l n es h = rw (lt-ltb 0 l h, element-parts n (shallow (l - 1) (innerOf es 0)), inner-deeper es 0) (regroup (startTag (lower n)) (elementOf (ascii "properties") (ownXml n es)) _ _ _ _ _)
 
 pub tail-put : (n : List ℕ) (empty : Bool) {there : Bool} {d e f : List ℕ} {o a r : ℕ} → there ≡ hasComponents (upper n) empty →
     Put d e o a (pick there (endTag (ascii "components")) []) → Put e f a r (endTag (lower n)) → Put d f o r (tailXml (upper n) empty)
@@ -56,11 +60,11 @@ module _ {ed : Edition} where
   -- ---- for code
 
   -- n is the name as it stands
-  pub head-put : (n : List ℕ) (mode : ℕ) (s : List ℕ) {from : ℕ} {w : Walked} {there : Bool} {d e f g : List ℕ} {o a r : ℕ} (k : ℕ) → k ≡ placeOf (upper n) componentNames → Put d e o a (startTag (lower n)) →
-      PropertiesPut ed e f a (elementOf (ascii "properties") (ownXml (componentName k) (entriesAt ed mode s from))) mode s from w → there ≡ hasComponents (upper n) (w .bare) →
+  pub head-put : (n : List ℕ) (mode : ℕ) (s : List ℕ) {h : Components → Components} {from : ℕ} {w : Walked} {there : Bool} {d e f g : List ℕ} {o a r : ℕ} (k : ℕ) → k ≡ placeOf (upper n) componentNames → Put d e o a (startTag (lower n)) →
+      PropertiesPut ed h e f a (elementOf (ascii "properties") (ownXml (componentName k) (entriesAt ed mode s from))) mode s from w → there ≡ hasComponents (upper n) (w .bare) →
       Put f g (w .to) r (pick there (startTag (ascii "components")) []) →
-      PropertiesPut ed d g o (headXml (upper n) (w .bare) (entriesAt ed mode s from)) mode s from (record { to = r; inner = w .inner; bare = w .bare; next = w .next })
-  head-put n mode s {from} {d = d} {e = e} {o = o} {a = a} k q u v h z =
+      PropertiesPut ed h d g o (headXml (upper n) (w .bare) (entriesAt ed mode s from)) mode s from (record { to = r; inner = w .inner; bare = w .bare; next = w .next })
+  head-put n mode s {from = from} {d = d} {e = e} {o = o} {a = a} k q u v y z =
       let es : List Entry = entriesAt ed mode s from in
       let q′ : ownXml (componentName k) es ≡ ownXml (upper n) es = ap (λ (k : ℕ). ownXml (componentName k) es) q ∙ ap propertiesXml (own-place (upper n) es 0) in
-      record { put = subst (λ (m : List ℕ). Put d e o a (startTag m)) (sym (lower-any-case n)) u ▷ (rw q′ at v .put) ▷ (rw h at z); ahead = v .ahead }
+      record { put = subst (λ (m : List ℕ). Put d e o a (startTag m)) (sym (lower-any-case n)) u ▷ (rw q′ at v .put) ▷ (rw y at z); ahead = v .ahead }

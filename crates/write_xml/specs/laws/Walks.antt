@@ -12,6 +12,7 @@ use Rattle.names.specs.Table.{placeOf}
 use Rattle.schema.specs.Components.{componentNames}
 use Rattle.schema.specs.Numbers.{componentName}
 use Rattle.calendar.specs.Calendar.{Components, noMore, component}
+use Rattle.calendar.specs.Levels.{shallow}
 use Rattle.read_text_line.specs.ContentLine.{ContentLine}
 use Rattle.text.specs.Statement.{propertyOf}
 use Rattle.text.specs.Tree.{Entry, begin, end, property, nothing, ownOf, innerOf}
@@ -109,28 +110,28 @@ module _ (k : List ℕ) where
 
 -- ---- the subcomponents
 
-pub inner-none : innerXml [] ≡ []
-unfolding innerOf componentsXml
-inner-none = refl
+pub inner-none : (l : ℕ) → innerXml l [] ≡ []
+unfolding innerOf shallow componentsXml
+inner-none l = refl
 
-pub inner-empty : (es : List Entry) → isNoMore (innerOf es 0) ≡ true → innerXml es ≡ []
+pub inner-empty : (l : ℕ) (es : List Entry) → isNoMore (shallow l (innerOf es 0)) ≡ true → innerXml l es ≡ []
 unfolding componentsXml
-inner-empty es h = go (innerOf es 0) h
+inner-empty l es h = go (shallow l (innerOf es 0)) h
   where
     go : (c : Components) → isNoMore c ≡ true → componentsXml c ≡ []
     go noMore h = refl
     go (component n ps inner next) h = absurd (false≢true h)
 
-module _ (es : List Entry) where
-  pub inner-close : innerXml (end ∷ es) ≡ []
-  unfolding innerOf componentsXml
+module _ (l : ℕ) (es : List Entry) where
+  pub inner-close : innerXml l (end ∷ es) ≡ []
+  unfolding innerOf shallow componentsXml
   inner-close = refl
 
-  pub inner-aside : (x : Entry) → isAside x ≡ true → innerXml (x ∷ es) ≡ innerXml es
+  pub inner-aside : (x : Entry) → isAside x ≡ true → innerXml l (x ∷ es) ≡ innerXml l es
   unfolding innerOf
   inner-aside (begin n) h = absurd (false≢true h)
   inner-aside end h = absurd (false≢true h)
-  inner-aside (property l) h = refl
+  inner-aside (property x) h = refl
   inner-aside nothing h = refl
 
 -- ---- the component's number

@@ -10,6 +10,7 @@ use Rattle.sink.specs.laws.Sink.{_▷_}
 use Rattle.source.specs.Source.{rest, Settled}
 use Rattle.folding.specs.Lines.{lines}
 use Rattle.calendar.specs.Calendar.{Components}
+use Rattle.calendar.specs.Levels.{levels, shallow}
 use Rattle.text.specs.Tree.{innerOf, calendarOf}
 use Rattle.xml.specs.Escape.{rootStart}
 use Rattle.xcal.specs.WriteXml.{componentsXml, declaration, rootEnd, writeDocument}
@@ -26,6 +27,6 @@ unfolding writeDocument
 written-is c = regroup declaration (10 ∷ []) rootStart (componentsXml c ⊕ rootEnd ⊕ (10 ∷ []))
 
 pub document-put : (ed : Edition) {mode : ℕ} {s : List ℕ} {from : ℕ} → Settled mode s 0 from → {d e f g : List ℕ} {o a b r : ℕ} → Put d e o a (declaration ⊕ (10 ∷ []) ⊕ rootStart) →
-    Put e f a b (innerXml (entriesAt ed mode s from)) → Put f g b r (rootEnd ⊕ (10 ∷ [])) → Put d g o r (writeDocument (calendarOf ed (lines (rest mode s 0))))
+    Put e f a b (innerXml levels (entriesAt ed mode s from)) → Put f g b r (rootEnd ⊕ (10 ∷ [])) → Put d g o r (writeDocument (calendarOf ed (lines (rest mode s 0))))
 document-put ed {mode} {s} {from} p {d} {g = g} {o} {r = r} u v w =
-    subst (Put d g o r) (written-is (innerOf (entriesAt ed mode s from) 0) ∙ ap writeDocument (entries-start ed p)) (u ▷ v ▷ w)
+    subst (Put d g o r) (written-is (shallow levels (innerOf (entriesAt ed mode s from) 0)) ∙ ap writeDocument (entries-start ed p)) (u ▷ v ▷ w)

@@ -4,18 +4,16 @@
 use mathlib.Core.Path.{_≡_, refl, sym}
 use mathlib.Core.Bool.{Bool, true, false, not, false≢true}
 use mathlib.Core.List.{List}
-use Prim.Native.Nat.{ℕ}
+use Prim.Native.Nat.{ℕ, _-_}
 use Rattle.octets.specs.Ascii.{ascii}
 use Rattle.octets.specs.Pick.{pick, _or_}
 use Rattle.octets.specs.Words.{same}
-use Rattle.octets.specs.Lists.{every}
-use Rattle.octets.specs.laws.Lists.{word-passes}
 use Rattle.octets.specs.Computing.{octets-compute}
 use Rattle.calendar.specs.Calendar.{Property, Components, noMore, component}
-use Rattle.schema.specs.Components.{subcomponentsOf}
+use Rattle.schema.specs.Components.{mayContain}
 use Rattle.schema.specs.Counts.{methodFor}
-use Rattle.validity.specs.ValidCalendar.{isKeptName, hasComponents, areValid}
-use Rattle.validity.specs.laws.ValidCalendar.{inside-kept, valid-component}
+use Rattle.validity.specs.ValidCalendar.{hasComponents, areValid}
+use Rattle.validity.specs.laws.ValidCalendar.{valid-component}
 use Rattle.xml.specs.Nodes.{noNodes, hasElement}
 use Rattle.xml.specs.Content.{Content, nothing, child, placed}
 use Rattle.edition.specs.declared.Edition.{Edition}
@@ -60,14 +58,14 @@ inner-back n ps inner ih q =
     (λ h r. ih _) (λ h e r. sym (no-more inner e)) _
 
 module _ (ed : Edition) where
-  pub components-back : (c : Components) (ks : List (List ℕ)) (m : Bool) → every isKeptName ks ≡ true → areValid ed ks m c ≡ true → (q : ℕ) → readComponents (placed (calendarContent c) q noNodes) ≡ c
+  pub components-back : (c : Components) (l : ℕ) (may : List ℕ → Bool) (m : Bool) → areValid ed l may m c ≡ true → (q : ℕ) → readComponents (placed (calendarContent c) q noNodes) ≡ c
   unfolding octets-compute calendarContent placed readComponents readInner insideOf
-  components-back noMore ks m a h q = refl
-  components-back (component n ps inner next) ks m a h q =
-      let v = valid-component ed ks m n ps inner next h in
+  components-back noMore l may m h q = refl
+  components-back (component n ps inner next) l may m h q =
+      let v = valid-component ed l may m n ps inner next h in
       rw (
-        kept-back n (word-passes isKeptName ks n a (v .named)),
+        kept-back n (v .kept),
         properties-back ed n ps (v .properties),
-        inner-back n ps inner (components-back inner (subcomponentsOf n) (methodFor n ps m) (inside-kept n) (v .inside)),
-        components-back next ks m a (v .after),
+        inner-back n ps inner (components-back inner (l - 1) (mayContain n) (methodFor n ps m) (v .inside)),
+        components-back next l may m (v .after),
       )

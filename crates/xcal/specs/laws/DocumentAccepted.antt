@@ -14,11 +14,13 @@ use Rattle.octets.specs.Pick.{_and_, _or_}
 use Rattle.octets.specs.laws.Pick.{pick-either, and-both, and-yes}
 use Rattle.octets.specs.Words.{same, starts}
 use Rattle.calendar.specs.Calendar.{Calendar}
+use Rattle.calendar.specs.Levels.{levels}
 use Rattle.calendar.specs.Refusal.{XML, LENGTH, CHARACTER, Verdict, fine, refuse, accepted, answer, characters}
 use Rattle.calendar.specs.laws.Refusal.{refused-not}
 use Rattle.utf8.specs.Utf8.{tails, firstBad}
 use Rattle.utf8.specs.laws.Utf8.{good-well-formed}
-use Rattle.validity.specs.ValidCalendar.{isValid}
+use Rattle.validity.specs.ValidCalendar.{atTop, isValid}
+use Rattle.validity.specs.laws.ValidCalendar.{valid-shallow}
 use Rattle.xml.specs.Pieces.{from, S?, nameOf, _then_}
 use Rattle.xml.specs.Prolog.{prolog}
 use Rattle.xml.specs.Reads.{isName}
@@ -28,7 +30,7 @@ use Rattle.xml.specs.WellFormed.{move, followed, check, xmlVerdict}
 use Rattle.xml.specs.Nodes.{nodes, rootBy, rootNode, documentNodes}
 use Rattle.edition.specs.declared.Edition.{Edition}
 use Rattle.xcal.specs.WriteXml.{writeDocument}
-use Rattle.xcal.specs.ComponentNodes.{rootVerdict, readRoot}
+use Rattle.xcal.specs.ComponentNodes.{rootVerdict, readComponents, readRoot}
 use Rattle.xcal.specs.ReadDocument.{documentVerdict, readDocument}
 use Rattle.xcal.specs.laws.SoundContent.{isClean}
 use Rattle.xcal.specs.laws.DocumentBack.{document-back}
@@ -120,7 +122,7 @@ module _ (ed : Edition) where
   valid-root (opens p nm ∷ ms) e g r x h =
       let a = one-fine (same nm (ascii "icalendar")) _ p nm h in
       let c = stream-accepted ed (nodes ms 0) false _ (good-nodes ms 0 (later p nm ms g)) (a .1) in
-      and-yes _ _ (c .there) (c .valid)
+      rw (valid-shallow ed (readComponents (nodes ms 0)) levels atTop false (c .valid)) (and-yes _ _ (c .there) (c .valid))
   valid-root (closes p nm ∷ ms) e g r x h = absurd (false≢true r)
   valid-root (char p b ∷ ms) e g r x h = absurd (false≢true r)
   valid-root (refers p bs ∷ ms) e g r x h = absurd (false≢true r)

@@ -12,12 +12,13 @@ use Rattle.octets.specs.Pick.{pick, _or_}
 use Rattle.octets.specs.Append.{_⊕_}
 use Rattle.octets.specs.laws.Words.{same-self}
 use Rattle.calendar.specs.Calendar.{Components}
+use Rattle.calendar.specs.Levels.{levels}
 use Rattle.calendar.specs.Refusal.{fine, _otherwise_, accepted}
 use Rattle.utf8.specs.Computing.{utf8-compute}
 use Rattle.utf8.specs.Utf8.{firstBad}
 use Rattle.utf8.specs.laws.Utf8.{good-append}
 use Rattle.validity.specs.ValidCalendar.{hasComponents, areValid, atTop, isValid}
-use Rattle.validity.specs.laws.ValidCalendar.{top-kept, valid-parts}
+use Rattle.validity.specs.laws.ValidCalendar.{valid-parts, valid-shallow}
 use Rattle.xml.specs.Escape.{declarationLine, rootStart, endTag, documentOf}
 use Rattle.xml.specs.Nodes.{noNodes, element, documentNodes}
 use Rattle.xml.specs.Content.{written, placed}
@@ -55,10 +56,10 @@ document-good s h =
 module _ (ed : Edition) where
   -- ---- the document
 
-  module _ (c : Components) (there : hasComponents c ≡ true) (valid : areValid ed atTop false c ≡ true) (sound : isSound (calendarContent c) 15 ≡ true) where
+  module _ (c : Components) (there : hasComponents c ≡ true) (valid : areValid ed levels atTop false c ≡ true) (sound : isSound (calendarContent c) 31 ≡ true) where
     nodes-back : documentNodes (documentOf (written (calendarContent c)))
         ≡ element 39 (ascii "icalendar") (95 + length (written (calendarContent c))) (placed (calendarContent c) 95 noNodes) noNodes
-    nodes-back = document-read-back (calendarContent c) 15 (sound-writable (calendarContent c) 15 sound)
+    nodes-back = document-read-back (calendarContent c) 31 (sound-writable (calendarContent c) 31 sound)
 
     root-fine : rootVerdict ed (documentNodes (documentOf (written (calendarContent c)))) ≡ fine
     unfolding rootVerdict pick _or_
@@ -66,12 +67,12 @@ module _ (ed : Edition) where
 
     root-back : readRoot (documentNodes (documentOf (written (calendarContent c)))) ≡ c
     unfolding readRoot
-    root-back = rw nodes-back (components-back ed c atTop false top-kept valid 95)
+    root-back = rw (nodes-back, components-back ed c levels atTop false valid 95) (valid-shallow ed c levels atTop false valid)
 
     document-fine : length (documentOf (written (calendarContent c))) ≤ 65535 → documentVerdict ed (documentOf (written (calendarContent c))) ≡ fine
     unfolding documentVerdict pick _otherwise_
     document-fine l =
-        rw (le-leb _ _ l, document-good (written (calendarContent c)) (sound-good (calendarContent c) 15 sound), document-well-formed (calendarContent c) (sound-writable (calendarContent c) 15 sound)) root-fine
+        rw (le-leb _ _ l, document-good (written (calendarContent c)) (sound-good (calendarContent c) 31 sound), document-well-formed (calendarContent c) (sound-writable (calendarContent c) 31 sound)) root-fine
 
     content-back : length (writeDocument c) ≤ 65535 → readDocument ed (writeDocument c) ≡ accepted c
     unfolding readDocument

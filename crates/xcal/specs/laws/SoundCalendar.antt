@@ -1,26 +1,22 @@
 -- The content of a valid calendar is sound: its bytes are well formed and within the profile.
---     calendar-sound       within 15 elements inside one another
+--     calendar-sound       within 31 elements inside one another
 use mathlib.Core.Path.{_≡_, refl}
 use mathlib.Core.Bool.{Bool, true, false}
 use mathlib.Core.List.{List, [], _∷_}
-use Prim.Native.Nat.{ℕ, zero, suc, _+_, _*_, _≤_, _<_}
+use Prim.Native.Nat.{ℕ, zero, suc, _+_, _*_, _-_, _≤_}
 use native.Mathlib.Omega.{arith}
-use lib.Dec.{ltb}
 use borrow.Author.Tests.{ltb-true}
 use Rattle.octets.specs.Ascii.{ascii}
-use Rattle.octets.specs.Pick.{pick}
 use Rattle.octets.specs.laws.Pick.{pick-either, and-both}
 use Rattle.octets.specs.Class.{lower}
-use Rattle.octets.specs.Words.{isEmpty}
 use Rattle.octets.specs.Lists.{every}
-use Rattle.octets.specs.laws.Lists.{word-passes, every-both, every-weaker}
-use Rattle.octets.specs.laws.Tables.{row-any-passes}
+use Rattle.octets.specs.laws.Lists.{every-both, every-weaker}
 use Rattle.octets.specs.Computing.{octets-compute}
 use Rattle.calendar.specs.Calendar.{Value, Parameter, Property, Components, noMore, component}
-use Rattle.schema.specs.Components.{ComponentRow, componentTable, componentRow, unknownComponent, subcomponentsOf}
+use Rattle.calendar.specs.Levels.{levels}
+use Rattle.schema.specs.Components.{mayContain}
 use Rattle.schema.specs.Counts.{methodFor}
 use Rattle.schema.specs.Parameters.{parameterWords, parameterType}
-use Rattle.schema.specs.Computing.{schema-compute}
 use Rattle.values.specs.WriteValue.{typeOfAll}
 use Rattle.values.specs.ReadBack.{isValue}
 use Rattle.values.specs.Valid.{areValuesOf, arePropertyValues}
@@ -28,8 +24,8 @@ use Rattle.values.specs.laws.Valid.{property-value-valid}
 use Rattle.values.specs.Characters.{isValueText}
 use Rattle.xml.specs.Reads.{isName}
 use Rattle.xml.specs.Content.{Content, nothing, child}
-use Rattle.validity.specs.ValidCalendar.{isParameterText, isKeptName, isValidParameter, isValidProperty, areValid, atTop}
-use Rattle.validity.specs.laws.ValidCalendar.{parameter-text, inside-kept, top-kept, valid-parameter, valid-property, valid-component}
+use Rattle.validity.specs.ValidCalendar.{isParameterText, isValidParameter, isValidProperty, areValid, atTop}
+use Rattle.validity.specs.laws.ValidCalendar.{parameter-text, valid-parameter, valid-property, valid-component}
 use Rattle.edition.specs.declared.Edition.{Edition}
 use Rattle.xcal.specs.WriteXml.{isNoMore}
 use Rattle.xcal.specs.laws.Contents.{valuesBefore, parametersBefore, parametersPart, propertyInside, propertiesBefore, componentsPart, componentInside, calendarContent}
@@ -54,23 +50,6 @@ components-name = refl
 property-values : (k n : List ℕ) (vs : List Value) → arePropertyValues k n vs ≡ true → every isValue vs ≡ true
 unfolding areValuesOf
 property-values k n vs h = every-weaker _ isValue (property-value-valid k n (typeOfAll vs)) vs (and-both _ _ (and-both _ _ h .1) .1)
-
--- ---- components
-
--- how many components stand inside one another in a component
-abbrev rowDepth : ComponentRow → ℕ
-rowDepth r = pick (isEmpty (r .subcomponents)) 0 (pick (every (λ n. isEmpty (subcomponentsOf n)) (r .subcomponents)) 1 2)
-
-unfoldable depthOf : List ℕ → ℕ
-depthOf n = rowDepth (componentRow n)
-
-all-shallower : (k : List ℕ) → every (λ n. ltb (depthOf n) (depthOf k)) (subcomponentsOf k) ≡ true
-unfolding schema-compute depthOf
-all-shallower k = row-any-passes (λ r. r .name) k (λ r. every (λ n. ltb (depthOf n) (rowDepth r)) (r .subcomponents)) unknownComponent componentTable refl refl
-
-top-shallow : every (λ n. ltb (depthOf n) 3) atTop ≡ true
-unfolding schema-compute depthOf
-top-shallow = refl
 
 module _ (ed : Edition) where
   -- ---- parameters and properties
@@ -111,20 +90,19 @@ module _ (ed : Edition) where
       written : isSound (child (ascii "components") c nothing) (suc d) ≡ true
       written = child-sound (ascii "components") c nothing d components-name s refl
 
-  -- components with names among ks, all of less depth than e
-  components-sound : (c : Components) (ks : List (List ℕ)) (m : Bool) (e d : ℕ) → every isKeptName ks ≡ true → every (λ n. ltb (depthOf n) e) ks ≡ true → areValid ed ks m c ≡ true → 5 + 2 * e ≤ d →
-      isSound (calendarContent c) d ≡ true
+  -- at most e levels deep
+  components-sound : (c : Components) (may : List ℕ → Bool) (m : Bool) (e d : ℕ) → areValid ed e may m c ≡ true → 5 + 2 * e ≤ d → isSound (calendarContent c) d ≡ true
   unfolding calendarContent isSound
-  components-sound noMore ks m e d a b h l = refl
-  components-sound (component n ps inner next) ks m e zero a b h l = absurd (omega arith)
-  components-sound (component n ps inner next) ks m e (suc zero) a b h l = absurd (omega arith)
-  components-sound (component n ps inner next) ks m e (suc (suc d)) a b h l =
-      let v = valid-component ed ks m n ps inner next h in
-      let w : depthOf n < e = ltb-true _ _ (word-passes (λ n. ltb (depthOf n) e) ks n b (v .named)) in
-      child-sound (lower n) (componentInside n ps (isNoMore inner) (calendarContent inner)) (calendarContent next) (suc d) (kept-element n (word-passes isKeptName ks n a (v .named)))
+  components-sound noMore may m e d h l = refl
+  components-sound (component n ps inner next) may m e zero h l = absurd (omega arith)
+  components-sound (component n ps inner next) may m e (suc zero) h l = absurd (omega arith)
+  components-sound (component n ps inner next) may m e (suc (suc d)) h l =
+      let v = valid-component ed e may m n ps inner next h in
+      let w = ltb-true 0 e (v .level) in
+      child-sound (lower n) (componentInside n ps (isNoMore inner) (calendarContent inner)) (calendarContent next) (suc d) (kept-element n (v .kept))
       (inside-sound n ps (isNoMore inner) (calendarContent inner) d (v .properties) (omega arith)
-      (components-sound inner (subcomponentsOf n) (methodFor n ps m) (depthOf n) d (inside-kept n) (all-shallower n) (v .inside) (omega arith)))
-      (components-sound next ks m e (suc (suc d)) a b (v .after) l)
+      (components-sound inner (mayContain n) (methodFor n ps m) (e - 1) d (v .inside) (omega arith)))
+      (components-sound next may m e (suc (suc d)) (v .after) l)
 
-  pub calendar-sound : (c : Components) → areValid ed atTop false c ≡ true → isSound (calendarContent c) 15 ≡ true
-  calendar-sound c h = components-sound c atTop false 3 15 top-kept top-shallow h (omega arith)
+  pub calendar-sound : (c : Components) → areValid ed levels atTop false c ≡ true → isSound (calendarContent c) 31 ≡ true
+  calendar-sound c h = components-sound c atTop false levels 31 h (omega arith)

@@ -1,7 +1,7 @@
 -- A document that is written is within the profile and is read back (the rules, "Canonical XML", "XML profile for reading").
 --     document-marks        its marks
 --     document-read-back    its nodes: the root, with the content
---     document-well-formed  it is within the profile, where at most 15 elements stand inside one another below the root
+--     document-well-formed  it is within the profile, where at most 31 elements stand inside one another below the root
 use mathlib.Core.Path.{_≡_, refl, ap, _∙_}
 use mathlib.Core.Bool.{Bool, true, false, false≢true}
 use mathlib.Core.List.{List, [], _∷_, _++_}
@@ -76,16 +76,16 @@ check-characters (b ∷ s) p ms e top st = go (isEscaped b) (check-characters s 
     go true ih = ih
     go false ih = ih
 
-check-opens : (p : ℕ) (nm : List ℕ) (ms : List Mark) (e : ℕ) (top : List ℕ) (st : List (List ℕ)) → suc (length st) < 16 →
+check-opens : (p : ℕ) (nm : List ℕ) (ms : List Mark) (e : ℕ) (top : List ℕ) (st : List (List ℕ)) → suc (length st) < 32 →
     check (opens p nm ∷ ms) e true (top ∷ st) ≡ check ms e true (nm ∷ top ∷ st)
 unfolding check move hasRoom followed pick
-check-opens p nm ms e top st h = rw (lt-ltb (suc (length st)) 16 h)
+check-opens p nm ms e top st h = rw (lt-ltb (suc (length st)) 32 h)
 
 check-closes : (p : ℕ) (nm : List ℕ) (ms : List Mark) (e : ℕ) (st : List (List ℕ)) → check (closes p nm ∷ ms) e true (nm ∷ st) ≡ check ms e true st
 unfolding check move closesTop followed pick
 check-closes p nm ms e st = rw (same-self nm)
 
-check-content : (c : Content) (d : ℕ) (p : ℕ) (ms : List Mark) (e : ℕ) (top : List ℕ) (st : List (List ℕ)) → isWritable c d ≡ true → suc (length st) + d ≤ 16 →
+check-content : (c : Content) (d : ℕ) (p : ℕ) (ms : List Mark) (e : ℕ) (top : List ℕ) (st : List (List ℕ)) → isWritable c d ≡ true → suc (length st) + d ≤ 32 →
     check (contentMarks c p ⊕ ms) e true (top ∷ st) ≡ check ms e true (top ∷ st)
 unfolding isWritable
 check-content nothing d p ms e top st h l = ap (λ (m : List Mark). check m e true (top ∷ st)) (no-marks p ms)
@@ -103,8 +103,8 @@ check-content (charData s next) d p ms e top st h l =
     ∙ check-characters s p _ e top st
     ∙ check-content next d (p + length (escaped s)) ms e top st (and-both _ (isWritable next d) h .1) l
 
-pub document-well-formed : (c : Content) → isWritable c 15 ≡ true → xmlVerdict (documentOf (written c)) ≡ fine
+pub document-well-formed : (c : Content) → isWritable c 31 ≡ true → xmlVerdict (documentOf (written c)) ≡ fine
 unfolding xmlVerdict check move hasRoom followed closesTop pick _and_ _or_ same
 document-well-formed c h =
-    ap (λ (m : List Mark). check m (length (documentOf (written c))) false []) (document-marks c 15 h)
-    ∙ check-content c 15 95 (lastMarks (95 + length (written c))) (length (documentOf (written c))) (ascii "icalendar") [] h (omega arith)
+    ap (λ (m : List Mark). check m (length (documentOf (written c))) false []) (document-marks c 31 h)
+    ∙ check-content c 31 95 (lastMarks (95 + length (written c))) (length (documentOf (written c))) (ascii "icalendar") [] h (omega arith)

@@ -14,7 +14,7 @@ use Rattle.xml.specs.Nodes.{noNodes, documentNodes}
 use Rattle.xml.specs.NodesAt.{nodesAt}
 use Rattle.xml.specs.WellFormed.{xmlVerdict}
 use Rattle.text.specs.WriteText.{writeCalendar}
-use Rattle.xcal.specs.ComponentNodes.{rootVerdict, readComponents, readRoot}
+use Rattle.xcal.specs.ComponentNodes.{rootVerdict, readCalendars, readRoot}
 use Rattle.xcal.specs.ReadDocument.{documentVerdict, readDocument}
 use Rattle.lengths_text.specs.laws.Documents.{rate, text-bound}
 use Rattle.read_xml_nodes.specs.RootFound.{RootNode}
@@ -58,7 +58,7 @@ module _ (s d : List ℕ) (edition : ℕ) where
   unfolding toText readDocument documentVerdict pick
   in-edition h k g = let e : leb (length s) 65535 ≡ true = le-leb (length s) 65535 h in (g .answer ∙ rw (← k, e), g .left ∙ rw (← k, e))
 
-root-reads : {s : List ℕ} {t : Element} → RootNode s t → xmlVerdict s ≡ fine → readRoot (documentNodes s) ≡ readComponents (nodesAt s (t .inside))
+root-reads : {s : List ℕ} {t : Element} → RootNode s t → xmlVerdict s ≡ fine → readRoot (documentNodes s) ≡ readCalendars (nodesAt s (t .inside))
 unfolding readRoot
 root-reads x f = rw (x .is f)
 
@@ -86,7 +86,7 @@ module _ (ed : Edition) where
 
   -- the root of a document within the XML profile
   module _ {s : List ℕ} {t : Element} (x : RootNode s t) (f : xmlVerdict s ≡ fine) where
-    pub root-bound : length (writeCalendar ed (readComponents (nodesAt s (t .inside)))) ≤ rate * length s
+    pub root-bound : length (writeCalendar ed (readCalendars (nodesAt s (t .inside)))) ≤ rate * length s
     root-bound = rw (← (root-reads x f)) (text-bound ed s)
 
     module _ {j : Judged} (v : RootAt ed s t j) (d : List ℕ) where
@@ -96,6 +96,6 @@ module _ (ed : Edition) where
       pub root-refused : (n : ℕ) {p : ℕ} {r : Answer} → j ≡ judged.Refused n p → r ≡ answerAt n p → Done (nodesGive ed s (rootVerdict ed (documentNodes s))) d d r
       root-refused n {p} e g = rw (root-judged, e) (done-fault d (ap outcomeOf g ∙ answer-refusal n p))
 
-      pub root-fine : {e : List ℕ} {r : Answer} → j ≡ judged.Fine → Done (converted (writeCalendar ed) (answer fine (readComponents (nodesAt s (t .inside))))) d e r →
+      pub root-fine : {e : List ℕ} {r : Answer} → j ≡ judged.Fine → Done (converted (writeCalendar ed) (answer fine (readCalendars (nodesAt s (t .inside))))) d e r →
           Done (nodesGive ed s (rootVerdict ed (documentNodes s))) d e r
       root-fine e g = rw (root-judged, e, root-reads x f) g

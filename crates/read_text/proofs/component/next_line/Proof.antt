@@ -1,6 +1,5 @@
 -- `read_text::component::next_line` meets its contract.
 use mathlib.Core.Path.{subst}
-use native.Mathlib.Omega.{arith}
 use borrow.Author.Needs.{needs}
 use Rattle.read_text_line.specs.LineEnd.{EndsLine}
 use Rattle.read_text_line.specs.laws.Ready.{line-count, line-inside}
@@ -13,8 +12,8 @@ next-line-spec = tie.close (tie.spec
     (λ c κs. search needs)  -- line-end-requires
     (λ c. search needs)  -- enum-known-e
     (λ c. search needs)  -- enum-told
-    (λ c. turned-loose _ _ _ (c .before .before .before .before .pre .1) (subst (EndsLine _ _ _) (c .enum-told .given .1) (c .before .before .line-end .ensures)) (c .before .before .before .before .pre .2))  -- returns
-    (λ c. line-count (c .before .before .before .before .before .before .pre .1) (subst (EndsLine _ _ _) (c .before .before .e .given .1) (c .before .before .before .before .line-end .ensures)))  -- slice-aggregate-line-kind
-    (λ c κs. (c .before .before .before .before .before .before .pre .0, line-inside (c .before .before .before .before .before .before .pre .1) (subst (EndsLine _ _ _) (c .before .before .e .given .1) (c .before .before .before .before .line-end .ensures)), c .before .before .before .before .before .before .pre .1 .cut))  -- line-kind-requires
-    (λ c. turned-whole _ _ _ (c .before .before .before .before .before .before .before .pre .1) (c .line-kind .result) (subst (EndsLine _ _ _) (c .before .before .before .e .given .1) (c .before .before .before .before .before .line-end .ensures)) (c .line-kind .ensures))  -- returns-2
+    (λ c. turned-loose _ _ _ _ (c .before .before .before .before .before .pre .1) (subst (EndsLine _ _ _) (c .enum-told .given .1) (c .before .before .line-end .ensures)) (c .before .before .before .before .before .pre .2))  -- returns
+    (λ c. line-count (c .before .before .before .before .before .before .before .pre .1) (subst (EndsLine _ _ _) (c .before .before .e .given .1) (c .before .before .before .before .line-end .ensures)))  -- slice-aggregate-line-kind
+    (λ c κs. (c .before .before .before .before .before .before .before .pre .0, line-inside (c .before .before .before .before .before .before .before .pre .1) (subst (EndsLine _ _ _) (c .before .before .e .given .1) (c .before .before .before .before .line-end .ensures)), c .before .before .before .before .before .before .before .pre .1 .cut))  -- line-kind-requires
+    (λ c. turned-whole _ _ _ _ (c .before .before .before .before .before .before .before .before .pre .1) (c .line-kind .result) (subst (EndsLine _ _ _) (c .before .before .before .e .given .1) (c .before .before .before .before .before .line-end .ensures)) (c .line-kind .ensures))  -- returns-2
     )

@@ -9,4 +9,5 @@ has-subs-spec = tie.close (tie.spec
     (λ c. search branching)  -- returns-2
     (λ c. search branching)  -- returns-3
     (λ c. search branching)  -- returns-4
+    (λ c. search branching)  -- returns-5
     )

@@ -28,7 +28,7 @@ stream-verdict-spec = tie.close (tie.spec
     (λ c. search streaming)  -- loop-again
     (λ c. search streaming)  -- enum-known-j
     (λ c. search streaming)  -- returns-3
-    (λ c κs. search streaming)  -- unexpected-requires
+    (λ c κs. search streaming)  -- no-component-requires
     (λ c. search streaming)  -- returns-4
     (λ c. search streaming)  -- enum-told-4
     (λ c κs. search streaming)  -- is-space-requires

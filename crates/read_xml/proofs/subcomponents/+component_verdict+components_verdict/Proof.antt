@@ -1,9 +1,10 @@
 -- `read_xml::subcomponents::component_verdict` and `components_verdict`, which call each other, meet their contracts.
-use Prim.Native.Nat.{ℕ, _-_, _<_}
+use Prim.Native.Nat.{ℕ, _+_, _*_, _-_, _<_}
+use native.Mathlib.Omega.{arith}
 use lib.ListN.{length}
 use borrow.Fn.Kinds.{In}
 use borrow.Fn.PlainCycle.{Measures, is, falls, and}
-use Rattle.read_xml.specs.laws.Subcomponents.{whole-falls, wholes, Among, begun-falls, falls-under, falls-below, among}
+use Rattle.read_xml.specs.laws.Subcomponents.{fall-in, wholes, Among, begun-left, among}
 use Rattle.read_xml.proofs.subcomponents.component_verdict.Reads as component-verdict
 use Rattle.read_xml.proofs.subcomponents.component_verdict.Kinds as component-verdict-kinds
 use Rattle.read_xml.proofs.subcomponents.+component_verdict+components_verdict.Lts-component_verdict as component-verdict-lts
@@ -18,7 +19,7 @@ use Rattle.read_xml.proofs.subcomponents.+component_verdict+components_
 use Rattle.read_xml.proofs.subcomponents.+component_verdict+components_verdict.Tie.{close}
 
 abbrev μ-component-verdict : Measures 1 component-verdict-kinds.ps ℕ
-μ-component-verdict κs a = length (a .1 .0 .now) - a .1 .1 .0
+μ-component-verdict κs a = 2 * (a .1 .1 .1 .1 .0) + 1
 
 abbrev component-verdict-at : ℕ → In 1 component-verdict-kinds.ps
 component-verdict-at t = and 1 component-verdict-kinds.ps (is 1 component-verdict-kinds.ps μ-component-verdict t) component-verdict.Pre
@@ -27,7 +28,7 @@ abbrev component-verdict-below : ℕ → In 1 component-verdict-kinds.ps
 component-verdict-below t = and 1 component-verdict-kinds.ps (falls 1 component-verdict-kinds.ps _<_ μ-component-verdict t) component-verdict.Pre
 
 abbrev μ-components-verdict : Measures 1 components-verdict-kinds.ps ℕ
-μ-components-verdict κs a = length (a .1 .0 .now) - a .1 .1 .0
+μ-components-verdict κs a = 2 * (a .1 .1 .1 .1 .0)
 
 abbrev components-verdict-at : ℕ → In 1 components-verdict-kinds.ps
 components-verdict-at t = and 1 components-verdict-kinds.ps (is 1 components-verdict-kinds.ps μ-components-verdict t) components-verdict.Pre
@@ -43,10 +44,10 @@ abbrev components-verdict-claims : ℕ → components-verdict-lts.Claims
 components-verdict-claims t = (sub-at-reads.Asked, sub-at-reads.Learnt, component-verdict-below t, component-verdict.Post)
 
 abbrev components-verdict-Inv-loop : components-verdict-lts.InvT-loop
-components-verdict-Inv-loop edition s inside k method e at₀ any₀ at any = Among edition k method s inside e at any
+components-verdict-Inv-loop edition s inside k left method e at₀ any₀ at any = Among edition k left method s inside e at any
 
 abbrev components-verdict-μ-loop : components-verdict-lts.MeasureT-loop
-components-verdict-μ-loop edition s inside k method e at₀ any₀ at any = length s - at
+components-verdict-μ-loop edition s inside k left method e at₀ any₀ at any = length s - at
 
 pub +component-verdict+components-verdict-spec : {M : Type 1} → statement M
 +component-verdict+components-verdict-spec = close μ-component-verdict μ-components-verdict
@@ -58,7 +59,7 @@ pub +component-verdict+components-verdict-spec : {M : Type 1} → statement M
     (λ c. search wholes)  -- enum-known-part
     (λ c. search wholes)  -- enum-known-part-2
     (λ c κs. search wholes)  -- method-inside-requires
-    (λ c κs. (search (falls-under, falls-below, whole-falls, wholes), search wholes))  -- components-verdict-requires
+    (λ c κs. (search (fall-in, wholes), search wholes))  -- components-verdict-requires
     (λ c. search wholes)  -- enum-known-r
     (λ c κs. search wholes)  -- behind-requires
     (λ c. search wholes)  -- enum-known-r-2
@@ -83,7 +84,8 @@ pub +component-verdict+components-verdict-spec : {M : Type 1} → statement M
     (λ c. search among)  -- loop-less
     (λ c. search among)  -- loop-again
     (λ c. search among)  -- enum-known-t-3
-    (λ c κs. (search (falls-under, falls-below, begun-falls, among), search among))  -- component-verdict-requires
+    (λ c. search among)  -- sub-component-verdict
+    (λ c κs. (omega (arith, begun-left _ (c .before .before .before .before .loop .inv) (c .before .before .before .sub-at .ensures) (c .before .t3 .given .1), c .before .before .before .before .before .before .pre .0), search among))  -- component-verdict-requires
     (λ c. search among)  -- enum-told-2
     (λ c. search among)  -- loop-less-2
     (λ c. search among)  -- loop-again-2

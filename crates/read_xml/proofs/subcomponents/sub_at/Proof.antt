@@ -12,7 +12,7 @@ sub-at-spec = tie.close (tie.spec
     (λ c κs. search subs)  -- sub-number-requires
     (λ c. search subs)  -- enum-known-t
     (λ c. search subs)  -- enum-told-3
-    (λ c κs. search subs)  -- unexpected-requires
+    (λ c κs. search subs)  -- no-component-requires
     (λ c. search subs)  -- enum-told-4
     (λ c κs. search subs)  -- is-space-requires
     (λ c. search subs)  -- returns

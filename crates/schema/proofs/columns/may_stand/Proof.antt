@@ -9,4 +9,5 @@ unfolding standsAt
 may-stand-spec = tie.close (tie.spec
     (λ c κs. search branching)  -- holds-requires
     (λ c. search branching)  -- returns
+    (λ c. search branching)  -- returns-2
     )

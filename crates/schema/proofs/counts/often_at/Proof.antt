@@ -11,6 +11,5 @@ often-at-spec = tie.close (tie.spec
     (λ c. search branching)  -- returns-2
     (λ c κs. search branching)  -- all-often-requires-2
     (λ c. search branching)  -- returns-3
-    (λ c κs. search branching)  -- all-often-requires-3
     (λ c. search branching)  -- returns-4
     )

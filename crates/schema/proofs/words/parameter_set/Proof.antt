@@ -10,6 +10,6 @@ pub parameter-set-spec : {M : Type 1} → statement M
 parameter-set-spec = tie.close (tie.spec
     (λ c. search needs)  -- array-read-wide
     (λ c κs. search needs)  -- wide-requires
-    (λ c. c .wide .ensures .0 ∙ column-at (λ n. n) 16 parameterSetNumbers _ (c .before .if1 .taken))  -- returns
-    (λ c. column-past (λ n. n) 16 parameterSetNumbers _ (c .if1 .left))  -- returns-2
+    (λ c. c .wide .ensures .0 ∙ column-at (λ n. n) 17 parameterSetNumbers _ (c .before .if1 .taken))  -- returns
+    (λ c. column-past (λ n. n) 17 parameterSetNumbers _ (c .if1 .left))  -- returns-2
     )

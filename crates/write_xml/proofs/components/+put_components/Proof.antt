@@ -1,9 +1,11 @@
--- `write_xml::components::put_components`, which calls itself, meets its contract. The measure is what is left of the text.
+-- `write_xml::components::put_components`, which calls itself, meets its contract. The measure is the levels that are left.
 use Prim.Native.Nat.{ℕ, _-_, _<_}
+use native.Mathlib.Omega.{arith}
 use lib.ListN.{length}
 use lib.Seq.{length-take-le}
 use borrow.Author.Needs.{needs}
-use Rattle.write_xml.proofs.Walking.{Walking, inner, inners}
+use Rattle.write_xml.specs.laws.Places.{level-left, ahead-ready}
+use Rattle.write_xml.proofs.Walking.{Walking, inner, inners, inner-at-bare, inner-at-component}
 use borrow.Fn.Kinds.{In}
 use borrow.Fn.PlainCycle.{Measures, is, falls, and}
 use Rattle.write_xml.proofs.components.put_components.Reads as put-components
@@ -16,7 +18,7 @@ use Rattle.write_xml.proofs.components.+put_components.{statement}
 use Rattle.write_xml.proofs.components.+put_components.Tie.{close}
 
 abbrev μ-put-components : Measures 2 put-components-kinds.ps ℕ
-μ-put-components κs a = length (a .1 .1 .1 .1 .0 .now) - a .1 .1 .1 .1 .1 .0
+μ-put-components κs a = a .1 .1 .1 .1 .1 .1 .0
 
 abbrev put-components-at : ℕ → In 2 put-components-kinds.ps
 put-components-at t =
@@ -39,10 +41,10 @@ abbrev claims : ℕ → put-components-lts.Claims
 claims t = (bound-at-reads.Asked, bound-at-reads.Learnt, put-head-reads.Asked, put-head-reads.Learnt, put-tail-reads.Asked, put-tail-reads.Learnt, put-components-below t, put-components.Post)
 
 abbrev put-components-Inv-loop : put-components-lts.InvT-loop
-put-components-Inv-loop out₀ o edition mode s from p₀ at₀ out p at = Walking edition inner mode s from out₀ o out p at
+put-components-Inv-loop out₀ o edition mode s from left p₀ at₀ out p at = Walking edition (inner left) mode s from out₀ o out p at
 
 abbrev put-components-μ-loop : put-components-lts.MeasureT-loop
-put-components-μ-loop out₀ o edition mode s from p₀ at₀ out p at = length s - at
+put-components-μ-loop out₀ o edition mode s from left p₀ at₀ out p at = length s - at
 
 pub +put-components-spec : {M : Type 1} → statement M
 +put-components-spec = close μ-put-components
@@ -59,12 +61,13 @@ pub +put-components-spec : {M : Type 1} → statement M
     (λ c. search (length-take-le, needs))  -- slice-aggregate-put-tail
     (λ c κs. search inners)  -- put-tail-requires
     (λ c. search inners)  -- loop-less
-    (λ c. search inners)  -- loop-again
-    (λ c κs. search inners)  -- put-components-requires
+    (λ c. inner-at-bare (c .before .before .before .before .before .before .before .before .before .before .before .before .before .before .before .loop .inv) (c .before .before .before .before .before .before .before .before .before .before .before .before .before .bound-at .ensures) (c .before .before .before .before .before .before .before .before .before .before .before .before .before .before .before .before .before .before .pre .1 .1) (c .before .before .before .before .before .before .before .before .before .before .before .enum-told .given .1) (c .before .before .before .before .before .before .before .before .put-head .ensures) (c .before .before .before .before .before .if1 .taken) (c .before .before .put-tail .ensures))  -- loop-again
+    (λ c. omega (arith, c .before .before .before .before .before .before .before .before .before .before .before .before .before .before .pre .1 .1))  -- sub-put-components
+    (λ c κs. (omega (arith, c .before .before .before .before .before .before .before .before .before .before .before .before .before .before .pre .0, c .before .before .before .before .before .before .before .before .before .before .before .before .before .before .pre .1 .1), (search (ahead-ready, inners), level-left (c .before .before .before .before .put-head .ensures) (c .before .if1 .left))))  -- put-components-requires
     (λ c. search (length-take-le, needs))  -- slice-aggregate-put-tail-2
     (λ c κs. search inners)  -- put-tail-requires-2
     (λ c. search inners)  -- loop-less-2
-    (λ c. search inners)  -- loop-again-2
+    (λ c. inner-at-component (c .before .before .before .before .before .before .before .before .before .before .before .before .before .before .before .before .before .before .before .loop .inv) (c .before .before .before .before .before .before .before .before .before .before .before .before .before .before .before .before .before .bound-at .ensures) (c .before .before .before .before .before .before .before .before .before .before .before .before .before .before .before .before .before .before .before .before .before .before .pre .1 .1) (c .before .before .before .before .before .before .before .before .before .before .before .before .before .before .before .enum-told .given .1) (c .before .before .before .before .before .before .before .before .before .before .before .before .put-head .ensures) (c .before .before .before .before .before .before .before .put-components .ensures) (c .before .before .put-tail2 .ensures))  -- loop-again-2
     (λ c. search inners)  -- enum-told-2
     (λ c. search inners)  -- same-length
     (λ c. search inners)  -- returns
