@@ -10,4 +10,5 @@ refusal-else-spec = tie.close (tie.spec
     (λ c. search branching)  -- returns-3
     (λ c. search branching)  -- returns-4
     (λ c. search branching)  -- returns-5
+    (λ c. search branching)  -- returns-6
     )
