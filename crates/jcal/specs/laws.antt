@@ -22,3 +22,4 @@ pub mod Plain
 pub mod NumbersWritten
 pub mod Writable
 pub mod JcalBack
+pub mod CheckedStrings
