@@ -23,3 +23,4 @@ pub mod NumbersWritten
 pub mod Writable
 pub mod JcalBack
 pub mod CheckedStrings
+pub mod Textual
