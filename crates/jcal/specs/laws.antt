@@ -24,3 +24,4 @@ pub mod Writable
 pub mod JcalBack
 pub mod CheckedStrings
 pub mod Textual
+pub mod ValuesAccepted
