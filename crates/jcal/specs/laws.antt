@@ -25,3 +25,4 @@ pub mod JcalBack
 pub mod CheckedStrings
 pub mod Textual
 pub mod ValuesAccepted
+pub mod ParametersAccepted

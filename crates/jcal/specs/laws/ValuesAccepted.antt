@@ -25,7 +25,6 @@ use Rattle.calendar.specs.Calendar.{Format, ical, xcal, ValueType, BINARY, BOOL
 use Rattle.schema.specs.Types.{sameType, isTypeOf}
 use Rattle.schema.specs.laws.Types.{same-type-self, same-type-true}
 use Rattle.schema.specs.Properties.{permittedTypes, isListedProperty, propertyWords}
-use Rattle.schema.specs.laws.Closed.{property-words-text}
 use Rattle.schema.specs.Computing.{schema-compute}
 use Rattle.times.specs.DateTime.{isDateTime, readDateTime}
 use Rattle.times.specs.laws.DateTime.{date-time-accepted}
@@ -57,6 +56,7 @@ use Rattle.json.specs.Kinds.{asString, asNumber, asLiteral, asArray, asObject, 
 use Rattle.json.specs.Written.{isText}
 use Rattle.jcal.specs.Integer.{int, frac, up, down, moved, readNumber}
 use Rattle.jcal.specs.Values.{readString, periodFrom, readPeriod, itemText, readItem, readItems, readPart, readRecur, readTyped, readChosen, readGeo, readStatus, readOne, readValues}
+use Rattle.jcal.specs.laws.ValuesBack.{only-text}
 use Rattle.jcal.specs.laws.Textual.{isTextual, areTextual, membersTextual}
 
 -- ---- strings
@@ -272,11 +272,6 @@ status-value (a ∷ b ∷ d ∷ []) x c h =
     let z : requestStatus a b (some d) ≡ x = cc in
     rw (← z) (refl, status-clean a b (some d) (p .0) (q .0) (r .0))
 status-value (a ∷ b ∷ d ∷ e ∷ ss) x c h = none-some h
-
--- a property with a closed set takes TEXT alone
-only-text : (k n : List ℕ) (t : ValueType) → isTypeOf t (permittedTypes n) ≡ true → (words : List (List ℕ)) → propertyWords k n ≡ some words → t ≡ TEXT
-unfolding isTypeOf
-only-text k n t p words e = same-type-true t TEXT (sym (or-false (sameType t TEXT)) ∙ subst (λ (l : List ValueType). isTypeOf t l ≡ true) (property-words-text k n words e .0) p)
 
 chosen-good : (o : Option (List (List ℕ))) (t : ValueType) (v : Json) (x : Value) → ((words : List (List ℕ)) → o ≡ some words → t ≡ TEXT) → isTextual v ≡ true → readChosen o t v ≡ some x →
     (sameType (typeOf x) t ≡ true) × (isChosen o t x ≡ true) × (isCleanValue x ≡ true)
