@@ -26,3 +26,6 @@ pub mod CheckedStrings
 pub mod Textual
 pub mod ValuesAccepted
 pub mod ParametersAccepted
+pub mod PropertyAccepted
+pub mod ComponentsAccepted
+pub mod JcalAccepted

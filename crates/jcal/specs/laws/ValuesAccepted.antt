@@ -73,7 +73,7 @@ string-clean (literal p x) s h e = none-some e
 string-clean (array p q vs) s h e = none-some e
 string-clean (object p q ms) s h e = none-some e
 
-elements-textual : (vs : Elements) → areTextual vs ≡ true → every isTextual (elementList vs) ≡ true
+pub elements-textual : (vs : Elements) → areTextual vs ≡ true → every isTextual (elementList vs) ≡ true
 unfolding areTextual elementList every
 elements-textual noElements h = refl
 elements-textual (element v vs) h = let a = and-both (isTextual v) _ h in and-yes _ _ (a .0) (elements-textual vs (a .1))
