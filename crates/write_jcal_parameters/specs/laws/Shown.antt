@@ -1,4 +1,5 @@
 -- Laws of what specs/Shown.antt defines.
+--     each-written                   what is written of each of a list, and of what each was read as
 --     shown-is                       of parameters that are readable it is the jCal of what they state
 use mathlib.Core.Path.{_≡_, refl}
 use mathlib.Core.Bool.{Bool, true, false, not}
@@ -23,7 +24,7 @@ use Rattle.jcal.specs.WriteJcal.{parameterValue, parameterJson}
 use Rattle.write_jcal_parameters.specs.Shown.{stringOf, valueShown, charsShown, shown, membersShown}
 
 -- what is written of each is what is written of what it was read as
-each-written : {A B : Type 0} (reading : A → Option B) (f : A → List ℕ) (g : B → List ℕ) → ((a : A) (b : B) → reading a ≡ some b → f a ≡ g b) →
+pub each-written : {A B : Type 0} (reading : A → Option B) (f : A → List ℕ) (g : B → List ℕ) → ((a : A) (b : B) → reading a ≡ some b → f a ≡ g b) →
     (l : List A) (r : List B) → readEach reading l ≡ some r → map f l ≡ map g r
 unfolding readEach
 each-written reading f g k [] r h = let z : [] ≡ r = cc in rw (← z)
