@@ -1,17 +1,16 @@
 -- Laws of what specs/Shown.antt defines.
---     each-written                   what is written of each of a list, and of what each was read as
 --     shown-is                       of parameters that are readable it is the jCal of what they state
 use mathlib.Core.Path.{_≡_, refl}
 use mathlib.Core.Bool.{Bool, true, false, not}
-use mathlib.Core.List.{List, [], _∷_, map}
+use mathlib.Core.List.{List, map}
 use mathlib.Core.Option.{Option, none, some, Option·map}
 use Prim.Native.Nat.{ℕ}
 use Rattle.octets.specs.Pick.{pick, _and_, _or_}
 use Rattle.octets.specs.Class.{upper}
 use Rattle.octets.specs.laws.Letters.{lower-any-case}
 use Rattle.octets.specs.Words.{isOneOf}
-use Rattle.octets.specs.Reading.{isRead, orNothing, readEach, consRead}
-use Rattle.octets.specs.laws.Reading.{none-some, provided-some, andThen-some, consRead-some}
+use Rattle.octets.specs.Reading.{isRead, orNothing, readEach}
+use Rattle.octets.specs.laws.Reading.{none-some, provided-some}
 use Rattle.calendar.specs.Calendar.{ical, TEXT, UNKNOWN, Value, text, unknown, Parameter}
 use Rattle.schema.specs.Types.{sameType}
 use Rattle.schema.specs.Parameters.{parameterRow, parameterType, parameterWords, isListedParameter, isQuotedParameter}
@@ -21,17 +20,8 @@ use Rattle.read_text_line.specs.ContentLine.{ParamValue, RawParameter}
 use Rattle.text.specs.Parameters.{readWord, readParamValue, isSingle, readParameter, ownParameters, readParameters}
 use Rattle.json.specs.Write.{quoted}
 use Rattle.jcal.specs.WriteJcal.{parameterValue, parameterJson}
+use Rattle.write_jcal_value.specs.laws.Each.{each-written}
 use Rattle.write_jcal_parameters.specs.Shown.{stringOf, valueShown, charsShown, shown, membersShown}
-
--- what is written of each is what is written of what it was read as
-pub each-written : {A B : Type 0} (reading : A → Option B) (f : A → List ℕ) (g : B → List ℕ) → ((a : A) (b : B) → reading a ≡ some b → f a ≡ g b) →
-    (l : List A) (r : List B) → readEach reading l ≡ some r → map f l ≡ map g r
-unfolding readEach
-each-written reading f g k [] r h = let z : [] ≡ r = cc in rw (← z)
-each-written reading f g k (a ∷ l) r h =
-    let e = andThen-some (reading a) (λ b. consRead b (readEach reading l)) r h in
-    let t = consRead-some (e .0) (readEach reading l) r (e .2) in
-    rw (← (t .2), k a (e .0) (e .1), each-written reading f g k l (t .0) (t .1))
 
 text-string : (s : List ℕ) → quoted s ≡ stringOf (text s)
 unfolding parameterValue valueCharacters

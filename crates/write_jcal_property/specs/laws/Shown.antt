@@ -44,7 +44,7 @@ use Rattle.json.specs.Write.{quoted}
 use Rattle.jcal.specs.WriteJcal.{valueJson}
 use Rattle.write_jcal_value.specs.Texts.{stringsOf}
 use Rattle.write_jcal_value.specs.Labels.{typeLabel}
-use Rattle.write_jcal_parameters.specs.laws.Shown.{each-written}
+use Rattle.write_jcal_value.specs.laws.Each.{each-written}
 use Rattle.write_jcal_property.specs.Pieces.{pieceJson, piecesJson, listedJson, statusJson}
 use Rattle.write_jcal_property.specs.Shown.{singleJson, shownJson, typedShown, typedJson}
 use Rattle.write_jcal_property.specs.laws.Placed.{ownAt, valuesAt, values-at, type-text}
