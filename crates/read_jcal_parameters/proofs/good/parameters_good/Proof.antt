@@ -7,5 +7,5 @@ use Rattle.read_jcal_parameters.proofs.good.parameters_good.Tie as tie
 pub parameters-good-spec : {M : Type 1} → statement M
 parameters-good-spec = tie.close (tie.spec
     (λ c κs. search needs)  -- are-good-by-requires
-    (λ c. ?)  -- returns
+    (λ c. good-members _ _ _ _ _ (c .are-good-by .ensures))  -- returns
     )

@@ -22,9 +22,9 @@ compare-spec = tie.close (tie.spec
     (λ c. refl)  -- loop-holds
     (λ c κs. search needs)  -- quoted-unit-requires
     (λ c κs. search needs)  -- quoted-unit-requires-2
-    (λ c. ?)  -- returns
-    (λ c. ?)  -- returns-2
-    (λ c. ?)  -- returns-3
-    (λ c. ?)  -- loop-less
-    (λ c. ?)  -- loop-again
+    (λ c. order-less (c .before .before .before .before .quoted-unit .ensures) (c .before .before .before .quoted-unit2 .ensures) (c .if1 .taken) ∙ sym (c .before .before .before .before .before .loop .inv))  -- returns
+    (λ c. order-more (c .before .before .before .before .before .before .before .quoted-unit .ensures) (c .before .before .before .before .before .before .quoted-unit2 .ensures) (c .before .before .before .if1 .left) (c .if2 .taken) ∙ sym (c .before .before .before .before .before .before .before .before .loop .inv))  -- returns-2
+    (λ c. order-end (c .before .before .before .before .before .before .before .before .before .quoted-unit .ensures) (c .before .before .before .before .before .before .before .before .quoted-unit2 .ensures) (c .before .before .before .before .before .if1 .left) (c .before .before .if2 .left) (c .if3 .taken) ∙ sym (c .before .before .before .before .before .before .before .before .before .before .loop .inv))  -- returns-3
+    (λ c. order-nearer (c .before .before .before .before .before .before .before .before .before .quoted-unit .ensures) (c .if3 .left))  -- loop-less
+    (λ c. c .before .before .before .before .before .before .before .before .before .before .loop .inv ∙ order-on (c .before .before .before .before .before .before .before .before .before .quoted-unit .ensures) (c .before .before .before .before .before .before .before .before .quoted-unit2 .ensures) (c .before .before .before .before .before .if1 .left) (c .before .before .if2 .left) (c .if3 .left))  -- loop-again
     )

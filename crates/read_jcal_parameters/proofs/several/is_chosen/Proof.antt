@@ -13,8 +13,8 @@ is-chosen-spec = tie.close (tie.spec
     (λ c κs. search needs)  -- read-word-of-parameter-requires
     (λ c. search needs)  -- enum-known-i
     (λ c. search needs)  -- enum-told
-    (λ c. ?)  -- returns
-    (λ c. ?)  -- returns-2
+    (λ c. chosen-word (c .before .before .before .before .before .before .args .q) _ (c .before .before .before .before .parameter-has-words .ensures) (c .before .before .before .if1 .taken) (word-no (parameterWordsAt (c .before .before .before .before .before .before .args .q)) (rest 3 (c .before .before .before .before .before .before .args .s .now) (c .before .before .before .before .before .before .args .at)) (c .before .before .read-word-of-parameter .ensures) (c .enum-told .given .1)))  -- returns
+    (λ c. chosen-word (c .before .before .before .before .before .before .before .args .q) _ (c .before .before .before .before .before .parameter-has-words .ensures) (c .before .before .before .before .if1 .taken) (word-yes (parameterWordsAt (c .before .before .before .before .before .before .before .args .q)) (rest 3 (c .before .before .before .before .before .before .before .args .s .now) (c .before .before .before .before .before .before .before .args .at)) (c .before .before .before .read-word-of-parameter .ensures) (c .before .i .given .1)))  -- returns-2
     (λ c κs. search needs)  -- is-of-type-requires
     (λ c. search (chosen-typed, needs))  -- returns-3
     )

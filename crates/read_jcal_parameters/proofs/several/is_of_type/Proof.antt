@@ -16,6 +16,6 @@ is-of-type-spec = tie.close (tie.spec
     (λ c κs. search needs)  -- read-value-requires
     (λ c. search needs)  -- enum-known-v
     (λ c. search needs)  -- enum-told
-    (λ c. ?)  -- returns-3
-    (λ c. ?)  -- returns-4
+    (λ c. typed-other (c .before .before .before .before .before .before .before .args .q) _ (c .before .before .before .before .before .parameter-type .ensures) (c .before .before .before .before .if1 .left) (c .before .before .before .if2 .left) (good-no _ (value-there _ _ _ _ _ (c .before .before .read-value .ensures) (λ h. absurd (false≢true (sym h)))) (c .enum-told .given .1)))  -- returns-3
+    (λ c. typed-other (c .before .before .before .before .before .before .before .before .args .q) _ (c .before .before .before .before .before .before .parameter-type .ensures) (c .before .before .before .before .before .if1 .left) (c .before .before .before .before .if2 .left) (good-yes _ (value-there _ _ _ _ _ (c .before .before .before .read-value .ensures) (λ h. absurd (false≢true (sym h)))) (c .before .v .given .1)))  -- returns-4
     )
