@@ -4,14 +4,15 @@ use native.Mathlib.Omega.{arith}
 use lib.ListN.{length}
 use lib.Seq.{length-take-le}
 use borrow.Author.Needs.{needs}
-use Rattle.write_xml.specs.laws.Places.{level-left, ahead-ready}
+use Rattle.text_entries.specs.laws.Levels.{level-left}
+use Rattle.write_xml.specs.laws.Places.{ahead-ready}
 use Rattle.write_xml.proofs.Walking.{Walking, inner, inners, inner-at-bare, inner-at-component}
 use borrow.Fn.Kinds.{In}
 use borrow.Fn.PlainCycle.{Measures, is, falls, and}
 use Rattle.write_xml.proofs.components.put_components.Reads as put-components
 use Rattle.write_xml.proofs.components.put_components.Kinds as put-components-kinds
 use Rattle.write_xml.proofs.components.+put_components.Lts-put_components as put-components-lts
-use Rattle.write_xml.proofs.bound.bound_at.Reads as bound-at-reads
+use Rattle.text_entries.proofs.bound.bound_at.Reads as bound-at-reads
 use Rattle.write_xml.proofs.parts.put_head.Reads as put-head-reads
 use Rattle.write_xml.proofs.parts.put_tail.Reads as put-tail-reads
 use Rattle.write_xml.proofs.components.+put_components.{statement}
