@@ -28,9 +28,6 @@ module _ {ed : Edition} where
         PropertiesPut ed whole d f o (ownXml (componentName k) (entriesAt ed mode s from)) mode s from (record { to = p; ahead = r .ahead })
     leading-more b = record { put = todo-done (todo-step (l .todo) b (sym (append-nil _))) refl; ahead = l .ahead }
 
-    pub leading-ready : Ready mode s (r .ahead .inner)
-    leading-ready = l .ahead .ready
-
   -- between the tags of an element
   pub element-put : (n bs : List ℕ) {h : Components → Components} {d e f g : List ℕ} {o a r mode : ℕ} {s : List ℕ} {from : ℕ} {w : Walked} → Put d e o a (startTag n) → PropertiesPut ed h e f a bs mode s from w →
       Put f g (w .to) r (endTag n) → PropertiesPut ed h d g o (elementOf n bs) mode s from (record { to = r; ahead = w .ahead })
