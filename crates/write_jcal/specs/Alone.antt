@@ -1,5 +1,5 @@
 -- Whether there is one component, and not another.
---     isAlone      of components
+--     isAlone      of components;   Begins: whether one begins behind a cursor
 --     NextBegun    the contract of a walk to the next BEGIN
 use mathlib.Core.Path.{_≡_}
 use mathlib.Core.Bool.{Bool, true, false}
@@ -10,11 +10,8 @@ use Rattle.read_text_line.specs.Ready.{Ready}
 use Rattle.text.specs.Tree.{begin, innerOf}
 use Rattle.edition.specs.declared.Edition.{Edition}
 use Rattle.text_entries.specs.Entries.{entriesAt}
+use Rattle.text_entries.specs.Levels.{isNone}
 use Rattle.write_jcal.specs.declared.alone.Begun.{Begun}
-
-abbrev pub isNone : Components → Bool
-isNone noMore = true
-isNone (component n ps inner next) = false
 
 abbrev pub isAlone : Components → Bool
 isAlone noMore = false

@@ -101,6 +101,9 @@ fn put_value(out: &mut [u8], o: usize, q: usize, mode: usize, s: &[u8], at: usiz
     if t == value_type::TEXT {
         return put_quoted(out, o, mode, s, at);
     }
+    if t == value_type::UNKNOWN {
+        return put_quoted(out, o, mode, s, at);
+    }
     put_typed(out, o, t, mode, s, at)
 }
 
