@@ -58,6 +58,11 @@ walk-none : (w : Walk) → walkJson w [] ≡ []
 walk-none (own k) = own-none (componentName k)
 walk-none (inner v) = inner-none v
 
+-- none of them, no bytes
+none-put : (js : List (List ℕ)) → js ≡ [] → (d : List ℕ) (o : ℕ) → length d * 1 < 2 ^ 63 → Put d d o o (joinedBy valueSeparator js)
+unfolding joinedBy
+none-put js q d o h = subst (λ (x : List (List ℕ)). Put d d o o (joinedBy valueSeparator x)) (sym q) (put-none d o h)
+
 module _ (ed : Edition) where
   -- it began at the line at `from` with d and o, where `before` says whether another came before, and has come with e and p to the line at `at`
   pub record Walking (before : Bool) (w : Walk) (mode : ℕ) (s : List ℕ) (from : ℕ) (d : List ℕ) (o : ℕ) (e : List ℕ) (p : ℕ) (started : Bool) (at : ℕ) : Type 0 where
@@ -120,11 +125,6 @@ module _ {ed : Edition} where
   walk-ready m = m .along .ready
 
   -- ---- the subcomponents
-
-  -- none of them, no bytes
-  none-put : (js : List (List ℕ)) → js ≡ [] → (d : List ℕ) (o : ℕ) → length d * 1 < 2 ^ 63 → Put d d o o (joinedBy valueSeparator js)
-  unfolding joinedBy
-  none-put js q d o h = subst (λ (x : List (List ℕ)). Put d d o o (joinedBy valueSeparator x)) (sym q) (put-none d o h)
 
   module _ {v mode : ℕ} {s : List ℕ} {from : ℕ} {d : List ℕ} {o : ℕ} {e : List ℕ} {p : ℕ} {started : Bool} {at : ℕ} (m : Walking ed false (inner v) mode s from d o e p started at) where
     pub inner-end : length s ≤ at → ComponentsPut ed v d e o mode s from (record { to = p; next = at })

@@ -20,7 +20,7 @@ isAlone (component n ps inner next) = isNone next
 module _ (ed : Edition) where
   -- a component that is called n begins behind `next`
   abbrev pub Begins : Bool → ℕ → List ℕ → ℕ → ℕ → Type 0
-  Begins true mode s from next = Σ (List ℕ) (λ n. innerOf (entriesAt ed mode s from) 0 ≡ innerOf (begin n ∷ entriesAt ed mode s next) 0)
+  Begins true mode s from next = (n : List ℕ) × (innerOf (entriesAt ed mode s from) 0 ≡ innerOf (begin n ∷ entriesAt ed mode s next) 0)
   Begins false mode s from next = innerOf (entriesAt ed mode s from) 0 ≡ noMore
 
   pub record NextBegun (mode : ℕ) (s : List ℕ) (from : ℕ) (r : Begun) : Type 0 where

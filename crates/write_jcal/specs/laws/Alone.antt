@@ -82,12 +82,12 @@ unfolding shallow pick
 alone-any noMore l h = refl
 alone-any (component n ps inner next) l h = rw (lt-ltb 0 l h) (same-any next l h)
 
-module _ (ed : Edition) {mode : ℕ} {s : List ℕ} {from : ℕ} (p : Settled mode s 0 from) {t : Bool} (q : t ≡ isAlone (innerOf (entriesAt ed mode s from) 0)) {d e : List ℕ} {o r : ℕ} where
-  alone-is : isAlone (shallow levels (innerOf (entriesAt ed mode s from) 0)) ≡ t
-  alone-is = sym (q ∙ alone-any (innerOf (entriesAt ed mode s from) 0) levels (omega arith))
+alone-is : (c : Components) {t : Bool} → t ≡ isAlone c → isAlone (shallow levels c) ≡ t
+alone-is c q = sym (q ∙ alone-any c levels (omega arith))
 
+module _ (ed : Edition) {mode : ℕ} {s : List ℕ} {from : ℕ} (p : Settled mode s 0 from) {t : Bool} (q : t ≡ isAlone (innerOf (entriesAt ed mode s from) 0)) {d e : List ℕ} {o r : ℕ} where
   pub stream-alone : t ≡ true → Put d e o r (joinedBy valueSeparator (innerJson levels (entriesAt ed mode s from))) → Put d e o r (writeJcal (calendarOf ed (lines (rest mode s 0))))
-  stream-alone h w = subst (Put d e o r) (one-json (shallow levels (innerOf (entriesAt ed mode s from) 0)) (alone-is ∙ h) ∙ ap writeJcal (entries-start ed p)) w
+  stream-alone h w = subst (Put d e o r) (one-json (shallow levels (innerOf (entriesAt ed mode s from) 0)) (alone-is _ q ∙ h) ∙ ap writeJcal (entries-start ed p)) w
 
   pub stream-several : t ≡ false → Put d e o r (ascii "[" ⊕ joinedBy valueSeparator (innerJson levels (entriesAt ed mode s from)) ⊕ ascii "]") → Put d e o r (writeJcal (calendarOf ed (lines (rest mode s 0))))
-  stream-several h w = subst (Put d e o r) (several-json (shallow levels (innerOf (entriesAt ed mode s from) 0)) (alone-is ∙ h) ∙ ap writeJcal (entries-start ed p)) w
+  stream-several h w = subst (Put d e o r) (several-json (shallow levels (innerOf (entriesAt ed mode s from) 0)) (alone-is _ q ∙ h) ∙ ap writeJcal (entries-start ed p)) w

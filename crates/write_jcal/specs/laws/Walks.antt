@@ -96,6 +96,7 @@ array-three a b c = rw (append-none c, seam c, seam (b ⊕ ascii "," ⊕ c))
 
 array-parts : (n : List ℕ) (ps is : List (List ℕ)) → arrayOf (quoted n ∷ arrayOf ps ∷ arrayOf is ∷ [])
     ≡ ((ascii "[" ⊕ quoted n ⊕ ascii ",[") ⊕ joinedBy valueSeparator ps ⊕ ascii "],[") ⊕ joinedBy valueSeparator is ⊕ ascii "]]"
+unfolding _⊕_
 array-parts n ps is =
     array-three (quoted n) (arrayOf ps) (arrayOf is)
     ∙ rw (pairs .0, pairs .1, pairs .2) (regroup (ascii "[") (ascii ",") (ascii "]") (quoted n) (joinedBy valueSeparator ps) (joinedBy valueSeparator is))

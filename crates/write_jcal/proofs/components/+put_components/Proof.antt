@@ -60,12 +60,12 @@ pub +put-components-spec : {M : Type 1} → statement M
     (λ c κs. search inners)  -- put-head-requires
     (λ c κs. search inners)  -- put-tail-requires
     (λ c. search inners)  -- loop-less
-    (λ c. search inners)  -- loop-again
-    (λ c. search inners)  -- sub-put-components
-    (λ c κs. search inners)  -- put-components-requires
+    (λ c. inner-at-bare (c .before .before .before .before .before .before .before .before .before .before .before .before .before .before .before .loop .inv) (c .before .before .before .before .before .before .before .before .before .before .before .before .before .bound-at .ensures) (c .before .before .before .before .before .before .before .before .before .before .before .before .before .before .before .before .before .before .pre .1 .1) (c .before .before .before .before .before .before .before .before .before .before .before .enum-told .given .1) (c .before .before .before .before .before .before .before .before .put-head .ensures) (c .before .before .before .before .if1 .taken) (c .before .before .put-tail .ensures))  -- loop-again
+    (λ c. omega (arith, c .before .before .before .before .before .before .before .before .before .before .before .before .before .before .before .pre .1 .1))  -- sub-put-components
+    (λ c κs. (omega (arith, c .before .before .before .before .before .before .before .before .before .before .before .before .before .before .before .pre .0, c .before .before .before .before .before .before .before .before .before .before .before .before .before .before .before .pre .1 .1), (search (ahead-ready, inners), level-left (c .before .before .before .before .before .put-head .ensures .ahead) (c .before .if1 .left))))  -- put-components-requires
     (λ c κs. search inners)  -- put-tail-requires-2
     (λ c. search inners)  -- loop-less-2
-    (λ c. search inners)  -- loop-again-2
+    (λ c. inner-at-component (c .before .before .before .before .before .before .before .before .before .before .before .before .before .before .before .before .before .before .before .loop .inv) (c .before .before .before .before .before .before .before .before .before .before .before .before .before .before .before .before .before .bound-at .ensures) (c .before .before .before .before .before .before .before .before .before .before .before .before .before .before .before .before .before .before .before .before .before .before .pre .1 .1) (c .before .before .before .before .before .before .before .before .before .before .before .before .before .before .before .enum-told .given .1) (c .before .before .before .before .before .before .before .before .before .before .before .before .put-head .ensures) (c .before .before .before .before .before .before .put-components .ensures) (c .before .before .put-tail2 .ensures))  -- loop-again-2
     (λ c. search inners)  -- enum-told-2
     (λ c. search inners)  -- same-length
     (λ c. search inners)  -- returns

@@ -16,5 +16,5 @@ put-head-spec = tie.close (tie.spec
     (λ c. search needs)  -- slice-aggregate-put-all
     (λ c κs. search needs)  -- put-all-requires
     (λ c. search needs)  -- same-length
-    (λ c. head-put _ _ _ _ _ ?)  -- returns
+    (λ c. head-put _ _ _ _ _ (c .before .before .before .before .before .before .before .before .before .before .before .before .before .before .before .before .component-number .ensures) (c .before .before .before .before .before .before .before .before .before .before .before .before .before .put-name .ensures) (c .before .before .before .before .before .before .before .before .before .put-properties .ensures) (c .before .before .before .before .before .cut-at-level .ensures _ (c .before .before .before .before .before .before .before .before .before .put-properties .ensures .ahead)) (c .before .before .put-all .ensures))  -- returns
     )
