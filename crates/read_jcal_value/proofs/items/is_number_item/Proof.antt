@@ -9,9 +9,9 @@ use Rattle.read_jcal_value.proofs.items.is_number_item.Tie as tie
 pub is-number-item-spec : {M : Type 1} → statement M
 is-number-item-spec = tie.close (tie.spec
     (λ c. simp length-take (omega arith))  -- slice-aggregate-read-item
-    (λ c κs. search (item-there, item-missing, needs))  -- read-item-requires
-    (λ c. search (item-there, item-missing, needs))  -- enum-known-m
-    (λ c. search (item-there, item-missing, needs))  -- enum-told
-    (λ c. search (item-there, item-missing, needs))  -- returns
-    (λ c. search (item-there, item-missing, needs))  -- returns-2
+    (λ c κs. search needs)  -- read-item-requires
+    (λ c. search needs)  -- enum-known-m
+    (λ c. search needs)  -- enum-told
+    (λ c. search (item-missing, needs))  -- returns
+    (λ c. search (item-there, needs))  -- returns-2
     )

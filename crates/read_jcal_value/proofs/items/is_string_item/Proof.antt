@@ -6,11 +6,11 @@ use Rattle.read_jcal_value.proofs.items.is_string_item.Tie as tie
 
 pub is-string-item-spec : {M : Type 1} → statement M
 is-string-item-spec = tie.close (tie.spec
-    (λ c. search (item-there, item-missing, needs))  -- add-read-item
-    (λ c. search (item-there, item-missing, needs))  -- mul-read-item
-    (λ c κs. search (item-there, item-missing, needs))  -- read-item-requires
-    (λ c. search (item-there, item-missing, needs))  -- enum-known-n
-    (λ c. search (item-there, item-missing, needs))  -- enum-told
-    (λ c. search (item-there, item-missing, needs))  -- returns
-    (λ c. search (item-there, item-missing, needs))  -- returns-2
+    (λ c. search needs)  -- add-read-item
+    (λ c. search needs)  -- mul-read-item
+    (λ c κs. search needs)  -- read-item-requires
+    (λ c. search needs)  -- enum-known-n
+    (λ c. search needs)  -- enum-told
+    (λ c. search (item-missing, needs))  -- returns
+    (λ c. search (item-there, needs))  -- returns-2
     )
