@@ -12,15 +12,13 @@ use native.Mathlib.Omega.{arith}
 use lib.ListN.{length}
 use borrow.Author.Needs.{needs}
 use Rattle.octets.specs.Pick.{pick, _or_}
-use Rattle.octets.specs.Words.{same, isOneOf}
+use Rattle.octets.specs.Words.{isOneOf}
 use Rattle.octets.specs.Lists.{distinct}
 use Rattle.distinct.specs.Order.{order}
 use Rattle.distinct.specs.laws.Order.{order-same, order-apart}
-use Rattle.json.specs.Tree.{Member}
 use Rattle.read_json.specs.TreeAt.{stringAt}
 use Rattle.read_json.specs.MemberHeads.{MemberAt}
 use Rattle.read_json.specs.declared.MemberHead.{MemberHead}
-use Rattle.read_jcal_parameters.specs.Shapes.{parametersAt}
 use Rattle.read_jcal_parameters.specs.laws.Shapes.{members-none, members-some, member-inside, member-less}
 use Rattle.read_jcal_parameters.specs.Apart.{namesOf, namesAt}
 use Rattle.read_jcal_parameters.specs.Rounds.{Passes, Twice}

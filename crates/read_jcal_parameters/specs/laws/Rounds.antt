@@ -6,11 +6,11 @@
 --     passes-..                a round
 use mathlib.Core.Path.{_≡_, refl, sym, ap, _∙_}
 use mathlib.Core.Bool.{Bool, true, false, false≢true}
-use mathlib.Core.List.{List, [], _∷_}
+use mathlib.Core.List.{List, _∷_}
 use Prim.Native.Nat.{ℕ, zero, suc, _+_, _-_, _≤_, _<_}
 use native.Mathlib.Omega.{arith}
 use lib.Dec.{eqb, ltb}
-use lib.ListN.{length, getD}
+use lib.ListN.{getD}
 use borrow.Author.Needs.{needs}
 use borrow.Author.Tests.{eq-eqb, ne-eqb, eqb-true, eqb-false, ltb-true, ltb-false}
 use Rattle.octets.specs.Pick.{pick, _or_}
@@ -194,8 +194,8 @@ pub passes-all : {s P : List ℕ} {m n from at : ℕ} {b : Bool} → Rising (str
 passes-all {s} {P} {m} {n} {from} {at} rising few f a z = record {
   is = λ h. ap distinct (f .is)
       ∙ apart-before (λ k. nameOf s P (f .number k)) (f .count) (namesAt s at)
-        (λ p q k l. rising-apart (rising-fewer rising few) (f .number p) (f .number q) (λ e. let z = f .rises p q k l in let y : getD P (f .number p) 0 ≡ getD P (f .number q) 0 = ap (λ (i : ℕ). getD P i 0) e in omega arith) (f .below p (omega arith)) (f .below q l))
-        (λ p l. a .is z (f .number p) (f .below p l));
+      (λ p q k l. rising-apart (rising-fewer rising few) (f .number p) (f .number q) (λ e. let z = f .rises p q k l in let y : getD P (f .number p) 0 ≡ getD P (f .number q) 0 = ap (λ (i : ℕ). getD P i 0) e in omega arith) (f .below p (omega arith)) (f .below q l))
+      (λ p l. a .is z (f .number p) (f .below p l));
   inside = λ h. f .inside;
 }
 

@@ -12,7 +12,7 @@ use Prim.Native.Nat.{ℕ, _-_, _*_, _^_, _≤_, _<_}
 use native.Mathlib.Omega.{arith}
 use lib.ListN.{length}
 use Rattle.octets.specs.Reading.{readOr}
-use Rattle.json.specs.Tree.{Json, string, Member, Elements, Members, firstOf, elementList, memberList}
+use Rattle.json.specs.Tree.{Json, string, Member, Elements, firstOf, elementList, memberList}
 use Rattle.json.specs.Kinds.{asString, orAlone}
 use Rattle.read_json.specs.TreeAt.{elementsAt, membersAt, stringAt}
 use Rattle.read_json.specs.Pieces.{Taken}

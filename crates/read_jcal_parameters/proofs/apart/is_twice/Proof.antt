@@ -2,7 +2,6 @@
 use Prim.Native.Nat.{_-_}
 use lib.ListN.{length}
 use Rattle.read_jcal_parameters.specs.laws.Apart.{Behind, twices}
-use borrow.Author.Needs.{needs}
 use Rattle.read_jcal_parameters.proofs.apart.is_twice.Statement.{statement}
 use Rattle.read_jcal_parameters.proofs.apart.is_twice.Tie as tie
 

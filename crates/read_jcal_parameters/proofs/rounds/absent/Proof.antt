@@ -2,7 +2,6 @@
 use Prim.Native.Nat.{_-_}
 use lib.ListN.{length}
 use Rattle.read_jcal_parameters.specs.laws.Rounds.{Missing, missings}
-use borrow.Author.Needs.{needs}
 use Rattle.read_jcal_parameters.proofs.rounds.absent.Statement.{statement}
 use Rattle.read_jcal_parameters.proofs.rounds.absent.Tie as tie
 

@@ -3,7 +3,6 @@ use Prim.Native.Nat.{_-_}
 use lib.ListN.{length}
 use Rattle.read_jcal_parameters.specs.Rounds.{Found}
 use Rattle.read_jcal_parameters.specs.laws.Rounds.{founds}
-use borrow.Author.Needs.{needs}
 use Rattle.read_jcal_parameters.proofs.rounds.found_end.Statement.{statement}
 use Rattle.read_jcal_parameters.proofs.rounds.found_end.Tie as tie
 
