@@ -3,6 +3,7 @@
 --     Names         names in small letters
 --     Values        the values of a parameter by the parameter's row
 --     Apart         the names of members
+--     Rounds        many names, in rounds
 --     Encoded       ENCODING=BASE64
 --     Sound         what parameters must be, by numbers
 --     Written       parameters as text
@@ -11,6 +12,7 @@ pub mod Shapes
 pub mod Names
 pub mod Values
 pub mod Apart
+pub mod Rounds
 pub mod Encoded
 pub mod Sound
 pub mod Written

@@ -4,6 +4,7 @@
 --     Values    the values of a parameter by the parameter's row
 --     Order     two strings compared
 --     Apart     the names of members
+--     Rounds    many names, in rounds
 --     Encoded   ENCODING=BASE64
 --     Sound     what parameters must be, by numbers
 --     Written   parameters as text
@@ -12,6 +13,7 @@ pub mod Names
 pub mod Values
 pub mod Order
 pub mod Apart
+pub mod Rounds
 pub mod Encoded
 pub mod Sound
 pub mod Written

@@ -1,6 +1,7 @@
 // No name stands twice. See specs/Apart.antt.
 use crate::kinds::cursor_of;
 use crate::order::compare;
+use crate::rounds::pass;
 use read_json::member_at;
 ghost use mathlib.Core.Path.{_≡_};
 ghost use Prim.Native.Nat.{_<_};
@@ -9,6 +10,7 @@ ghost use Rattle.octets.specs.Words.{isOneOf};
 ghost use Rattle.octets.specs.Lists.{distinct};
 ghost use Rattle.read_json.specs.TreeAt.{stringAt};
 ghost use Rattle.read_jcal_parameters.specs.Apart.{namesAt};
+ghost use Rattle.read_jcal_parameters.specs.Rounds.{Twice};
 
 // The name at `place` is that of a member from `from` on.
 fn is_again(s: &[u8], place: usize, from: usize) -> bool
@@ -51,9 +53,71 @@ fn are_all_apart(s: &[u8], from: usize) -> bool
     }
 }
 
-// No two members from `from` on have the same name.
+// The name of the member at the place `p`, from `from` on, comes again.
+fn is_twice(s: &[u8], from: usize, p: usize) -> bool
+    ensures { λ r. ⌜ Twice (now (s .entry)) from r ⌝ }
+{
+    let mut c = from;
+    loop {
+        let m = member_at(s, c);
+        if m.there {
+            if m.name == p {
+                return is_again(s, m.name, m.next);
+            }
+            c = m.next;
+        } else {
+            return false;
+        }
+    }
+}
+
+// No two members from `from` on have the same name, in rounds for which `places` is the room.
+fn by_rounds(s: &[u8], from: usize, places: &mut [u16]) -> bool
+    ensures { λ r. ⌜ r ≡ distinct (namesAt (now (s .entry)) from) ⌝ }
+{
+    let mut c = from;
+    loop {
+        let r = pass(s, c, places);
+        if r.passed {
+            if c < r.place {
+                c = r.place;
+            } else {
+                return are_all_apart(s, c);
+            }
+        } else {
+            let twice = is_twice(s, c, r.place);
+            if twice {
+                return false;
+            }
+            return are_all_apart(s, c);
+        }
+    }
+}
+
+// There are sixteen members at most from `from` on.
+fn are_few(s: &[u8], from: usize) -> bool {
+    let mut c = from;
+    let mut k: usize = 0;
+    while k < 17 {
+        let m = member_at(s, c);
+        if m.there {
+            c = m.next;
+            k += 1;
+        } else {
+            return true;
+        }
+    }
+    false
+}
+
+// No two members from `from` on have the same name: a few are compared each with each, more in rounds.
 pub fn are_apart(s: &[u8], from: usize) -> bool
     ensures { λ r. ⌜ r ≡ distinct (namesAt (now (s .entry)) from) ⌝ }
 {
-    are_all_apart(s, from)
+    let few = are_few(s, from);
+    if few {
+        return are_all_apart(s, from);
+    }
+    let mut places = [0u16; 2048];
+    by_rounds(s, from, &mut places)
 }

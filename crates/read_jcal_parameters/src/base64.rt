@@ -12,8 +12,7 @@ ghost use Prim.Native.Nat.{_<_};
 ghost use lib.ListN.{length};
 ghost use Rattle.octets.specs.Ascii.{ascii};
 ghost use Rattle.octets.specs.Lists.{anyOne};
-ghost use Rattle.json.specs.Tree.{firstOf};
-ghost use Rattle.read_json.specs.TreeAt.{elementsAt, stringAt};
+ghost use Rattle.read_json.specs.TreeAt.{stringAt};
 ghost use Rattle.read_jcal_parameters.specs.Shapes.{listAt, givenAt, parametersAt};
 ghost use Rattle.read_jcal_parameters.specs.Encoded.{firstIs, encodedBy, isEncoded};
 

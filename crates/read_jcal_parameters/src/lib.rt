@@ -3,9 +3,12 @@
 mod apart;
 mod base64;
 mod good;
+mod heap;
 mod kinds;
 mod naming;
 mod order;
+mod places;
+mod rounds;
 mod several;
 mod written;
 

@@ -5,36 +5,33 @@
 use mathlib.Core.Path.{_≡_, refl, sym, ap, _∙_}
 use mathlib.Core.Bool.{Bool, true, false, false≢true}
 use mathlib.Core.List.{List, [], _∷_}
-use mathlib.Core.Option.{Option, none, some}
+use mathlib.Core.Option.{Option, some}
 use Prim.Native.Nat.{ℕ}
-use lib.Dec.{eqb}
 use borrow.Author.Needs.{needs}
 use borrow.Author.Tests.{eq-eqb, ne-eqb}
 use Rattle.octets.specs.Ascii.{ascii}
-use Rattle.octets.specs.Pick.{pick, _and_, _or_}
-use Rattle.octets.specs.laws.Pick.{or-false, and-true}
+use Rattle.octets.specs.Pick.{_and_, _or_}
 use Rattle.octets.specs.Class.{upper}
-use Rattle.octets.specs.Words.{same, isOneOf, isEmpty}
+use Rattle.octets.specs.Words.{same, isOneOf}
 use Rattle.octets.specs.laws.Words.{same-true}
 use Rattle.octets.specs.Lists.{every, anyOne}
-use Rattle.octets.specs.Reading.{provided, andThen, consRead, isRead, readOr, readEach}
-use Rattle.octets.specs.laws.Reading.{none-some, provided-some, andThen-some, consRead-some}
+use Rattle.octets.specs.Reading.{provided, andThen, consRead, readOr, readEach}
+use Rattle.octets.specs.laws.Reading.{provided-some, andThen-some, consRead-some}
 use Rattle.octets.specs.Computing.{octets-compute}
 use Rattle.calendar.specs.Calendar.{Value, text, textIn, Parameter}
 use Rattle.names.specs.Table.{placeOf}
 use Rattle.names.specs.laws.Places.{same-place}
-use Rattle.schema.specs.Parameters.{ParameterRow, parameterRow, parameterType, isListedParameter, parameterWords, parameterNames, encodings}
+use Rattle.schema.specs.Parameters.{parameterRow, parameterType, isListedParameter, parameterWords, parameterNames, encodings}
 use Rattle.values.specs.Valid.{isAmount, isWordIn, isBase64Encoding}
-use Rattle.json.specs.Tree.{Json, string, Member}
+use Rattle.json.specs.Tree.{Json, Member}
 use Rattle.json.specs.Kinds.{asString, orAlone}
 use Rattle.jcal.specs.Parameters.{readWordIn, readCharacters, readParameter}
 use Rattle.read_json.specs.TreeAt.{stringAt}
 use Rattle.read_json.specs.Heads.{HeadAt}
 use Rattle.read_json.specs.MemberHeads.{MemberAt}
 use Rattle.read_json.specs.declared.Head.{Head}
-use Rattle.read_json.specs.declared.HeadKind.{HeadKind}
 use Rattle.read_json.specs.declared.MemberHead.{MemberHead}
-use Rattle.read_jcal_parameters.specs.Shapes.{noneKind, stringKind, arrayKind, listAt, givenAt, parametersAt, memberOf}
+use Rattle.read_jcal_parameters.specs.Shapes.{noneKind, stringKind, arrayKind, listAt, givenAt, parametersAt}
 use Rattle.read_jcal_parameters.specs.laws.Shapes.{Other, list-end, list-more, list-other, given-array, given-string, given-other, Walking, walking-start, walk-none, walk-some, member-inside, member-less}
 use Rattle.read_jcal_parameters.specs.Encoded.{firstIs, encodedBy, isEncoded}
 

@@ -23,12 +23,12 @@ use Rattle.source.specs.laws.Facts.{rest-byte, rest-end, byte-small}
 use Rattle.source.specs.declared.Step.{Step}
 use Rattle.read_text_line.specs.ContentLine.{isName}
 use Rattle.read_text_line.specs.Names.{isCarriedName}
-use Rattle.json.specs.Tree.{Member, memberList}
+use Rattle.json.specs.Tree.{memberList}
 use Rattle.jcal.specs.Property.{isBadName, isBadParameter}
 use Rattle.read_json.specs.TreeAt.{membersAt, stringAt}
 use Rattle.read_json.specs.MemberHeads.{MemberAt}
 use Rattle.read_json.specs.declared.MemberHead.{MemberHead}
-use Rattle.read_jcal_parameters.specs.Shapes.{parametersAt, memberOf}
+use Rattle.read_jcal_parameters.specs.Shapes.{parametersAt}
 use Rattle.read_jcal_parameters.specs.laws.Shapes.{Walking, walking-start, walk-none, walk-some, member-inside, member-less}
 use Rattle.read_jcal_parameters.specs.Names.{isSmallNameChar, isBadParameterName}
 

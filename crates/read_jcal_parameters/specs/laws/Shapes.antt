@@ -2,17 +2,17 @@
 --     list-end, list-more, list-other, list-some, list-any    the elements of an array, by the one that was found
 --     given-array, given-string, given-other       the values of a member, by the element that was found
 --     string-inside, string-less, head-inside      bounds
---     members-none, members-some                   the members of an object, by the one that was found;   member-inside, member-less: bounds
+--     members-none, members-some                   the members of an object, by the one that was found;   member-taken, member-inside, member-fits, member-less: bounds
 --     Walking                                      a walk over members: what is asked of all is asked of those that are left
 use mathlib.Core.Path.{_≡_, refl, sym, ap, subst, _∙_}
 use mathlib.Core.Bool.{Bool, true, false, false≢true}
 use mathlib.Core.List.{List, [], _∷_}
 use mathlib.Core.Option.{none}
-use Prim.Native.Nat.{ℕ, _-_, _≤_, _<_}
+use Prim.Native.Nat.{ℕ, _-_, _*_, _^_, _≤_, _<_}
 use native.Mathlib.Omega.{arith}
 use lib.ListN.{length}
 use Rattle.octets.specs.Reading.{readOr}
-use Rattle.json.specs.Tree.{Json, string, Member, Elements, Members, firstOf, elementList, memberList}
+use Rattle.json.specs.Tree.{Json, string, Member, Elements, firstOf, elementList, memberList}
 use Rattle.json.specs.Kinds.{asString, orAlone}
 use Rattle.read_json.specs.TreeAt.{elementsAt, membersAt, stringAt}
 use Rattle.read_json.specs.Pieces.{Taken}
@@ -167,14 +167,17 @@ module _ {s : List ℕ} {at : ℕ} {m : MemberHead} (t : MemberAt s at m) where
     unfolding parametersAt memberList
     members-some = ap memberList (members-by true q)
 
-    held : Taken s at (m .name) (m .next)
-    held = subst (λ (b : Bool). MemberTakes b s at (m .name) (m .next)) q (t .takes)
+    pub member-taken : Taken s at (m .name) (m .next)
+    member-taken = subst (λ (b : Bool). MemberTakes b s at (m .name) (m .next)) q (t .takes)
 
     pub member-inside : m .name < length s
-    member-inside = omega (arith, held .some, held .inside)
+    member-inside = omega (arith, member-taken .some, member-taken .inside)
+
+    pub member-fits : length s * 1 < 2 ^ 63 → m .name < 2 ^ 63 - 1
+    member-fits h = omega (arith, member-taken .some, member-taken .inside)
 
     pub member-less : length s - m .next < length s - at
-    member-less = omega (arith, held .onward, held .some, held .inside)
+    member-less = omega (arith, member-taken .onward, member-taken .some, member-taken .inside)
 
 -- ---- a walk over members
 

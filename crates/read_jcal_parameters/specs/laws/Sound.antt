@@ -5,26 +5,24 @@
 --     good-is                 what `parametersGood` asks for
 use mathlib.Core.Path.{_≡_, refl, sym, ap, _∙_}
 use mathlib.Core.Bool.{Bool, true, false, not, false≢true}
-use mathlib.Core.List.{List, [], _∷_, map}
+use mathlib.Core.List.{List, [], _∷_}
 use mathlib.Core.Option.{Option, none, some}
 use Prim.Native.Nat.{ℕ, _≤_}
 use lib.Dec.{eqb}
 use borrow.Author.Needs.{needs}
 use borrow.Author.Tests.{eq-eqb, ne-eqb}
 use Rattle.octets.specs.Pick.{pick, _and_, _or_}
-use Rattle.octets.specs.laws.Pick.{and-no-right, and-both}
+use Rattle.octets.specs.laws.Pick.{and-no-right}
 use Rattle.octets.specs.Class.{upper}
-use Rattle.octets.specs.Words.{isEmpty}
 use Rattle.octets.specs.Lists.{every, anyOne, distinct}
 use Rattle.octets.specs.laws.Lists.{every-always}
 use Rattle.octets.specs.Reading.{provided, andThen, consRead, isRead, readOr, readEach}
 use Rattle.octets.specs.laws.Reading.{andThen-some, consRead-some, each-empty}
-use Rattle.calendar.specs.Calendar.{BINARY, Value, Parameter}
-use Rattle.source.specs.Source.{rest}
+use Rattle.calendar.specs.Calendar.{Value, Parameter}
 use Rattle.names.specs.Table.{placeOf}
 use Rattle.schema.specs.Types.{sameType}
 use Rattle.schema.specs.Properties.{propertyNames, permitsParameter}
-use Rattle.schema.specs.Parameters.{ParameterRow, parameterRow, parameterNames, isListedParameter}
+use Rattle.schema.specs.Parameters.{ParameterRow, parameterNames, isListedParameter}
 use Rattle.schema.specs.Numbers.{typeAt}
 use Rattle.schema.specs.Coded.{rowAt as propertyRowAt}
 use Rattle.schema.specs.Columns.{permitsAt}
@@ -37,11 +35,11 @@ use Rattle.edition.specs.declared.Edition.the-variants.{Rfc5545, Rfc6868}
 use Rattle.values.specs.Valid.{isAmount, isBase64Encoding}
 use Rattle.json.specs.Tree.{Json, Member, memberList}
 use Rattle.json.specs.Kinds.{asString, orAlone}
-use Rattle.jcal.specs.Parameters.{readCharacters, readParameter, readParameters, isPlain, areSpelled, parametersGood}
+use Rattle.jcal.specs.Parameters.{readCharacters, readParameter, readParameters, areSpelled, parametersGood}
 use Rattle.read_json.specs.TreeAt.{membersAt, stringAt}
 use Rattle.read_json.specs.MemberHeads.{MemberAt}
 use Rattle.read_json.specs.declared.MemberHead.{MemberHead}
-use Rattle.read_jcal_parameters.specs.Shapes.{givenAt, parametersAt, memberOf}
+use Rattle.read_jcal_parameters.specs.Shapes.{givenAt, parametersAt}
 use Rattle.read_jcal_parameters.specs.laws.Shapes.{Walking, walking-start, walk-none, walk-some, member-inside, member-less}
 use Rattle.read_jcal_parameters.specs.Values.{rowAt, readString, isSpelled, goodValue, goodValues}
 use Rattle.read_jcal_parameters.specs.Encoded.{isEncoded}

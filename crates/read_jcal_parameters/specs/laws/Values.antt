@@ -4,8 +4,8 @@
 --     plain-.., spelled-.., string-..  what an edition can spell
 --     all-.., amount-.., values-..     all values
 use mathlib.Core.Path.{_≡_, refl, sym, ap, _∙_}
-use mathlib.Core.Bool.{Bool, true, false, not, false≢true}
-use mathlib.Core.List.{List, [], _∷_}
+use mathlib.Core.Bool.{Bool, true, false, false≢true}
+use mathlib.Core.List.{List}
 use mathlib.Core.Option.{Option, none, some}
 use Prim.Native.Nat.{ℕ, _-_, _*_, _<_}
 use native.Mathlib.Omega.{arith}
@@ -18,14 +18,13 @@ use Rattle.octets.specs.Pick.{pick, _and_, _or_}
 use Rattle.octets.specs.laws.Pick.{pick-yes, pick-no}
 use Rattle.octets.specs.Words.{same, isOneOf, isEmpty, holds}
 use Rattle.octets.specs.Lists.{every}
-use Rattle.octets.specs.Reading.{provided, andThen, isRead, readOr}
-use Rattle.calendar.specs.Calendar.{xcal, ValueType, BOOLEAN, UNKNOWN, Value, boolean, unknown}
+use Rattle.octets.specs.Reading.{andThen, isRead, readOr}
+use Rattle.calendar.specs.Calendar.{xcal, UNKNOWN, Value, boolean, unknown}
 use Rattle.source.specs.Source.{rest, Reads}
 use Rattle.source.specs.laws.Facts.{rest-byte, rest-end, byte-small}
 use Rattle.source.specs.declared.Step.{Step}
 use Rattle.schema.specs.Types.{typePlace, sameType}
 use Rattle.schema.specs.laws.Types.{place-type}
-use Rattle.schema.specs.laws.Places.{type-back}
 use Rattle.schema.specs.Parameters.{ParameterRow}
 use Rattle.schema.specs.Numbers.{typeAt, parameterAt}
 use Rattle.schema.specs.Sets.{isWordOf, parameterWordsAt}
@@ -34,14 +33,13 @@ use Rattle.edition.specs.declared.Edition.the-variants.{Rfc5545, Rfc6868}
 use Rattle.values.specs.ReadValue.{readValue}
 use Rattle.values.specs.Valid.{isAmount}
 use Rattle.json.specs.Tree.{Json, string}
-use Rattle.json.specs.Kinds.{asString}
 use Rattle.jcal.specs.Parameters.{readTruth, readWordIn, isPlain}
 use Rattle.read_json.specs.TreeAt.{stringAt}
 use Rattle.read_json.specs.Heads.{HeadAt, NextAt}
 use Rattle.read_json.specs.declared.Head.{Head}
 use Rattle.read_jcal_parameters.specs.Shapes.{noneKind, stringKind, arrayKind, listAt, givenAt}
-use Rattle.read_jcal_parameters.specs.laws.Shapes.{Other, list-end, list-some, list-any, list-other, list-more, string-inside, string-less, head-inside, given-array, given-string, given-other}
-use Rattle.read_jcal_parameters.specs.Values.{rowAt, readTyped, readString, isSpelled, goodString, goodValue, goodValues}
+use Rattle.read_jcal_parameters.specs.laws.Shapes.{Other, list-end, list-some, list-any, list-other, list-more, string-inside, string-less, given-array, given-string, given-other}
+use Rattle.read_jcal_parameters.specs.Values.{rowAt, readTyped, isSpelled, goodString, goodValue, goodValues}
 
 -- ---- a byte
 

@@ -6,7 +6,7 @@
 --     reads-..                             the walk that asks whether all can be read
 --     parameters-put, parameters-unread    what the canonical text has
 use mathlib.Core.Path.{_≡_, refl, sym, ap, subst, _∙_}
-use mathlib.Core.Bool.{Bool, true, false, not, false≢true}
+use mathlib.Core.Bool.{Bool, true, false, false≢true}
 use mathlib.Core.List.{List, [], _∷_, map}
 use mathlib.Core.Option.{Option, none, some, Option·map}
 use Prim.Native.Nat.{ℕ, _*_, _^_, _<_}
@@ -52,7 +52,7 @@ use Rattle.read_json.specs.Heads.{HeadAt}
 use Rattle.read_json.specs.MemberHeads.{MemberAt}
 use Rattle.read_json.specs.declared.Head.{Head}
 use Rattle.read_json.specs.declared.MemberHead.{MemberHead}
-use Rattle.read_jcal_parameters.specs.Shapes.{noneKind, stringKind, arrayKind, listAt, givenAt, parametersAt, memberOf}
+use Rattle.read_jcal_parameters.specs.Shapes.{noneKind, stringKind, arrayKind, listAt, givenAt, parametersAt}
 use Rattle.read_jcal_parameters.specs.laws.Shapes.{Other, list-end, list-more, list-other, given-array, given-string, given-other, members-none, members-some, Walking, walking-start, walk-none, walk-some, member-inside, member-less}
 use Rattle.read_jcal_parameters.specs.Values.{rowAt, readString, goodValues}
 use Rattle.read_jcal_parameters.specs.laws.Encoded.{parameterOf}

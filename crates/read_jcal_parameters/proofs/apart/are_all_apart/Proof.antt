@@ -2,7 +2,6 @@
 use Prim.Native.Nat.{_-_}
 use lib.ListN.{length}
 use Rattle.read_jcal_parameters.specs.laws.Apart.{Parting, aparts}
-use borrow.Author.Needs.{needs}
 use Rattle.read_jcal_parameters.proofs.apart.are_all_apart.Statement.{statement}
 use Rattle.read_jcal_parameters.proofs.apart.are_all_apart.Tie as tie
 

@@ -3,7 +3,6 @@ use Prim.Native.Nat.{_-_}
 use lib.ListN.{length}
 use Rattle.read_json.specs.TreeAt.{stringAt}
 use Rattle.read_jcal_parameters.specs.laws.Apart.{Seeking, agains}
-use borrow.Author.Needs.{needs}
 use Rattle.read_jcal_parameters.proofs.apart.is_again.Statement.{statement}
 use Rattle.read_jcal_parameters.proofs.apart.is_again.Tie as tie
 

@@ -5,7 +5,6 @@ use Rattle.octets.specs.Lists.{anyOne}
 use Rattle.read_jcal_parameters.specs.laws.Shapes.{Walking}
 use Rattle.read_jcal_parameters.specs.Encoded.{isEncoded}
 use Rattle.read_jcal_parameters.specs.laws.Encoded.{encoding}
-use borrow.Author.Needs.{needs}
 use Rattle.read_jcal_parameters.proofs.base64.has_encoding.Statement.{statement}
 use Rattle.read_jcal_parameters.proofs.base64.has_encoding.Tie as tie
 

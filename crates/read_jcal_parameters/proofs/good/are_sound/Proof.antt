@@ -5,7 +5,6 @@ use Rattle.octets.specs.Lists.{every}
 use Rattle.read_jcal_parameters.specs.laws.Shapes.{Walking}
 use Rattle.read_jcal_parameters.specs.Sound.{isSound}
 use Rattle.read_jcal_parameters.specs.laws.Sound.{sounds}
-use borrow.Author.Needs.{needs}
 use Rattle.read_jcal_parameters.proofs.good.are_sound.Statement.{statement}
 use Rattle.read_jcal_parameters.proofs.good.are_sound.Tie as tie
 

@@ -2,7 +2,6 @@
 use Prim.Native.Nat.{_*_, _-_}
 use lib.ListN.{length}
 use Rattle.read_jcal_parameters.specs.laws.Names.{Smalls, smalls}
-use borrow.Author.Needs.{needs}
 use Rattle.read_jcal_parameters.proofs.naming.is_small_name.Statement.{statement}
 use Rattle.read_jcal_parameters.proofs.naming.is_small_name.Tie as tie
 

@@ -5,7 +5,6 @@ use Rattle.octets.specs.Lists.{anyOne}
 use Rattle.jcal.specs.Property.{isBadParameter}
 use Rattle.read_jcal_parameters.specs.laws.Shapes.{Walking}
 use Rattle.read_jcal_parameters.specs.laws.Names.{naming}
-use borrow.Author.Needs.{needs}
 use Rattle.read_jcal_parameters.proofs.naming.names_bad.Statement.{statement}
 use Rattle.read_jcal_parameters.proofs.naming.names_bad.Tie as tie
 

@@ -2,7 +2,6 @@
 use Prim.Native.Nat.{_-_}
 use lib.ListN.{length}
 use Rattle.read_jcal_parameters.specs.laws.Values.{Goods, goods}
-use borrow.Author.Needs.{needs}
 use Rattle.read_jcal_parameters.proofs.several.are_all_good.Statement.{statement}
 use Rattle.read_jcal_parameters.proofs.several.are_all_good.Tie as tie
 

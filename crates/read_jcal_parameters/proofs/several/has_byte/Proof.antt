@@ -2,7 +2,6 @@
 use Prim.Native.Nat.{_*_, _-_}
 use lib.ListN.{length}
 use Rattle.read_jcal_parameters.specs.laws.Values.{Holding, holding}
-use borrow.Author.Needs.{needs}
 use Rattle.read_jcal_parameters.proofs.several.has_byte.Statement.{statement}
 use Rattle.read_jcal_parameters.proofs.several.has_byte.Tie as tie
 

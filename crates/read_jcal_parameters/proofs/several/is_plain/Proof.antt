@@ -6,9 +6,9 @@ use Rattle.read_jcal_parameters.proofs.several.is_plain.Tie as tie
 
 pub is-plain-spec : {M : Type 1} → statement M
 is-plain-spec = tie.close (tie.spec
-    (λ c κs. search (plain-quote, plain-feed, plain-yes, needs))  -- has-byte-requires
-    (λ c. search (plain-quote, plain-feed, plain-yes, needs))  -- returns
-    (λ c κs. search (plain-quote, plain-feed, plain-yes, needs))  -- has-byte-requires-2
-    (λ c. search (plain-quote, plain-feed, plain-yes, needs))  -- returns-2
-    (λ c. search (plain-quote, plain-feed, plain-yes, needs))  -- returns-3
+    (λ c κs. search needs)  -- has-byte-requires
+    (λ c. search (plain-quote, needs))  -- returns
+    (λ c κs. search needs)  -- has-byte-requires-2
+    (λ c. search (plain-feed, needs))  -- returns-2
+    (λ c. search (plain-yes, needs))  -- returns-3
     )

@@ -5,7 +5,6 @@ use Rattle.octets.specs.Lists.{every}
 use Rattle.read_jcal_parameters.specs.laws.Shapes.{Walking}
 use Rattle.read_jcal_parameters.specs.Written.{isReadMember}
 use Rattle.read_jcal_parameters.specs.laws.Written.{readings}
-use borrow.Author.Needs.{needs}
 use Rattle.read_jcal_parameters.proofs.written.are_read.Statement.{statement}
 use Rattle.read_jcal_parameters.proofs.written.are_read.Tie as tie
 

@@ -1,7 +1,6 @@
 -- `read_jcal_parameters::written::put_item` meets its contract.
 use Rattle.sink.specs.laws.Sink.{writing}
 use Rattle.read_jcal_parameters.specs.laws.Written.{item-later, item-first}
-use borrow.Author.Needs.{needs}
 use Rattle.read_jcal_parameters.proofs.written.put_item.Statement.{statement}
 use Rattle.read_jcal_parameters.proofs.written.put_item.Tie as tie
 

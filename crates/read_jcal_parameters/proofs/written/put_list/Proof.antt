@@ -8,7 +8,6 @@ use Rattle.read_jcal_parameters.specs.laws.Shapes.{string-inside, string
 use Rattle.read_jcal_parameters.specs.Values.{rowAt}
 use Rattle.read_jcal_parameters.specs.Written.{listShown}
 use Rattle.read_jcal_parameters.specs.laws.Written.{Emits, emits-start, list-next, list-over}
-use borrow.Author.Needs.{needs}
 use Rattle.read_jcal_parameters.proofs.written.put_list.Statement.{statement}
 use Rattle.read_jcal_parameters.proofs.written.put_list.Tie as tie
 

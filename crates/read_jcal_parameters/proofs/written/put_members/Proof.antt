@@ -6,7 +6,6 @@ use Rattle.read_jcal_parameters.specs.Shapes.{parametersAt}
 use Rattle.read_jcal_parameters.specs.laws.Shapes.{member-inside, member-less}
 use Rattle.read_jcal_parameters.specs.Written.{membersShown}
 use Rattle.read_jcal_parameters.specs.laws.Written.{Emits, emits-start, members-next, members-over}
-use borrow.Author.Needs.{needs}
 use Rattle.read_jcal_parameters.proofs.written.put_members.Statement.{statement}
 use Rattle.read_jcal_parameters.proofs.written.put_members.Tie as tie
 

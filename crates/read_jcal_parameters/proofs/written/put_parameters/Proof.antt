@@ -1,7 +1,6 @@
 -- `read_jcal_parameters::written::put_parameters` meets its contract.
 use Rattle.sink.specs.laws.Sink.{writing}
 use Rattle.read_jcal_parameters.specs.laws.Written.{parameters-put, parameters-unread}
-use borrow.Author.Needs.{needs}
 use Rattle.read_jcal_parameters.proofs.written.put_parameters.Statement.{statement}
 use Rattle.read_jcal_parameters.proofs.written.put_parameters.Tie as tie
 

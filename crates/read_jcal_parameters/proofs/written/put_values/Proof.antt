@@ -2,7 +2,6 @@
 use Rattle.sink.specs.laws.Sink.{writing}
 use Rattle.read_jcal_parameters.specs.laws.Shapes.{string-inside}
 use Rattle.read_jcal_parameters.specs.laws.Written.{given-list, given-alone, given-none}
-use borrow.Author.Needs.{needs}
 use Rattle.read_jcal_parameters.proofs.written.put_values.Statement.{statement}
 use Rattle.read_jcal_parameters.proofs.written.put_values.Tie as tie
 
