@@ -1,0 +1,52 @@
+// TEMPORARY
+use edition::Edition;
+use schema::Context;
+use schema::Row;
+ghost use mathlib.Core.Path.{_≡_};
+ghost use mathlib.Core.List.{List};
+ghost use Prim.Native.Nat.{ℕ, _≤_, _<_};
+ghost use lib.ListN.{length};
+ghost use Rattle.octets.specs.Lists.{anyOne};
+ghost use Rattle.octets.specs.Reading.{isRead};
+ghost use Rattle.names.specs.Table.{placeOf};
+ghost use Rattle.schema.specs.Properties.{propertyNames};
+ghost use Rattle.schema.specs.Numbers.{typeAt};
+ghost use Rattle.schema.specs.Coded.{rowAt};
+ghost use Rattle.json.specs.Tree.{elementList, memberList};
+ghost use Rattle.jcal.specs.Parameters.{parametersGood};
+ghost use Rattle.jcal.specs.Values.{readValues};
+ghost use Rattle.jcal.specs.Property.{isBadName, isBadParameter};
+ghost use Rattle.read_json.specs.TreeAt.{elementsAt, membersAt, stringAt};
+ghost use Rattle.read_jcal.specs.Properties.{Holder};
+
+pub fn is_bad_name(s: &[u8], place: usize) -> bool
+    requires { ⌜ place < length (now s) ⌝ }
+    ensures { λ r. ⌜ r ≡ isBadName (stringAt (now (s .entry)) place) ⌝ }
+{
+    false
+}
+
+pub fn names_bad(s: &[u8], from: usize) -> bool
+    ensures { λ r. ⌜ r ≡ anyOne isBadParameter (memberList (membersAt (now (s .entry)) from)) ⌝ }
+{
+    false
+}
+
+pub fn parameters_good(edition: Edition, row: Row, t: usize, s: &[u8], from: usize) -> bool
+    ensures { λ r. ⌜
+        ((w : List ℕ) →
+        row ≡ rowAt (placeOf w propertyNames) →
+        t ≤ 14 →
+        r ≡ parametersGood edition w (typeAt t) (memberList (membersAt (now (s .entry)) from))) ⌝ }
+{
+    false
+}
+
+pub fn values_read(context: Context, s: &[u8], from: usize) -> bool
+    ensures { λ r. ⌜
+        ((c w : List ℕ) →
+        Holder context c w →
+        r ≡ isRead (readValues c w (typeAt (context .«value_type»)) (elementList (elementsAt (now (s .entry)) from)))) ⌝ }
+{
+    false
+}
