@@ -3,6 +3,7 @@
 --     Kinds           the kinds of elements
 --     Arrays          the elements of an array
 --     Types           the type that an element names
+--     BadNames        names that can't be carried
 --     Counting        the word of an ACTION
 --     Faults          the fault of a property, by what its elements are
 --     Properties      the array of a property, and the properties of a component
@@ -13,6 +14,7 @@ pub mod Judging
 pub mod Kinds
 pub mod Arrays
 pub mod Types
+pub mod BadNames
 pub mod Counting
 pub mod Faults
 pub mod Properties

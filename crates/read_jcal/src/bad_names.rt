@@ -17,7 +17,7 @@ ghost use Rattle.octets.specs.Reading.{andThen, readOr};
 ghost use Rattle.json.specs.Kinds.{asString, asObject};
 ghost use Rattle.jcal.specs.Property.{isBadProperty, isBadParameter, passes};
 ghost use Rattle.read_json.specs.TreeAt.{stringAt};
-ghost use Rattle.read_jcal.specs.Arrays.{found, Inside};
+ghost use Rattle.read_jcal.specs.Arrays.{found, Inside, ThreeIn};
 
 // The string at `place` is a name that no property has.
 fn is_bad_property(s: &[u8], place: usize) -> bool
@@ -49,7 +49,6 @@ fn has_bad_property(s: &[u8], h: Head) -> bool
 
 // The element is an object with a member whose name no parameter has.
 fn has_bad_parameter(s: &[u8], h: Head) -> bool
-    requires { ⌜ Inside (now s) h ⌝ }
     ensures { λ r. ⌜ r ≡ anyOne isBadParameter (readOr [] (andThen (found (now (s .entry)) h) asObject)) ⌝ }
 {
     let object = is_object(h);
@@ -61,7 +60,7 @@ fn has_bad_parameter(s: &[u8], h: Head) -> bool
 
 // Of the elements of a property's array, the name or a parameter's name is such a name.
 pub fn has_bad_names(s: &[u8], p: Three) -> bool
-    requires { ⌜ Inside (now s) (p .first) × Inside (now s) (p .second) ⌝ }
+    requires { ⌜ ThreeIn (now s) p ⌝ }
     ensures { λ r. ⌜
         r ≡ (passes isBadProperty (andThen (found (now (s .entry)) (p .first)) asString)
         or anyOne isBadParameter (readOr [] (andThen (found (now (s .entry)) (p .second)) asObject))) ⌝ }

@@ -55,6 +55,9 @@ module _ (i : List ℕ) {k : ℕ} (o : k ≡ placeOf i componentNames) (ps : Lis
 pub fall-in : (l : ℕ) {t : ℕ} → t ≡ 2 * l + 1 → 2 * l < t
 fall-in l e = omega arith
 
+pub fall-down : (l : ℕ) {t : ℕ} → 1 ≤ l → t ≡ 2 * l → 2 * (l - 1) + 1 < t
+fall-down l h e = omega arith
+
 module _ (ed : Edition) {o : Outer} {left : ℕ} {s : List ℕ} (h : Head) {b : Begun} (d : BegunAt ed o left s (h .next) (valueOfHead s h) b) where
   pub whole-ends : (m : Bool) {j : Judged} → b .part ≡ Ends j → ComponentAt ed o left m s h j
   whole-ends m z = record { is = λ may a. d .is may a m ∙ rw z }
@@ -80,7 +83,7 @@ module _ (ed : Edition) {o : Outer} {left : ℕ} {s : List ℕ} (h : Head) {b : 
       unfolding _otherwise_
       whole-behind g q = record { is = λ may a. d .is may a m ∙ rw (z, inner-is, g, complete-is (d .name) (fits .0) (d .stated) (fits .1) m s x) (q .is) }
 
-pub ruleset wholes = (whole-ends, whole-fails, whole-behind, whole-left, needs)
+pub ruleset wholes = (fall-down, whole-ends, whole-fails, whole-behind, whole-left, needs)
 
 -- ---- several
 
@@ -109,4 +112,4 @@ module _ (ed : Edition) where
       unfolding componentsVerdict _otherwise_
       among-bad z = record { is = λ may a. with-elements (element-found n f (sym e ∙ y)) may a ∙ rw (d .is may a, z) }
 
-pub ruleset among = (among-start, among-none, among-fine, among-bad, head-inside, next-less, needs)
+pub ruleset among = (fall-in, among-start, among-none, among-fine, among-bad, head-inside, next-less, needs)

@@ -17,7 +17,7 @@ use Rattle.octets.specs.Words.{same, isOneOf}
 use Rattle.octets.specs.laws.Words.{same-self, same-true}
 use Rattle.octets.specs.Reading.{andThen}
 use Rattle.octets.specs.Computing.{octets-compute}
-use Rattle.names.specs.Table.{placeOf}
+use Rattle.names.specs.Table.{placeOf, namesIn}
 use Rattle.names.specs.laws.Known.{by-place, unknown-word}
 use Rattle.calendar.specs.Calendar.{ValueType, UNKNOWN}
 use Rattle.schema.specs.Types.{typeName, typeNamed, valueTypes}
@@ -80,6 +80,15 @@ word-type n {t} e h =
     ∙ some-at (valueTypes ++ (UNKNOWN ∷ [])) UNKNOWN t (omega arith)
     ∙ ap some (last-at valueTypes UNKNOWN t)
 
+-- the words of the types, as the code's table has them
+pub words-listed : namesIn (ascii "binary\nboolean\ncal-address\ndate\ndate-time\nduration\nfloat\ninteger\nperiod\nrecur\ntext\ntime\nuri\nutc-offset\nunknown\n") ≡ typeWords
+unfolding namesIn pick
+words-listed = refl
+
+pub word-placed : (n : List ℕ) {t : ℕ} →
+    t ≡ placeOf n (namesIn (ascii "binary\nboolean\ncal-address\ndate\ndate-time\nduration\nfloat\ninteger\nperiod\nrecur\ntext\ntime\nuri\nutc-offset\nunknown\n")) → t ≡ placeOf n typeWords
+word-placed n e = e ∙ ap (placeOf n) words-listed
+
 -- ---- an element that names a type
 
 module _ {s : List ℕ} {h : Head} {b : Bool} (e : b ≡ isString (h .kind)) where
@@ -96,4 +105,4 @@ module _ {s : List ℕ} {h : Head} {b : Bool} (e : b ≡ isString (h .kind)) whe
     unfolding andThen
     type-other l = record { is = rw (as-string s h (sym e ∙ y)) (no-type (stringAt s (h .place)) (rw (← f) (omega arith))); small = tt }
 
-pub ruleset typing = (type-no-string, type-named, type-other, string-inside, needs)
+pub ruleset typing = (word-placed, type-no-string, type-named, type-other, string-inside, needs)
