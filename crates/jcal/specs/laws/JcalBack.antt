@@ -1,6 +1,6 @@
 -- A valid calendar that is written as jCal is read back (RFC 7265).
 --     jcal-back        within the input limit, in any edition
---     jcal-injective   equal bytes are those of equal calendars
+--     jcal-injective   equal bytes, however many, are those of equal calendars
 use mathlib.Core.Path.{_≡_, sym, ap, subst, _∙_}
 use mathlib.Core.Bool.{true, false}
 use mathlib.Core.List.{List}
@@ -9,6 +9,7 @@ use lib.ListN.{length}
 use borrow.Author.Tests.{le-leb}
 use Rattle.octets.specs.Pick.{pick}
 use Rattle.calendar.specs.Calendar.{Components}
+use Rattle.calendar.specs.Levels.{levels}
 use Rattle.calendar.specs.Refusal.{fine, _otherwise_, accepted, limit}
 use Rattle.edition.specs.declared.Edition.{Edition}
 use Rattle.validity.specs.ValidCalendar.{atTop, isValid}
@@ -19,7 +20,7 @@ use Rattle.json.specs.Written.{written, bare, isWritable}
 use Rattle.json.specs.laws.CheckBack.{written-fine}
 use Rattle.json.specs.laws.TreeBack.{written-back}
 use Rattle.json.specs.laws.GoodBack.{written-good}
-use Rattle.jcal.specs.Components.{componentsVerdict, readComponents, calendarsIn}
+use Rattle.jcal.specs.Components.{componentsVerdict, readCalendars, calendarsIn}
 use Rattle.jcal.specs.ReadJcal.{jcalVerdict, readJcal}
 use Rattle.jcal.specs.WriteJcal.{writeJcal}
 use Rattle.jcal.specs.laws.Trees.{calendarTree, calendar-written}
@@ -35,16 +36,16 @@ module _ (ed : Edition) (c : Components) (valid : isValid ed c ≡ true) where
   same-value : bare (valueOf (written (calendarTree c))) ≡ bare (calendarTree c)
   same-value = written-back (calendarTree c) mostOpen writable
 
-  value-fine : componentsVerdict ed (calendarsIn (valueOf (written (calendarTree c)))) atTop false ≡ fine
+  value-fine : componentsVerdict ed (calendarsIn (valueOf (written (calendarTree c)))) atTop levels false ≡ fine
   value-fine =
       fine-is _
-      (sym (verdict-bare ed (valueOf (written (calendarTree c))) atTop false)
-      ∙ ap (λ (v : Json). isFine (componentsVerdict ed (calendarsIn v) atTop false)) same-value
-      ∙ verdict-bare ed (calendarTree c) atTop false
+      (sym (verdict-bare ed (valueOf (written (calendarTree c))) atTop levels false)
+      ∙ ap (λ (v : Json). isFine (componentsVerdict ed (calendarsIn v) atTop levels false)) same-value
+      ∙ verdict-bare ed (calendarTree c) atTop levels false
       ∙ ap isFine (tree-fine ed c valid))
 
-  value-back : readComponents (calendarsIn (valueOf (written (calendarTree c)))) ≡ c
-  value-back = sym (read-bare (valueOf (written (calendarTree c)))) ∙ ap (λ (v : Json). readComponents (calendarsIn v)) same-value ∙ read-bare (calendarTree c) ∙ tree-back ed c valid
+  value-back : readCalendars (calendarsIn (valueOf (written (calendarTree c)))) ≡ c
+  value-back = sym (read-bare (valueOf (written (calendarTree c)))) ∙ ap (λ (v : Json). readCalendars (calendarsIn v)) same-value ∙ read-bare (calendarTree c) ∙ tree-back ed c valid
 
   tree-read : length (written (calendarTree c)) ≤ limit → readJcal ed (written (calendarTree c)) ≡ accepted c
   unfolding readJcal jcalVerdict pick _otherwise_
@@ -55,8 +56,9 @@ jcal-back ed c h l = subst (λ (s : List ℕ). length s ≤ limit → readJcal e
 
 -- ---- equal bytes
 
-accepted-same : (c d : Components) → accepted c ≡ accepted d → c ≡ d
-accepted-same c d e = cc
+-- the calendar that the bytes of jCal state, of any length
+jcal-states : (ed : Edition) (c : Components) → isValid ed c ≡ true → readCalendars (calendarsIn (valueOf (writeJcal c))) ≡ c
+jcal-states ed c h = subst (λ (s : List ℕ). readCalendars (calendarsIn (valueOf s)) ≡ c) (calendar-written c) (value-back ed c h)
 
-pub jcal-injective : (ed : Edition) (c d : Components) → isValid ed c ≡ true → isValid ed d ≡ true → length (writeJcal c) ≤ limit → writeJcal c ≡ writeJcal d → c ≡ d
-jcal-injective ed c d h k l e = accepted-same c d (sym (jcal-back ed c h l) ∙ ap (readJcal ed) e ∙ jcal-back ed d k (rw e at l))
+pub jcal-injective : (ed : Edition) (c d : Components) → isValid ed c ≡ true → isValid ed d ≡ true → writeJcal c ≡ writeJcal d → c ≡ d
+jcal-injective ed c d h k e = sym (jcal-states ed c h) ∙ ap (λ (s : List ℕ). readCalendars (calendarsIn (valueOf s))) e ∙ jcal-states ed d k

@@ -49,7 +49,7 @@ use Rattle.values.specs.laws.ReadBack.{value-read-back, characters-read-back}
 use Rattle.values.specs.laws.Valid.{text-in, own-value}
 use Rattle.xcal.specs.laws.ElementNames.{upper-lower}
 use Rattle.xcal.specs.laws.Chosen.{chosen-typed}
-use Rattle.json.specs.Tree.{Json, Member, elementList}
+use Rattle.json.specs.Tree.{Json, elementList}
 use Rattle.json.specs.Kinds.{asArray, orAlone}
 use Rattle.jcal.specs.Values.{itemText, readItem, readItems, readPart, readTyped, readChosen, readOne, readValues}
 use Rattle.jcal.specs.laws.Trees.{toElements, element-list, member-list, oneOrArr, itemTree, partMember, valueTree}
@@ -243,7 +243,7 @@ status-own k t v p h =
 -- ---- any property
 
 -- a property with a closed set takes TEXT alone
-only-text : (k n : List ℕ) (t : ValueType) → isTypeOf t (permittedTypes n) ≡ true → (words : List (List ℕ)) → propertyWords k n ≡ some words → t ≡ TEXT
+pub only-text : (k n : List ℕ) (t : ValueType) → isTypeOf t (permittedTypes n) ≡ true → (words : List (List ℕ)) → propertyWords k n ≡ some words → t ≡ TEXT
 unfolding isTypeOf
 only-text k n t p words e = same-type-true t TEXT (sym (or-false (sameType t TEXT)) ∙ subst (λ (l : List ValueType). isTypeOf t l ≡ true) (property-words-text k n words e .0) p)
 
