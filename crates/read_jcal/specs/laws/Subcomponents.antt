@@ -18,7 +18,7 @@ use Rattle.schema.specs.Counts.{methodFor, complete}
 use Rattle.schema.specs.Completing.{completeAt, methodAt}
 use Rattle.schema.specs.laws.Completing.{method-tallies, complete-tallies}
 use Rattle.edition.specs.declared.Edition.{Edition}
-use Rattle.json.specs.Tree.{Elements}
+use Rattle.json.specs.Tree.{Json, Elements}
 use Rattle.jcal.specs.Components.{componentsVerdict}
 use Rattle.read_json.specs.TreeAt.{elementsAt}
 use Rattle.read_json.specs.Heads.{valueOfHead, HeadAt, NextAt}
@@ -55,25 +55,23 @@ module _ (i : List ℕ) {k : ℕ} (o : k ≡ placeOf i componentNames) (ps : Lis
 pub fall-in : (l : ℕ) {t : ℕ} → t ≡ 2 * l + 1 → 2 * l < t
 fall-in l e = omega arith
 
-pub fall-down : (l : ℕ) {t : ℕ} → 1 ≤ l → t ≡ 2 * l → 2 * (l - 1) + 1 < t
-fall-down l h e = omega arith
+module _ (ed : Edition) {o : Outer} {left : ℕ} {s : List ℕ} {inside : ℕ} {v : Json} {b : Begun} (d : BegunAt ed o left s inside v b) {k x : ℕ} (z : b .part ≡ Opens k x) where
+  fits : PartFits ed left (d .name) (d .stated) (b .kept) (Opens k x)
+  fits = subst (PartFits ed left (d .name) (d .stated) (b .kept)) z (d .fits)
+
+  pub whole-left : 1 ≤ left
+  whole-left = fits .2
 
 module _ (ed : Edition) {o : Outer} {left : ℕ} {s : List ℕ} (h : Head) {b : Begun} (d : BegunAt ed o left s (h .next) (valueOfHead s h) b) where
   pub whole-ends : (m : Bool) {j : Judged} → b .part ≡ Ends j → ComponentAt ed o left m s h j
   whole-ends m z = record { is = λ may a. d .is may a m ∙ rw z }
 
   module _ {k x : ℕ} (z : b .part ≡ Opens k x) where
-    fits : PartFits ed left (d .name) (d .stated) (b .kept) (Opens k x)
-    fits = subst (PartFits ed left (d .name) (d .stated) (b .kept)) z (d .fits)
-
-    pub whole-left : 1 ≤ left
-    whole-left = fits .2
-
     module _ (m : Bool) {n : Bool} (u : n ≡ methodAt k (b .kept .counts) m) {r : Judged} (w : CompsAt ed (Component k) (left - 1) n s x r) where
       inner-is : componentsVerdict ed (elementsAt s x) (mayContain (d .name)) (left - 1) (methodFor (d .name) (d .stated) m) ≡ judgedAs r
       inner-is =
-          ap (componentsVerdict ed (elementsAt s x) (mayContain (d .name)) (left - 1)) (method-is (d .name) (fits .0) (d .stated) (fits .1) m ∙ sym u)
-          ∙ w .is (mayContain (d .name)) (names-in (d .name) (fits .0))
+          ap (componentsVerdict ed (elementsAt s x) (mayContain (d .name)) (left - 1)) (method-is (d .name) (fits ed d z .0) (d .stated) (fits ed d z .1) m ∙ sym u)
+          ∙ w .is (mayContain (d .name)) (names-in (d .name) (fits ed d z .0))
 
       pub whole-fails : {f y : ℕ} → r ≡ Refused f y → ComponentAt ed o left m s h (Refused f y)
       unfolding _otherwise_
@@ -81,9 +79,9 @@ module _ (ed : Edition) {o : Outer} {left : ℕ} {s : List ℕ} (h : Head) {b : 
 
       pub whole-behind : {v : Judged} → r ≡ Fine → BehindAt k (b .kept) m s x (h .next) v → ComponentAt ed o left m s h v
       unfolding _otherwise_
-      whole-behind g q = record { is = λ may a. d .is may a m ∙ rw (z, inner-is, g, complete-is (d .name) (fits .0) (d .stated) (fits .1) m s x) (q .is) }
+      whole-behind g q = record { is = λ may a. d .is may a m ∙ rw (z, inner-is, g, complete-is (d .name) (fits ed d z .0) (d .stated) (fits ed d z .1) m s x) (q .is) }
 
-pub ruleset wholes = (fall-down, whole-ends, whole-fails, whole-behind, whole-left, needs)
+pub ruleset wholes = (whole-ends, whole-fails, whole-behind, whole-left, needs)
 
 -- ---- several
 

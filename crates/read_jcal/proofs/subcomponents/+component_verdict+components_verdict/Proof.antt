@@ -1,9 +1,10 @@
 -- `read_jcal::component_verdict` and `read_jcal::components_verdict`, which call each other, meet their contracts.
 use Prim.Native.Nat.{ℕ, _+_, _*_, _-_, _<_}
+use native.Mathlib.Omega.{arith}
 use lib.ListN.{length}
 use borrow.Fn.Kinds.{In}
 use borrow.Fn.PlainCycle.{Measures, is, falls, and}
-use Rattle.read_jcal.specs.laws.Subcomponents.{wholes, Among, among}
+use Rattle.read_jcal.specs.laws.Subcomponents.{whole-left, wholes, Among, among}
 use Rattle.read_jcal.proofs.subcomponents.component_verdict.Reads as component-verdict
 use Rattle.read_jcal.proofs.subcomponents.component_verdict.Kinds as component-verdict-kinds
 use Rattle.read_jcal.proofs.subcomponents.+component_verdict+components_verdict.Lts-component_verdict as component-verdict-lts
@@ -82,7 +83,7 @@ pub +component-verdict+components-verdict-spec : {M : Type 1} → statement M
     (λ c. search wholes)  -- enum-known-part-2
     (λ c κs. search wholes)  -- method-inside-requires
     (λ c. search wholes)  -- sub-components-verdict
-    (λ c κs. search wholes)  -- components-verdict-requires
+    (λ c κs. (omega (arith, whole-left _ (c .before .before .before .before .before .begun .ensures) (c .before .before .before .part2 .given .1), c .before .before .before .before .before .before .before .pre .0), search wholes))  -- components-verdict-requires
     (λ c. search wholes)  -- enum-told
     (λ c κs. search wholes)  -- behind-requires
     (λ c. search wholes)  -- enum-known-r
@@ -100,7 +101,7 @@ pub +component-verdict+components-verdict-spec : {M : Type 1} → statement M
     (λ c κs. search among)  -- element-at-requires
     (λ c κs. search among)  -- element-next-requires
     (λ c κs. search among)  -- is-there-requires
-    (λ c κs. search among)  -- component-verdict-requires
+    (λ c κs. (search among, search among))  -- component-verdict-requires
     (λ c. search among)  -- enum-told
     (λ c. search among)  -- loop-less
     (λ c. search among)  -- loop-again
