@@ -12,7 +12,7 @@ use crate::kinds::is_string;
 use crate::kinds::place_of;
 use crate::properties::properties_verdict;
 use edition::Edition;
-use crate::later::is_bad_name;
+use read_jcal_parameters::is_bad_name;
 use read_json::Head;
 use read_json::container_end;
 use refusals::COUNT;

@@ -19,29 +19,6 @@ ghost use Rattle.jcal.specs.Property.{isBadName, isBadParameter};
 ghost use Rattle.read_json.specs.TreeAt.{elementsAt, membersAt, stringAt};
 ghost use Rattle.read_jcal.specs.Properties.{Holder};
 
-pub fn is_bad_name(s: &[u8], place: usize) -> bool
-    requires { ⌜ place < length (now s) ⌝ }
-    ensures { λ r. ⌜ r ≡ isBadName (stringAt (now (s .entry)) place) ⌝ }
-{
-    false
-}
-
-pub fn names_bad(s: &[u8], from: usize) -> bool
-    ensures { λ r. ⌜ r ≡ anyOne isBadParameter (memberList (membersAt (now (s .entry)) from)) ⌝ }
-{
-    false
-}
-
-pub fn parameters_good(edition: Edition, row: Row, t: usize, s: &[u8], from: usize) -> bool
-    ensures { λ r. ⌜
-        ((w : List ℕ) →
-        row ≡ rowAt (placeOf w propertyNames) →
-        t ≤ 14 →
-        r ≡ parametersGood edition w (typeAt t) (memberList (membersAt (now (s .entry)) from))) ⌝ }
-{
-    false
-}
-
 pub fn values_read(context: Context, s: &[u8], from: usize) -> bool
     ensures { λ r. ⌜
         ((c w : List ℕ) →

@@ -10,7 +10,7 @@ use crate::kinds::is_string;
 use crate::bad_names::has_bad_names;
 use crate::types::type_of;
 use edition::Edition;
-use crate::later::parameters_good;
+use read_jcal_parameters::parameters_good;
 use crate::later::values_read;
 use refusals::FRAME;
 use refusals::NAME;
