@@ -16,4 +16,5 @@ pub mod Counting
 pub mod Properties
 pub mod Components
 pub mod Subcomponents
+pub mod Later
 pub mod laws

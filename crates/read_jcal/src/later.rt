@@ -1,7 +1,6 @@
 // TEMPORARY
-use edition::Edition;
+use crate::ValuesRead;
 use schema::Context;
-use schema::Row;
 ghost use mathlib.Core.Path.{_≡_};
 ghost use mathlib.Core.List.{List};
 ghost use Prim.Native.Nat.{ℕ, _≤_, _<_};
@@ -17,13 +16,17 @@ ghost use Rattle.jcal.specs.Parameters.{parametersGood};
 ghost use Rattle.jcal.specs.Values.{readValues};
 ghost use Rattle.jcal.specs.Property.{isBadName, isBadParameter};
 ghost use Rattle.read_json.specs.TreeAt.{elementsAt, membersAt, stringAt};
-ghost use Rattle.read_jcal.specs.Properties.{Holder};
+ghost use Rattle.schema.specs.Components.{componentNames};
+ghost use Rattle.read_jcal.specs.Later.{areRead};
 
-pub fn values_read(context: Context, s: &[u8], from: usize) -> bool
+pub fn values_read(context: Context, s: &[u8], from: usize) -> ValuesRead
     ensures { λ r. ⌜
         ((c w : List ℕ) →
-        Holder context c w →
-        r ≡ isRead (readValues c w (typeAt (context .«value_type»)) (elementList (elementsAt (now (s .entry)) from)))) ⌝ }
+        context .component ≡ placeOf c componentNames →
+        context .row ≡ rowAt (placeOf w propertyNames) →
+        context .«value_type» ≤ 14 →
+        areRead r
+        ≡ isRead (readValues c w (typeAt (context .«value_type»)) (elementList (elementsAt (now (s .entry)) from)))) ⌝ }
 {
-    false
+    ValuesRead::Bad
 }

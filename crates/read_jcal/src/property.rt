@@ -2,16 +2,17 @@
 use crate::Named;
 use crate::PropertyRead;
 use crate::Three;
+use crate::ValuesRead;
+use crate::bad_names::has_bad_names;
 use crate::counting::word_of;
 use crate::elements::first_three;
 use crate::elements::is_amount;
 use crate::kinds::is_object;
 use crate::kinds::is_string;
-use crate::bad_names::has_bad_names;
+use crate::later::values_read;
 use crate::types::type_of;
 use edition::Edition;
 use read_jcal_parameters::parameters_good;
-use crate::later::values_read;
 use refusals::FRAME;
 use refusals::NAME;
 use refusals::PARAMETER;
@@ -56,13 +57,15 @@ fn row_at(s: &[u8], place: usize) -> Row
 fn values_fault(context: Context, s: &[u8], from: usize) -> PropertyRead
     ensures { λ r. ⌜ ValuesAt context (elementList (elementsAt (now (s .entry)) from)) r ⌝ }
 {
-    let read = values_read(context, s, from);
-    if read {
-        let p = context.row.number;
-        let word = word_of(p, s, from);
-        return PropertyRead::Good(p, word);
+    let v = values_read(context, s, from);
+    match v {
+        ValuesRead::Read => {
+            let p = context.row.number;
+            let word = word_of(p, s, from);
+            PropertyRead::Good(p, word)
+        }
+        ValuesRead::Bad => PropertyRead::Faulty(VALUE),
     }
-    PropertyRead::Faulty(VALUE)
 }
 
 // A property of this row and this type: its parameters stand from `inside` on, its values from `from` on.

@@ -39,7 +39,7 @@ module _ (ed : Edition) (c : List ℕ) where
   known-by n ms t vs =
       pick-not (isAmount (isListedProperty (upper n)) vs and (not (isKnownProperty (upper n)) or mayStand c (upper n))) (some FRAME) _
       ∙ ap (λ (o : Option Refusal). pick (isAmount (isListedProperty (upper n)) vs and (not (isKnownProperty (upper n)) or mayStand c (upper n))) o (some FRAME))
-          (pick-not (parametersGood ed (upper n) t ms) (some PARAMETER) (valuesFault ed c (upper n) t vs))
+      (pick-not (parametersGood ed (upper n) t ms) (some PARAMETER) (valuesFault ed c (upper n) t vs))
 
   shape-by : (n : Option (List ℕ)) (ms : Option (List Member)) (t : Option ValueType) (vs : List Json) → testsBy n ms t vs ≡ shapeFault ed c ms t vs n
   unfolding isRead _and_ pick

@@ -43,7 +43,10 @@ use Rattle.jcal.specs.Components.{at, propertyVerdict, propertiesVerdict}
 use Rattle.read_json.specs.TreeAt.{elementsAt, membersAt, stringAt}
 use Rattle.read_json.specs.Heads.{valueOfHead, HeadAt, NextAt}
 use Rattle.read_json.specs.declared.Head.{Head}
-use Rattle.tallies.specs.Counting.{Counted, Numbered, CountsOn}
+use Rattle.read_jcal.specs.Later.{areRead}
+use Rattle.read_jcal.specs.declared.ValuesRead.{ValuesRead}
+use Rattle.read_jcal.specs.declared.ValuesRead.the-variants.{Read, Bad as Unread}
+use Rattle.tallies.specs.Counting.{Counted, CountsOn}
 use Rattle.tallies.specs.declared.Kept.{Kept}
 use Rattle.read_jcal.specs.Judging.{judgedAs}
 use Rattle.read_jcal.specs.laws.Judging.{name-number, frame-number, parameter-number, value-number, not-fine}
@@ -87,17 +90,21 @@ pub ruleset standing = (stands-unknown, stands-known, needs)
 
 -- ---- its values
 
-module _ (x : Context) (vs : List Json) {b : Bool} (e : (c w : List ℕ) → Holder x c w → b ≡ isRead (readValues c w (typeAt (x .«value_type»)) vs)) where
-  pub values-good : {word : ℕ} → b ≡ true → WordAt (x .row .number) vs word → ValuesAt x vs (Good (x .row .number) word)
+module _ (x : Context) (vs : List Json) {v : ValuesRead}
+    (e : (c w : List ℕ) → x .component ≡ placeOf c componentNames → x .row ≡ rowAt (placeOf w propertyNames) → x .«value_type» ≤ 14 → areRead v ≡ isRead (readValues c w (typeAt (x .«value_type»)) vs)) where
+  read-is : {u : ValuesRead} → v ≡ u → (c w : List ℕ) → Holder x c w → isRead (readValues c w (typeAt (x .«value_type»)) vs) ≡ areRead u
+  read-is y c w h = sym (e c w (h .component) (h .row) (h .small)) ∙ ap areRead y
+
+  pub values-good : {word : ℕ} → v ≡ Read → WordAt (x .row .number) vs word → ValuesAt x vs (Good (x .row .number) word)
   unfolding pick
   values-good y a = record {
-    is = λ ed c w h. rw (← (e c w h), y);
-    numbers = λ c w h. (number-of w (h .row), λ z. a .is c w (typeAt (x .«value_type»)) (number-of w (h .row)) z (sym (e c w h) ∙ y));
+    is = λ ed c w h. rw (read-is y c w h);
+    numbers = λ c w h. (number-of w (h .row), λ z. a .is c w (typeAt (x .«value_type»)) (number-of w (h .row)) z (read-is y c w h));
   }
 
-  pub values-bad : b ≡ false → ValuesAt x vs (Faulty 8)
+  pub values-bad : v ≡ Unread → ValuesAt x vs (Faulty 8)
   unfolding pick
-  values-bad y = record { is = λ ed c w h. rw (← (e c w h), y, value-number); numbers = λ c w h. tt }
+  values-bad y = record { is = λ ed c w h. rw (read-is y c w h, value-number); numbers = λ c w h. tt }
 
 pub ruleset valuing = (values-good, values-bad, needs)
 
