@@ -1,16 +1,14 @@
 -- Laws of what specs/Kinds.antt defines.
 --     kind-string, kind-array, kind-object    what a kind is;   kind-there: an array is an element
 --     kinds       the rules of the tests
-use mathlib.Core.Path.{_≡_, refl, ap, _∙_}
-use mathlib.Core.Bool.{Bool, true, false, false≢true}
+use mathlib.Core.Path.{_≡_, refl, ap}
+use mathlib.Core.Bool.{true, false≢true}
 use Prim.Native.Nat.{ℕ}
-use lib.Dec.{eqb, ltb}
+use lib.Dec.{ltb}
 use borrow.Author.Needs.{needs}
-use Rattle.octets.specs.Pick.{pick}
-use Rattle.read_json.specs.declared.Head.{Head}
 use Rattle.read_json.specs.declared.HeadKind.{HeadKind}
 use Rattle.read_json.specs.declared.HeadKind.the-variants.{None, String, Number, Literal, Array, Object}
-use Rattle.read_jcal.specs.Kinds.{kindNumber, isThere, isString, isArray, isObject, placeIn}
+use Rattle.read_jcal.specs.Kinds.{kindNumber, isThere, isString, isArray, isObject}
 
 -- ---- what a kind is
 
@@ -68,20 +66,7 @@ module _ {k : HeadKind} where
   unfolding kindNumber
   number-object e = rw e
 
-module _ (k : HeadKind) {n : ℕ} (e : n ≡ kindNumber k) where
-  pub is-there : ltb 0 n ≡ isThere k
-  is-there = ap (ltb 0) e
+pub is-there : (k : HeadKind) {n : ℕ} → n ≡ kindNumber k → ltb 0 n ≡ isThere k
+is-there k e = ap (ltb 0) e
 
-  pub is-kind : (m : ℕ) → eqb n m ≡ eqb (kindNumber k) m
-  is-kind m = ap (λ (i : ℕ). eqb i m) e
-
-module _ (h : Head) {b : Bool} (e : b ≡ isThere (h .kind)) where
-  pub place-there : b ≡ true → h .place ≡ placeIn h
-  unfolding pick
-  place-there y = rw (← e, y)
-
-  pub place-none : b ≡ false → 0 ≡ placeIn h
-  unfolding pick
-  place-none y = rw (← e, y)
-
-pub ruleset kinds = (number-none, number-string, number-number, number-literal, number-array, number-object, is-there, is-kind, place-there, place-none, needs)
+pub ruleset kinds = (number-none, number-string, number-number, number-literal, number-array, number-object, is-there, needs)

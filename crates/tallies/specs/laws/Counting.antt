@@ -10,7 +10,7 @@ use native.Mathlib.Omega.{arith}
 use lib.Dec.{eqb}
 use lib.ListN.{getD, replicate}
 use borrow.Author.Needs.{needs}
-use borrow.Author.Tests.{eqb-true, eqb-false, eq-eqb, ne-eqb}
+use borrow.Author.Tests.{eqb-true, eqb-false, eq-eqb}
 use Rattle.octets.specs.Ascii.{ascii}
 use Rattle.octets.specs.Pick.{pick, _and_}
 use Rattle.octets.specs.laws.Pick.{eqb-swap, and-both}
@@ -30,18 +30,7 @@ pub none-counted : Counted [] (record { counts = replicate property.KNOWN 0; act
 unfolding tallies actionOf
 none-counted = record { tallied = refl; acting = refl }
 
--- ---- the first ACTION
-
-module _ (t : Kept) (p : ℕ) where
-  pub first-not : (p ≡ property.ACTION → ⊥) → false ≡ isFirst p t
-  unfolding _and_
-  first-not h = rw (ne-eqb p property.ACTION h)
-
-  pub first-none : {b : Bool} → p ≡ property.ACTION → b ≡ eqb (getD (t .counts) property.ACTION 0) 0 → b ≡ isFirst p t
-  unfolding _and_
-  first-none h e = e ∙ rw (eq-eqb p property.ACTION h)
-
--- ---- its word
+-- ---- the word of the first ACTION
 
 module _ (x : Property) where
   -- none has come
@@ -109,4 +98,4 @@ module _ (t : Kept) (p word : ℕ) {b : Bool} (e : b ≡ isFirst p t) {more : Li
   pub count-later : b ≡ false → CountsOn p word t (record { counts = more; action = t .action })
   count-later h = record { is = λ ps x n i. record { tallied = tallied-on ps x n i; acting = later-word x n ps i (sym e ∙ h) } }
 
-pub ruleset counting = (none-counted, first-not, first-none, count-first, count-later, needs)
+pub ruleset counting = (none-counted, count-first, count-later, needs)
