@@ -16,5 +16,4 @@ pub mod Counting
 pub mod Properties
 pub mod Components
 pub mod Subcomponents
-pub mod Later
 pub mod laws

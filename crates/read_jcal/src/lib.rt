@@ -8,7 +8,6 @@ mod component;
 mod counting;
 mod elements;
 mod kinds;
-mod later;
 mod properties;
 mod property;
 mod subcomponents;
@@ -20,12 +19,6 @@ pub use calendars::calendars_verdict;
 pub enum Judged {
     Fine,
     Refused(u8, usize),
-}
-
-// TEMPORARY
-pub enum ValuesRead {
-    Read,
-    Bad,
 }
 
 // The first three elements of an array, and the place from where on the others stand.

@@ -43,9 +43,9 @@ use Rattle.jcal.specs.Components.{at, propertyVerdict, propertiesVerdict}
 use Rattle.read_json.specs.TreeAt.{elementsAt, membersAt, stringAt}
 use Rattle.read_json.specs.Heads.{valueOfHead, HeadAt, NextAt}
 use Rattle.read_json.specs.declared.Head.{Head}
-use Rattle.read_jcal.specs.Later.{areRead}
-use Rattle.read_jcal.specs.declared.ValuesRead.{ValuesRead}
-use Rattle.read_jcal.specs.declared.ValuesRead.the-variants.{Read, Bad as Unread}
+use Rattle.read_jcal_value.specs.Values.{areRead}
+use Rattle.read_jcal_value.specs.declared.valued.ValuesRead.{ValuesRead}
+use Rattle.read_jcal_value.specs.declared.valued.ValuesRead.the-variants.{Read, Bad as Unread}
 use Rattle.tallies.specs.Counting.{Counted, CountsOn}
 use Rattle.tallies.specs.declared.Kept.{Kept}
 use Rattle.read_jcal.specs.Judging.{judgedAs}
