@@ -9,7 +9,7 @@ use lib.ListN.{length}
 use borrow.Author.Tests.{ne-eqb, ltb-false}
 use Rattle.octets.specs.Ascii.{ascii}
 use Rattle.octets.specs.Pick.{pick}
-use Rattle.octets.specs.Append.{joined}
+use Rattle.octets.specs.Append.{_⊕_, joined}
 use Rattle.octets.specs.Class.{upper}
 use Rattle.octets.specs.Words.{isOneOf}
 use Rattle.octets.specs.Computing.{octets-compute}
