@@ -1,6 +1,7 @@
 -- One name that opens every shut definition on the way from a text to its answer and from a calendar to its jCal: `unfolding jcal-compute`.
 use Prim.Native.Nat.{ℕ}
 use Rattle.octets.specs.Computing.{octets-compute}
+use Rattle.calendar.specs.Levels.{shallow}
 use Rattle.calendar.specs.Refusal.{_otherwise_}
 use Rattle.schema.specs.Computing.{schema-compute}
 use Rattle.read_text_line.specs.Computing.{lines-compute}
@@ -14,5 +15,5 @@ use Rattle.jcal.specs.ReadJcal.{jcalVerdict, readJcal}
 use Rattle.jcal.specs.WriteJcal.{valueJson, parameterValue, parameterJson, propertyJson, componentsJson, writeJcal}
 
 unfoldable pub jcal-compute : ℕ
-unfolding octets-compute _otherwise_ schema-compute lines-compute values-compute json-compute readTyped readValues readParameter areSpelled parametersGood namesBad isShaped propertyFault propertyOf propertiesVerdict componentFault componentsVerdict componentVerdict innerVerdict arrayVerdict readComponents readInside readInner readArray calendarsIn jcalVerdict readJcal valueJson parameterValue parameterJson propertyJson componentsJson writeJcal
+unfolding octets-compute shallow _otherwise_ schema-compute lines-compute values-compute json-compute readTyped readValues readParameter areSpelled parametersGood namesBad isShaped propertyFault propertyOf propertiesVerdict componentFault componentsVerdict componentVerdict innerVerdict arrayVerdict readComponents readInside readInner readArray calendarsIn jcalVerdict readJcal valueJson parameterValue parameterJson propertyJson componentsJson writeJcal
 jcal-compute = 0

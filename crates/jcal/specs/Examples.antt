@@ -1,7 +1,7 @@
 -- A calendar written and read back, two calendars in a stream, what is read beside the canonical form, and each kind of fault at its place.
 use mathlib.Core.Path.{_≡_, refl}
 use mathlib.Core.List.{List, [], _∷_, _++_, map}
-use Prim.Native.Nat.{ℕ}
+use Prim.Native.Nat.{ℕ, zero, suc}
 use Prim.Native.String.{String}
 use Rattle.octets.specs.Ascii.{ascii}
 use Rattle.calendar.specs.Refusal.{CHARACTER, NAME, FRAME, PARAMETER, VALUE, COUNT, JSON, accepted}
@@ -45,6 +45,33 @@ components : map canonical (
 unfolding jcal-compute
 components = refl
 
+-- ---- unrecognised components
+
+-- a calendar with a component in it
+abbrev holding : List ℕ → List ℕ
+holding s = json "['vcalendar',[['prodid',{},'text','p'],['version',{},'text','2.0']],[" ++ s ++ json "]]"
+
+-- so many of them inside one another, and in the innermost something else
+abbrev nested : ℕ → List ℕ → List ℕ
+nested zero s = s
+nested (suc n) s = json "['x-a',[],[" ++ nested n s ++ json "]]"
+
+-- any own property, any number of times; the names `begin` and `end`; eight levels below the calendar
+carried : map canonical (
+    holding (json "['x-a',[['uid',{},'text','u'],['uid',{},'text','v'],['status',{},'text','FINAL']],[]]") ∷ holding (json "['begin',[],[['end',[],[]]]]") ∷ holding (nested 8 []) ∷ [])
+    ≡ is (holding (json "['x-a',[['uid',{},'text','u'],['uid',{},'text','v'],['status',{},'text','FINAL']],[]]")) ∷ is (holding (json "['begin',[],[['end',[],[]]]]")) ∷ is (holding (nested 8 [])) ∷ []
+unfolding jcal-compute
+carried = refl
+
+-- a name that can't be carried, or is none; one at the top; a VCALENDAR inside; in an event; a ninth level, also of a known component, and of a bad name
+not-carried : map canonical (
+    holding (json "['xmla',[],[]]") ∷ holding (json "['1a',[]]") ∷ json "['x-a',[],[]]" ∷ holding (json "['x-a',[],[['vcalendar',[],[]]]]") ∷ holding (json "['vevent',[],[['x-a',[],[]]]]") ∷
+    holding (nested 9 []) ∷ holding (nested 8 (json "['valarm',[],[]]")) ∷ holding (nested 8 (json "['1a',[],[]]")) ∷ [])
+    ≡ refusal NAME 69 ∷ refusal NAME 69 ∷ refusal FRAME 0 ∷ refusal FRAME 80 ∷ refusal FRAME 83 ∷
+    refusal FRAME 157 ∷ refusal FRAME 157 ∷ refusal NAME 157 ∷ []
+unfolding jcal-compute
+not-carried = refl
+
 -- ---- properties of an event
 
 abbrev properties : List String → List Given
@@ -87,8 +114,8 @@ parameters = refl
 abbrev withCarets : String → Given
 withCarets s = propertyBy (propertyFault Rfc6868 (ascii "VEVENT") (elementsOf s)) (propertyOf (ascii "VEVENT") (elementsOf s))
 
-carets : map withCarets ("['x-a',{'cn':'\\u0022\\n^'},'text','x']" ∷ "['summary',{'altrep':'a:\\u0022'},'text','x']" ∷ [])
-    ≡ is (json "['x-a',{'cn':'\\'\\n^'},'text','x']") ∷ refusal PARAMETER 0 ∷ []
+carets : map withCarets ("['x-a',{'cn':'\\u0022\\n^'},'text','x']" ∷ "['x-a',{'b':'\\u0022\\n^'},'text','x']" ∷ "['summary',{'altrep':'a:\\u0022'},'text','x']" ∷ [])
+    ≡ is (json "['x-a',{'cn':'\\'\\n^'},'text','x']") ∷ is (json "['x-a',{'b':'\\'\\n^'},'text','x']") ∷ refusal PARAMETER 0 ∷ []
 unfolding jcal-compute
 carets = refl
 

@@ -12,7 +12,7 @@ use Rattle.octets.specs.Class.{upper}
 use Rattle.octets.specs.Words.{same, isOneOf, holds}
 use Rattle.octets.specs.Lists.{every, anyOne, distinct}
 use Rattle.octets.specs.Reading.{provided, andThen, isRead, readOr, readEach}
-use Rattle.calendar.specs.Calendar.{xcal, ValueType, BINARY, BOOLEAN, Value, boolean, text, Parameter}
+use Rattle.calendar.specs.Calendar.{xcal, ValueType, BINARY, BOOLEAN, UNKNOWN, Value, boolean, text, unknown, Parameter}
 use Rattle.schema.specs.Types.{sameType}
 use Rattle.schema.specs.Properties.{permitsParameter}
 use Rattle.schema.specs.Parameters.{parameterType, isListedParameter, parameterWords}
@@ -29,9 +29,9 @@ use Rattle.json.specs.Kinds.{asString, orAlone}
 abbrev pub readTruth : List ℕ → Option Value
 readTruth s = pick (same s (ascii "TRUE")) (some (boolean true)) (provided (same s (ascii "FALSE")) (boolean false))
 
--- a word of a closed set exactly; else as in XML
+-- a word of a closed set exactly; that of an unrecognised parameter is any characters; else as in XML
 abbrev pub readWordIn : Option (List (List ℕ)) → ValueType → List ℕ → Option Value
-readWordIn none t s = pick (sameType t BOOLEAN) (readTruth s) (readValue xcal t s)
+readWordIn none t s = pick (sameType t UNKNOWN) (some (unknown s)) (pick (sameType t BOOLEAN) (readTruth s) (readValue xcal t s))
 readWordIn (some words) t s = provided (isOneOf s words) (text s)
 
 abbrev pub readCharacters : List ℕ → List ℕ → Option Value

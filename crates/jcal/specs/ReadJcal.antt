@@ -7,6 +7,7 @@ use Prim.Native.Nat.{ℕ}
 use lib.Dec.{leb}
 use lib.ListN.{length}
 use Rattle.octets.specs.Pick.{pick}
+use Rattle.calendar.specs.Levels.{levels}
 use Rattle.calendar.specs.Refusal.{LENGTH, JSON, Verdict, fine, refuse, _otherwise_, Answer, answer, limit, characters}
 use Rattle.utf8.specs.Utf8.{firstBad}
 use Rattle.edition.specs.declared.Edition.{Edition}
@@ -16,7 +17,7 @@ use Rattle.json.specs.Check.{verdict}
 use Rattle.json.specs.Tree.{valueOf}
 use Rattle.json.specs.declared.Checked.{Checked}
 use Rattle.json.specs.declared.Checked.the-variants.{Fine, At}
-use Rattle.jcal.specs.Components.{componentsVerdict, readComponents, calendarsIn}
+use Rattle.jcal.specs.Components.{componentsVerdict, readCalendars, calendarsIn}
 
 abbrev pub json : Checked → Verdict
 json Fine = fine
@@ -25,8 +26,8 @@ json (At p) = refuse JSON p
 unfoldable pub jcalVerdict : Edition → List ℕ → Verdict
 jcalVerdict ed s =
     pick (leb (length s) limit)
-    (characters (firstBad s) otherwise json (verdict mostOpen s) otherwise componentsVerdict ed (calendarsIn (valueOf s)) atTop false)
+    (characters (firstBad s) otherwise json (verdict mostOpen s) otherwise componentsVerdict ed (calendarsIn (valueOf s)) atTop levels false)
     (refuse LENGTH 0)
 
 unfoldable pub readJcal : Edition → List ℕ → Answer
-readJcal ed s = answer (jcalVerdict ed s) (readComponents (calendarsIn (valueOf s)))
+readJcal ed s = answer (jcalVerdict ed s) (readCalendars (calendarsIn (valueOf s)))

@@ -22,3 +22,10 @@ pub mod Plain
 pub mod NumbersWritten
 pub mod Writable
 pub mod JcalBack
+pub mod CheckedStrings
+pub mod Textual
+pub mod ValuesAccepted
+pub mod ParametersAccepted
+pub mod PropertyAccepted
+pub mod ComponentsAccepted
+pub mod JcalAccepted

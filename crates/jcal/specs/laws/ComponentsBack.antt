@@ -4,25 +4,27 @@ use mathlib.Core.Path.{_≡_, refl}
 use mathlib.Core.Bool.{Bool, true, false, not, false≢true}
 use mathlib.Core.List.{List, [], _∷_, map}
 use mathlib.Core.Option.{none}
-use Prim.Native.Nat.{ℕ}
+use Prim.Native.Nat.{ℕ, _-_}
+use lib.Dec.{ltb}
 use Rattle.octets.specs.Pick.{pick, _and_}
 use Rattle.octets.specs.Class.{lower}
-use Rattle.octets.specs.Words.{isOneOf, isEmpty}
+use Rattle.octets.specs.Words.{isEmpty}
 use Rattle.octets.specs.Lists.{every}
-use Rattle.octets.specs.laws.Lists.{every-both, word-passes}
+use Rattle.octets.specs.laws.Lists.{every-both}
 use Rattle.octets.specs.Reading.{andThen, isRead, readOr}
 use Rattle.calendar.specs.Calendar.{Property, Components, noMore, component}
+use Rattle.calendar.specs.Levels.{levels}
 use Rattle.calendar.specs.Refusal.{fine, _otherwise_}
-use Rattle.schema.specs.Components.{subcomponentsOf}
+use Rattle.schema.specs.Components.{mayContain}
 use Rattle.schema.specs.Counts.{Around, methodFor, complete}
 use Rattle.edition.specs.declared.Edition.{Edition}
 use Rattle.validity.specs.ValidCalendar.{isKeptName, isValidProperty, hasComponents, areValid, atTop, isValid}
-use Rattle.validity.specs.laws.ValidCalendar.{inside-kept, top-kept, valid-property, ValidComponent, valid-component, valid-parts}
+use Rattle.validity.specs.laws.ValidCalendar.{valid-property, ValidComponent, valid-component, valid-parts, valid-shallow}
 use Rattle.xcal.specs.laws.ElementNames.{kept-back}
 use Rattle.json.specs.Tree.{array, Elements, noElements, element, elementList}
 use Rattle.json.specs.Kinds.{asArray}
 use Rattle.jcal.specs.Property.{propertyOf}
-use Rattle.jcal.specs.Components.{propertiesVerdict, componentName, propertyArrays, componentFault, readProperties, methodInside, isComplete, componentsVerdict, componentVerdict, innerVerdict, arrayVerdict, readComponents, readInside, readInner, readArray, calendarsIn}
+use Rattle.jcal.specs.Components.{propertiesVerdict, componentName, propertyArrays, componentFault, readProperties, methodInside, isComplete, componentsVerdict, componentVerdict, innerVerdict, arrayVerdict, readComponents, readInside, readInner, readArray, readCalendars, calendarsIn}
 use Rattle.jcal.specs.laws.Trees.{element-list, str, arr, propertyElements, propertyTree, componentsTree, calendarTree}
 use Rattle.jcal.specs.laws.PropertyBack.{good-name, property-fine, property-back}
 
@@ -58,9 +60,9 @@ module _ (ed : Edition) (n : List ℕ) (ps : List Property) (inner : Components)
   unfolding elementList andThen readOr
   properties-there = rw (element-list (map propertyTree ps), kept-back n kept) (properties-back ed n ps h)
 
-  no-fault : (ks : List (List ℕ)) → isOneOf n ks ≡ true → componentFault ks (elementList (parts n ps inner)) ≡ none
+  no-fault : (may : List ℕ → Bool) (l : ℕ) → may n ≡ true → ltb 0 l ≡ true → componentFault may l (elementList (parts n ps inner)) ≡ none
   unfolding componentFault elementList andThen isRead readOr pick _and_
-  no-fault ks o = rw (good-name n kept, kept-back n kept, o)
+  no-fault may l o e = rw (good-name n kept, kept-back n kept, o, e)
 
   method-there : (m : Bool) → methodInside (elementList (parts n ps inner)) m ≡ methodFor n ps m
   unfolding elementList andThen readOr
@@ -80,34 +82,32 @@ module _ (ed : Edition) (n : List ℕ) (ps : List Property) (inner : Components)
 
 -- ---- all components
 
-components-fine : (ed : Edition) (c : Components) (ks : List (List ℕ)) (m : Bool) → every isKeptName ks ≡ true → areValid ed ks m c ≡ true → componentsVerdict ed (componentsTree c) ks m ≡ fine
+components-fine : (ed : Edition) (c : Components) (l : ℕ) (may : List ℕ → Bool) (m : Bool) → areValid ed l may m c ≡ true → componentsVerdict ed (componentsTree c) may l m ≡ fine
 unfolding componentsTree componentsVerdict componentVerdict innerVerdict arrayVerdict _otherwise_ pick
-components-fine ed noMore ks m q h = refl
-components-fine ed (component n ps inner next) ks m q h =
-    let v = valid-component ed ks m n ps inner next h in
-    let k = word-passes isKeptName ks n q (v .named) in
+components-fine ed noMore l may m h = refl
+components-fine ed (component n ps inner next) l may m h =
+    let v = valid-component ed l may m n ps inner next h in
     rw (
-      no-fault ed n ps inner k (v .properties) ks (v .named),
-      properties-part ed n ps inner k (v .properties),
-      method-there ed n ps inner k (v .properties) m,
-      complete-there ed n ps inner k (v .properties) m,
-      name-there ed n ps inner k (v .properties),
-      components-fine ed inner (subcomponentsOf n) (methodFor n ps m) (inside-kept n) (v .inside),
+      no-fault ed n ps inner (v .kept) (v .properties) may l (v .named) (v .level),
+      properties-part ed n ps inner (v .kept) (v .properties),
+      method-there ed n ps inner (v .kept) (v .properties) m,
+      complete-there ed n ps inner (v .kept) (v .properties) m,
+      name-there ed n ps inner (v .kept) (v .properties),
+      components-fine ed inner (l - 1) (mayContain n) (methodFor n ps m) (v .inside),
       v .counts,
     )
-    (components-fine ed next ks m q (v .after))
+    (components-fine ed next l may m (v .after))
 
-components-back : (ed : Edition) (c : Components) (ks : List (List ℕ)) (m : Bool) → every isKeptName ks ≡ true → areValid ed ks m c ≡ true → readComponents (componentsTree c) ≡ c
+components-back : (ed : Edition) (c : Components) (l : ℕ) (may : List ℕ → Bool) (m : Bool) → areValid ed l may m c ≡ true → readComponents (componentsTree c) ≡ c
 unfolding componentsTree readComponents readInside readInner readArray readOr
-components-back ed noMore ks m q h = refl
-components-back ed (component n ps inner next) ks m q h =
-    let v = valid-component ed ks m n ps inner next h in
-    let k = word-passes isKeptName ks n q (v .named) in
+components-back ed noMore l may m h = refl
+components-back ed (component n ps inner next) l may m h =
+    let v = valid-component ed l may m n ps inner next h in
     rw (
-      properties-there ed n ps inner k (v .properties),
-      name-there ed n ps inner k (v .properties),
-      components-back ed inner (subcomponentsOf n) (methodFor n ps m) (inside-kept n) (v .inside),
-      components-back ed next ks m q (v .after),
+      properties-there ed n ps inner (v .kept) (v .properties),
+      name-there ed n ps inner (v .kept) (v .properties),
+      components-back ed inner (l - 1) (mayContain n) (methodFor n ps m) (v .inside),
+      components-back ed next l may m (v .after),
     )
 
 -- ---- the stream
@@ -118,8 +118,10 @@ calendars-there noMore h = absurd (false≢true h)
 calendars-there (component n ps inner noMore) h = refl
 calendars-there (component n ps inner (component k qs more next)) h = refl
 
-pub tree-fine : (ed : Edition) (c : Components) → isValid ed c ≡ true → componentsVerdict ed (calendarsIn (calendarTree c)) atTop false ≡ fine
-tree-fine ed c h = let v = valid-parts ed c h in rw (calendars-there c (v .0)) (components-fine ed c atTop false top-kept (v .1))
+pub tree-fine : (ed : Edition) (c : Components) → isValid ed c ≡ true → componentsVerdict ed (calendarsIn (calendarTree c)) atTop levels false ≡ fine
+tree-fine ed c h = let v = valid-parts ed c h in rw (calendars-there c (v .0)) (components-fine ed c levels atTop false (v .1))
 
-pub tree-back : (ed : Edition) (c : Components) → isValid ed c ≡ true → readComponents (calendarsIn (calendarTree c)) ≡ c
-tree-back ed c h = let v = valid-parts ed c h in rw (calendars-there c (v .0)) (components-back ed c atTop false top-kept (v .1))
+pub tree-back : (ed : Edition) (c : Components) → isValid ed c ≡ true → readCalendars (calendarsIn (calendarTree c)) ≡ c
+tree-back ed c h =
+    let v = valid-parts ed c h in
+    rw (calendars-there c (v .0), components-back ed c levels atTop false (v .1)) (valid-shallow ed c levels atTop false (v .1))

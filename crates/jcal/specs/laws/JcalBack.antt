@@ -9,6 +9,7 @@ use lib.ListN.{length}
 use borrow.Author.Tests.{le-leb}
 use Rattle.octets.specs.Pick.{pick}
 use Rattle.calendar.specs.Calendar.{Components}
+use Rattle.calendar.specs.Levels.{levels}
 use Rattle.calendar.specs.Refusal.{fine, _otherwise_, accepted, limit}
 use Rattle.edition.specs.declared.Edition.{Edition}
 use Rattle.validity.specs.ValidCalendar.{atTop, isValid}
@@ -19,7 +20,7 @@ use Rattle.json.specs.Written.{written, bare, isWritable}
 use Rattle.json.specs.laws.CheckBack.{written-fine}
 use Rattle.json.specs.laws.TreeBack.{written-back}
 use Rattle.json.specs.laws.GoodBack.{written-good}
-use Rattle.jcal.specs.Components.{componentsVerdict, readComponents, calendarsIn}
+use Rattle.jcal.specs.Components.{componentsVerdict, readCalendars, calendarsIn}
 use Rattle.jcal.specs.ReadJcal.{jcalVerdict, readJcal}
 use Rattle.jcal.specs.WriteJcal.{writeJcal}
 use Rattle.jcal.specs.laws.Trees.{calendarTree, calendar-written}
@@ -35,16 +36,16 @@ module _ (ed : Edition) (c : Components) (valid : isValid ed c ≡ true) where
   same-value : bare (valueOf (written (calendarTree c))) ≡ bare (calendarTree c)
   same-value = written-back (calendarTree c) mostOpen writable
 
-  value-fine : componentsVerdict ed (calendarsIn (valueOf (written (calendarTree c)))) atTop false ≡ fine
+  value-fine : componentsVerdict ed (calendarsIn (valueOf (written (calendarTree c)))) atTop levels false ≡ fine
   value-fine =
       fine-is _
-      (sym (verdict-bare ed (valueOf (written (calendarTree c))) atTop false)
-      ∙ ap (λ (v : Json). isFine (componentsVerdict ed (calendarsIn v) atTop false)) same-value
-      ∙ verdict-bare ed (calendarTree c) atTop false
+      (sym (verdict-bare ed (valueOf (written (calendarTree c))) atTop levels false)
+      ∙ ap (λ (v : Json). isFine (componentsVerdict ed (calendarsIn v) atTop levels false)) same-value
+      ∙ verdict-bare ed (calendarTree c) atTop levels false
       ∙ ap isFine (tree-fine ed c valid))
 
-  value-back : readComponents (calendarsIn (valueOf (written (calendarTree c)))) ≡ c
-  value-back = sym (read-bare (valueOf (written (calendarTree c)))) ∙ ap (λ (v : Json). readComponents (calendarsIn v)) same-value ∙ read-bare (calendarTree c) ∙ tree-back ed c valid
+  value-back : readCalendars (calendarsIn (valueOf (written (calendarTree c)))) ≡ c
+  value-back = sym (read-bare (valueOf (written (calendarTree c)))) ∙ ap (λ (v : Json). readCalendars (calendarsIn v)) same-value ∙ read-bare (calendarTree c) ∙ tree-back ed c valid
 
   tree-read : length (written (calendarTree c)) ≤ limit → readJcal ed (written (calendarTree c)) ≡ accepted c
   unfolding readJcal jcalVerdict pick _otherwise_

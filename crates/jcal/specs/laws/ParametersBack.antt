@@ -16,24 +16,23 @@ use Rattle.octets.specs.laws.Lists.{every-both}
 use Rattle.octets.specs.Reading.{andThen, isRead, readOr}
 use Rattle.octets.specs.laws.Reading.{each-read-back}
 use Rattle.octets.specs.Computing.{octets-compute}
-use Rattle.calendar.specs.Calendar.{ValueType, TEXT, Value, binary, boolean, calAddress, date, dateTime, duration, float, integer, periodExplicit, periodStart, recur, text, time, uri, utcOffset, unknown, geo, requestStatus, typeOf, textIn, Parameter}
+use Rattle.calendar.specs.Calendar.{ValueType, UNKNOWN, Value, binary, boolean, calAddress, date, dateTime, duration, float, integer, periodExplicit, periodStart, recur, text, time, uri, utcOffset, unknown, geo, requestStatus, typeOf, textIn, Parameter}
 use Rattle.schema.specs.Types.{sameType}
+use Rattle.schema.specs.laws.Types.{same-type-true}
 use Rattle.schema.specs.Properties.{permitsParameter}
 use Rattle.schema.specs.Parameters.{parameterType, parameterWords}
-use Rattle.schema.specs.laws.Closed.{parameter-words-text}
 use Rattle.edition.specs.declared.Edition.{Edition}
 use Rattle.edition.specs.declared.Edition.the-variants.{Rfc5545, Rfc6868}
 use Rattle.texts.specs.Uri.{isUri}
 use Rattle.texts.specs.laws.Uri.{uri-visible, uri-unquoted}
 use Rattle.values.specs.WriteValue.{valueCharacters}
-use Rattle.values.specs.ReadBack.{isValue}
-use Rattle.values.specs.Valid.{isWordIn, isChosen, isParameter, areParameters}
+use Rattle.values.specs.ReadBack.{isValue, isTyped}
+use Rattle.values.specs.Valid.{isWordIn, isParameterValue, isParameter, areParameters}
 use Rattle.values.specs.laws.ReadBack.{isCharacterData, characters-read-back}
-use Rattle.values.specs.laws.Valid.{text-in}
+use Rattle.values.specs.laws.Valid.{text-in, kept-or-valid}
 use Rattle.validity.specs.ValidCalendar.{isKeptName, isParameterText, isValidParameter}
 use Rattle.validity.specs.laws.ValidCalendar.{ValidParameter, valid-parameter, parameter-value}
 use Rattle.xcal.specs.laws.ElementNames.{lower-same, kept-upper, kept-back}
-use Rattle.xcal.specs.laws.Chosen.{chosen-typed}
 use Rattle.json.specs.Tree.{Member}
 use Rattle.json.specs.Kinds.{asString}
 use Rattle.jcal.specs.Parameters.{readWordIn, readCharacters, readParameter, readParameters, isPlain, areSpelled, parametersGood}
@@ -44,7 +43,7 @@ use Rattle.jcal.specs.laws.ValuesBack.{alone-back}
 -- ---- one value
 
 plain-back : (v : Value) → isCharacterData v ≡ true → isValue v ≡ true → readWordIn none (typeOf v) (parameterValue v) ≡ some v
-unfolding parameterValue sameType octets-compute
+unfolding parameterValue valueCharacters sameType octets-compute
 plain-back (binary s) c h = characters-read-back (binary s) refl h
 plain-back (boolean true) c h = refl
 plain-back (boolean false) c h = refl
@@ -61,14 +60,23 @@ plain-back (text s) c h = characters-read-back (text s) refl h
 plain-back (time s) c h = characters-read-back (time s) refl h
 plain-back (uri s) c h = characters-read-back (uri s) refl h
 plain-back (utcOffset s) c h = characters-read-back (utcOffset s) refl h
-plain-back (unknown s) c h = characters-read-back (unknown s) refl h
+plain-back (unknown s) c h = refl
 plain-back (geo la lo) c h = absurd (false≢true c)
 plain-back (requestStatus a b x) c h = absurd (false≢true c)
 
-word-back : (o : Option (List (List ℕ))) (t : ValueType) (v : Value) → ((words : List (List ℕ)) → o ≡ some words → t ≡ TEXT) → isChosen o t v ≡ true → isCharacterData v ≡ true → readWordIn o t (parameterValue v) ≡ some v
+-- that of an unrecognised parameter is any characters
+unknown-back : (s : List ℕ) → readWordIn none UNKNOWN (parameterValue (unknown s)) ≡ some (unknown s)
+unfolding parameterValue valueCharacters sameType octets-compute
+unknown-back s = refl
+
+word-back : (o : Option (List (List ℕ))) (t : ValueType) (v : Value) → isParameterValue o t v ≡ true → isCharacterData v ≡ true → readWordIn o t (parameterValue v) ≡ some v
 unfolding parameterValue valueCharacters pick
-word-back none t v f h c = let k = chosen-typed none t v f h in rw (← (k .0)) (plain-back v c (k .2))
-word-back (some words) t v f h c = go (textIn v) refl h
+word-back none t v h c =
+    let p = and-both (sameType (typeOf v) t) _ h in
+    let q = and-both (isTyped v) (sameType (typeOf v) UNKNOWN or isValue v) (p .1) in
+    rw (← (same-type-true (typeOf v) t (p .0)))
+    (kept-or-valid (λ v. isCharacterData v ≡ true → readWordIn none (typeOf v) (parameterValue v) ≡ some v) (λ s c. unknown-back s) (λ v h c. plain-back v c h) v (q .1) c)
+word-back (some words) t v h c = go (textIn v) refl h
   where
     go : (o : Option (List ℕ)) → textIn v ≡ o → isWordIn words o ≡ true → readWordIn (some words) t (parameterValue v) ≡ some v
     go none e k = absurd (false≢true k)
@@ -89,10 +97,10 @@ free-carried s h =
     neither s (none-split 34 s [] (q .1) .0) (none-split 10 s [] (q .0) .0)
 
 module _ (n : List ℕ) where
-  pub data-of : (v : Value) → isChosen (parameterWords n) (parameterType n) v ≡ true → isCharacterData v ≡ true
+  pub data-of : (v : Value) → isParameterValue (parameterWords n) (parameterType n) v ≡ true → isCharacterData v ≡ true
   data-of v h = parameter-value (λ v. isCharacterData v ≡ true) (λ b. refl) (λ s u. refl) (λ s u. refl) (λ s. refl) (λ s. refl) n v h
 
-  carried : (v : Value) → isChosen (parameterWords n) (parameterType n) v ≡ true → isParameterText Rfc5545 v ≡ true → isPlain (parameterValue v) ≡ true
+  carried : (v : Value) → isParameterValue (parameterWords n) (parameterType n) v ≡ true → isParameterText Rfc5545 v ≡ true → isPlain (parameterValue v) ≡ true
   unfolding octets-compute parameterValue valueCharacters
   carried v h f =
       parameter-value (λ v. isParameterText Rfc5545 v ≡ true → isPlain (parameterValue v) ≡ true) truth (λ s u f. uri-carried s u) (λ s u f. uri-carried s u) free-carried free-carried n v h f
@@ -101,9 +109,9 @@ module _ (n : List ℕ) where
       truth true f = refl
       truth false f = refl
 
-  value-back : (v : Value) → isChosen (parameterWords n) (parameterType n) v ≡ true → andThen (asString (str (parameterValue v))) (readCharacters n) ≡ some v
+  value-back : (v : Value) → isParameterValue (parameterWords n) (parameterType n) v ≡ true → andThen (asString (str (parameterValue v))) (readCharacters n) ≡ some v
   unfolding andThen
-  value-back v h = word-back (parameterWords n) (parameterType n) v (λ words e. parameter-words-text n words e .0) h (data-of v h)
+  value-back v h = word-back (parameterWords n) (parameterType n) v h (data-of v h)
 
 -- ---- one parameter
 
@@ -114,7 +122,7 @@ parameter-back ed p h =
     rw (
       kept-back (p .name) (c .kept),
       alone-back (λ v. str (parameterValue v)) (λ v. refl) (p .values),
-      each-read-back (λ v. andThen (asString v) (readCharacters (p .name))) (isChosen (parameterWords (p .name)) (parameterType (p .name))) (λ v. str (parameterValue v)) (value-back (p .name)) (p .values) (c .chosen),
+      each-read-back (λ v. andThen (asString v) (readCharacters (p .name))) (isParameterValue (parameterWords (p .name)) (parameterType (p .name))) (λ v. str (parameterValue v)) (value-back (p .name)) (p .values) (c .chosen),
       c .amount,
     )
 
@@ -152,12 +160,12 @@ permits ed n t (p ∷ ps) h g =
 
 -- ---- what an edition can spell
 
-plain-all : (n : List ℕ) (vs : List Value) → every (isChosen (parameterWords n) (parameterType n)) vs ≡ true → every (isParameterText Rfc5545) vs ≡ true →
+plain-all : (n : List ℕ) (vs : List Value) → every (isParameterValue (parameterWords n) (parameterType n)) vs ≡ true → every (isParameterText Rfc5545) vs ≡ true →
     every (λ v. isPlain (readOr [] (asString v))) (map (λ v. str (parameterValue v)) vs) ≡ true
 unfolding every readOr
 plain-all n [] h k = refl
 plain-all n (v ∷ vs) h k =
-    let a = every-both (isChosen (parameterWords n) (parameterType n)) v vs h in
+    let a = every-both (isParameterValue (parameterWords n) (parameterType n)) v vs h in
     let b = every-both (isParameterText Rfc5545) v vs k in
     and-yes _ _ (carried n v (a .0) (b .0)) (plain-all n vs (a .1) (b .1))
 

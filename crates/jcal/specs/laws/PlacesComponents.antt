@@ -5,20 +5,20 @@ use mathlib.Core.Path.{_≡_, refl, sym, ap}
 use mathlib.Core.Bool.{Bool, true, false, false≢true}
 use mathlib.Core.List.{List, [], _∷_, map}
 use mathlib.Core.Option.{Option, none, some, Option·map}
-use Prim.Native.Nat.{ℕ, zero, suc}
+use Prim.Native.Nat.{ℕ, zero, suc, _-_}
 use lib.ListN.{length}
 use Rattle.octets.specs.Pick.{pick}
 use Rattle.octets.specs.Words.{isEmpty}
 use Rattle.octets.specs.Reading.{andThen, isRead, readOr}
 use Rattle.calendar.specs.Calendar.{Property, Components}
 use Rattle.calendar.specs.Refusal.{Refusal, COUNT, Verdict, fine, refuse, _otherwise_}
-use Rattle.schema.specs.Components.{subcomponentsOf}
+use Rattle.schema.specs.Components.{mayContain}
 use Rattle.edition.specs.declared.Edition.{Edition}
 use Rattle.json.specs.Tree.{Json, string, number, literal, array, object, Elements, noElements, element, elementList}
 use Rattle.json.specs.Kinds.{asArray, firstIn, nth}
 use Rattle.json.specs.Written.{bare, bareElements}
 use Rattle.jcal.specs.Property.{propertyFault, propertyOf}
-use Rattle.jcal.specs.Components.{at, propertyVerdict, propertiesVerdict, componentName, propertyArrays, componentArrays, readProperties, componentFault, methodInside, isComplete, componentsVerdict, componentVerdict, innerVerdict, arrayVerdict, readComponents, readInside, readInner, readArray, streamIn, isStream, calendarsIn}
+use Rattle.jcal.specs.Components.{at, propertyVerdict, propertiesVerdict, componentName, propertyArrays, componentArrays, readProperties, componentFault, methodInside, isComplete, componentsVerdict, componentVerdict, innerVerdict, arrayVerdict, readComponents, readInside, readInner, readArray, readCalendars, streamIn, isStream, calendarsIn}
 use Rattle.jcal.specs.laws.Places.{element-bare, as-array, nth-bare, name-bare, fault-bare, property-bare}
 
 -- ---- verdicts
@@ -104,9 +104,9 @@ module _ (vs : List Json) where
   properties-same : readProperties (map bare vs) ≡ readProperties vs
   properties-same = rw (name-bare vs, arrays-bare, or-none (propertyArrays vs)) (each-property (componentName vs) (readOr [] (propertyArrays vs)))
 
-  fault-same : (ks : List (List ℕ)) → componentFault ks (map bare vs) ≡ componentFault ks vs
+  fault-same : (may : List ℕ → Bool) (l : ℕ) → componentFault may l (map bare vs) ≡ componentFault may l vs
   unfolding componentFault
-  fault-same ks = rw (name-bare vs, arrays-bare, inner-bare, still-read (propertyArrays vs), still-read (componentArrays vs), same-length vs)
+  fault-same may l = rw (name-bare vs, arrays-bare, inner-bare, still-read (propertyArrays vs), still-read (componentArrays vs), same-length vs)
 
   method-same : (m : Bool) → methodInside (map bare vs) m ≡ methodInside vs m
   method-same m = rw (properties-same, name-bare vs)
@@ -124,43 +124,43 @@ counts false p q = refl
 mutual
   unfolding bare bareElements componentsVerdict componentVerdict innerVerdict arrayVerdict
 
-  components-verdict : (ed : Edition) (vs : Elements) (ks : List (List ℕ)) (m : Bool) → isFine (componentsVerdict ed (bareElements vs) ks m) ≡ isFine (componentsVerdict ed vs ks m)
-  components-verdict ed noElements ks m = refl
-  components-verdict ed (element v vs) ks m =
-      both (componentVerdict ed (bare v) ks m) (componentVerdict ed v ks m) (componentsVerdict ed (bareElements vs) ks m) (componentsVerdict ed vs ks m)
-      (component-verdict ed v ks m) (components-verdict ed vs ks m)
+  components-verdict : (ed : Edition) (vs : Elements) (may : List ℕ → Bool) (l : ℕ) (m : Bool) → isFine (componentsVerdict ed (bareElements vs) may l m) ≡ isFine (componentsVerdict ed vs may l m)
+  components-verdict ed noElements may l m = refl
+  components-verdict ed (element v vs) may l m =
+      both (componentVerdict ed (bare v) may l m) (componentVerdict ed v may l m) (componentsVerdict ed (bareElements vs) may l m) (componentsVerdict ed vs may l m)
+      (component-verdict ed v may l m) (components-verdict ed vs may l m)
 
-  component-verdict : (ed : Edition) (v : Json) (ks : List (List ℕ)) (m : Bool) → isFine (componentVerdict ed (bare v) ks m) ≡ isFine (componentVerdict ed v ks m)
-  component-verdict ed (string p s) ks m = refl
-  component-verdict ed (number p s) ks m = refl
-  component-verdict ed (literal p s) ks m = refl
-  component-verdict ed (object p e ms) ks m = refl
-  component-verdict ed (array p e vs) ks m =
+  component-verdict : (ed : Edition) (v : Json) (may : List ℕ → Bool) (l : ℕ) (m : Bool) → isFine (componentVerdict ed (bare v) may l m) ≡ isFine (componentVerdict ed v may l m)
+  component-verdict ed (string p s) may l m = refl
+  component-verdict ed (number p s) may l m = refl
+  component-verdict ed (literal p s) may l m = refl
+  component-verdict ed (object p e ms) may l m = refl
+  component-verdict ed (array p e vs) may l m =
       rw (
         element-bare vs,
         method-same (elementList vs) m,
         complete-same (elementList vs) m,
-        fault-same (elementList vs) ks,
+        fault-same (elementList vs) may l,
         name-same (elementList vs),
         arrays-bare (elementList vs),
         or-none (propertyArrays (elementList vs)),
       )
-      (both _ _ _ _ (at-same 0 p (componentFault ks (elementList vs)))
+      (both _ _ _ _ (at-same 0 p (componentFault may l (elementList vs)))
       (both _ _ _ _ (properties-verdict ed (componentName (elementList vs)) (readOr [] (propertyArrays (elementList vs))))
-      (both _ _ _ _ (inner-verdict ed vs 2 (subcomponentsOf (componentName (elementList vs))) (methodInside (elementList vs) m))
+      (both _ _ _ _ (inner-verdict ed vs 2 (mayContain (componentName (elementList vs))) (l - 1) (methodInside (elementList vs) m))
       (counts (isComplete (elementList vs) m) 0 e))))
 
-  inner-verdict : (ed : Edition) (vs : Elements) (k : ℕ) (ks : List (List ℕ)) (m : Bool) → isFine (innerVerdict ed (bareElements vs) k ks m) ≡ isFine (innerVerdict ed vs k ks m)
-  inner-verdict ed noElements k ks m = refl
-  inner-verdict ed (element v vs) zero ks m = array-verdict ed v ks m
-  inner-verdict ed (element v vs) (suc k) ks m = inner-verdict ed vs k ks m
+  inner-verdict : (ed : Edition) (vs : Elements) (k : ℕ) (may : List ℕ → Bool) (l : ℕ) (m : Bool) → isFine (innerVerdict ed (bareElements vs) k may l m) ≡ isFine (innerVerdict ed vs k may l m)
+  inner-verdict ed noElements k may l m = refl
+  inner-verdict ed (element v vs) zero may l m = array-verdict ed v may l m
+  inner-verdict ed (element v vs) (suc k) may l m = inner-verdict ed vs k may l m
 
-  array-verdict : (ed : Edition) (v : Json) (ks : List (List ℕ)) (m : Bool) → isFine (arrayVerdict ed (bare v) ks m) ≡ isFine (arrayVerdict ed v ks m)
-  array-verdict ed (string p s) ks m = refl
-  array-verdict ed (number p s) ks m = refl
-  array-verdict ed (literal p s) ks m = refl
-  array-verdict ed (object p e ms) ks m = refl
-  array-verdict ed (array p e vs) ks m = components-verdict ed vs ks m
+  array-verdict : (ed : Edition) (v : Json) (may : List ℕ → Bool) (l : ℕ) (m : Bool) → isFine (arrayVerdict ed (bare v) may l m) ≡ isFine (arrayVerdict ed v may l m)
+  array-verdict ed (string p s) may l m = refl
+  array-verdict ed (number p s) may l m = refl
+  array-verdict ed (literal p s) may l m = refl
+  array-verdict ed (object p e ms) may l m = refl
+  array-verdict ed (array p e vs) may l m = components-verdict ed vs may l m
 
 -- ---- what is stated
 
@@ -220,8 +220,9 @@ calendars-bare v = rw (is-stream v, stream-bare v) (go (isStream v))
     go true = refl
     go false = refl
 
-pub verdict-bare : (ed : Edition) (v : Json) (ks : List (List ℕ)) (m : Bool) → isFine (componentsVerdict ed (calendarsIn (bare v)) ks m) ≡ isFine (componentsVerdict ed (calendarsIn v) ks m)
-verdict-bare ed v ks m = rw (calendars-bare v) (components-verdict ed (calendarsIn v) ks m)
+pub verdict-bare : (ed : Edition) (v : Json) (may : List ℕ → Bool) (l : ℕ) (m : Bool) →
+    isFine (componentsVerdict ed (calendarsIn (bare v)) may l m) ≡ isFine (componentsVerdict ed (calendarsIn v) may l m)
+verdict-bare ed v may l m = rw (calendars-bare v) (components-verdict ed (calendarsIn v) may l m)
 
-pub read-bare : (v : Json) → readComponents (calendarsIn (bare v)) ≡ readComponents (calendarsIn v)
-read-bare v = rw (calendars-bare v) (components-same (calendarsIn v))
+pub read-bare : (v : Json) → readCalendars (calendarsIn (bare v)) ≡ readCalendars (calendarsIn v)
+read-bare v = rw (calendars-bare v, components-same (calendarsIn v))

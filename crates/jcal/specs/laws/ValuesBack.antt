@@ -243,7 +243,7 @@ status-own k t v p h =
 -- ---- any property
 
 -- a property with a closed set takes TEXT alone
-only-text : (k n : List ℕ) (t : ValueType) → isTypeOf t (permittedTypes n) ≡ true → (words : List (List ℕ)) → propertyWords k n ≡ some words → t ≡ TEXT
+pub only-text : (k n : List ℕ) (t : ValueType) → isTypeOf t (permittedTypes n) ≡ true → (words : List (List ℕ)) → propertyWords k n ≡ some words → t ≡ TEXT
 unfolding isTypeOf
 only-text k n t p words e = same-type-true t TEXT (sym (or-false (sameType t TEXT)) ∙ subst (λ (l : List ValueType). isTypeOf t l ≡ true) (property-words-text k n words e .0) p)
 

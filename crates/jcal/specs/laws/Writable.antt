@@ -4,9 +4,9 @@ use mathlib.Core.Path.{_≡_, refl, sym, ap, _∙_}
 use mathlib.Core.Bool.{Bool, true, false, false≢true}
 use mathlib.Core.List.{List, [], _∷_, map}
 use mathlib.Core.Option.{Option, none, some}
-use Prim.Native.Nat.{ℕ, zero, suc, _+_, _*_, _^_, _≤_, _<_}
+use Prim.Native.Nat.{ℕ, zero, suc, _+_, _-_, _*_, _^_, _≤_, _<_}
 use native.Mathlib.Omega.{arith}
-use lib.Dec.{ltb, leb}
+use lib.Dec.{leb}
 use borrow.Author.Tests.{ltb-true, leb-true}
 use Rattle.octets.specs.Ascii.{ascii}
 use Rattle.octets.specs.Pick.{pick, _and_, within}
@@ -15,18 +15,18 @@ use Rattle.octets.specs.Class.{isVisible, isNameChar, lower}
 use Rattle.octets.specs.laws.Class.{name-char-visible}
 use Rattle.octets.specs.Scan.{allOf}
 use Rattle.octets.specs.laws.Scan.{all-weaker}
-use Rattle.octets.specs.Words.{isEmpty, isOneOf}
+use Rattle.octets.specs.Words.{isOneOf}
 use Rattle.octets.specs.Lists.{every}
-use Rattle.octets.specs.laws.Lists.{every-both, every-weaker, every-and, word-passes}
-use Rattle.octets.specs.laws.Tables.{row-named, row-passes, row-any-passes}
+use Rattle.octets.specs.laws.Lists.{every-both, every-weaker, every-and}
+use Rattle.octets.specs.laws.Tables.{row-named, row-passes}
 use Rattle.octets.specs.Computing.{octets-compute}
 use Rattle.calendar.specs.Calendar.{ValueType, Whole, Decimal, RuleItem, moment, number, word, weekday, RulePart, Value, binary, boolean, calAddress, date, dateTime, duration, float, integer, periodExplicit, periodStart, recur, text, time, uri, utcOffset, unknown, geo, requestStatus, Parameter, Property, Components, noMore, component}
+use Rattle.calendar.specs.Levels.{levels}
 use Rattle.utf8.specs.Computing.{utf8-compute}
 use Rattle.schema.specs.Types.{typeName}
 use Rattle.schema.specs.laws.Types.{type-passes}
-use Rattle.schema.specs.Components.{ComponentRow, componentTable, unknownComponent, componentRow, subcomponentsOf}
+use Rattle.schema.specs.Components.{mayContain}
 use Rattle.schema.specs.Counts.{methodFor}
-use Rattle.schema.specs.Computing.{schema-compute}
 use Rattle.numbers.specs.Integer.{isInteger}
 use Rattle.numbers.specs.Float.{isNormal}
 use Rattle.times.specs.DateTime.{isDateTime}
@@ -36,13 +36,13 @@ use Rattle.recur.specs.Item.{isOfForm, isFor, isItem}
 use Rattle.recur.specs.Rule.{isAmount, isPart, isOrdered, isComplete}
 use Rattle.values.specs.WriteValue.{valueCharacters, typeOfAll}
 use Rattle.values.specs.ReadBack.{isValue}
-use Rattle.values.specs.Valid.{isChosen, areValuesOf, arePropertyValues}
+use Rattle.values.specs.Valid.{isParameterValue, areValuesOf, arePropertyValues}
 use Rattle.values.specs.Characters.{isValueText}
 use Rattle.values.specs.laws.ReadBack.{isCharacterData}
-use Rattle.values.specs.laws.Valid.{chosen-valid, property-value-valid}
+use Rattle.values.specs.laws.Valid.{parameter-value-valid, property-value-valid}
 use Rattle.edition.specs.declared.Edition.{Edition}
 use Rattle.validity.specs.ValidCalendar.{isKeptName, isParameterText, isValidParameter, isValidProperty, areValid, atTop}
-use Rattle.validity.specs.laws.ValidCalendar.{inside-kept, top-kept, parameter-text as parameter-plain, valid-parameter, valid-property, valid-component}
+use Rattle.validity.specs.laws.ValidCalendar.{parameter-text as parameter-plain, valid-parameter, valid-property, valid-component}
 use Rattle.schema.specs.Parameters.{parameterType, parameterWords}
 use Rattle.xml.specs.Reads.{isName as isXmlName}
 use Rattle.xcal.specs.laws.ElementNames.{kept-element}
@@ -231,17 +231,21 @@ parameter-text (unknown s) c h k = clean-text _ (data-clean (unknown s) refl h k
 parameter-text (geo la lo) c h k = absurd (false≢true c)
 parameter-text (requestStatus x y z) c h k = absurd (false≢true c)
 
+parameter-value-text : (n : List ℕ) (v : Value) → isParameterValue (parameterWords n) (parameterType n) v ≡ true → isCleanValue v ≡ true → isText (parameterValue v) ≡ true
+unfolding parameterValue valueCharacters
+parameter-value-text n v h k =
+    parameter-value-valid (λ v. isCharacterData v ≡ true → isCleanValue v ≡ true → isText (parameterValue v) ≡ true) (λ s c k. clean-text s (every-both isClean s [] k .0)) (λ v h c k. parameter-text v c h k)
+    (parameterWords n) (parameterType n) v h (data-of n v h) k
+
 parameter-writable : (ed : Edition) (d : ℕ) (p : Parameter) → isValidParameter ed p ≡ true → (isText (parameterMember p .name) ≡ true) × (isWritable (parameterMember p .value) (suc d) ≡ true)
 unfolding isWritable
 parameter-writable ed d p h =
     let c = valid-parameter ed p h in (
       name-text (p .name) (c .kept),
-      one-writable (λ v. str (parameterValue v)) (λ v. isChosen (parameterWords (p .name)) (parameterType (p .name)) v and isCleanValue v)
-          (λ d v e.
-          let a = and-both (isChosen (parameterWords (p .name)) (parameterType (p .name)) v) _ e in
-          parameter-text v (data-of (p .name) v (a .0)) (chosen-valid (parameterWords (p .name)) (parameterType (p .name)) v (a .0)) (a .1))
+      one-writable (λ v. str (parameterValue v)) (λ v. isParameterValue (parameterWords (p .name)) (parameterType (p .name)) v and isCleanValue v)
+          (λ d v e. let a = and-both (isParameterValue (parameterWords (p .name)) (parameterType (p .name)) v) _ e in parameter-value-text (p .name) v (a .0) (a .1))
           (p .values)
-          (every-and (isChosen (parameterWords (p .name)) (parameterType (p .name))) isCleanValue (p .values) (c .chosen)
+          (every-and (isParameterValue (parameterWords (p .name)) (parameterType (p .name))) isCleanValue (p .values) (c .chosen)
           (values-clean (p .values) (every-weaker (isParameterText ed) isValueText (parameter-plain ed) (p .values) (c .plain)) (c .permitted)))
           d,
     )
@@ -262,39 +266,26 @@ property-writable ed k d p h =
 
 -- ---- components
 
--- how many components stand inside one another in a component
-abbrev rowDepth : ComponentRow → ℕ
-rowDepth r = pick (isEmpty (r .subcomponents)) 0 (pick (every (λ n. isEmpty (subcomponentsOf n)) (r .subcomponents)) 1 2)
+none-left : {X : Type 0} (ed : Edition) (l : ℕ) (may : List ℕ → Bool) (m : Bool) (n : List ℕ) (ps : List Property) (inner next : Components) → areValid ed l may m (component n ps inner next) ≡ true → l ≤ 0 → X
+none-left ed l may m n ps inner next h e = let w : 0 < l = ltb-true 0 l (valid-component ed l may m n ps inner next h .level) in absurd (omega arith)
 
-unfoldable depthOf : List ℕ → ℕ
-depthOf n = rowDepth (componentRow n)
-
-all-shallower : (k : List ℕ) → every (λ n. ltb (depthOf n) (depthOf k)) (subcomponentsOf k) ≡ true
-unfolding schema-compute depthOf
-all-shallower k = row-any-passes (λ r. r .name) k (λ r. every (λ n. ltb (depthOf n) (rowDepth r)) (r .subcomponents)) unknownComponent componentTable refl refl
-
-top-shallow : every (λ n. ltb (depthOf n) 3) atTop ≡ true
-unfolding schema-compute depthOf
-top-shallow = refl
-
--- components with names among ks, all of less depth than e: each takes its own array and that of its subcomponents, its properties four
-components-writable : (ed : Edition) (c : Components) (ks : List (List ℕ)) (m : Bool) (e d : ℕ) → every isKeptName ks ≡ true → every (λ n. ltb (depthOf n) e) ks ≡ true → areValid ed ks m c ≡ true → 5 + 2 * e ≤ d →
-    areWritable (componentsTree c) d ≡ true
+-- at most l levels of components: each takes its own array and that of its subcomponents, its properties three more
+components-writable : (ed : Edition) (c : Components) (l : ℕ) (may : List ℕ → Bool) (m : Bool) (d : ℕ) → areValid ed l may m c ≡ true → 3 + 2 * l ≤ d → areWritable (componentsTree c) d ≡ true
 unfolding componentsTree isWritable areWritable toElements
-components-writable ed noMore ks m e d a b h l = refl
-components-writable ed (component n ps inner next) ks m e zero a b h l = absurd (omega arith)
-components-writable ed (component n ps inner next) ks m e (suc zero) a b h l = absurd (omega arith)
-components-writable ed (component n ps inner next) ks m e (suc (suc zero)) a b h l = absurd (omega arith)
-components-writable ed (component n ps inner next) ks m e (suc (suc (suc zero))) a b h l = absurd (omega arith)
-components-writable ed (component n ps inner next) ks m e (suc (suc (suc (suc zero)))) a b h l = absurd (omega arith)
-components-writable ed (component n ps inner next) ks m e (suc (suc (suc (suc (suc d))))) a b h l =
-    let v = valid-component ed ks m n ps inner next h in
-    let w : depthOf n < e = ltb-true _ _ (word-passes (λ n. ltb (depthOf n) e) ks n b (v .named)) in
+components-writable ed noMore l may m d h e = refl
+components-writable ed (component n ps inner next) l may m zero h e = absurd (omega arith)
+components-writable ed (component n ps inner next) l may m (suc zero) h e = absurd (omega arith)
+components-writable ed (component n ps inner next) l may m (suc (suc zero)) h e = absurd (omega arith)
+components-writable ed (component n ps inner next) l may m (suc (suc (suc zero))) h e = none-left ed l may m n ps inner next h (omega arith)
+components-writable ed (component n ps inner next) l may m (suc (suc (suc (suc zero)))) h e = none-left ed l may m n ps inner next h (omega arith)
+components-writable ed (component n ps inner next) l may m (suc (suc (suc (suc (suc d))))) h e =
+    let v = valid-component ed l may m n ps inner next h in
+    let w : 0 < l = ltb-true 0 l (v .level) in
     and-yes _ _
-    (and-yes _ _ (name-text n (word-passes isKeptName ks n a (v .named)))
+    (and-yes _ _ (name-text n (v .kept))
     (and-yes _ _ (each-writable propertyTree (isValidProperty ed n) (suc (suc (suc d))) (property-writable ed n d) ps (v .properties))
-    (and-yes _ _ (components-writable ed inner (subcomponentsOf n) (methodFor n ps m) (depthOf n) (suc (suc (suc d))) (inside-kept n) (all-shallower n) (v .inside) (omega arith)) refl)))
-    (components-writable ed next ks m e (suc (suc (suc (suc (suc d))))) a b (v .after) l)
+    (and-yes _ _ (components-writable ed inner (l - 1) (mayContain n) (methodFor n ps m) (suc (suc (suc d))) (v .inside) (omega arith)) refl)))
+    (components-writable ed next l may m (suc (suc (suc (suc (suc d))))) (v .after) e)
 
 alone-writable : (vs : Elements) (d : ℕ) → areWritable vs d ≡ true → areWritable vs (suc d) ≡ true → isWritable (alone vs) (suc d) ≡ true
 unfolding isWritable areWritable
@@ -302,6 +293,6 @@ alone-writable noElements d h k = refl
 alone-writable (element v noElements) d h k = and-both (isWritable v (suc d)) _ k .0
 alone-writable (element v (element w vs)) d h k = h
 
-pub calendar-writable : (ed : Edition) (c : Components) → areValid ed atTop false c ≡ true → isWritable (calendarTree c) mostOpen ≡ true
+pub calendar-writable : (ed : Edition) (c : Components) → areValid ed levels atTop false c ≡ true → isWritable (calendarTree c) mostOpen ≡ true
 calendar-writable ed c h =
-    alone-writable (componentsTree c) 31 (components-writable ed c atTop false 3 31 top-kept top-shallow h (omega arith)) (components-writable ed c atTop false 3 32 top-kept top-shallow h (omega arith))
+    alone-writable (componentsTree c) 31 (components-writable ed c levels atTop false 31 h (omega arith)) (components-writable ed c levels atTop false 32 h (omega arith))
