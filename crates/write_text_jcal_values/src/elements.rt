@@ -84,7 +84,8 @@ pub fn string_at(s: &[u8], at: usize) -> usize
     ensures { λ r. ⌜ rest 3 (now (s .entry)) r ≡ charactersIn (elementsAt (now (s .entry)) at) ⌝ }
 {
     let h = element_at(s, at);
-    let string = is_string(h.kind);
+    let kind = h.kind;
+    let string = is_string(kind);
     if string {
         return 2 * (h.place + 1);
     }
@@ -97,7 +98,8 @@ pub fn array_at(s: &[u8], at: usize) -> usize
         elementsAt (now (s .entry)) r ≡ streamIn (firstOf (elementsAt (now (s .entry)) at)) ⌝ }
 {
     let h = element_at(s, at);
-    let array = is_array(h.kind);
+    let kind = h.kind;
+    let array = is_array(kind);
     if array {
         return h.next;
     }
@@ -110,7 +112,8 @@ pub fn object_at(s: &[u8], at: usize) -> usize
         membersAt (now (s .entry)) r ≡ membersIn (firstOf (elementsAt (now (s .entry)) at)) ⌝ }
 {
     let h = element_at(s, at);
-    let object = is_object(h.kind);
+    let kind = h.kind;
+    let object = is_object(kind);
     if object {
         return h.next;
     }

@@ -35,7 +35,8 @@ fn put_item_of(out: &mut [u8], o: usize, p: usize, s: &[u8], h: Head) -> usize
         itemOf p (valueOfHead (now (s .entry)) h) ≡ some i →
         Put (now (out .entry)) (now (out .exit)) o r (writeItem ical i)) ⌝ }
 {
-    let string = is_string(h.kind);
+    let kind = h.kind;
+    let string = is_string(kind);
     if string {
         return put_item(out, o, p, true, false, 3, s, 2 * (h.place + 1));
     }
@@ -67,7 +68,8 @@ fn put_listed(out: &mut [u8], o: usize, p: usize, s: &[u8], from: usize) -> usiz
     let mut started = false;
     loop {
         let h = element_at(s, at);
-        let there = is_there(h.kind);
+        let kind = h.kind;
+        let there = is_there(kind);
         if there {
             q = put_one_item(out, q, started, p, s, h);
             started = true;
@@ -87,7 +89,8 @@ pub fn put_items(out: &mut [u8], o: usize, p: usize, s: &[u8], at: usize) -> usi
         Put (now (out .entry)) (now (out .exit)) o r (joinedBy 44 (map (writeItem ical) is))) ⌝ }
 {
     let h = element_at(s, at);
-    let array = is_array(h.kind);
+    let kind = h.kind;
+    let array = is_array(kind);
     if array {
         return put_listed(out, o, p, s, h.next);
     }

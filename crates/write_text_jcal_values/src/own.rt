@@ -79,7 +79,8 @@ fn put_texts(out: &mut [u8], o: usize, s: &[u8], from: usize) -> usize
     let mut started = false;
     loop {
         let h = element_at(s, at);
-        let there = is_there(h.kind);
+        let kind = h.kind;
+        let there = is_there(kind);
         if there {
             q = put_one_text(out, q, started, s, h);
             started = true;

@@ -79,7 +79,8 @@ fn put_each(out: &mut [u8], o: usize, p: usize, t: usize, s: &[u8], from: usize)
     let mut started = false;
     loop {
         let h = element_at(s, at);
-        let there = is_there(h.kind);
+        let kind = h.kind;
+        let there = is_there(kind);
         if there {
             q = put_one_value(out, q, started, p, t, s, h);
             started = true;
@@ -136,7 +137,8 @@ pub fn type_of_values(context: Context, read: bool, s: &[u8], from: usize) -> us
 {
     let t = written_type(context);
     let h = element_at(s, from);
-    let there = is_there(h.kind);
+    let kind = h.kind;
+    let there = is_there(kind);
     if read {
         if there {
             return t;

@@ -156,7 +156,7 @@ object-other Object s p n q = absurd (false≢true (sym q))
 -- no characters from the end on
 characters-past : (s : List ℕ) → rest 3 s (2 * length s) ≡ []
 unfolding charactersFrom
-characters-past s = rest-quoted s (length s) ∙ ap characters (drop-of-length-le s (omega arith))
+characters-past s = let h : length s ≤ length s = omega arith in rest-quoted s (length s) ∙ ap characters (drop-of-length-le s h)
 
 -- where an element stands that was found
 pub record Spans (s : List ℕ) (h : Head) : Type 0 where
@@ -245,7 +245,7 @@ pub record Skipping (s : List ℕ) (from k at i : ℕ) : Type 0 where
   pub left : without k (elementsAt s from) ≡ without (k - i) (elementsAt s at)
 
 pub skip-start : (s : List ℕ) (from k : ℕ) → Skipping s from k from 0
-skip-start s from k = record { most = omega arith; left = refl }
+skip-start s from k = let e : k ≡ k - 0 = omega arith in record { most = omega arith; left = ap (λ (c : ℕ). without c (elementsAt s from)) e }
 
 module _ {s : List ℕ} {from k at i : ℕ} (w : Skipping s from k at i) where
   pub skip-more : i < k → {h : Head} → HeadAt s at h → {r : ℕ} → NextAt s h r → Skipping s from k r (i + 1)

@@ -35,6 +35,10 @@ pub each-none : {A B : Type 0} (f : A → Option B) (xs : List B) → readEach f
 unfolding readEach
 each-none f xs h = sym (same-some h)
 
+pub each-more : {A B : Type 0} (f : A → Option B) (v : A) (vs : List A) (x : B) (xs : List B) → f v ≡ some x → readEach f vs ≡ some xs → readEach f (v ∷ vs) ≡ some (x ∷ xs)
+unfolding readEach andThen consRead
+each-more f v vs x xs e g = rw (e, g)
+
 module _ {A : Type 0} (f : Json → Option A) (w : A → List ℕ) (c : ℕ) where
   -- it began with d₀ and o₀ at the element at `from`, and has come with d and o to the one at `at`
   pub record Joining (s : List ℕ) (from : ℕ) (d₀ : List ℕ) (o₀ : ℕ) (d : List ℕ) (o at : ℕ) (started : Bool) : Type 0 where

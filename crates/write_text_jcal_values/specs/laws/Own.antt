@@ -60,12 +60,12 @@ geo-parts (element la (element lo noElements)) v h =
     (e .0, g .0, e .1, g .1, sym (same-some (g .2)))
 geo-parts (element la (element lo (element x xs))) v h = none-some h
 
-pub geo-put : {s : List ℕ} {inside second : ℕ} → elementsAt s second ≡ without 1 (elementsAt s inside) → {d e f g : List ℕ} {o a b r : ℕ} →
+pub geo-put : (s : List ℕ) (inside second : ℕ) → elementsAt s second ≡ without 1 (elementsAt s inside) → {d e f g : List ℕ} {o a b r : ℕ} →
     ((x : Decimal) → andThen (asNumber (firstOf (elementsAt s inside))) readFloat ≡ some x → Put d e o a (writeFloat x)) → Put e f a b (ascii ";") →
     ((x : Decimal) → andThen (asNumber (firstOf (elementsAt s second))) readFloat ≡ some x → Put f g b r (writeFloat x)) →
     (v : Value) → readGeo (listAt s inside) ≡ some v → Put d g o r (writeValue v)
 unfolding writeValue _⊕_
-geo-put {s} {inside} {second} i {d} {g = g} {o} {r = r} p q t v h =
+geo-put s inside second i {d} {g = g} {o} {r = r} p q t v h =
     let z = geo-parts (elementsAt s inside) v h in
     subst (λ (x : Value). Put d g o r (writeValue x)) (sym (z .4))
     (p (z .0) (z .2) ▷ q ▷ t (z .1) (ap (λ (es : Elements). andThen (asNumber (firstOf es)) readFloat) i ∙ z .3))
@@ -96,9 +96,9 @@ status-written (c ∷ x ∷ []) v h = rw (← (same-some h))
 status-written (c ∷ x ∷ y ∷ []) v h = rw (← (same-some h))
 status-written (c ∷ x ∷ y ∷ l ∷ ls) v h = none-some h
 
-pub status-put : {s : List ℕ} {inside : ℕ} {d e : List ℕ} {o r : ℕ} →
+pub status-put : (s : List ℕ) (inside : ℕ) {d e : List ℕ} {o r : ℕ} →
     ((ls : List (List ℕ)) → readEach asString (listAt s inside) ≡ some ls → Put d e o r (joinedBy 59 (map writeText ls))) →
     (v : Value) → andThen (readEach asString (listAt s inside)) readStatus ≡ some v → Put d e o r (writeValue v)
-status-put {s} {inside} {d} {e} {o} {r} p v h =
+status-put s inside {d} {e} {o} {r} p v h =
     let z = andThen-some (readEach asString (listAt s inside)) readStatus v h in
     subst (Put d e o r) (sym (status-written (z .0) v (z .2))) (p (z .0) (z .1))

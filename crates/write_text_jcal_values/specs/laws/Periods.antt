@@ -33,13 +33,13 @@ unfolding writeDateTime readOr
 moment-text none = refl
 moment-text (some v) = refl
 
-pub start-put : {s : List ℕ} {inside c : ℕ} → rest 3 s c ≡ charactersIn (elementsAt s inside) → {d e : List ℕ} {o r : ℕ} →
+pub start-put : (s : List ℕ) (inside c : ℕ) → rest 3 s c ≡ charactersIn (elementsAt s inside) → {d e : List ℕ} {o r : ℕ} →
     Put d e o r (orNothing (writeDateTime ical) (readDateTime xcal (rest 3 s c))) → Put d e o r (orNothing (writeDateTime ical) (readDateTime xcal (charactersIn (elementsAt s inside))))
-start-put j {d} {e} {o} {r} p = subst (λ (l : List ℕ). Put d e o r (orNothing (writeDateTime ical) (readDateTime xcal l))) j p
+start-put s inside c j {d} {e} {o} {r} p = subst (λ (l : List ℕ). Put d e o r (orNothing (writeDateTime ical) (readDateTime xcal l))) j p
 
 -- ---- the end
 
-module _ {d e : List ℕ} {o r : ℕ} {s : List ℕ} {c : ℕ} {x : DurationRead} (q : readDuration xcal (rest 3 s c) ≡ spanOf true 3 s x) where
+module _ {d e : List ℕ} {o r : ℕ} (s : List ℕ) (c : ℕ) {x : DurationRead} (q : readDuration xcal (rest 3 s c) ≡ spanOf true 3 s x) where
   pub end-span : {m : Bool} {n : ℕ} → x ≡ Span m n → Put d e o r (orNothing (writeDuration ical) (readDuration xcal (rest 3 s c))) → Put d e o r (endText (rest 3 s c))
   unfolding writeDuration readOr
   end-span h p = rw (q, h) (rw (q, h) at p)
@@ -47,9 +47,9 @@ module _ {d e : List ℕ} {o r : ℕ} {s : List ℕ} {c : ℕ} {x : DurationRead
   pub end-moment : x ≡ NoDuration → Put d e o r (orNothing (writeDateTime ical) (readDateTime xcal (rest 3 s c))) → Put d e o r (endText (rest 3 s c))
   end-moment h p = rw (q, h) (subst (Put d e o r) (moment-text (readDateTime xcal (rest 3 s c))) p)
 
-pub finish-put : {s : List ℕ} {inside second c : ℕ} → elementsAt s second ≡ without 1 (elementsAt s inside) → rest 3 s c ≡ charactersIn (elementsAt s second) → {d e : List ℕ} {o r : ℕ} →
+pub finish-put : (s : List ℕ) (inside second c : ℕ) → elementsAt s second ≡ without 1 (elementsAt s inside) → rest 3 s c ≡ charactersIn (elementsAt s second) → {d e : List ℕ} {o r : ℕ} →
     Put d e o r (endText (rest 3 s c)) → Put d e o r (endText (charactersIn (without 1 (elementsAt s inside))))
-finish-put i j {d} {e} {o} {r} p = subst (λ (l : List ℕ). Put d e o r (endText l)) (j ∙ ap (λ (es : Elements). charactersIn es) i) p
+finish-put s inside second c i j {d} {e} {o} {r} p = subst (λ (l : List ℕ). Put d e o r (endText l)) (j ∙ ap (λ (es : Elements). charactersIn es) i) p
 
 -- ---- the whole
 
@@ -62,6 +62,11 @@ from-written m l v h = go (readDuration xcal l) (readDateTime xcal l) h
     go none (some x) k = let z : periodExplicit m x ≡ v = cc in rw (← z)
     go none none k = none-some k
 
+two-written : (a b : Json) (v : Value) (x m y : List ℕ) → asString a ≡ some x → readDateTime xcal x ≡ some m → asString b ≡ some y → periodFrom m y ≡ some v →
+    writeValue v ≡ orNothing (writeDateTime ical) (readDateTime xcal (readOr [] (asString a))) ⊕ ascii "/" ⊕ endText (readOr [] (asString b))
+unfolding readOr
+two-written a b v x m y e f g h = rw (moment-text (readDateTime xcal (readOr [] (asString a))), e, f, g) (from-written m y v h)
+
 period-written : (es : Elements) (v : Value) → readPeriod (elementList es) ≡ some v →
     writeValue v ≡ orNothing (writeDateTime ical) (readDateTime xcal (charactersIn es)) ⊕ ascii "/" ⊕ endText (charactersIn (without 1 es))
 unfolding elementList without
@@ -71,10 +76,10 @@ period-written (element a (element b noElements)) v h =
     let e = andThen-some (andThen (asString a) (readDateTime xcal)) (λ m. andThen (asString b) (periodFrom m)) v h in
     let f = andThen-some (asString a) (readDateTime xcal) (e .0) (e .1) in
     let g = andThen-some (asString b) (periodFrom (e .0)) v (e .2) in
-    unfold readOr in rw (moment-text (readDateTime xcal (readOr [] (asString a))), f .1, f .2, g .1) (from-written (e .0) (g .0) v (g .2))
+    two-written a b v (f .0) (e .0) (g .0) (f .1) (f .2) (g .1) (g .2)
 period-written (element a (element b (element x xs))) v h = none-some h
 
-pub period-put : {s : List ℕ} {inside : ℕ} {d e f g : List ℕ} {o a b r : ℕ} →
+pub period-put : (s : List ℕ) (inside : ℕ) {d e f g : List ℕ} {o a b r : ℕ} →
     Put d e o a (orNothing (writeDateTime ical) (readDateTime xcal (charactersIn (elementsAt s inside)))) → Put e f a b (ascii "/") →
     Put f g b r (endText (charactersIn (without 1 (elementsAt s inside)))) → (v : Value) → readPeriod (listAt s inside) ≡ some v → Put d g o r (writeValue v)
-period-put {s} {inside} {d} {g = g} {o} {r = r} p q t v h = subst (Put d g o r) (sym (period-written (elementsAt s inside) v h)) (p ▷ q ▷ t)
+period-put s inside {d} {g = g} {o} {r = r} p q t v h = subst (Put d g o r) (sym (period-written (elementsAt s inside) v h)) (p ▷ q ▷ t)

@@ -44,14 +44,14 @@ use Rattle.write_text_pieces.specs.laws.Typing.{number-of}
 use Rattle.write_text_jcal_values.specs.Elements.{listAt, isThere}
 use Rattle.write_text_jcal_values.specs.Property.{oneAt, writtenAt, statedAs, ReadAs}
 use Rattle.write_text_jcal_values.specs.laws.Elements.{there-of-list, none-list}
-use Rattle.write_text_jcal_values.specs.laws.Joining.{same-some, each-first, each-none}
+use Rattle.write_text_jcal_values.specs.laws.Joining.{same-some, each-first, each-none, each-more}
 use Rattle.write_text_jcal_values.specs.laws.Own.{geo-typed, status-typed}
 use Rattle.write_text_jcal_values.specs.laws.Scalars.{array-some}
 use Rattle.write_text_jcal_values.specs.laws.Typed.{typed-type}
 
 -- ---- one value
 
-module _ (s : List ℕ) (h : Head) {d e : List ℕ} {o r p t : ℕ} where
+module _ (s : List ℕ) (h : Head) {d e : List ℕ} {o r : ℕ} (p t : ℕ) where
   pub value-geo : p ≡ property.GEO → ((v : Value) → readGeo (listAt s (h .next)) ≡ some v → Put d e o r (writeValue v)) → (v : Value) → oneAt p t (valueOfHead s h) ≡ some v → Put d e o r (writeValue v)
   unfolding pick
   value-geo q w v k = w v (array-some s (h .place) (h .next) v readGeo (h .kind) (rw (eq-eqb p property.GEO q) at k))
@@ -70,7 +70,7 @@ module _ (s : List ℕ) (h : Head) {d e : List ℕ} {o r p t : ℕ} where
 
 -- ---- the type that values have
 
-module _ {k p t : ℕ} (l : t ≤ 14) where
+module _ (k p t : ℕ) (l : t ≤ 14) where
   pub written-geo : p ≡ property.GEO → (6 ≡ writtenAt k p t) × (6 ≤ 14)
   unfolding pick
   written-geo q = (rw (eq-eqb p property.GEO q), omega arith)
@@ -121,11 +121,11 @@ module _ (c w : List ℕ) (t : ℕ) where
       go false false (some ws) k = chosen-text ws v x k
 
   each-read : (vs : List Json) (xs : List Value) → readEach (readOne c w (typeAt t)) vs ≡ some xs → readEach (oneAt P W) vs ≡ some xs
-  unfolding readEach andThen consRead
+  unfolding readEach
   each-read [] xs h = h
   each-read (v ∷ vs) xs h =
       let g = each-first (readOne c w (typeAt t)) v vs xs h in
-      rw (one-read v (g .0) (g .2), each-read vs (g .1) (g .3), g .4)
+      each-more (oneAt P W) v vs (g .0) (g .1) (one-read v (g .0) (g .2)) (each-read vs (g .1) (g .3)) ∙ ap some (sym (g .4))
 
   one-type : (v : Json) (x : Value) → oneAt P W v ≡ some x → typeOf x ≡ typeAt W
   unfolding pick
@@ -149,7 +149,7 @@ module _ (c w : List ℕ) (t : ℕ) where
           (xs : List Value) × (readEach (oneAt P W) vs ≡ some xs) × (readOr [] (pick b (readEach (readOne c w (typeAt t)) vs) none) ≡ xs)
       go true k =
           let e = read-some (readEach (readOne c w (typeAt t)) vs) (unfold pick in k) in
-          (e .0, each-read vs (e .0) (e .1), unfold pick readOr in rw (e .1))
+          (e .0, each-read vs (e .0) (e .1), unfold pick readOr in ap (λ (o : Option (List Value)). readOr [] o) (e .1))
       go false k = absurd (false≢true (unfold pick isRead in k))
 
 unread : {A : Type 0} (o : Option (List A)) → isRead o ≡ false → readOr [] o ≡ []
@@ -159,7 +159,7 @@ unread (some l) h = absurd (false≢true (sym h))
 
 -- ---- the ways of the code
 
-module _ {x : Context} {t : ℕ} (z : (t ≡ writtenAt (x .component) (x .row .number) (x .«value_type»)) × (t ≤ 14)) {s : List ℕ} {from : ℕ} {b : Bool} where
+module _ {x : Context} {t : ℕ} (z : (t ≡ writtenAt (x .component) (x .row .number) (x .«value_type»)) × (t ≤ 14)) (s : List ℕ) (from : ℕ) {b : Bool} where
   module _ (c w : List ℕ) (a : ReadAs x c w (listAt s from) b) where
     number : x .row .number ≡ placeOf w propertyNames
     number = number-of w (a .row)

@@ -147,13 +147,13 @@ named-part n (x ∷ ms) qs h m i =
     let g = each-first readPart x ms qs h in
     go (g .0) (g .1) (g .2) (g .4) (same n (upperName x)) refl i (λ y. named-part n ms (g .1) (g .3) m y)
   where
-    go : (a : RulePart) (as : List RulePart) → readPart x ≡ some a → qs ≡ a ∷ as → (b : Bool) → same n (upperName x) ≡ b → pick b (some x) (rowOf upperName n ms) ≡ some m →
-        (rowOf upperName n ms ≡ some m → (q : RulePart) × (readPart m ≡ some q) × (partNamed n as ≡ some q)) → (q : RulePart) × (readPart m ≡ some q) × (partNamed n qs ≡ some q)
-    go a as e z true y k ih =
+    go : (a : RulePart) (more : List RulePart) → readPart x ≡ some a → qs ≡ a ∷ more → (b : Bool) → same n (upperName x) ≡ b → pick b (some x) (rowOf upperName n ms) ≡ some m →
+        (rowOf upperName n ms ≡ some m → (q : RulePart) × (readPart m ≡ some q) × (partNamed n more ≡ some q)) → (q : RulePart) × (readPart m ≡ some q) × (partNamed n qs ≡ some q)
+    go a more e z true y k ih =
         let w : same n (a .part) ≡ true = ap (same n) (part-name x a e) ∙ y in
         let v : x ≡ m = same-some (unfold pick in k) in
         (a, ap readPart (sym v) ∙ e, unfold pick in rw (z, w))
-    go a as e z false y k ih =
+    go a more e z false y k ih =
         let w : same n (a .part) ≡ false = ap (same n) (part-name x a e) ∙ y in
         let u = ih (unfold pick in k) in
         (u .0, u .1, unfold pick in rw (z, w) (u .2))
@@ -165,12 +165,17 @@ unnamed-part n (x ∷ ms) qs h i =
     let g = each-first readPart x ms qs h in
     go (g .0) (g .1) (g .2) (g .4) (same n (upperName x)) refl i (λ y. unnamed-part n ms (g .1) (g .3) y)
   where
-    go : (a : RulePart) (as : List RulePart) → readPart x ≡ some a → qs ≡ a ∷ as → (b : Bool) → same n (upperName x) ≡ b → pick b (some x) (rowOf upperName n ms) ≡ none →
-        (rowOf upperName n ms ≡ none → partNamed n as ≡ none) → partNamed n qs ≡ none
-    go a as e z true y k ih = none-some (sym (unfold pick in k))
-    go a as e z false y k ih =
+    go : (a : RulePart) (more : List RulePart) → readPart x ≡ some a → qs ≡ a ∷ more → (b : Bool) → same n (upperName x) ≡ b → pick b (some x) (rowOf upperName n ms) ≡ none →
+        (rowOf upperName n ms ≡ none → partNamed n more ≡ none) → partNamed n qs ≡ none
+    go a more e z true y k ih = none-some (sym (unfold pick in k))
+    go a more e z false y k ih =
         let w : same n (a .part) ≡ false = ap (same n) (part-name x a e) ∙ y in
         unfold pick in rw (z, w) (ih (unfold pick in k))
+
+-- the items of a part by its number
+same-items : (p : ℕ) (a : Part) (vs : List Json) (is : List RuleItem) → partOf (partName p) ≡ some a → readEach (readItem a) vs ≡ some is → readEach (itemOf p) vs ≡ some is
+unfolding andThen
+same-items p a vs is j h = rw j h
 
 -- ---- the loop over the parts
 
@@ -204,16 +209,12 @@ module _ {s : List ℕ} {at : ℕ} {d₀ : List ℕ} {o₀ : ℕ} {d : List ℕ}
         let e = part-stated m (g .0) (g .1) in
         let n : upperName m ≡ partName p = row-named upperName (partName p) (memberListAt s at) m i in
         let j : partOf (partName p) ≡ some (e .0) = ap partOf (sym n) ∙ e .2 in
-        let v = w (e .1) (same-items (e .0) (orAlone (m .value)) (e .1) j (e .3)) in
+        let v = w (e .1) (same-items p (e .0) (orAlone (m .value)) (e .1) j (e .3)) in
         let x : inOrder (drop p partNames) qs ≡ g .0 ∷ inOrder (drop (p + 1) partNames) qs = parts-next p qs k ∙ unfold withPart in ap (λ (z : Option RulePart). withPart z (inOrder (drop (p + 1) partNames) qs)) (g .2) in
         let u : writePart (g .0) ≡ upper (stringAt s (r .name)) ⊕ ascii "=" ⊕ joinedBy 44 (map (writeItem ical) (e .1)) = ap writePart (e .4) in
         todo-step (t .left qs h) (subst (λ (z : List ℕ). Put d d′ o q (pick b (59 ∷ []) [] ⊕ z)) (sym u) v)
         (ap (λ (z : List RulePart). following b 59 (map writePart z)) x ∙ following-more b 59 (writePart (g .0)) (partsText (p + 1) qs));
     }
-      where
-        same-items : (a : Part) (vs : List Json) (is : List RuleItem) → partOf (partName p) ≡ some a → readEach (readItem a) vs ≡ some is → readEach (itemOf p) vs ≡ some is
-        unfolding andThen
-        same-items a vs is j h = rw j h
 
     pub parts-none : r .there ≡ false → Parting s at d₀ o₀ d o b (p + 1)
     parts-none y = record {
@@ -231,10 +232,10 @@ module _ {s : List ℕ} {at : ℕ} {d₀ : List ℕ} {o₀ : ℕ} {d : List ℕ}
 
 -- ---- the whole
 
-pub rule-put : {s : List ℕ} {inside : ℕ} {d e : List ℕ} {o r : ℕ} →
+pub rule-put : (s : List ℕ) (inside : ℕ) {d e : List ℕ} {o r : ℕ} →
     ((ps : List RulePart) → readEach readPart (memberListAt s inside) ≡ some ps → Put d e o r (joinedBy 59 (map writePart (inOrder partNames ps)))) →
     (ps : List RulePart) → andThen (readEach readPart (memberListAt s inside)) ruled ≡ some ps → Put d e o r (writeRule ps)
-rule-put {s} {inside} {d} {e} {o} {r} w ps h =
+rule-put s inside {d} {e} {o} {r} w ps h =
     let g = andThen-some (readEach readPart (memberListAt s inside)) ruled ps h in
     let x = provided-some (distinct (map nameOf (g .0)) and isComplete (g .0)) (inOrder partNames (g .0)) ps (g .2) in
     subst (λ (z : List RulePart). Put d e o r (writeRule z)) (x .1) (w (g .0) (g .1))

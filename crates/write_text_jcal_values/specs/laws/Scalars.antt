@@ -81,7 +81,7 @@ module _ {A : Type 0} (s : List ℕ) (p n : ℕ) (a : A) where
 
 -- ---- INTEGER
 
-module _ {d e : List ℕ} {o r : ℕ} {s : List ℕ} {p n : ℕ} {x : IntegerRead} (q : readNumber (wordAt s p n) ≡ wholeOf x) where
+module _ {d e : List ℕ} {o r : ℕ} (s : List ℕ) (p n : ℕ) {x : IntegerRead} (q : readNumber (wordAt s p n) ≡ wholeOf x) where
   pub number-put : {m : Bool} {i : ℕ} → x ≡ Read m i → Put d e o r (writeWhole (wholeIs m i)) → (w : Whole) → readNumber (wordAt s p n) ≡ some w → Put d e o r (writeWhole w)
   number-put {m} {i} h t w k =
       let z : some (wholeIs m i) ≡ some w = sym (q ∙ ap wholeOf h) ∙ k in
@@ -102,7 +102,12 @@ no-truth : readValue xcal BOOLEAN [] ≡ none
 unfolding readValue octets-compute
 no-truth = refl
 
-module _ (s : List ℕ) (h : Head) {d e : List ℕ} {o r t : ℕ} where
+-- what the writer of leaves put
+leaf-put : {d e : List ℕ} {o r : ℕ} (x : ValueType) (l : List ℕ) {v : Value} → readValue xcal x l ≡ some v → Put d e o r (valueText (readValue xcal x l)) → Put d e o r (writeValue v)
+unfolding valueText
+leaf-put x l i p = put-some writeValue i p
+
+module _ (s : List ℕ) (h : Head) {d e : List ℕ} {o r : ℕ} (t : ℕ) where
   pub scalar-binary : t ≡ 0 → Put d e o r (orNothing asIs (readBinary ical (stringAt s (h .place)))) → (v : Value) → readTyped (typeAt t) (valueOfHead s h) ≡ some v → Put d e o r (writeValue v)
   unfolding readTyped readValue writeValue
   scalar-binary q p v k =
@@ -110,21 +115,16 @@ module _ (s : List ℕ) (h : Head) {d e : List ℕ} {o r t : ℕ} where
       let m = map-some binary (readBinary ical (stringAt s (h .place))) v i in
       subst (λ (y : Value). Put d e o r (writeValue y)) (sym (m .2)) (put-some asIs (m .1) p)
 
-  -- what the writer of leaves put
-  leaf-put : {l : List ℕ} {x : ValueType} {v : Value} → readValue xcal x l ≡ some v → Put d e o r (valueText (readValue xcal x l)) → Put d e o r (writeValue v)
-  unfolding valueText
-  leaf-put i p = put-some writeValue i p
-
   pub scalar-boolean : t ≡ 1 → Put d e o r (valueText (readValue xcal (typeAt t) (wordAt s (h .place) (h .next)))) → (v : Value) → readTyped (typeAt t) (valueOfHead s h) ≡ some v → Put d e o r (writeValue v)
   unfolding readTyped
   scalar-boolean q p v k =
-      leaf-put {x = BOOLEAN} (literal-some s (h .place) (h .next) v (readValue xcal BOOLEAN) no-truth (h .kind) (typed-as t 1 (valueOfHead s h) v q k))
+      leaf-put BOOLEAN (wordAt s (h .place) (h .next)) (literal-some s (h .place) (h .next) v (readValue xcal BOOLEAN) no-truth (h .kind) (typed-as t 1 (valueOfHead s h) v q k))
       (subst (λ (i : ℕ). Put d e o r (valueText (readValue xcal (typeAt i) (wordAt s (h .place) (h .next))))) q p)
 
   pub scalar-float : t ≡ 6 → Put d e o r (valueText (readValue xcal (typeAt t) (wordAt s (h .place) (h .next)))) → (v : Value) → readTyped (typeAt t) (valueOfHead s h) ≡ some v → Put d e o r (writeValue v)
   unfolding readTyped
   scalar-float q p v k =
-      leaf-put {x = FLOAT} (number-some (readValue xcal FLOAT) (h .kind) s (h .place) (h .next) v (typed-as t 6 (valueOfHead s h) v q k))
+      leaf-put FLOAT (wordAt s (h .place) (h .next)) (number-some (readValue xcal FLOAT) (h .kind) s (h .place) (h .next) v (typed-as t 6 (valueOfHead s h) v q k))
       (subst (λ (i : ℕ). Put d e o r (valueText (readValue xcal (typeAt i) (wordAt s (h .place) (h .next))))) q p)
 
   pub scalar-integer : t ≡ 7 → ((w : Whole) → readNumber (wordAt s (h .place) (h .next)) ≡ some w → Put d e o r (writeWhole w)) → (v : Value) → readTyped (typeAt t) (valueOfHead s h) ≡ some v → Put d e o r (writeValue v)
@@ -137,7 +137,7 @@ module _ (s : List ℕ) (h : Head) {d e : List ℕ} {o r t : ℕ} where
   pub scalar-string : t ≤ 14 → (t ≡ 0 → ⊥) → (t ≡ 1 → ⊥) → (t ≡ 6 → ⊥) → (t ≡ 7 → ⊥) → Put d e o r (valueText (readValue xcal (typeAt t) (stringAt s (h .place)))) →
       (t ≡ 8 → ⊥) → (t ≡ 9 → ⊥) → (v : Value) → readTyped (typeAt t) (valueOfHead s h) ≡ some v → Put d e o r (writeValue v)
   unfolding readTyped
-  scalar-string l n0 n1 n6 n7 p n8 n9 v k = leaf-put {x = typeAt t} (go (typeAt t) refl k) p
+  scalar-string l n0 n1 n6 n7 p n8 n9 v k = leaf-put (typeAt t) (stringAt s (h .place)) (go (typeAt t) refl k) p
     where
       strung : (x : ValueType) → andThen (asString (valueOfHead s h)) (readValue xcal x) ≡ some v → readValue xcal x (stringAt s (h .place)) ≡ some v
       strung x i = string-some s (h .place) (h .next) v (readValue xcal x) (h .kind) i

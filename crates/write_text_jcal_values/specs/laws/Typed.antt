@@ -30,7 +30,7 @@ use Rattle.write_text_jcal_values.specs.Elements.{listAt, memberListAt}
 use Rattle.write_text_jcal_values.specs.laws.Joining.{same-some}
 use Rattle.write_text_jcal_values.specs.laws.Scalars.{map-some, array-some, object-some, typed-as}
 
-module _ (s : List ℕ) (h : Head) {d e : List ℕ} {o r t : ℕ} where
+module _ (s : List ℕ) (h : Head) {d e : List ℕ} {o r : ℕ} (t : ℕ) where
   pub typed-period : t ≡ 8 → ((v : Value) → readPeriod (listAt s (h .next)) ≡ some v → Put d e o r (writeValue v)) → (v : Value) → readTyped (typeAt t) (valueOfHead s h) ≡ some v → Put d e o r (writeValue v)
   unfolding readTyped
   typed-period q p v k = p v (array-some s (h .place) (h .next) v readPeriod (h .kind) (typed-as t 8 (valueOfHead s h) v q k))

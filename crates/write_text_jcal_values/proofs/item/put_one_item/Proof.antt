@@ -1,0 +1,12 @@
+-- `write_text_jcal_values::put_one_item` meets its contract. Assumes nothing.
+use Rattle.sink.specs.Sink.{writing}
+use Rattle.write_text_jcal_values.proofs.item.put_one_item.Statement.{statement}
+use Rattle.write_text_jcal_values.proofs.item.put_one_item.Tie as tie
+
+pub put-one-item-spec : {M : Type 1} → statement M
+put-one-item-spec = tie.close (tie.spec
+    (λ c κs. search writing)  -- put-between-requires
+    (λ c κs. search writing)  -- put-item-of-requires
+    (λ c. search writing)  -- same-length
+    (λ c. search writing)  -- returns
+    )

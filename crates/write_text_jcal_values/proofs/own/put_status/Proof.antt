@@ -1,0 +1,11 @@
+-- `write_text_jcal_values::put_status` meets its contract. Assumes nothing.
+use Rattle.sink.specs.Sink.{writing}
+use Rattle.write_text_jcal_values.proofs.own.put_status.Statement.{statement}
+use Rattle.write_text_jcal_values.proofs.own.put_status.Tie as tie
+
+pub put-status-spec : {M : Type 1} → statement M
+put-status-spec = tie.close (tie.spec
+    (λ c κs. search writing)  -- put-texts-requires
+    (λ c. search writing)  -- same-length
+    (λ c. search writing)  -- returns
+    )
