@@ -27,7 +27,7 @@ use Rattle.read_json.specs.declared.HeadKind.the-variants.{None, String, Number
 use Rattle.write_text_jcal_values.specs.Elements.{listAt, isString, isArray}
 use Rattle.write_text_jcal_values.specs.laws.Elements.{head-first}
 use Rattle.write_text_jcal_values.specs.laws.Joining.{same-some, each-first, each-none}
-use Rattle.write_text_jcal_values.specs.laws.Own.{put-some}
+use Rattle.write_text_jcal_values.specs.laws.Own.{put-some, string-chars}
 use Rattle.write_text_jcal_values.specs.Rules.{partName, itemOf}
 
 -- ---- one item
@@ -40,14 +40,6 @@ text-either counting v l h a b = b h
 text-either (unsigned d lo hi) v l h a b = b h
 text-either (signed d hi) v l h a b = b h
 text-either weekdaynum v l h a b = a h
-
-string-chars : (k : HeadKind) (s : List ℕ) (p n : ℕ) (l : List ℕ) → isString k ≡ true → asString (valueBy k s p n) ≡ some l → l ≡ stringAt s p
-string-chars None s p n l q h = none-some h
-string-chars String s p n l q h = sym (same-some h)
-string-chars Number s p n l q h = none-some h
-string-chars Literal s p n l q h = none-some h
-string-chars Array s p n l q h = none-some h
-string-chars Object s p n l q h = none-some h
 
 string-number : (k : HeadKind) (s : List ℕ) (p n : ℕ) (l : List ℕ) → isString k ≡ true → asNumber (valueBy k s p n) ≡ some l → l ≡ stringAt s p
 string-number None s p n l q h = none-some h
@@ -86,7 +78,7 @@ module _ (p : ℕ) (s : List ℕ) (h : Head) {d e : List ℕ} {o r : ℕ} {b : B
   pub item-string : b ≡ true → Put d e o r (orNothing (writeItem ical) (readItem xcal (partName p) (stringAt s (h .place)))) → (i : RuleItem) → itemOf p (valueOfHead s h) ≡ some i → Put d e o r (writeItem ical i)
   item-string y w i k =
       put-some (writeItem ical) (item-read p (valueOfHead s h) i (stringAt s (h .place)) k
-      (λ l. string-chars (h .kind) s (h .place) (h .next) l (sym q ∙ y)) (λ l. string-number (h .kind) s (h .place) (h .next) l (sym q ∙ y))) w
+      (λ l. string-chars (h .kind) s (h .place) (h .next) l) (λ l. string-number (h .kind) s (h .place) (h .next) l (sym q ∙ y))) w
 
   pub item-word : b ≡ false → Put d e o r (orNothing (writeItem ical) (readItem xcal (partName p) (wordAt s (h .place) (h .next)))) → (i : RuleItem) → itemOf p (valueOfHead s h) ≡ some i → Put d e o r (writeItem ical i)
   item-word y w i k =

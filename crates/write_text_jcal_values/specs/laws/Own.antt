@@ -19,8 +19,8 @@ use Rattle.values.specs.WriteValue.{writeValue}
 use Rattle.json.specs.Tree.{Json, Elements, noElements, element, firstOf, elementList}
 use Rattle.json.specs.Kinds.{asString, asNumber}
 use Rattle.jcal.specs.Values.{readGeo, readStatus}
-use Rattle.read_json.specs.TreeAt.{elementsAt, wordAt}
-use Rattle.read_json.specs.Heads.{valueBy, HeadAt}
+use Rattle.read_json.specs.TreeAt.{elementsAt, stringAt, wordAt}
+use Rattle.read_json.specs.Heads.{valueBy, valueOfHead, HeadAt}
 use Rattle.read_json.specs.declared.Head.{Head}
 use Rattle.read_json.specs.declared.HeadKind.{HeadKind}
 use Rattle.read_json.specs.declared.HeadKind.the-variants.{None, String, Number, Literal, Array, Object}
@@ -39,6 +39,15 @@ number-some f Number s p n a h = h
 number-some f Literal s p n a h = none-some h
 number-some f Array s p n a h = none-some h
 number-some f Object s p n a h = none-some h
+
+-- the characters of a string
+pub string-chars : (k : HeadKind) (s : List ℕ) (p n : ℕ) (l : List ℕ) → asString (valueBy k s p n) ≡ some l → l ≡ stringAt s p
+string-chars None s p n l h = none-some h
+string-chars String s p n l h = sym (same-some h)
+string-chars Number s p n l h = none-some h
+string-chars Literal s p n l h = none-some h
+string-chars Array s p n l h = none-some h
+string-chars Object s p n l h = none-some h
 
 -- what was written of something that may be read, where it is read
 pub put-some : {A : Type 0} {d e : List ℕ} {o r : ℕ} (w : A → List ℕ) {x : Option A} {a : A} → x ≡ some a → Put d e o r (orNothing w x) → Put d e o r (w a)
@@ -87,6 +96,9 @@ status-typed (c ∷ []) v h = none-some h
 status-typed (c ∷ x ∷ []) v h = ap typeOf (sym (same-some h))
 status-typed (c ∷ x ∷ y ∷ []) v h = ap typeOf (sym (same-some h))
 status-typed (c ∷ x ∷ y ∷ l ∷ ls) v h = none-some h
+
+pub text-put : (s : List ℕ) (h : Head) {d e : List ℕ} {o r : ℕ} → Put d e o r (writeText (stringAt s (h .place))) → (l : List ℕ) → asString (valueOfHead s h) ≡ some l → Put d e o r (writeText l)
+text-put s h {d} {e} {o} {r} p l k = subst (λ (x : List ℕ). Put d e o r (writeText x)) (sym (string-chars (h .kind) s (h .place) (h .next) l k)) p
 
 status-written : (ls : List (List ℕ)) (v : Value) → readStatus ls ≡ some v → writeValue v ≡ joinedBy 59 (map writeText ls)
 unfolding writeValue

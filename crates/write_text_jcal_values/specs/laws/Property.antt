@@ -19,7 +19,7 @@ use Rattle.octets.specs.Reading.{provided, andThen, isRead, readOr, consRead, r
 use Rattle.octets.specs.laws.Reading.{none-some, read-some, provided-some, andThen-some}
 use Rattle.calendar.specs.Calendar.{xcal, FLOAT, TEXT, Value, text, typeOf}
 use Rattle.sink.specs.Sink.{Put}
-use Rattle.sink.specs.laws.Sink.{put-none}
+
 use Rattle.names.specs.Table.{placeOf}
 use Rattle.schema.specs.Types.{isTypeOf}
 use Rattle.schema.specs.Components.{componentNames}
@@ -181,9 +181,9 @@ module _ {x : Context} {t : ℕ} (z : (t ≡ writtenAt (x .component) (x .row .n
   unfolding writeValues
   values-put {d} {e} {o} {r} q p c w a = let g = reads c w a q in subst (λ (l : List Value). Put d e o r (joinedBy 44 (map writeValue l))) (sym (g .2)) (p (g .0) (g .1))
 
-  pub values-unread : (d : List ℕ) (o : ℕ) → b ≡ false → length d * 1 < 2 ^ 63 → (c w : List ℕ) → ReadAs x c w (listAt s from) b → Put d d o o (writeValues (statedAs x c w (listAt s from)))
+  pub values-unread : {d e : List ℕ} {o r : ℕ} → b ≡ false → Put d e o r [] → (c w : List ℕ) → ReadAs x c w (listAt s from) b → Put d e o r (writeValues (statedAs x c w (listAt s from)))
   unfolding writeValues joinedBy
-  values-unread d o q l c w a = rw (unread (readValues c w (typeAt (x .«value_type»)) (listAt s from)) (sym (a .is) ∙ q)) (put-none d o l)
+  values-unread q p c w a = rw (unread (readValues c w (typeAt (x .«value_type»)) (listAt s from)) (sym (a .is) ∙ q)) p
 
   module _ {h : Head} (k : HeadAt s from h) {y : Bool} (e : y ≡ isThere (h .kind)) where
     pub type-first : b ≡ true → y ≡ true → (c w : List ℕ) → ReadAs x c w (listAt s from) b → (typeAt t ≡ typeOfAll (statedAs x c w (listAt s from))) × (t ≤ 14)

@@ -141,7 +141,7 @@ part-name m q h = let e = part-stated m q h in ap (λ (x : RulePart). x .part) (
 
 -- the part of a name is that of the first member of the name
 named-part : (n : List ℕ) (ms : List Member) (qs : List RulePart) → readEach readPart ms ≡ some qs → (m : Member) → rowOf upperName n ms ≡ some m → (q : RulePart) × (readPart m ≡ some q) × (partNamed n qs ≡ some q)
-unfolding rowOf
+unfolding rowOf pick
 named-part n [] qs h m i = none-some i
 named-part n (x ∷ ms) qs h m i =
     let g = each-first readPart x ms qs h in
@@ -151,31 +151,30 @@ named-part n (x ∷ ms) qs h m i =
         (rowOf upperName n ms ≡ some m → (q : RulePart) × (readPart m ≡ some q) × (partNamed n more ≡ some q)) → (q : RulePart) × (readPart m ≡ some q) × (partNamed n qs ≡ some q)
     go a more e z true y k ih =
         let w : same n (a .part) ≡ true = ap (same n) (part-name x a e) ∙ y in
-        let v : x ≡ m = same-some (unfold pick in k) in
-        (a, ap readPart (sym v) ∙ e, unfold pick in rw (z, w))
+        (a, ap readPart (sym (same-some k)) ∙ e, ap (partNamed n) z ∙ ap (λ (b : Bool). pick b (some a) (rowOf nameOf n more)) w)
     go a more e z false y k ih =
         let w : same n (a .part) ≡ false = ap (same n) (part-name x a e) ∙ y in
-        let u = ih (unfold pick in k) in
-        (u .0, u .1, unfold pick in rw (z, w) (u .2))
+        let u = ih k in
+        (u .0, u .1, ap (partNamed n) z ∙ ap (λ (b : Bool). pick b (some a) (rowOf nameOf n more)) w ∙ u .2)
 
 unnamed-part : (n : List ℕ) (ms : List Member) (qs : List RulePart) → readEach readPart ms ≡ some qs → rowOf upperName n ms ≡ none → partNamed n qs ≡ none
-unfolding rowOf
-unnamed-part n [] qs h i = rw (each-none readPart qs h)
+unfolding rowOf pick
+unnamed-part n [] qs h i = ap (partNamed n) (each-none readPart qs h)
 unnamed-part n (x ∷ ms) qs h i =
     let g = each-first readPart x ms qs h in
     go (g .0) (g .1) (g .2) (g .4) (same n (upperName x)) refl i (λ y. unnamed-part n ms (g .1) (g .3) y)
   where
     go : (a : RulePart) (more : List RulePart) → readPart x ≡ some a → qs ≡ a ∷ more → (b : Bool) → same n (upperName x) ≡ b → pick b (some x) (rowOf upperName n ms) ≡ none →
         (rowOf upperName n ms ≡ none → partNamed n more ≡ none) → partNamed n qs ≡ none
-    go a more e z true y k ih = none-some (sym (unfold pick in k))
+    go a more e z true y k ih = none-some (sym k)
     go a more e z false y k ih =
         let w : same n (a .part) ≡ false = ap (same n) (part-name x a e) ∙ y in
-        unfold pick in rw (z, w) (ih (unfold pick in k))
+        ap (partNamed n) z ∙ ap (λ (b : Bool). pick b (some a) (rowOf nameOf n more)) w ∙ ih k
 
 -- the items of a part by its number
 same-items : (p : ℕ) (a : Part) (vs : List Json) (is : List RuleItem) → partOf (partName p) ≡ some a → readEach (readItem a) vs ≡ some is → readEach (itemOf p) vs ≡ some is
 unfolding andThen
-same-items p a vs is j h = rw j h
+same-items p a vs is j h = subst (λ (o : Option Part). readEach (λ v. andThen o (λ r. readItem r v)) vs ≡ some is) (sym j) h
 
 -- ---- the loop over the parts
 

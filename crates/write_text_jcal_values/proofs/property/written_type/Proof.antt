@@ -1,13 +1,14 @@
 -- `write_text_jcal_values::written_type` meets its contract. Assumes nothing.
-use Rattle.sink.specs.Sink.{writing}
+use Rattle.write_text_jcal_values.specs.laws.Property.{written-geo, written-status, written-word, written-stated}
+use Rattle.sink.specs.laws.Sink.{writing}
 use Rattle.write_text_jcal_values.proofs.property.written_type.Statement.{statement}
 use Rattle.write_text_jcal_values.proofs.property.written_type.Tie as tie
 
 pub written-type-spec : {M : Type 1} → statement M
 written-type-spec = tie.close (tie.spec
-    (λ c. search writing)  -- returns
-    (λ c. search writing)  -- returns-2
+    (λ c. written-geo _ _ _ (c .before .pre) (c .if1 .taken))  -- returns
+    (λ c. written-status _ _ _ (c .before .before .pre) (c .before .if1 .left) (c .if2 .taken))  -- returns-2
     (λ c κs. search writing)  -- has-words-requires
-    (λ c. search writing)  -- returns-3
-    (λ c. search writing)  -- returns-4
+    (λ c. written-word _ _ _ (c .before .before .before .before .pre) (c .before .before .before .if1 .left) (c .before .before .if2 .left) (c .before .has-words .ensures) (c .if3 .taken))  -- returns-3
+    (λ c. written-stated _ _ _ (c .before .before .before .before .pre) (c .before .before .before .if1 .left) (c .before .before .if2 .left) (c .before .has-words .ensures) (c .if3 .left))  -- returns-4
     )

@@ -1,5 +1,6 @@
 -- `write_text_jcal_values::put_rule` meets its contract. Assumes nothing.
-use Rattle.sink.specs.Sink.{writing}
+use Rattle.write_text_jcal_values.specs.laws.Rules.{rule-put}
+use Rattle.sink.specs.laws.Sink.{writing}
 use Rattle.write_text_jcal_values.proofs.rule.put_rule.Statement.{statement}
 use Rattle.write_text_jcal_values.proofs.rule.put_rule.Tie as tie
 
@@ -7,5 +8,5 @@ pub put-rule-spec : {M : Type 1} → statement M
 put-rule-spec = tie.close (tie.spec
     (λ c κs. search writing)  -- put-parts-requires
     (λ c. search writing)  -- same-length
-    (λ c. search writing)  -- returns
+    (λ c. rule-put _ _ (c .before .before .put-parts .ensures))  -- returns
     )
