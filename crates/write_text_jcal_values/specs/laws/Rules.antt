@@ -185,6 +185,14 @@ parts-next : (p : ℕ) (qs : List RulePart) → p < 14 → inOrder (drop p partN
 unfolding inOrder
 parts-next p qs h = rw (add-one, drop-cons partNames p [] h)
 
+parts-here : (p : ℕ) (qs : List RulePart) → p < 14 → (q : RulePart) → partNamed (partName p) qs ≡ some q → inOrder (drop p partNames) qs ≡ q ∷ inOrder (drop (p + 1) partNames) qs
+unfolding withPart
+parts-here p qs h q e = parts-next p qs h ∙ ap (λ (z : Option RulePart). withPart z (inOrder (drop (p + 1) partNames) qs)) e
+
+parts-not : (p : ℕ) (qs : List RulePart) → p < 14 → partNamed (partName p) qs ≡ none → inOrder (drop p partNames) qs ≡ inOrder (drop (p + 1) partNames) qs
+unfolding withPart
+parts-not p qs h e = parts-next p qs h ∙ ap (λ (z : Option RulePart). withPart z (inOrder (drop (p + 1) partNames) qs)) e
+
 pub record Parting (s : List ℕ) (at : ℕ) (d₀ : List ℕ) (o₀ : ℕ) (d : List ℕ) (o : ℕ) (started : Bool) (p : ℕ) : Type 0 where
   pub kept : length d ≡ length d₀
   pub left : (qs : List RulePart) → readEach readPart (memberListAt s at) ≡ some qs → Todo d₀ o₀ (joinedBy 59 (map writePart (inOrder partNames qs))) d o (following started 59 (map writePart (inOrder (drop p partNames) qs)))
@@ -209,7 +217,7 @@ module _ {s : List ℕ} {at : ℕ} {d₀ : List ℕ} {o₀ : ℕ} {d : List ℕ}
         let n : upperName m ≡ partName p = row-named upperName (partName p) (memberListAt s at) m i in
         let j : partOf (partName p) ≡ some (e .0) = ap partOf (sym n) ∙ e .2 in
         let v = w (e .1) (same-items p (e .0) (orAlone (m .value)) (e .1) j (e .3)) in
-        let x : inOrder (drop p partNames) qs ≡ g .0 ∷ inOrder (drop (p + 1) partNames) qs = parts-next p qs k ∙ unfold withPart in ap (λ (z : Option RulePart). withPart z (inOrder (drop (p + 1) partNames) qs)) (g .2) in
+        let x : inOrder (drop p partNames) qs ≡ g .0 ∷ inOrder (drop (p + 1) partNames) qs = parts-here p qs k (g .0) (g .2) in
         let u : writePart (g .0) ≡ upper (stringAt s (r .name)) ⊕ ascii "=" ⊕ joinedBy 44 (map (writeItem ical) (e .1)) = ap writePart (e .4) in
         todo-step (t .left qs h) (subst (λ (z : List ℕ). Put d d′ o q (pick b (59 ∷ []) [] ⊕ z)) (sym u) v)
         (ap (λ (z : List RulePart). following b 59 (map writePart z)) x ∙ following-more b 59 (writePart (g .0)) (partsText (p + 1) qs));
@@ -220,8 +228,7 @@ module _ {s : List ℕ} {at : ℕ} {d₀ : List ℕ} {o₀ : ℕ} {d : List ℕ}
       kept = t .kept;
       left = λ qs h.
         let i : rowOf upperName (partName p) (memberListAt s at) ≡ none = f .is ∙ ap (λ (z : Bool). memberFound z s (r .name) (r .next)) y in
-        let x : inOrder (drop p partNames) qs ≡ inOrder (drop (p + 1) partNames) qs =
-        parts-next p qs k ∙ unfold withPart in ap (λ (z : Option RulePart). withPart z (inOrder (drop (p + 1) partNames) qs)) (unnamed-part (partName p) (memberListAt s at) qs h i) in
+        let x : inOrder (drop p partNames) qs ≡ inOrder (drop (p + 1) partNames) qs = parts-not p qs k (unnamed-part (partName p) (memberListAt s at) qs h i) in
         subst (λ (z : List RulePart). Todo d₀ o₀ (joinedBy 59 (map writePart (inOrder partNames qs))) d o (following b 59 (map writePart z))) x (t .left qs h);
     }
 

@@ -7,6 +7,9 @@ use mathlib.Core.Bool.{Bool}
 use mathlib.Core.List.{List, []}
 use mathlib.Core.Option.{Option, none, some, Option·map}
 use Prim.Native.Nat.{ℕ, _≤_}
+use native.Mathlib.Omega.{arith}
+use lib.ListN.{length, take}
+use lib.Seq.{length-take-le}
 use Rattle.octets.specs.Reading.{andThen, orNothing}
 use Rattle.octets.specs.laws.Reading.{none-some}
 use Rattle.octets.specs.Computing.{octets-compute}
@@ -80,6 +83,9 @@ module _ {A : Type 0} (s : List ℕ) (p n : ℕ) (a : A) where
   object-some f Object h = h
 
 -- ---- INTEGER
+
+pub cut-place : (s : List ℕ) (p n : ℕ) → p ≤ n → n ≤ length s → p ≤ length (take n s)
+cut-place s p n h k = omega (arith, length-take-le n s k, h)
 
 module _ {d e : List ℕ} {o r : ℕ} (s : List ℕ) (p n : ℕ) {x : IntegerRead} (q : readNumber (wordAt s p n) ≡ wholeOf x) where
   pub number-put : {m : Bool} {i : ℕ} → x ≡ Read m i → Put d e o r (writeWhole (wholeIs m i)) → (w : Whole) → readNumber (wordAt s p n) ≡ some w → Put d e o r (writeWhole w)
