@@ -196,7 +196,10 @@ module _ {s : List ℕ} {at : ℕ} {h : Head} (t : HeadAt s at h) where
       pub there-less : b ≡ true → length s - r < length s - at
       there-less q = let k = taken q in omega (arith, k .onward, k .some, k .inside, n .onward, n .inside)
 
-  -- the list, whatever stands behind
+  -- the elements and the list, whatever stands behind
+  pub there-behind : {b : Bool} → b ≡ isThere (h .kind) → b ≡ true → (es : Elements) × (elementsAt s at ≡ element (valueOfHead s h) es)
+  there-behind e q = (behindBy (h .kind) s (h .next), t .is ∙ there-of (h .kind) s (h .place) (h .next) (sym e ∙ q))
+
   pub there-of-list : {b : Bool} → b ≡ isThere (h .kind) → b ≡ true → (l : List Json) × (listAt s at ≡ valueOfHead s h ∷ l)
   unfolding elementList
   there-of-list e q =
