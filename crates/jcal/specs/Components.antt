@@ -17,7 +17,7 @@ use Rattle.calendar.specs.Calendar.{Property, Components, noMore, component}
 use Rattle.calendar.specs.Levels.{levels, shallow}
 use Rattle.calendar.specs.Refusal.{Refusal, NAME, FRAME, COUNT, Verdict, fine, refuse, _otherwise_}
 use Rattle.schema.specs.Components.{mayContain}
-use Rattle.schema.specs.Counts.{Around, methodFor, complete}
+use Rattle.schema.specs.Counts.{methodFor, complete}
 use Rattle.edition.specs.declared.Edition.{Edition}
 use Rattle.json.specs.Tree.{Json, string, number, literal, array, object, Elements, noElements, element, placeOf, elementList}
 use Rattle.json.specs.Kinds.{asArray, firstIn, nth}

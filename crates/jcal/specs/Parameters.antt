@@ -20,7 +20,7 @@ use Rattle.edition.specs.declared.Edition.{Edition}
 use Rattle.edition.specs.declared.Edition.the-variants.{Rfc5545, Rfc6868}
 use Rattle.values.specs.ReadValue.{readValue}
 use Rattle.values.specs.Valid.{isAmount, isBase64Encoding}
-use Rattle.json.specs.Tree.{Json, Member}
+use Rattle.json.specs.Tree.{Member}
 use Rattle.json.specs.Kinds.{asString, orAlone}
 
 -- ---- one value

@@ -10,6 +10,10 @@
 --     NumbersWritten    FLOAT and INTEGER are written as JSON numbers
 --     Writable          the JSON value of a valid calendar can be written
 --     JcalBack          a valid calendar is read back from its jCal
+--     CheckedStrings, Textual   the strings of a text that passes the checks are text
+--     ValuesAccepted    values that are read are of the type asked for
+--     ParametersAccepted, PropertyAccepted, ComponentsAccepted    parameters, properties and components that are read are valid
+--     JcalAccepted      so is a calendar that is read from jCal
 pub mod Trees
 pub mod IntegerBack
 pub mod ValuesBack

@@ -2,14 +2,13 @@
 --     Seeking    the invariant;   `search seekings`
 use mathlib.Core.Path.{_≡_, refl, sym, ap, _∙_}
 use mathlib.Core.Bool.{true, false}
-use mathlib.Core.List.{List, [], _∷_}
+use mathlib.Core.List.{List}
 use Prim.Native.Nat.{ℕ, _≤_}
 use native.Mathlib.Omega.{arith}
 use lib.ListN.{length}
 use borrow.Author.Needs.{needs}
 use Rattle.read_text_line.specs.Ready.{Ready}
-use Rattle.calendar.specs.Calendar.{noMore}
-use Rattle.text.specs.Tree.{Entry, end, innerOf}
+use Rattle.text.specs.Tree.{Entry, innerOf}
 use Rattle.edition.specs.declared.Edition.{Edition}
 use Rattle.text_entries.specs.declared.entry.Found.{Found}
 use Rattle.text_entries.specs.declared.entry.Kind.the-variants.{Begin, End, Property, Nothing}
@@ -17,9 +16,8 @@ use Rattle.text_entries.specs.Entries.{entriesAt}
 use Rattle.text_entries.specs.laws.Entries.{entries-past}
 use Rattle.text_entries.specs.Bounds.{Aside, BoundAt}
 use Rattle.text_entries.specs.laws.Bounds.{bound-kind}
-use Rattle.text_entries.specs.Passing.{isAside}
+use Rattle.text_entries.specs.laws.Passing.{inner-past, inner-closed, inner-beside}
 use Rattle.write_jcal.specs.Alone.{NextBegun}
-use Rattle.write_jcal.specs.laws.Alone.{inner-past, inner-closed, inner-beside}
 
 module _ (ed : Edition) where
   pub record Seeking (mode : ℕ) (s : List ℕ) (from at : ℕ) : Type 0 where

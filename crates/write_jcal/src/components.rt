@@ -7,17 +7,18 @@ use sink::put;
 use sink::put_all;
 use text_entries::Kind;
 use text_entries::bound_at;
+use text_entries::cut_at_level;
 use write_json::put_separator;
 use write_json::put_small_quoted;
-ghost use Prim.Native.Nat.{_≤_};
+ghost use Prim.Native.Nat.{_-_, _≤_};
 ghost use lib.ListN.{length, take};
 ghost use Rattle.octets.specs.Ascii.{ascii};
 ghost use Rattle.octets.specs.Append.{_⊕_};
-ghost use Rattle.octets.specs.Class.{upper, lower};
+ghost use Rattle.octets.specs.Class.{upper};
 ghost use Rattle.source.specs.Source.{rest};
 ghost use Rattle.read_text_line.specs.Ready.{Ready};
 ghost use Rattle.sink.specs.Sink.{Put};
-ghost use Rattle.json.specs.Write.{quoted};
+ghost use Rattle.calendar.specs.Levels.{shallow};
 ghost use Rattle.text_entries.specs.Entries.{entriesAt};
 ghost use Rattle.write_json.specs.Separated.{separator};
 ghost use Rattle.write_jcal.specs.Walks.{nameJson, headJson};
@@ -40,7 +41,8 @@ fn put_name(out: &mut [u8], o: usize, started: bool, mode: usize, s: &[u8], v: u
     put_all(out, c, b",[")
 }
 
-// What stands before the subcomponents. The BEGIN line of the component ends at `e`, its name stands there from `v` on, and its other lines begin at `from`.
+// What stands before the subcomponents; `left`, the levels of the component and of those inside it. The BEGIN line of the component ends at `e`, its name
+// stands there from `v` on, and its other lines begin at `from`.
 fn put_head(
     out: &mut [u8],
     o: usize,
@@ -51,24 +53,21 @@ fn put_head(
     v: usize,
     e: usize,
     from: usize,
+    left: usize,
 ) -> Walked
     requires { ⌜ (e ≤ length (now s)) × Ready mode (now s) from ⌝ }
     ensures { λ r. ⌜
-        PropertiesPut edition (now (out .entry)) (now (out .exit)) o (separator started ⊕
+        PropertiesPut edition (shallow (left - 1)) (now (out .entry)) (now (out .exit)) o (separator started ⊕
         headJson (upper (rest mode (take e (now (s .entry))) v)) (entriesAt edition mode (now (s .entry)) from)) mode
         (now (s .entry)) from r ⌝ }
 {
     let k = component_number(mode, &s[..e], v);
     let a = put_name(out, o, started, mode, &s[..e], v);
     let b = put_properties(out, a, edition, k, mode, s, from);
+    let whole = b.ahead;
+    let ahead = cut_at_level(edition, mode, s, whole, left);
     let c = put_all(out, b.to, b"],[");
-    Walked {
-        to: c,
-        started: b.started,
-        inner: b.inner,
-        bare: b.bare,
-        next: b.next,
-    }
+    Walked { to: c, ahead }
 }
 
 // What stands behind them.
@@ -78,7 +77,7 @@ fn put_tail(out: &mut [u8], o: usize) -> usize
     put_all(out, o, b"]]")
 }
 
-// The components that the lines from `from` on begin, up to the end of the one that they stand in.
+// The components that the lines from `from` on begin, `left` levels deep, up to the end of the one that they stand in.
 pub fn put_components(
     out: &mut [u8],
     o: usize,
@@ -86,9 +85,10 @@ pub fn put_components(
     mode: usize,
     s: &[u8],
     from: usize,
+    left: usize,
 ) -> Reached
-    requires { ⌜ Ready mode (now s) from ⌝ }
-    ensures { λ r. ⌜ ComponentsPut edition (now (out .entry)) (now (out .exit)) o mode (now (s .entry)) from r ⌝ }
+    requires { ⌜ Ready mode (now s) from × (1 ≤ left) ⌝ }
+    ensures { λ r. ⌜ ComponentsPut edition left (now (out .entry)) (now (out .exit)) o mode (now (s .entry)) from r ⌝ }
 {
     let mut p = o;
     let mut started = false;
@@ -99,13 +99,25 @@ pub fn put_components(
         match kind {
             Kind::Begin => {
                 let l = f.line;
-                let h = put_head(out, p, started, edition, mode, s, l.value, f.end, f.next);
-                if h.bare {
+                let h = put_head(
+                    out,
+                    p,
+                    started,
+                    edition,
+                    mode,
+                    s,
+                    l.value,
+                    f.end,
+                    f.next,
+                    left,
+                );
+                let a = h.ahead;
+                if a.bare {
                     p = put_tail(out, h.to);
                     started = true;
-                    at = h.next;
+                    at = a.next;
                 } else {
-                    let b = put_components(out, h.to, edition, mode, s, h.inner);
+                    let b = put_components(out, h.to, edition, mode, s, a.inner, left - 1);
                     p = put_tail(out, b.to);
                     started = true;
                     at = b.next;

@@ -1,6 +1,7 @@
 // The properties of a component. See specs/Walks.antt.
 use edition::Edition;
 use read_text_line::LineCursors;
+use text_entries::Ahead;
 use text_entries::Kind;
 use text_entries::entry_at;
 use text_entries::pass_component;
@@ -18,19 +19,23 @@ ghost use Rattle.sink.specs.Sink.{Put};
 ghost use Rattle.schema.specs.Numbers.{componentName};
 ghost use Rattle.json.specs.Bytes.{valueSeparator};
 ghost use Rattle.text_entries.specs.Entries.{entriesAt};
+ghost use Rattle.text_entries.specs.Levels.{whole};
 ghost use Rattle.write_json.specs.Separated.{separator, following};
 ghost use Rattle.write_jcal_property.specs.Property.{partsJson};
 ghost use Rattle.write_jcal.specs.Walks.{ownJson};
 ghost use Rattle.write_jcal.specs.Places.{PropertiesPut, LeadingPut};
 
-// What a walk over a component's properties came to: the index in the sink, and whether one was written; the cursor of the first subcomponent, or of what ends the
-// component; whether there is no subcomponent; and if there is none, the cursor behind the component's END.
-pub struct Walked {
+// What a walk over the properties before the first subcomponent came to: the index in the sink, whether one was written, and what stands ahead.
+pub struct Led {
     pub to: usize,
     pub started: bool,
-    pub inner: usize,
-    pub bare: bool,
-    pub next: usize,
+    pub ahead: Ahead,
+}
+
+// What a walk over a component's properties came to: the index in the sink, and what stands ahead.
+pub struct Walked {
+    pub to: usize,
+    pub ahead: Ahead,
 }
 
 // A property behind what separates it from another.
@@ -61,7 +66,7 @@ fn put_leading(
     mode: usize,
     s: &[u8],
     from: usize,
-) -> Walked
+) -> Led
     requires { ⌜ Ready mode (now s) from ⌝ }
     ensures { λ r. ⌜ LeadingPut edition (now (out .entry)) (now (out .exit)) o k mode (now (s .entry)) from r ⌝ }
 {
@@ -73,21 +78,27 @@ fn put_leading(
         let kind = f.kind;
         match kind {
             Kind::Begin => {
-                return Walked {
-                    to: p,
-                    started,
+                let ahead = Ahead {
                     inner: at,
                     bare: false,
                     next: at,
                 };
-            }
-            Kind::End => {
-                return Walked {
+                return Led {
                     to: p,
                     started,
+                    ahead,
+                };
+            }
+            Kind::End => {
+                let ahead = Ahead {
                     inner: at,
                     bare: true,
                     next: f.next,
+                };
+                return Led {
+                    to: p,
+                    started,
+                    ahead,
                 };
             }
             Kind::Property => {
@@ -101,12 +112,15 @@ fn put_leading(
             }
         }
     }
-    Walked {
-        to: p,
-        started,
+    let ahead = Ahead {
         inner: at,
         bare: true,
         next: at,
+    };
+    Led {
+        to: p,
+        started,
+        ahead,
     }
 }
 
@@ -165,20 +179,15 @@ pub fn put_properties(
 ) -> Walked
     requires { ⌜ Ready mode (now s) from ⌝ }
     ensures { λ r. ⌜
-        PropertiesPut edition (now (out .entry)) (now (out .exit)) o
+        PropertiesPut edition whole (now (out .entry)) (now (out .exit)) o
         (joinedBy valueSeparator (ownJson (componentName k) (entriesAt edition mode (now (s .entry)) from))) mode
         (now (s .entry)) from r ⌝ }
 {
     let a = put_leading(out, o, edition, k, mode, s, from);
-    if a.bare {
-        return a;
+    let ahead = a.ahead;
+    if ahead.bare {
+        return Walked { to: a.to, ahead };
     }
-    let b = put_following(out, a.to, a.started, edition, k, mode, s, a.inner);
-    Walked {
-        to: b,
-        started: a.started,
-        inner: a.inner,
-        bare: a.bare,
-        next: a.next,
-    }
+    let b = put_following(out, a.to, a.started, edition, k, mode, s, ahead.inner);
+    Walked { to: b, ahead }
 }

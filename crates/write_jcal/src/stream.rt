@@ -2,6 +2,7 @@
 use crate::alone::is_alone;
 use crate::components::put_components;
 use edition::Edition;
+use schema::component;
 use sink::put;
 use source::settled;
 ghost use mathlib.Core.Path.{_≡_};
@@ -22,10 +23,10 @@ pub fn put_jcal(out: &mut [u8], o: usize, edition: Edition, mode: usize, s: &[u8
     let from = settled(mode, s, 0);
     let alone = is_alone(edition, mode, s, from);
     if alone {
-        let a = put_components(out, o, edition, mode, s, from);
+        let a = put_components(out, o, edition, mode, s, from, component::LEVELS);
         return a.to;
     }
     let b = put(out, o, b'[');
-    let c = put_components(out, b, edition, mode, s, from);
+    let c = put_components(out, b, edition, mode, s, from, component::LEVELS);
     put(out, c.to, b']')
 }

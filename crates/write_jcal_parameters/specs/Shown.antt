@@ -8,7 +8,7 @@ use Rattle.octets.specs.Ascii.{ascii}
 use Rattle.octets.specs.Pick.{pick}
 use Rattle.octets.specs.Class.{upper, lower}
 use Rattle.octets.specs.Reading.{isRead, orNothing}
-use Rattle.calendar.specs.Calendar.{ical, TEXT, Value}
+use Rattle.calendar.specs.Calendar.{ical, TEXT, UNKNOWN, Value}
 use Rattle.schema.specs.Types.{sameType}
 use Rattle.schema.specs.Parameters.{ParameterRow, parameterRow}
 use Rattle.schema.specs.Numbers.{parameterAt}
@@ -30,11 +30,12 @@ truthString b = pick b (ascii "\"TRUE\"") (ascii "\"FALSE\"")
 abbrev pub stringOf : Value → List ℕ
 stringOf v = quoted (parameterValue v)
 
--- a word of a closed set in capitals, TEXT as it stands, another value by its type
+-- a word of a closed set in capitals, TEXT and the value of an unrecognised parameter as they stand, another value by its type
 unfoldable pub valueShown : ParameterRow → List ℕ → List ℕ
 valueShown p s =
     pick (isRead (p .words)) (quoted (upper s))
-    (pick (sameType (p .type) TEXT) (quoted s) (orNothing stringOf (readValue ical (p .type) s)))
+    (pick (sameType (p .type) TEXT) (quoted s)
+    (pick (sameType (p .type) UNKNOWN) (quoted s) (orNothing stringOf (readValue ical (p .type) s))))
 
 abbrev pub charsShown : ParameterRow → ParamValue → List ℕ
 charsShown p v = valueShown p (v .chars)

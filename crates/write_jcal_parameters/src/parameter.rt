@@ -30,7 +30,10 @@ fn put_parameter(
     requires { ⌜ cuts mode ≡ true ⌝ }
     ensures { λ r. ⌜
         Put (now (out .entry)) (now (out .exit)) o r
-        (shown (record { name = rest mode (now (n .entry)) at; values = valuesIn edition mode (now (s .entry)) first })) ⌝ }
+        (shown (record {
+          name = rest mode (now (n .entry)) at;
+          values = valuesIn edition mode (now (s .entry)) first;
+        })) ⌝ }
 {
     let q = parameter_number(mode, n, at);
     let a = put_small_quoted(out, o, mode, n, at);

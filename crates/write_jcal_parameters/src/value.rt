@@ -64,7 +64,8 @@ fn put_boolean_string(out: &mut [u8], o: usize, mode: usize, s: &[u8], at: usize
 fn put_string(out: &mut [u8], o: usize, t: usize, mode: usize, s: &[u8], at: usize) -> usize
     ensures { λ r. ⌜
         Put (now (out .entry)) (now (out .exit)) o r (ascii "\"" ⊕
-        orNothing (λ v. escaped (valueCharacters v)) (readValue ical (typeAt t) (rest mode (now (s .entry)) at)) ⊕ ascii "\"") ⌝ }
+        orNothing (λ v. escaped (valueCharacters v)) (readValue ical (typeAt t) (rest mode (now (s .entry)) at)) ⊕
+        ascii "\"") ⌝ }
 {
     let a = put(out, o, b'"');
     let b = put_characters(out, a, t, mode, s, at);
@@ -99,6 +100,9 @@ fn put_value(out: &mut [u8], o: usize, q: usize, mode: usize, s: &[u8], at: usiz
     }
     let t = parameter_type(q);
     if t == value_type::TEXT {
+        return put_quoted(out, o, mode, s, at);
+    }
+    if t == value_type::UNKNOWN {
         return put_quoted(out, o, mode, s, at);
     }
     put_typed(out, o, t, mode, s, at)
@@ -138,7 +142,8 @@ fn put_next_values(
     requires { ⌜ cuts mode ≡ true ⌝ }
     ensures { λ r. ⌜
         Put (now (out .entry)) (now (out .exit)) o r
-        (eachAfter valueSeparator (map (charsIn edition (rowAt q)) (items nextValue (rest mode (now (s .entry)) at)))) ⌝ }
+        (eachAfter valueSeparator
+        (map (charsIn edition (rowAt q)) (items nextValue (rest mode (now (s .entry)) at)))) ⌝ }
 {
     let mut p = o;
     let mut c = at;

@@ -1,4 +1,5 @@
 -- Laws. A value of iCalendar text, written as JSON.
+--     Each          each of a list, read and written
 --     Texts         texts between bare separators, byte by byte
 --     Characters    the characters of a value of any type
 --     Pieces        pieces between commas, each written by a function
@@ -7,6 +8,7 @@
 --     PutRule       the rules of the code that writes it
 --     PutPeriod     a period's array
 --     PutValue      a value of any type
+pub mod Each
 pub mod Texts
 pub mod Characters
 pub mod Pieces

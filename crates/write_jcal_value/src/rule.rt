@@ -135,7 +135,8 @@ fn put_part_json(
     requires { ⌜ Within mode (now s) at ⌝ }
     ensures { λ r. ⌜
         Put (now (out .entry)) (now (out .exit)) o r
-        (separator started ⊕ pieceShown (getD partNames p []) (upTo (λ x. eqb x 59) (rest mode (now (s .entry)) at))) ⌝ }
+        (separator started ⊕
+        pieceShown (getD partNames p []) (upTo (λ x. eqb x 59) (rest mode (now (s .entry)) at))) ⌝ }
 {
     let e = byte_end(SEMICOLON, mode, s, at);
     let a = put_separator(out, o, started);

@@ -1,7 +1,7 @@
 //! How fast the conversions are, and how their time grows with the input.
 //!
 //!     cargo run --release --offline --bin bench [PART OF A NAME]
-//!     valgrind --tool=callgrind --toggle-collect=mallettriton_to_xml target/release/bench --once to-xml "PART OF A NAME" 65535
+//!     valgrind --tool=callgrind --toggle-collect=mallettriton_to_xml target/release/bench --once to-xml "PART OF A NAME" 65535    (or to-jcal, to-text)
 //!
 //! The buffers are made once and not cleared between calls; every call is on the same input, with room enough. A time is processor time, the shortest of many runs, each of as many calls as
 //! take some milliseconds, and what is compared takes turns, so that other work on the machine counts little. Growth is how much longer a call takes on 64 kB than on 8 kB: 8 is linear.
@@ -9,7 +9,7 @@
 mod inputs;
 
 use inputs::Kind;
-use mallettriton::{Edition, to_text, to_text_into, to_xml_into, Answer, LONGEST};
+use mallettriton::{to_jcal_into, to_text, to_text_into, to_xml_into, Answer, Edition, LONGEST};
 use std::cell::RefCell;
 use std::hint::black_box;
 
@@ -61,6 +61,10 @@ struct Rooms {
 impl Rooms {
     fn xml_of(&mut self, input: &[u8]) -> Answer<'_> {
         to_xml_into(input, &mut self.work, &mut self.out, Edition::Rfc5545)
+    }
+
+    fn jcal_of(&mut self, input: &[u8]) -> Answer<'_> {
+        to_jcal_into(input, &mut self.work, &mut self.out, Edition::Rfc5545)
     }
 
     fn text_of(&mut self, input: &[u8]) -> Answer<'_> {
@@ -141,12 +145,13 @@ fn measure(name: &str, inputs: [Vec<u8>; 2], text: Option<Vec<u8>>, convert: imp
     println!("{name:<30}{:>8}{:>12.0}{:>10.1}{growth:>8.1}{ratio:>12}", long.len(), times[1] * 1e6, length / times[1] / 1e6);
 }
 
-fn measure_text(kind: &Kind, rooms: &mut Rooms) {
+/// Measures a conversion from text.
+fn measure_text(kind: &Kind, of: for<'a> fn(&'a mut Rooms, &[u8]) -> Answer<'a>, rooms: &mut Rooms) {
     let inputs = [SHORT, LONG].map(|length| kind.of_length(length));
-    inputs.iter().for_each(|text| as_named(kind.name, rooms.xml_of(text)));
+    inputs.iter().for_each(|text| as_named(kind.name, of(rooms, text)));
     let text = (!kind.name.starts_with("refused")).then(|| inputs[1].clone());
     let convert = |text: &[u8], rooms: &mut Rooms| {
-        black_box(rooms.xml_of(text));
+        black_box(of(rooms, text));
     };
     measure(kind.name, inputs, text, convert, rooms);
 }
@@ -162,9 +167,10 @@ fn measure_document(name: &str, inputs: [Vec<u8>; 2], text: Option<Vec<u8>>, roo
 /// A call on each of the chosen inputs of a length, for a profiler.
 fn once(way: &str, only: &str, length: usize, rooms: &mut Rooms) {
     let chosen = |kind: &&Kind| kind.name.contains(only);
-    if way == "to-xml" {
+    if way != "to-text" {
         for kind in inputs::ROTAS.iter().chain(&inputs::WORST_TEXTS).filter(chosen) {
-            as_named(kind.name, rooms.xml_of(&kind.of_length(length)));
+            let text = kind.of_length(length);
+            as_named(kind.name, if way == "to-jcal" { rooms.jcal_of(&text) } else { rooms.xml_of(&text) });
         }
     } else {
         for kind in inputs::ROTAS.iter().filter(chosen) {
@@ -192,7 +198,11 @@ fn main() {
     }
     head("text to XML");
     for kind in inputs::ROTAS.iter().chain(&inputs::WORST_TEXTS).filter(chosen) {
-        measure_text(kind, &mut rooms);
+        measure_text(kind, Rooms::xml_of, &mut rooms);
+    }
+    head("text to jCal");
+    for kind in inputs::ROTAS.iter().chain(&inputs::WORST_TEXTS).filter(chosen) {
+        measure_text(kind, Rooms::jcal_of, &mut rooms);
     }
     head("XML to text");
     for kind in inputs::ROTAS.iter().filter(chosen) {

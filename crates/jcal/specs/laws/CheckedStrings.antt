@@ -11,22 +11,22 @@ use native.Mathlib.Omega.{arith}
 use lib.Dec.{eqb, ltb, leb}
 use lib.ListN.{drop}
 use lib.Seq.{drop-drop}
-use borrow.Author.Tests.{eqb-true, ne-eqb, lt-ltb, le-leb, ltb-true, ltb-false, eqb-false, leb-false}
+use borrow.Author.Tests.{eqb-true, ne-eqb, lt-ltb, le-leb, ltb-true, ltb-false, eqb-false}
 use Rattle.octets.specs.Pick.{pick, within, _and_, _or_}
-use Rattle.octets.specs.laws.Pick.{pick-case, or-left, or-right, or-no, or-cases, or-neither, within-range, within-yes, within-wider, eqb-swap}
+use Rattle.octets.specs.laws.Pick.{pick-case, or-left, or-right, or-no, or-cases, or-neither, within-range, within-yes, within-wider}
 use Rattle.octets.specs.Append.{_⊕_}
 use Rattle.octets.specs.laws.Append.{append-empty, append-none, append-regroup}
 use Rattle.octets.specs.Class.{isDigit}
 use Rattle.octets.specs.Words.{holds}
 use Rattle.octets.specs.laws.Words.{holds-neither, all-without}
-use Rattle.utf8.specs.Utf8.{isAscii, badFrom, firstBad, tailAt}
+use Rattle.utf8.specs.Utf8.{isAscii, firstBad}
 use Rattle.utf8.specs.laws.Utf8.{good-shifted, good-append, good-split, ascii-first}
 use Rattle.utf8.specs.Spell.{spell, isCharacter}
 use Rattle.utf8.specs.laws.Spell.{spell-ascii, spell-high, spell-good}
 use Rattle.utf8.specs.Computing.{utf8-compute}
 use Rattle.json.specs.Bytes.{letterU, namesGood, namesBad, hexValue, grown, isHigh, isLow, namedBad}
 use Rattle.json.specs.Check.{named, lowPair, move, end, Container, around, followed, check}
-use Rattle.json.specs.Strings.{Char, closing, char, named as lettered, hexWorth, paired, escaped, charAt, charactersBy, charactersFrom, lengthBy, lengthFrom}
+use Rattle.json.specs.Strings.{char, named as lettered, hexWorth, paired, escaped, charAt, charactersBy, charactersFrom, lengthBy, lengthFrom}
 use Rattle.json.specs.laws.CharAt.{pair-bounds}
 use Rattle.json.specs.declared.Around.{Around}
 use Rattle.json.specs.declared.Expect.{Expect}

@@ -1,12 +1,12 @@
 -- Components read from arrays that are not refused, and whose strings are text, are valid (RFC 7265, sections 3.2 and 3.3).
 --     components-accepted    the components that elements state
 use mathlib.Core.Path.{_≡_, refl, sym, ap, _∙_}
-use mathlib.Core.Bool.{Bool, true, false, not, false≢true}
+use mathlib.Core.Bool.{Bool, true, not}
 use mathlib.Core.List.{List, [], _∷_, map}
 use mathlib.Core.Option.{Option, none, some}
 use Prim.Native.Nat.{ℕ, zero, suc, _-_}
 use lib.Dec.{ltb}
-use Rattle.octets.specs.Pick.{pick, _and_}
+use Rattle.octets.specs.Pick.{_and_}
 use Rattle.octets.specs.laws.Pick.{and-both, and-yes}
 use Rattle.octets.specs.Class.{upper}
 use Rattle.octets.specs.Words.{isEmpty}
@@ -14,8 +14,8 @@ use Rattle.octets.specs.Lists.{every}
 use Rattle.octets.specs.laws.Lists.{every-both}
 use Rattle.octets.specs.Reading.{andThen, isRead, readOr}
 use Rattle.octets.specs.laws.Reading.{read-some, andThen-some}
-use Rattle.calendar.specs.Calendar.{Components, noMore, component}
-use Rattle.calendar.specs.Refusal.{Refusal, NAME, FRAME, COUNT, fine, _otherwise_}
+use Rattle.calendar.specs.Calendar.{Components, component}
+use Rattle.calendar.specs.Refusal.{Refusal, NAME, FRAME, COUNT, fine}
 use Rattle.calendar.specs.laws.Refusal.{refused-not}
 use Rattle.schema.specs.Components.{mayContain}
 use Rattle.edition.specs.declared.Edition.{Edition}
@@ -25,7 +25,7 @@ use Rattle.xcal.specs.laws.Accepted.{both-fine, test-fine}
 use Rattle.json.specs.Tree.{Json, string, number, literal, array, object, Elements, noElements, element, elementList, placeOf}
 use Rattle.json.specs.Kinds.{asArray, nth}
 use Rattle.jcal.specs.Property.{nameIn, isBadName, passes, propertyFault, propertyOf}
-use Rattle.jcal.specs.Components.{at, propertyVerdict, propertiesVerdict, componentName, propertyArrays, componentArrays, readProperties, isComponent, componentFault, methodInside, isComplete, componentsVerdict, componentVerdict, innerVerdict, arrayVerdict, readComponents, readInside, readInner, readArray}
+use Rattle.jcal.specs.Components.{at, propertyVerdict, propertiesVerdict, componentName, propertyArrays, readProperties, isComponent, componentFault, methodInside, isComplete, componentsVerdict, componentVerdict, innerVerdict, arrayVerdict, readComponents, readInside, readInner, readArray}
 use Rattle.jcal.specs.laws.Textual.{isTextual, areTextual}
 use Rattle.jcal.specs.laws.ValuesAccepted.{elements-textual, array-textual}
 use Rattle.jcal.specs.laws.ParametersAccepted.{good-kept}

@@ -16,10 +16,10 @@ use Rattle.calendar.specs.Calendar.{Property, Components, noMore, component}
 use Rattle.calendar.specs.Levels.{levels}
 use Rattle.calendar.specs.Refusal.{fine, _otherwise_}
 use Rattle.schema.specs.Components.{mayContain}
-use Rattle.schema.specs.Counts.{Around, methodFor, complete}
+use Rattle.schema.specs.Counts.{methodFor, complete}
 use Rattle.edition.specs.declared.Edition.{Edition}
 use Rattle.validity.specs.ValidCalendar.{isKeptName, isValidProperty, hasComponents, areValid, atTop, isValid}
-use Rattle.validity.specs.laws.ValidCalendar.{valid-property, ValidComponent, valid-component, valid-parts, valid-shallow}
+use Rattle.validity.specs.laws.ValidCalendar.{valid-property, valid-component, valid-parts, valid-shallow}
 use Rattle.xcal.specs.laws.ElementNames.{kept-back}
 use Rattle.json.specs.Tree.{array, Elements, noElements, element, elementList}
 use Rattle.json.specs.Kinds.{asArray}

@@ -3,13 +3,13 @@
 --     jcal-again       and is read again from its own jCal, where that is within the input limit
 use mathlib.Core.Path.{_≡_, refl}
 use mathlib.Core.Bool.{Bool, true, false, false≢true}
-use mathlib.Core.List.{List, [], _∷_}
+use mathlib.Core.List.{List}
 use mathlib.Core.Option.{Option, none, some}
 use Prim.Native.Nat.{ℕ, _≤_}
 use native.Mathlib.Omega.{arith}
 use lib.Dec.{leb}
 use lib.ListN.{length}
-use Rattle.octets.specs.Pick.{pick, _and_}
+use Rattle.octets.specs.Pick.{pick}
 use Rattle.octets.specs.laws.Pick.{and-yes}
 use Rattle.octets.specs.Reading.{andThen, isRead}
 use Rattle.calendar.specs.Calendar.{Calendar}
@@ -27,7 +27,7 @@ use Rattle.json.specs.Tree.{Json, string, number, literal, array, object, Eleme
 use Rattle.json.specs.Kinds.{asArray, firstIn}
 use Rattle.json.specs.declared.Checked.{Checked}
 use Rattle.json.specs.declared.Checked.the-variants.{Fine, At}
-use Rattle.jcal.specs.Components.{componentsVerdict, readComponents, readCalendars, streamIn, isStream, calendarsIn}
+use Rattle.jcal.specs.Components.{readComponents, readCalendars, streamIn, isStream, calendarsIn}
 use Rattle.jcal.specs.ReadJcal.{json, jcalVerdict, readJcal}
 use Rattle.jcal.specs.WriteJcal.{writeJcal}
 use Rattle.jcal.specs.laws.JcalBack.{jcal-back}

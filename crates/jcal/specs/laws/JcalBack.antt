@@ -1,6 +1,6 @@
 -- A valid calendar that is written as jCal is read back (RFC 7265).
 --     jcal-back        within the input limit, in any edition
---     jcal-injective   equal bytes are those of equal calendars
+--     jcal-injective   equal bytes, however many, are those of equal calendars
 use mathlib.Core.Path.{_≡_, sym, ap, subst, _∙_}
 use mathlib.Core.Bool.{true, false}
 use mathlib.Core.List.{List}
@@ -56,8 +56,9 @@ jcal-back ed c h l = subst (λ (s : List ℕ). length s ≤ limit → readJcal e
 
 -- ---- equal bytes
 
-accepted-same : (c d : Components) → accepted c ≡ accepted d → c ≡ d
-accepted-same c d e = cc
+-- the calendar that the bytes of jCal state, of any length
+jcal-states : (ed : Edition) (c : Components) → isValid ed c ≡ true → readCalendars (calendarsIn (valueOf (writeJcal c))) ≡ c
+jcal-states ed c h = subst (λ (s : List ℕ). readCalendars (calendarsIn (valueOf s)) ≡ c) (calendar-written c) (value-back ed c h)
 
-pub jcal-injective : (ed : Edition) (c d : Components) → isValid ed c ≡ true → isValid ed d ≡ true → length (writeJcal c) ≤ limit → writeJcal c ≡ writeJcal d → c ≡ d
-jcal-injective ed c d h k l e = accepted-same c d (sym (jcal-back ed c h l) ∙ ap (readJcal ed) e ∙ jcal-back ed d k (rw e at l))
+pub jcal-injective : (ed : Edition) (c d : Components) → isValid ed c ≡ true → isValid ed d ≡ true → writeJcal c ≡ writeJcal d → c ≡ d
+jcal-injective ed c d h k e = sym (jcal-states ed c h) ∙ ap (λ (s : List ℕ). readCalendars (calendarsIn (valueOf s))) e ∙ jcal-states ed d k

@@ -25,7 +25,7 @@ use Rattle.numbers.specs.Sign.{minusIf, leadsInDigit}
 use Rattle.numbers.specs.laws.Sign.{digits-lead, lead-append}
 use Rattle.numbers.specs.Integer.{writeWhole}
 use Rattle.numbers.specs.Float.{orZero, afterPoint, leadsInZero, writeFloat, isNormal}
-use Rattle.numbers.specs.laws.FloatLaws.{Normal, normal-parts}
+use Rattle.numbers.specs.laws.FloatLaws.{normal-parts}
 use Rattle.json.specs.Written.{isInt, isFrac, isUnsigned, isNumber}
 
 -- ---- int [ frac ], with a minus or without

@@ -8,7 +8,7 @@ use mathlib.Core.Option.{Option, none, some}
 use Prim.Native.Nat.{ℕ}
 use borrow.Author.Tests.{not-true, not-false}
 use Rattle.octets.specs.Ascii.{ascii}
-use Rattle.octets.specs.Pick.{pick, _and_, _or_}
+use Rattle.octets.specs.Pick.{pick, _and_}
 use Rattle.octets.specs.laws.Pick.{pick-no, and-both, and-yes, or-left, or-right, or-no, or-neither, pick-second}
 use Rattle.octets.specs.Class.{upper, lower}
 use Rattle.octets.specs.laws.Letters.{upper-twice, lower-any-case}
@@ -31,12 +31,11 @@ use Rattle.edition.specs.declared.Edition.{Edition}
 use Rattle.edition.specs.declared.Edition.the-variants.{Rfc5545, Rfc6868}
 use Rattle.texts.specs.Uri.{readUri}
 use Rattle.read_text_line.specs.ContentLine.{isName}
-use Rattle.read_text_line.specs.Names.{isCarriedName}
 use Rattle.read_text_line.specs.laws.Names.{name-upper, carried-name-upper}
 use Rattle.values.specs.ReadValue.{readValue}
 use Rattle.values.specs.ReadBack.{isValue, isTyped}
 use Rattle.values.specs.laws.ReadBack.{made}
-use Rattle.values.specs.Valid.{isAmount, isOfParameter, isParameterValue, isParameter, areParameters, isBase64Encoding}
+use Rattle.values.specs.Valid.{isAmount, isOfParameter, isParameterValue, isParameter, areParameters}
 use Rattle.values.specs.Characters.{freeIn}
 use Rattle.validity.specs.ValidCalendar.{isKeptName, isPermitted, isParameterText, isValidParameter}
 use Rattle.validity.specs.laws.ValidCalendar.{valid-parameter, nothing-free}
@@ -211,8 +210,8 @@ module _ (ed : Edition) where
       let w = or-neither (isBadName (m .name)) (same (m .name) (ascii "value")) b in
       let q = good-kept (m .name) (w .0) in
       let g =
-          each-accepted-of (λ v. andThen (asString v) (readCharacters n)) (λ v. isParameterValue (parameterWords n) (parameterType n) v and isCarried ed v) (λ v. isTextual v and isSpelled v) (value-good n)
-          (orAlone (m .value)) vs (every-and isTextual isSpelled (orAlone (m .value)) (alone-textual (m .value) t) s) (a .1) in
+      each-accepted-of (λ v. andThen (asString v) (readCharacters n)) (λ v. isParameterValue (parameterWords n) (parameterType n) v and isCarried ed v) (λ v. isTextual v and isSpelled v) (value-good n)
+      (orAlone (m .value)) vs (every-and isTextual isSpelled (orAlone (m .value)) (alone-textual (m .value) t) s) (a .1) in
       rw (← (d .1)) (record {
         named = refl;
         valid =

@@ -2,7 +2,7 @@
 --     parameters-back    the parameters of a property
 --     parameters-good    and they have no fault
 use mathlib.Core.Path.{_≡_, refl, _∙_}
-use mathlib.Core.Bool.{Bool, true, false, not, false≢true}
+use mathlib.Core.Bool.{Bool, true, false, false≢true}
 use mathlib.Core.List.{List, [], _∷_, map}
 use mathlib.Core.Option.{Option, none, some}
 use Prim.Native.Nat.{ℕ}
@@ -31,7 +31,7 @@ use Rattle.values.specs.Valid.{isWordIn, isParameterValue, isParameter, arePara
 use Rattle.values.specs.laws.ReadBack.{isCharacterData, characters-read-back}
 use Rattle.values.specs.laws.Valid.{text-in, kept-or-valid}
 use Rattle.validity.specs.ValidCalendar.{isKeptName, isParameterText, isValidParameter}
-use Rattle.validity.specs.laws.ValidCalendar.{ValidParameter, valid-parameter, parameter-value}
+use Rattle.validity.specs.laws.ValidCalendar.{valid-parameter, parameter-value}
 use Rattle.xcal.specs.laws.ElementNames.{lower-same, kept-upper, kept-back}
 use Rattle.json.specs.Tree.{Member}
 use Rattle.json.specs.Kinds.{asString}

@@ -10,7 +10,6 @@ use lib.ListN.{length}
 use Rattle.octets.specs.Pick.{pick}
 use Rattle.octets.specs.Words.{isEmpty}
 use Rattle.octets.specs.Reading.{andThen, isRead, readOr}
-use Rattle.calendar.specs.Calendar.{Property, Components}
 use Rattle.calendar.specs.Refusal.{Refusal, COUNT, Verdict, fine, refuse, _otherwise_}
 use Rattle.schema.specs.Components.{mayContain}
 use Rattle.edition.specs.declared.Edition.{Edition}

@@ -8,28 +8,26 @@ use Prim.Native.Nat.{ℕ, zero, suc}
 use lib.ListN.{drop}
 use borrow.Author.Tests.{not-false}
 use Rattle.octets.specs.Ascii.{ascii}
-use Rattle.octets.specs.Pick.{pick, _and_, _or_}
+use Rattle.octets.specs.Pick.{pick}
 use Rattle.octets.specs.laws.Pick.{and-both, and-yes, or-neither}
 use Rattle.octets.specs.Class.{upper, lower}
 use Rattle.octets.specs.Words.{same}
-use Rattle.octets.specs.Lists.{every, anyOne}
+use Rattle.octets.specs.Lists.{every}
 use Rattle.octets.specs.laws.Lists.{every-both}
-use Rattle.octets.specs.Reading.{andThen, isRead, readOr}
+use Rattle.octets.specs.Reading.{isRead, readOr}
 use Rattle.octets.specs.laws.Reading.{none-some, read-some, andThen-some}
 use Rattle.octets.specs.Computing.{octets-compute}
-use Rattle.calendar.specs.Calendar.{Property}
 use Rattle.calendar.specs.Refusal.{Refusal, NAME, FRAME, PARAMETER, VALUE}
-use Rattle.schema.specs.Components.{mayStand}
-use Rattle.schema.specs.Properties.{isKnownProperty, isListedProperty}
+use Rattle.schema.specs.Properties.{isListedProperty}
 use Rattle.edition.specs.declared.Edition.{Edition}
 use Rattle.values.specs.Valid.{isAmount, isProperty}
 use Rattle.validity.specs.ValidCalendar.{isKeptName, isValidProperty}
 use Rattle.xcal.specs.laws.CleanValues.{clean-values}
 use Rattle.json.specs.Tree.{Json, Member}
 use Rattle.json.specs.Kinds.{asObject, firstIn, nth}
-use Rattle.jcal.specs.Parameters.{readParameters, parametersGood}
+use Rattle.jcal.specs.Parameters.{parametersGood}
 use Rattle.jcal.specs.Values.{readValues}
-use Rattle.jcal.specs.Property.{nameIn, parametersIn, typeIn, valuesIn, propertyName, memberList, valueType, isBadName, isBadProperty, isBadParameter, passes, namesBad, isShaped, propertyFault, propertyOf}
+use Rattle.jcal.specs.Property.{nameIn, parametersIn, typeIn, valuesIn, propertyName, memberList, valueType, isBadName, isBadProperty, passes, namesBad, isShaped, propertyFault, propertyOf}
 use Rattle.jcal.specs.laws.Textual.{isTextual}
 use Rattle.jcal.specs.laws.ValuesAccepted.{values-accepted}
 use Rattle.jcal.specs.laws.ParametersAccepted.{good-kept, small-apart, memberTextual, object-textual, parameters-accepted}

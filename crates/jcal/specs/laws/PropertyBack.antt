@@ -27,7 +27,6 @@ use Rattle.validity.specs.ValidCalendar.{isKeptName, isValidParameter}
 use Rattle.validity.specs.laws.ValidCalendar.{valid-parameter, ValidProperty}
 use Rattle.xml.specs.Reads.{isName as isXmlName}
 use Rattle.xcal.specs.laws.ElementNames.{lower-same, kept-upper, kept-back, kept-carried, kept-element}
-use Rattle.json.specs.Tree.{Member}
 use Rattle.jcal.specs.Property.{parametersIn, typeOf, typeIn, isBadName, isBadParameter, namesBad, isShaped, propertyFault, propertyOf}
 use Rattle.jcal.specs.Values.{readValues}
 use Rattle.jcal.specs.laws.Trees.{member-list, valueTree, parameterMember, propertyElements}

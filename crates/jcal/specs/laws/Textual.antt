@@ -1,8 +1,8 @@
 -- The value of a JSON text that passes the checks: its strings and names are text (RFC 8259).
 --     isTextual         a value whose strings and names are text
 --     value-textual     that of such a text
-use mathlib.Core.Path.{_≡_, refl, sym, ap, subst, _∙_}
-use mathlib.Core.Bool.{Bool, true, false, not, false≢true}
+use mathlib.Core.Path.{_≡_, refl, sym, subst, _∙_}
+use mathlib.Core.Bool.{Bool, true, false, false≢true}
 use mathlib.Core.List.{List, [], _∷_}
 use mathlib.Core.Option.{none}
 use Prim.Native.Nat.{ℕ, zero, suc, _+_, _/_, _%_}
@@ -10,8 +10,8 @@ use native.Mathlib.Omega.{arith}
 use lib.Dec.{eqb, ltb}
 use lib.ListN.{length, drop}
 use borrow.Author.Tests.{eqb-true}
-use Rattle.octets.specs.Pick.{pick, within, _and_, _or_}
-use Rattle.octets.specs.laws.Pick.{pick-case, pick-yes, pick-no, and-both, and-yes, or-left, or-right, or-no, or-cases, or-neither, within-wider, eqb-apart, eqb-passes}
+use Rattle.octets.specs.Pick.{pick, _and_, _or_}
+use Rattle.octets.specs.laws.Pick.{pick-case, and-both, and-yes, or-left, or-right, or-no, or-cases, or-neither, within-wider, eqb-apart, eqb-passes}
 use Rattle.octets.specs.Append.{_⊕_}
 use Rattle.octets.specs.laws.Append.{append-empty}
 use Rattle.octets.specs.Scan.{spanLen}
@@ -24,9 +24,9 @@ use Rattle.octets.specs.laws.Lists.{every-both}
 use Rattle.utf8.specs.Utf8.{isAscii, firstBad}
 use Rattle.utf8.specs.laws.Utf8.{good-well-formed}
 use Rattle.json.specs.Bytes.{nameSeparator, afterT, afterF, afterN, minus, isSign, digitZero, decimalPoint, isE}
-use Rattle.json.specs.Check.{number, after, afterBy, value, scalar as scalarMove, name as nameMove, expected, between, numberEnd, Container, around, outer, followed, check, verdict}
+use Rattle.json.specs.Check.{number, after, afterBy, value, scalar as scalarMove, name as nameMove, expected, between, Container, around, outer, followed, check, verdict}
 use Rattle.json.specs.Strings.{characters, quotedLength}
-use Rattle.json.specs.Tree.{Json, string, literal, array, object, Elements, noElements, element, Members, noMembers, member, Token, opensArray, opensObject, closes, name, scalar, isClosing, isSeparator, isScalar, stringToken, wordToken, tokensBy, scan, endPlace, firstOf, elementsBy, membersBy, elements, members, valueOf}
+use Rattle.json.specs.Tree.{Json, string, literal, array, object, Elements, noElements, element, Members, noMembers, member, Token, opensArray, opensObject, closes, name, scalar, isClosing, isSeparator, isScalar, stringToken, tokensBy, scan, firstOf, elementsBy, membersBy, elements, members, valueOf}
 use Rattle.json.specs.Tree.{number as numberJson}
 use Rattle.json.specs.Written.{isText}
 use Rattle.json.specs.declared.Around.{Around}
@@ -38,7 +38,6 @@ use Rattle.json.specs.declared.Number.the-variants.{Minus, Zero, Int, Point, Fr
 use Rattle.json.specs.declared.Inside.the-variants.{Chars}
 use Rattle.json.specs.declared.State.{State}
 use Rattle.json.specs.declared.State.the-variants.{Expects, InLiteral, InNumber, InString}
-use Rattle.json.specs.declared.Move.{Move}
 use Rattle.json.specs.declared.Move.the-variants.{To, OpenArray, OpenObject, Close, Bad}
 use Rattle.json.specs.declared.Checked.{Checked}
 use Rattle.json.specs.declared.Checked.the-variants.{Fine, At}

@@ -2,7 +2,7 @@
 --     string-clean      the characters of a string
 --     values-accepted   the values of a property
 use mathlib.Core.Path.{_≡_, refl, sym, ap, subst, _∙_}
-use mathlib.Core.Bool.{Bool, true, false, not, false≢true}
+use mathlib.Core.Bool.{Bool, true, false, false≢true}
 use mathlib.Core.List.{List, [], _∷_, map}
 use mathlib.Core.Option.{Option, none, some, Option·map}
 use Prim.Native.Nat.{ℕ, _≤_}
@@ -11,32 +11,32 @@ use lib.Dec.{ltb, leb}
 use borrow.Author.Tests.{le-leb, leb-true, ltb-false}
 use Rattle.octets.specs.Ascii.{ascii}
 use Rattle.octets.specs.Pick.{pick, within, _and_, _or_}
-use Rattle.octets.specs.laws.Pick.{pick-case, pick-either, and-both, and-yes, or-false, within-yes}
+use Rattle.octets.specs.laws.Pick.{and-both, and-yes, or-false, within-yes}
 use Rattle.octets.specs.Class.{upper, lower}
 use Rattle.octets.specs.Words.{same, isOneOf}
 use Rattle.octets.specs.laws.Words.{same-true}
 use Rattle.octets.specs.laws.Tables.{row-named}
 use Rattle.octets.specs.Lists.{every, distinct}
-use Rattle.octets.specs.laws.Lists.{every-both, every-weaker, every-and}
+use Rattle.octets.specs.laws.Lists.{every-both, every-weaker}
 use Rattle.octets.specs.Reading.{provided, andThen, readEach}
 use Rattle.octets.specs.laws.Reading.{none-some, provided-some, andThen-some, each-accepted, each-accepted-of}
 use Rattle.octets.specs.Computing.{octets-compute}
-use Rattle.calendar.specs.Calendar.{Format, ical, xcal, ValueType, BINARY, BOOLEAN, CAL-ADDRESS, DATE, DATE-TIME, DURATION, FLOAT, INTEGER, PERIOD, RECUR, TEXT, TIME, URI, UTC-OFFSET, UNKNOWN, Whole, Decimal, RuleItem, RulePart, Value, binary, boolean, float, integer, periodExplicit, periodStart, recur, text, geo, requestStatus, typeOf}
+use Rattle.calendar.specs.Calendar.{Format, ical, xcal, ValueType, BINARY, BOOLEAN, CAL-ADDRESS, DATE, DATE-TIME, DURATION, FLOAT, INTEGER, PERIOD, RECUR, TEXT, TIME, URI, UTC-OFFSET, UNKNOWN, Whole, RuleItem, RulePart, Value, binary, boolean, float, integer, periodExplicit, periodStart, recur, text, geo, requestStatus, typeOf}
 use Rattle.schema.specs.Types.{sameType, isTypeOf}
 use Rattle.schema.specs.laws.Types.{same-type-self, same-type-true}
 use Rattle.schema.specs.Properties.{permittedTypes, isListedProperty, propertyWords}
 use Rattle.schema.specs.Computing.{schema-compute}
 use Rattle.times.specs.DateTime.{isDateTime, readDateTime}
 use Rattle.times.specs.laws.DateTime.{date-time-accepted}
-use Rattle.times.specs.Duration.{isDuration, readDuration}
+use Rattle.times.specs.Duration.{readDuration}
 use Rattle.times.specs.laws.Duration.{duration-accepted}
 use Rattle.numbers.specs.Sign.{hasMinus}
 use Rattle.numbers.specs.Integer.{most, integerOf, isInteger}
-use Rattle.numbers.specs.Float.{readFloat, isNormal}
+use Rattle.numbers.specs.Float.{readFloat}
 use Rattle.numbers.specs.laws.FloatLaws.{float-accepted}
 use Rattle.numbers.specs.Boolean.{readBoolean}
 use Rattle.texts.specs.Binary.{readBinary}
-use Rattle.recur.specs.Parts.{Part, partTable, partNames, partOf, isListPart}
+use Rattle.recur.specs.Parts.{Part, partTable, partNames, partOf}
 use Rattle.recur.specs.Item.{readForm, isItem, orOther}
 use Rattle.recur.specs.laws.ItemLaws.{item-accepted}
 use Rattle.recur.specs.Rule.{rulePart, isAmount as isPartAmount, isPart, nameOf, isComplete, inOrder, isOrdered, ruled, isRule}
@@ -44,20 +44,19 @@ use Rattle.recur.specs.laws.OrderLaws.{ordered-order, every-order, named-order}
 use Rattle.recur.specs.laws.RuleLaws.{names-once}
 use Rattle.values.specs.ReadValue.{readValue}
 use Rattle.values.specs.WriteValue.{typeOfAll}
-use Rattle.values.specs.ReadBack.{isValue, isTyped}
 use Rattle.values.specs.laws.ReadBack.{value-accepted, made}
 use Rattle.values.specs.Valid.{isAmount, isOfType, isChosen, isOwnValue, isPropertyValue, areValuesOf}
 use Rattle.values.specs.laws.Valid.{each-amount}
 use Rattle.xcal.specs.laws.SoundContent.{isClean}
 use Rattle.xcal.specs.laws.CleanValues.{isCleanValue, one-clean, status-clean}
 use Rattle.xcal.specs.laws.ValuesAccepted.{read-clean}
-use Rattle.json.specs.Tree.{Json, string, number, literal, array, object, Elements, noElements, element, Members, noMembers, member, Member, elementList, memberList}
+use Rattle.json.specs.Tree.{Json, string, number, literal, array, object, Elements, noElements, element, Member, elementList}
 use Rattle.json.specs.Kinds.{asString, asNumber, asLiteral, asArray, asObject, orAlone}
 use Rattle.json.specs.Written.{isText}
-use Rattle.jcal.specs.Integer.{int, frac, up, down, moved, readNumber}
+use Rattle.jcal.specs.Integer.{readNumber}
 use Rattle.jcal.specs.Values.{readString, periodFrom, readPeriod, itemText, readItem, readItems, readPart, readRecur, readTyped, readChosen, readGeo, readStatus, readOne, readValues}
 use Rattle.jcal.specs.laws.ValuesBack.{only-text}
-use Rattle.jcal.specs.laws.Textual.{isTextual, areTextual, membersTextual}
+use Rattle.jcal.specs.laws.Textual.{isTextual, areTextual}
 
 -- ---- strings
 

@@ -49,7 +49,7 @@ use Rattle.values.specs.laws.ReadBack.{value-read-back, characters-read-back}
 use Rattle.values.specs.laws.Valid.{text-in, own-value}
 use Rattle.xcal.specs.laws.ElementNames.{upper-lower}
 use Rattle.xcal.specs.laws.Chosen.{chosen-typed}
-use Rattle.json.specs.Tree.{Json, Member, elementList}
+use Rattle.json.specs.Tree.{Json, elementList}
 use Rattle.json.specs.Kinds.{asArray, orAlone}
 use Rattle.jcal.specs.Values.{itemText, readItem, readItems, readPart, readTyped, readChosen, readOne, readValues}
 use Rattle.jcal.specs.laws.Trees.{toElements, element-list, member-list, oneOrArr, itemTree, partMember, valueTree}

@@ -7,7 +7,6 @@ use mathlib.Core.Option.{Option, none, some, Option·map}
 use Prim.Native.Nat.{ℕ, suc, _+_, _*_, _≤_}
 use native.Mathlib.Omega.{arith}
 use lib.ListN.{length}
-use Rattle.octets.specs.Ascii.{ascii}
 use Rattle.octets.specs.Pick.{pick, _and_, _or_}
 use Rattle.octets.specs.Append.{_⊕_, joined}
 use Rattle.octets.specs.laws.Append.{length-both}
@@ -40,7 +39,7 @@ use Rattle.values.specs.ReadValue.{readValue}
 use Rattle.values.specs.WriteValue.{valueCharacters}
 use Rattle.read_text_line.specs.ContentLine.{ParamValue, RawParameter}
 use Rattle.read_text_line.specs.Write.{writeParamValue, writeParameter}
-use Rattle.text.specs.Parameters.{readTyped, readWord, readParamValue, isSingle, readParameter, isValueParameter, ownParameters, readParameters}
+use Rattle.text.specs.Parameters.{readTyped, readWord, readParamValue, isSingle, readParameter, ownParameters, readParameters}
 use Rattle.json.specs.Write.{quoted}
 use Rattle.jcal.specs.WriteJcal.{oneOrArray, parameterValue, parameterJson}
 use Rattle.lengths_xml.specs.laws.Elements.{rate}
@@ -48,7 +47,8 @@ use Rattle.lengths_xml.specs.laws.Pieces.{weight, joined-weight}
 use Rattle.lengths_xml.specs.laws.Times.{date-length, date-time-length, time-length, duration-length, offset-length}
 use Rattle.lengths_xml.specs.laws.Numbers.{integer-length, float-length}
 use Rattle.lengths_xml.specs.laws.Texts.{text-length}
-use Rattle.lengths_xml.specs.laws.Parameters.{bytes}
+use Rattle.lengths_xml.specs.laws.Parameters.{bytes, own-bytes}
+use Rattle.lengths_xml.specs.laws.Parameters as chars
 use Rattle.lengths_jcal.specs.laws.Strings.{quoted-length, one-length, member-length}
 use Rattle.lengths_jcal.specs.laws.Values.{each-length}
 
@@ -62,6 +62,7 @@ mapped s g none v f h = none-some h
 mapped s g (some a) v f h = let q : g a ≡ v = cc in rw (← q) (f a refl)
 
 truth-length : (b : Bool) → length (writeBoolean ical b) ≤ 5
+unfolding pick
 truth-length true = omega arith
 truth-length false = omega arith
 
@@ -87,25 +88,25 @@ text-near : (s v : List ℕ) → length v ≤ length s → Near s (text v)
 unfolding parameterValue valueCharacters
 text-near s v h = omega arith
 
+unknown-near : (s : List ℕ) → Near s (unknown s)
+unfolding parameterValue valueCharacters
+unknown-near s = omega arith
+
 typed-near : (t : ValueType) (s : List ℕ) (v : Value) → readTyped t s ≡ some v → Near s v
 unfolding pick
 typed-near t s v h = go (sameType t TEXT) h
   where
-    go : (b : Bool) → pick b (some (text s)) (readValue ical t s) ≡ some v → Near s v
+    other : (b : Bool) → pick b (some (unknown s)) (readValue ical t s) ≡ some v → Near s v
+    other true h = let q : unknown s ≡ v = cc in rw (← q) (unknown-near s)
+    other false h = value-near t s v h
+
+    go : (b : Bool) → pick b (some (text s)) (pick (sameType t UNKNOWN) (some (unknown s)) (readValue ical t s)) ≡ some v → Near s v
     go true h = let q : text s ≡ v = cc in rw (← q) (text-near s s (omega arith))
-    go false h = value-near t s v h
+    go false h = other (sameType t UNKNOWN) h
 
 in-word-near : (o : Option (List (List ℕ))) (t : ValueType) (s : List ℕ) (v : Value) → readWord o t s ≡ some v → Near s v
 in-word-near none t s v h = typed-near t s v h
 in-word-near (some ws) t s v h = rw (← (provided-some (isOneOf (upper s) ws) (text (upper s)) v h .1)) (text-near s (upper s) (omega (arith, upper-length s)))
-
-chars-length : (v : ParamValue) → length (v .chars) ≤ length (writeParamValue v)
-unfolding writeParamValue pick
-chars-length v = go (v .quoted)
-  where
-    go : (b : Bool) → length (v .chars) ≤ length (pick b (34 ∷ (v .chars ⊕ 34 ∷ [])) (v .chars))
-    go true = omega (arith, length-both (v .chars) (34 ∷ []))
-    go false = omega arith
 
 -- as a string, and a comma
 abbrev stringOf : Value → List ℕ
@@ -117,7 +118,7 @@ param-short n r v h = go (not (r .quoted) and isQuotedParameter n) h
   where
     go : (b : Bool) → pick b none (readWord (parameterWords n) (parameterType n) (r .chars)) ≡ some v → length (stringOf v) + 1 ≤ rate * suc (length (writeParamValue r))
     go true h = none-some h
-    go false h = omega (arith, quoted-length (parameterValue v), in-word-near (parameterWords n) (parameterType n) (r .chars) v h, chars-length r)
+    go false h = omega (arith, quoted-length (parameterValue v), in-word-near (parameterWords n) (parameterType n) (r .chars) v h, chars.quoted-length r)
 
 -- ---- a parameter
 
@@ -159,15 +160,6 @@ each-parameter (r ∷ rs) ps h =
     let g = consRead-some (e .0) (readEach readParameter rs) ps (e .2) in
     let written = length-both (writeParameter r) (joined (map writeParameter rs)) in
     rw (← (g .2)) (omega (arith, written, parameter-length r (e .0) (e .1), each-parameter rs (g .0) (g .1)))
-
-own-bytes : (rs : List RawParameter) → bytes (ownParameters rs) ≤ bytes rs
-unfolding ownParameters joined pick
-own-bytes [] = omega arith
-own-bytes (r ∷ rs) = go (isValueParameter r) (own-bytes rs)
-  where
-    go : (b : Bool) → bytes (ownParameters rs) ≤ bytes rs → bytes (pick b (ownParameters rs) (r ∷ ownParameters rs)) ≤ length (writeParameter r ⊕ joined (map writeParameter rs))
-    go true ih = omega (arith, ih, length-both (writeParameter r) (joined (map writeParameter rs)))
-    go false ih = omega (arith, ih, length-both (writeParameter r) (joined (map writeParameter rs)), length-both (writeParameter r) (joined (map writeParameter (ownParameters rs))))
 
 pub parameters-length : (rs : List RawParameter) (ps : List Parameter) → readParameters rs ≡ some ps → weight (map parameterJson ps) ≤ rate * bytes rs
 parameters-length rs ps h = omega (arith, each-parameter (ownParameters rs) ps h, own-bytes rs)

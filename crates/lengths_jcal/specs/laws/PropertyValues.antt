@@ -1,7 +1,7 @@
 -- The jCal of a property's values, by the length of its text: a list has a value for each piece between commas.
 --     values-length    the values of a property, each with a comma
 --     word-short       a word of a closed set
-use mathlib.Core.Path.{_≡_, refl, ap}
+use mathlib.Core.Path.{_≡_, refl}
 use mathlib.Core.Bool.{Bool, true, false}
 use mathlib.Core.List.{List, [], _∷_, map}
 use mathlib.Core.Option.{Option, none, some, Option·map}
@@ -30,6 +30,7 @@ use Rattle.jcal.specs.WriteJcal.{valueJson}
 use Rattle.lengths_xml.specs.laws.Elements.{rate}
 use Rattle.lengths_xml.specs.laws.Pieces.{weight, cut-weight, split-weight}
 use Rattle.lengths_xml.specs.laws.Numbers.{geo-length}
+use Rattle.lengths_xml.specs.laws.PropertyValues.{same-all}
 use Rattle.lengths_jcal.specs.laws.Strings.{quoted-length, array-length}
 use Rattle.lengths_jcal.specs.laws.Values.{Short, kept-length, value-length, each-length}
 
@@ -71,10 +72,6 @@ texts-length : (ps : List (List ℕ)) → weight (map valueJson (map text ps)) �
 unfolding weight
 texts-length [] = omega arith
 texts-length (p ∷ ps) = omega (arith, kept-length p p (omega arith), texts-length ps)
-
-same-all : (l : List (List ℕ)) → map (λ (s : List ℕ). s) l ≡ l
-same-all [] = refl
-same-all (s ∷ l) = ap (λ (m : List (List ℕ)). s ∷ m) (same-all l)
 
 listed-length : (t : ValueType) (s : List ℕ) (vs : List Value) → readListed t s ≡ some vs → Brief s vs
 unfolding pick

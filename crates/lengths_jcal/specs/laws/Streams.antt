@@ -5,6 +5,7 @@ use mathlib.Core.List.{List, map}
 use Prim.Native.Nat.{ℕ, _+_, _*_, _^_, _≤_, _<_}
 use native.Mathlib.Omega.{arith}
 use lib.ListN.{length}
+use Rattle.calendar.specs.Levels.{levels, shallow}
 use Rattle.folding.specs.Lines.{lines}
 use Rattle.edition.specs.declared.Edition.{Edition}
 use Rattle.text.specs.Tree.{entryOf, innerOf, calendarOf}
@@ -17,8 +18,8 @@ use Rattle.lengths_jcal.specs.laws.Depths.{nested-length}
 pub jcal-bound : (ed : Edition) (u : List ℕ) → length (writeJcal (calendarOf ed (lines u))) ≤ rate * length u + 2
 unfolding writeJcal calendarOf
 jcal-bound ed u =
-    let outer = one-length (componentsJson (innerOf (map (entryOf ed) (lines u)) 0)) in
-    omega (arith, outer, nested-length (map (entryOf ed) (lines u)), text-cost ed u)
+    let outer = one-length (componentsJson (shallow levels (innerOf (map (entryOf ed) (lines u)) 0))) in
+    omega (arith, outer, nested-length (map (entryOf ed) (lines u)) levels, text-cost ed u)
 
 pub jcal-fits : (ed : Edition) (u : List ℕ) (n : ℕ) → rate * length u + 2 ≤ n → length (writeJcal (calendarOf ed (lines u))) ≤ n
 jcal-fits ed u n h = omega (arith, jcal-bound ed u, h)

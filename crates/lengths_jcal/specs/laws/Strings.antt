@@ -2,7 +2,7 @@
 --     escaped-length, quoted-length     an escape is of two bytes at most
 --     array-length, one-length, object-length, member-length   by the weight of what stands in them: its bytes, and one more for each
 use mathlib.Core.List.{List, [], _∷_}
-use Prim.Native.Nat.{ℕ, suc, _+_, _*_, _≤_}
+use Prim.Native.Nat.{ℕ, _+_, _*_, _≤_}
 use native.Mathlib.Omega.{arith}
 use lib.Dec.{eqb}
 use lib.ListN.{length}

@@ -32,6 +32,7 @@ use Rattle.read_text_line.specs.declared.Ending.the-variants.{Loose}
 use Rattle.read_text_line.specs.declared.LineCursors.{LineCursors}
 use Rattle.read_text_line.specs.declared.LineRead.{LineRead}
 use Rattle.read_text_line.specs.declared.LineRead.the-variants.{Line as LineThere, Bad}
+use Rattle.calendar.specs.Levels.{levels, shallow}
 use Rattle.text.specs.Tree.{Entry, nothing, entryBy, entryOf, innerOf, calendarOf}
 use Rattle.edition.specs.declared.Edition.{Edition}
 use Rattle.text_entries.specs.Entries.{entriesAt, kindNamed, First, FoundBy, FoundAt}
@@ -82,7 +83,7 @@ module _ {mode : ℕ} {s : List ℕ} {at : ℕ} (r : Ready mode s at) {e next : 
 module _ (ed : Edition) where
   -- ---- from the start, and past the end
 
-  pub entries-start : {mode : ℕ} {s : List ℕ} {at : ℕ} → Settled mode s 0 at → innerOf (entriesAt ed mode s at) 0 ≡ calendarOf ed (lines (rest mode s 0))
+  pub entries-start : {mode : ℕ} {s : List ℕ} {at : ℕ} → Settled mode s 0 at → shallow levels (innerOf (entriesAt ed mode s at) 0) ≡ calendarOf ed (lines (rest mode s 0))
   unfolding entriesAt calendarOf
   entries-start p = rw (lines-start p)
 

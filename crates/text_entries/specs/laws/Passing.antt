@@ -1,12 +1,16 @@
 -- Laws of what specs/Passing.antt defines.
---     behind-none, behind-begin ..    by the entry at hand
+--     behind-none, behind-begin ..    by the entry at hand;   inner-past, inner-closed, inner-beside: of components
 --     behind-deeper, own-deeper, inner-deeper    what stands a component deeper goes on behind its END
+--     own-same                        properties are the same where each line states the same
 use mathlib.Core.Path.{_≡_, refl}
 use mathlib.Core.Bool.{true, false≢true}
 use mathlib.Core.List.{List, [], _∷_}
 use Prim.Native.Nat.{ℕ, zero, suc, _+_, _-_}
 use native.Mathlib.Numerals.{add-one, sub-one}
 use native.Mathlib.Omega.{arith}
+use Rattle.calendar.specs.Calendar.{noMore}
+use Rattle.read_text_line.specs.ContentLine.{ContentLine}
+use Rattle.text.specs.Statement.{propertyOf}
 use Rattle.text.specs.Tree.{Entry, begin, end, property, nothing, ownOf, innerOf}
 use Rattle.text_entries.specs.Passing.{behind, isAside}
 
@@ -73,3 +77,35 @@ inner-deeper (property l ∷ es) zero = inner-deeper es zero
 inner-deeper (property l ∷ es) (suc d) = inner-deeper es (suc d)
 inner-deeper (nothing ∷ es) zero = inner-deeper es zero
 inner-deeper (nothing ∷ es) (suc d) = inner-deeper es (suc d)
+
+-- ---- components by the entry at hand
+
+pub inner-past : innerOf [] 0 ≡ noMore
+unfolding innerOf
+inner-past = refl
+
+module _ (es : List Entry) where
+  pub inner-closed : innerOf (end ∷ es) 0 ≡ noMore
+  unfolding innerOf
+  inner-closed = refl
+
+  pub inner-beside : (x : Entry) → isAside x ≡ true → innerOf (x ∷ es) 0 ≡ innerOf es 0
+  unfolding innerOf
+  inner-beside (begin n) h = absurd (false≢true h)
+  inner-beside end h = absurd (false≢true h)
+  inner-beside (property l) h = refl
+  inner-beside nothing h = refl
+
+-- ---- properties in two components in which each line states the same
+
+module _ (a b : List ℕ) (h : (l : ContentLine) → propertyOf a l ≡ propertyOf b l) where
+  pub own-same : (es : List Entry) (d : ℕ) → ownOf a es d ≡ ownOf b es d
+  unfolding ownOf
+  own-same [] d = refl
+  own-same (begin n ∷ es) d = own-same es (suc d)
+  own-same (end ∷ es) zero = refl
+  own-same (end ∷ es) (suc d) = own-same es d
+  own-same (property l ∷ es) zero = rw (h l, own-same es zero)
+  own-same (property l ∷ es) (suc d) = own-same es (suc d)
+  own-same (nothing ∷ es) zero = own-same es zero
+  own-same (nothing ∷ es) (suc d) = own-same es (suc d)

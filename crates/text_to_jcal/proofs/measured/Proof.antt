@@ -20,7 +20,7 @@ measured-spec = tie.close (tie.spec
     (λ c κs. refl)  -- put-jcal-requires
     (λ c κs. refl)  -- put-jcal-requires-2
     (λ c. search writing)  -- same-length
-    (λ c. let k : length (writeJcal (calendarOf (c .before .before .before .before .before .before .before .before .before .before .before .args .edition) (lines (c .before .before .before .before .before .before .before .before .before .before .before .args .kept .now)))) < 2 ^ 63 = jcal-counted _ _ (c .before .before .before .before .before .before .before .before .before .before .before .pre) in done-written k (put-kept (c .before .before .before .before .before .before .before .before .before .before .before .args .kept .now) (c .before .before .before .before .before .before .before .put-jcal .ensures)) (omega (arith, c .before .before .before .before .if1 .taken)) (put-kept (c .before .before .before .before .before .before .before .before .before .before .before .args .kept .now) (c .before .before .put-jcal2 .ensures)))  -- returns
+    (λ c. let k : length (writeJcal (calendarOf (c .before .before .before .before .before .before .before .before .before .before .before .args .edition) (lines (c .before .before .before .before .before .before .before .before .before .before .before .args .kept .now)))) < 2 ^ 63 = jcal-counted _ _ (c .before .before .before .before .before .before .before .before .before .before .before .pre) in done-written k (put-kept _ (c .before .before .before .before .before .before .before .before .before .before .before .args .kept .now) (c .before .before .before .before .before .before .before .put-jcal .ensures)) (omega (arith, c .before .before .before .before .if1 .taken)) (put-kept _ (c .before .before .before .before .before .before .before .before .before .before .before .args .kept .now) (c .before .before .put-jcal2 .ensures)))  -- returns
     (λ c. search writing)  -- same-length-2
-    (λ c. let k : length (writeJcal (calendarOf (c .before .before .before .before .before .before .before .args .edition) (lines (c .before .before .before .before .before .before .before .args .kept .now)))) < 2 ^ 63 = jcal-counted _ _ (c .before .before .before .before .before .before .before .pre) in done-room k (put-kept (c .before .before .before .before .before .before .before .args .kept .now) (c .before .before .before .put-jcal .ensures)) (omega (arith, c .if1 .left)))  -- returns-2
+    (λ c. let k : length (writeJcal (calendarOf (c .before .before .before .before .before .before .before .args .edition) (lines (c .before .before .before .before .before .before .before .args .kept .now)))) < 2 ^ 63 = jcal-counted _ _ (c .before .before .before .before .before .before .before .pre) in done-room k (put-kept _ (c .before .before .before .before .before .before .before .args .kept .now) (c .before .before .before .put-jcal .ensures)) (omega (arith, c .if1 .left)))  -- returns-2
     )

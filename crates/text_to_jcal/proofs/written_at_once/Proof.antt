@@ -11,5 +11,5 @@ pub written-at-once-spec : {M : Type 1} → statement M
 written-at-once-spec = tie.close (tie.spec
     (λ c κs. refl)  -- put-jcal-requires
     (λ c. search needs)  -- same-length
-    (λ c. done-at-once (jcal-counted _ _ (c .before .before .before .before .before .before .pre .0)) (jcal-fits _ _ _ (c .before .before .before .before .before .before .pre .1)) (put-kept (c .before .before .before .before .before .before .args .kept .now) (c .before .before .put-jcal .ensures)))  -- returns
+    (λ c. done-at-once (jcal-counted _ _ (c .before .before .before .before .before .before .pre .0)) (jcal-fits _ _ _ (c .before .before .before .before .before .before .pre .1)) (put-kept _ (c .before .before .before .before .before .before .args .kept .now) (c .before .before .put-jcal .ensures)))  -- returns
     )

@@ -1,12 +1,14 @@
 -- Laws of what specs/Alone.antt defines.
---     inner-past, inner-closed, inner-beside     components by the entry at hand
 --     alone-more, alone-last, alone-none    whether there is one component, by what was found
 --     stream-alone, stream-several          what is written of it
 use mathlib.Core.Path.{_≡_, refl, sym, ap, subst, _∙_}
 use mathlib.Core.Bool.{Bool, true, false, false≢true}
-use mathlib.Core.List.{List, [], _∷_}
-use Prim.Native.Nat.{ℕ}
+use mathlib.Core.List.{List, _∷_}
+use Prim.Native.Nat.{ℕ, _<_}
+use native.Mathlib.Omega.{arith}
+use borrow.Author.Tests.{lt-ltb}
 use Rattle.octets.specs.Ascii.{ascii}
+use Rattle.octets.specs.Pick.{pick}
 use Rattle.octets.specs.Append.{_⊕_}
 use Rattle.octets.specs.laws.Append.{append-none}
 use Rattle.octets.specs.Words.{eachAfter, joinedBy}
@@ -14,35 +16,20 @@ use Rattle.sink.specs.Sink.{Put}
 use Rattle.source.specs.Source.{rest, Settled}
 use Rattle.folding.specs.Lines.{lines}
 use Rattle.calendar.specs.Calendar.{Components, noMore, component}
-use Rattle.text.specs.Tree.{Entry, begin, end, property, nothing, innerOf, calendarOf}
+use Rattle.calendar.specs.Levels.{levels, shallow}
+use Rattle.text.specs.Tree.{Entry, begin, innerOf, calendarOf}
 use Rattle.edition.specs.declared.Edition.{Edition}
 use Rattle.json.specs.Bytes.{valueSeparator}
 use Rattle.jcal.specs.WriteJcal.{componentsJson, writeJcal}
 use Rattle.text_entries.specs.Entries.{entriesAt}
 use Rattle.text_entries.specs.laws.Entries.{entries-start}
-use Rattle.text_entries.specs.Passing.{behind, isAside, Passed}
+use Rattle.text_entries.specs.Passing.{behind, Passed}
 use Rattle.text_entries.specs.laws.Passing.{inner-deeper}
+use Rattle.text_entries.specs.Levels.{isNone}
+use Rattle.text_entries.specs.laws.Levels.{same-any}
 use Rattle.write_jcal.specs.declared.alone.Begun.{Begun}
 use Rattle.write_jcal.specs.Walks.{innerJson}
-use Rattle.write_jcal.specs.Alone.{isNone, isAlone, Begins, NextBegun}
-
--- ---- by the entry at hand
-
-pub inner-past : innerOf [] 0 ≡ noMore
-unfolding innerOf
-inner-past = refl
-
-module _ (es : List Entry) where
-  pub inner-closed : innerOf (end ∷ es) 0 ≡ noMore
-  unfolding innerOf
-  inner-closed = refl
-
-  pub inner-beside : (x : Entry) → isAside x ≡ true → innerOf (x ∷ es) 0 ≡ innerOf es 0
-  unfolding innerOf
-  inner-beside (begin n) h = absurd (false≢true h)
-  inner-beside end h = absurd (false≢true h)
-  inner-beside (property l) h = refl
-  inner-beside nothing h = refl
+use Rattle.write_jcal.specs.Alone.{isAlone, Begins, NextBegun}
 
 -- ---- one component, and not another
 
@@ -89,9 +76,18 @@ several-json noMore h = refl
 several-json (component n ps inner noMore) h = absurd (false≢true (sym h))
 several-json (component n ps inner (component k qs more next)) h = refl
 
-module _ (ed : Edition) {mode : ℕ} {s : List ℕ} {from : ℕ} (p : Settled mode s 0 from) {t : Bool} (q : t ≡ isAlone (innerOf (entriesAt ed mode s from) 0)) {d e : List ℕ} {o r : ℕ} where
-  pub stream-alone : t ≡ true → Put d e o r (joinedBy valueSeparator (innerJson (entriesAt ed mode s from))) → Put d e o r (writeJcal (calendarOf ed (lines (rest mode s 0))))
-  stream-alone h w = subst (Put d e o r) (one-json (innerOf (entriesAt ed mode s from) 0) (sym q ∙ h) ∙ ap writeJcal (entries-start ed p)) w
+-- l levels deep
+alone-any : (c : Components) (l : ℕ) → 0 < l → isAlone c ≡ isAlone (shallow l c)
+unfolding shallow pick
+alone-any noMore l h = refl
+alone-any (component n ps inner next) l h = rw (lt-ltb 0 l h) (same-any next l h)
 
-  pub stream-several : t ≡ false → Put d e o r (ascii "[" ⊕ joinedBy valueSeparator (innerJson (entriesAt ed mode s from)) ⊕ ascii "]") → Put d e o r (writeJcal (calendarOf ed (lines (rest mode s 0))))
-  stream-several h w = subst (Put d e o r) (several-json (innerOf (entriesAt ed mode s from) 0) (sym q ∙ h) ∙ ap writeJcal (entries-start ed p)) w
+alone-is : (c : Components) {t : Bool} → t ≡ isAlone c → isAlone (shallow levels c) ≡ t
+alone-is c q = sym (q ∙ alone-any c levels (omega arith))
+
+module _ (ed : Edition) {mode : ℕ} {s : List ℕ} {from : ℕ} (p : Settled mode s 0 from) {t : Bool} (q : t ≡ isAlone (innerOf (entriesAt ed mode s from) 0)) {d e : List ℕ} {o r : ℕ} where
+  pub stream-alone : t ≡ true → Put d e o r (joinedBy valueSeparator (innerJson levels (entriesAt ed mode s from))) → Put d e o r (writeJcal (calendarOf ed (lines (rest mode s 0))))
+  stream-alone h w = subst (Put d e o r) (one-json (shallow levels (innerOf (entriesAt ed mode s from) 0)) (alone-is _ q ∙ h) ∙ ap writeJcal (entries-start ed p)) w
+
+  pub stream-several : t ≡ false → Put d e o r (ascii "[" ⊕ joinedBy valueSeparator (innerJson levels (entriesAt ed mode s from)) ⊕ ascii "]") → Put d e o r (writeJcal (calendarOf ed (lines (rest mode s 0))))
+  stream-several h w = subst (Put d e o r) (several-json (shallow levels (innerOf (entriesAt ed mode s from) 0)) (alone-is _ q ∙ h) ∙ ap writeJcal (entries-start ed p)) w

@@ -5,8 +5,10 @@
 use mathlib.Core.Path.{_≡_, refl, ap, _∙_}
 use mathlib.Core.Bool.{true, false≢true}
 use mathlib.Core.List.{List, [], _∷_, map}
-use Prim.Native.Nat.{ℕ, zero, suc}
+use Prim.Native.Nat.{ℕ, _-_, _≤_}
+use borrow.Author.Tests.{lt-ltb}
 use Rattle.octets.specs.Ascii.{ascii}
+use Rattle.octets.specs.Pick.{pick}
 use Rattle.octets.specs.Append.{_⊕_}
 use Rattle.octets.specs.laws.Append.{append-none, append-regroup}
 use Rattle.octets.specs.Class.{lower}
@@ -15,6 +17,7 @@ use Rattle.names.specs.Table.{placeOf}
 use Rattle.schema.specs.Components.{componentNames}
 use Rattle.schema.specs.Numbers.{componentName}
 use Rattle.calendar.specs.Calendar.{Components, noMore, component}
+use Rattle.calendar.specs.Levels.{shallow}
 use Rattle.read_text_line.specs.ContentLine.{ContentLine}
 use Rattle.text.specs.Statement.{propertyOf}
 use Rattle.text.specs.Tree.{Entry, begin, end, property, nothing, ownOf, innerOf}
@@ -22,10 +25,10 @@ use Rattle.json.specs.Bytes.{valueSeparator}
 use Rattle.json.specs.Write.{quoted, arrayOf}
 use Rattle.jcal.specs.WriteJcal.{propertyJson, componentsJson}
 use Rattle.text_entries.specs.Passing.{behind, isAside}
-use Rattle.text_entries.specs.laws.Passing.{own-deeper, inner-deeper}
+use Rattle.text_entries.specs.laws.Passing.{own-deeper, inner-deeper, inner-beside, own-same}
+use Rattle.text_entries.specs.Levels.{isNone}
 use Rattle.write_jcal_property.specs.laws.Placed.{property-of-place}
 use Rattle.write_jcal.specs.Walks.{ownJson, innerJson, headJson}
-use Rattle.write_jcal.specs.Alone.{isNone}
 
 -- ---- the properties
 
@@ -53,29 +56,25 @@ module _ (k : List ℕ) where
 
 -- ---- the subcomponents
 
-pub inner-none : innerJson [] ≡ []
-unfolding innerOf componentsJson
-inner-none = refl
+pub inner-none : (l : ℕ) → innerJson l [] ≡ []
+unfolding innerOf shallow componentsJson
+inner-none l = refl
 
-pub inner-empty : (es : List Entry) → isNone (innerOf es 0) ≡ true → innerJson es ≡ []
+pub inner-empty : (l : ℕ) (es : List Entry) → isNone (shallow l (innerOf es 0)) ≡ true → innerJson l es ≡ []
 unfolding componentsJson
-inner-empty es h = go (innerOf es 0) h
+inner-empty l es h = go (shallow l (innerOf es 0)) h
   where
     go : (c : Components) → isNone c ≡ true → componentsJson c ≡ []
     go noMore h = refl
     go (component n ps inner next) h = absurd (false≢true h)
 
-module _ (es : List Entry) where
-  pub inner-close : innerJson (end ∷ es) ≡ []
-  unfolding innerOf componentsJson
+module _ (l : ℕ) (es : List Entry) where
+  pub inner-close : innerJson l (end ∷ es) ≡ []
+  unfolding innerOf shallow componentsJson
   inner-close = refl
 
-  pub inner-aside : (x : Entry) → isAside x ≡ true → innerJson (x ∷ es) ≡ innerJson es
-  unfolding innerOf
-  inner-aside (begin n) h = absurd (false≢true h)
-  inner-aside end h = absurd (false≢true h)
-  inner-aside (property l) h = refl
-  inner-aside nothing h = refl
+  pub inner-aside : (x : Entry) → isAside x ≡ true → innerJson l (x ∷ es) ≡ innerJson l es
+  inner-aside x h = ap (λ (c : Components). componentsJson (shallow l c)) (inner-beside es x h)
 
 -- ---- the array of a component
 
@@ -97,23 +96,17 @@ array-three a b c = rw (append-none c, seam c, seam (b ⊕ ascii "," ⊕ c))
 
 array-parts : (n : List ℕ) (ps is : List (List ℕ)) → arrayOf (quoted n ∷ arrayOf ps ∷ arrayOf is ∷ [])
     ≡ ((ascii "[" ⊕ quoted n ⊕ ascii ",[") ⊕ joinedBy valueSeparator ps ⊕ ascii "],[") ⊕ joinedBy valueSeparator is ⊕ ascii "]]"
+unfolding _⊕_
 array-parts n ps is =
     array-three (quoted n) (arrayOf ps) (arrayOf is)
     ∙ rw (pairs .0, pairs .1, pairs .2) (regroup (ascii "[") (ascii ",") (ascii "]") (quoted n) (joinedBy valueSeparator ps) (joinedBy valueSeparator is))
 
-pub component-parts : (n : List ℕ) (es : List Entry) → innerJson (begin n ∷ es) ≡ (headJson n es ⊕ joinedBy valueSeparator (innerJson es) ⊕ ascii "]]") ∷ innerJson (behind es 0)
-unfolding innerOf componentsJson
-component-parts n es = rw (array-parts (lower n) (ownJson n es) (innerJson es), inner-deeper es 0)
+-- l levels deep
+pub component-parts : (l : ℕ) (n : List ℕ) (es : List Entry) → 1 ≤ l → innerJson l (begin n ∷ es) ≡ (headJson n es ⊕ joinedBy valueSeparator (innerJson (l - 1) es) ⊕ ascii "]]") ∷ innerJson l (behind es 0)
+unfolding innerOf shallow pick componentsJson
+component-parts l n es h = rw (lt-ltb 0 l h, array-parts (lower n) (ownJson n es) (innerJson (l - 1) es), inner-deeper es 0)
 
 -- ---- the component's number
 
-pub own-place : (c : List ℕ) (es : List Entry) (d : ℕ) → ownOf (componentName (placeOf c componentNames)) es d ≡ ownOf c es d
-unfolding ownOf
-own-place c [] d = refl
-own-place c (begin n ∷ es) d = own-place c es (suc d)
-own-place c (end ∷ es) zero = refl
-own-place c (end ∷ es) (suc d) = own-place c es d
-own-place c (property l ∷ es) zero = rw (property-of-place c l, own-place c es zero)
-own-place c (property l ∷ es) (suc d) = own-place c es (suc d)
-own-place c (nothing ∷ es) zero = own-place c es zero
-own-place c (nothing ∷ es) (suc d) = own-place c es (suc d)
+pub own-place : (c : List ℕ) (es : List Entry) → ownJson (componentName (placeOf c componentNames)) es ≡ ownJson c es
+own-place c es = ap (map propertyJson) (own-same (componentName (placeOf c componentNames)) c (property-of-place c) es 0)

@@ -1,7 +1,7 @@
 -- A value, a parameter and all parameters of a line, each written by its parts.
 --     put-truth, put-no-truth           RSVP
 --     put-good, put-bad                 a value of another type
---     put-word, put-raw, put-typed      a value, by what its parameter takes
+--     put-word, put-raw, put-unknown, put-typed      a value, by what its parameter takes;   no-recur: it is no RECUR
 --     put-several, put-alone, put-no-first     the values of a parameter
 --     put-parameter                     a parameter
 --     least-value, least-member         a slice cut at its length, or before
@@ -9,12 +9,13 @@
 use mathlib.Core.Path.{_≡_, refl, sym, ap, _∙_, subst}
 use mathlib.Core.Bool.{Bool, true, false, not, false≢true}
 use mathlib.Core.List.{List, [], _∷_, map}
-use mathlib.Core.Option.{Option, none, some, Option·map}
-use Prim.Native.Nat.{ℕ, zero, suc, min}
-use lib.ListN.{length, take}
+use mathlib.Core.Option.{Option, none, some}
+use Prim.Native.Nat.{ℕ, min, _≤_}
+use native.Mathlib.Omega.{arith}
+use native.Mathlib.Decide.{decLe}
+use lib.ListN.{length, take, List·getD-eq-default}
 use borrow.Author.Tests.{eq-eqb, ne-eqb}
 use Rattle.octets.specs.Ascii.{ascii}
-use Rattle.octets.specs.Pick.{pick}
 use Rattle.octets.specs.laws.Scan.{take-least}
 use Rattle.octets.specs.Append.{_⊕_}
 use Rattle.octets.specs.laws.Append.{append-regroup}
@@ -22,40 +23,28 @@ use Rattle.octets.specs.Class.{upper, lower}
 use Rattle.octets.specs.Words.{isEmpty, eachAfter, joinedBy}
 use Rattle.octets.specs.Computing.{octets-compute}
 use Rattle.octets.specs.Reading.{isRead, readOr, orNothing}
-use Rattle.octets.specs.laws.Reading.{none-some}
-use Rattle.calendar.specs.Calendar.{ical, ValueType, BINARY, BOOLEAN, CAL-ADDRESS, DATE, DATE-TIME, DURATION, FLOAT, INTEGER, PERIOD, RECUR, TEXT, TIME, URI, UTC-OFFSET, UNKNOWN}
-use Rattle.calendar.specs.Calendar.{Value, binary, boolean, calAddress, date, dateTime, duration, float, integer, recur, text, time, uri, utcOffset, unknown, Parameter}
+use Rattle.calendar.specs.Calendar.{ical, BOOLEAN, UNKNOWN, typeOf}
+use Rattle.calendar.specs.Calendar.{Value, binary, boolean, calAddress, date, dateTime, duration, float, integer, periodExplicit, periodStart, recur, text, time, uri, utcOffset, unknown, geo, requestStatus, Parameter}
 use Rattle.sink.specs.Sink.{Put}
 use Rattle.sink.specs.laws.Sink.{put-yes, put-no, _▷_}
 use Rattle.edition.specs.Edition.{decode}
 use Rattle.edition.specs.declared.Edition.{Edition}
 use Rattle.source.specs.Source.{rest, cuts, Decodes}
 use Rattle.names.specs.Table.{placeOf}
-use Rattle.schema.specs.Types.{sameType, typePlace}
+use Rattle.schema.specs.Types.{valueTypes, sameType, typePlace}
 use Rattle.schema.specs.laws.Types.{place-type}
 use Rattle.schema.specs.Parameters.{ParameterRow, parameterNames}
 use Rattle.schema.specs.Numbers.{typeAt, parameterAt}
 use Rattle.schema.specs.laws.Numbers.{parameter-place}
+use Rattle.schema.specs.laws.Places.{type-back}
 use Rattle.schema.specs.Sets.{parameterWordsAt}
-use Rattle.times.specs.Date.{readDate}
-use Rattle.times.specs.Time.{readTime}
-use Rattle.times.specs.DateTime.{readDateTime}
-use Rattle.times.specs.Duration.{readDuration}
-use Rattle.times.specs.UtcOffset.{readUtcOffset}
-use Rattle.times.specs.laws.Period.{period-accepted}
-use Rattle.numbers.specs.Integer.{readInteger}
-use Rattle.numbers.specs.Float.{readFloat}
-use Rattle.numbers.specs.Boolean.{readBoolean, writeBoolean}
+use Rattle.numbers.specs.Boolean.{readBoolean}
 use Rattle.numbers.specs.ReadBoolean.{truthOf}
 use Rattle.numbers.specs.declared.boolean.BooleanRead.{BooleanRead}
 use Rattle.numbers.specs.declared.boolean.BooleanRead.the-variants as truth
-use Rattle.texts.specs.Text.{readText}
-use Rattle.texts.specs.Uri.{readUri}
-use Rattle.texts.specs.Binary.{readBinary}
-use Rattle.texts.specs.Unknown.{readUnknown}
-use Rattle.recur.specs.Rule.{readRule}
 use Rattle.values.specs.ReadValue.{readValue}
 use Rattle.values.specs.WriteValue.{valueCharacters}
+use Rattle.values.specs.laws.ReadBack.{value-accepted}
 use Rattle.values.specs.laws.ValueAt.{isGood}
 use Rattle.values.specs.declared.ValueRead.{ValueRead}
 use Rattle.values.specs.declared.ValueRead.the-variants as value
@@ -69,6 +58,7 @@ use Rattle.read_text_line.specs.laws.Values.{value-there, value-first, value-ch
 use Rattle.read_text_line.specs.declared.ParamAt.{ParamAt}
 use Rattle.text.specs.Parameters.{readParameters}
 use Rattle.read_text_parameters.specs.Cutting.{paramRead}
+use Rattle.read_text_parameters.specs.laws.Typing.{no-rule}
 use Rattle.json.specs.Bytes.{valueSeparator}
 use Rattle.json.specs.Write.{escaped, quoted, objectOf}
 use Rattle.json.specs.Computing.{json-compute}
@@ -95,64 +85,37 @@ module _ {d e : List ℕ} {o r : ℕ} (l : List ℕ) {b : BooleanRead} (q : read
 
 -- ---- a value of another type
 
-abbrev isTruth : ValueType → Bool
-isTruth BINARY = false
-isTruth BOOLEAN = true
-isTruth CAL-ADDRESS = false
-isTruth DATE = false
-isTruth DATE-TIME = false
-isTruth DURATION = false
-isTruth FLOAT = false
-isTruth INTEGER = false
-isTruth PERIOD = false
-isTruth RECUR = false
-isTruth TEXT = false
-isTruth TIME = false
-isTruth URI = false
-isTruth UTC-OFFSET = false
-isTruth UNKNOWN = false
+-- any other value is written as its characters
+alike : (v : Value) → (typePlace (typeOf v) ≡ 1 → ⊥) → valueCharacters v ≡ parameterValue v
+unfolding parameterValue
+alike (binary s) h = refl
+alike (boolean b) h = absurd (h refl)
+alike (calAddress s) h = refl
+alike (date s) h = refl
+alike (dateTime s) h = refl
+alike (duration s) h = refl
+alike (float d) h = refl
+alike (integer w) h = refl
+alike (periodExplicit s e) h = refl
+alike (periodStart s d) h = refl
+alike (recur ps) h = refl
+alike (text s) h = refl
+alike (time s) h = refl
+alike (uri s) h = refl
+alike (utcOffset s) h = refl
+alike (unknown s) h = refl
+alike (geo la lo) h = refl
+alike (requestStatus c d x) h = refl
 
-abbrev Alike : Value → Type 0
-Alike v = valueCharacters v ≡ parameterValue v
+no-truth : (t : ℕ) → (t ≡ 1 → ⊥) → typePlace (typeAt t) ≡ 1 → ⊥
+no-truth t a e = go (decLe 14 t)
+  where
+    go : Dec (14 ≤ t) → ⊥
+    go (yes k) = let z : typePlace (typeAt t) ≡ 14 = rw (List·getD-eq-default valueTypes UNKNOWN k) in let y : _≡_ {A = ℕ} 14 1 = sym z ∙ e in absurd (omega arith)
+    go (no k) = a (sym (type-back t (omega arith)) ∙ e)
 
-mapped : {A : Type 0} (g : A → Value) (u : Option A) → ((a : A) → Alike (g a)) → (v : Value) → Option·map g u ≡ some v → Alike v
-mapped g none k v h = none-some h
-mapped g (some a) k v h = let z : g a ≡ v = cc in rw (← z) (k a)
-
-alike : (u : ValueType) (l : List ℕ) (v : Value) → isTruth u ≡ false → readValue ical u l ≡ some v → Alike v
-unfolding readValue parameterValue
-alike BINARY l v m h = mapped binary (readBinary ical l) (λ a. refl) v h
-alike BOOLEAN l v m h = absurd (false≢true (sym m))
-alike CAL-ADDRESS l v m h = mapped calAddress (readUri l) (λ a. refl) v h
-alike DATE l v m h = mapped date (readDate ical l) (λ a. refl) v h
-alike DATE-TIME l v m h = mapped dateTime (readDateTime ical l) (λ a. refl) v h
-alike DURATION l v m h = mapped duration (readDuration ical l) (λ a. refl) v h
-alike FLOAT l v m h = mapped float (readFloat l) (λ a. refl) v h
-alike INTEGER l v m h = mapped integer (readInteger l) (λ a. refl) v h
-alike PERIOD l v m h = period-accepted Alike (λ a z h k. refl) (λ a z h k. refl) l v h
-alike RECUR l v m h = mapped recur (readRule l) (λ a. refl) v h
-alike TEXT l v m h = mapped text (readText l) (λ a. refl) v h
-alike TIME l v m h = mapped time (readTime ical l) (λ a. refl) v h
-alike URI l v m h = mapped uri (readUri l) (λ a. refl) v h
-alike UTC-OFFSET l v m h = mapped utcOffset (readUtcOffset ical l) (λ a. refl) v h
-alike UNKNOWN l v m h = mapped unknown (readUnknown l) (λ a. refl) v h
-
-no-truth : (t : ℕ) → (t ≡ 1 → ⊥) → isTruth (typeAt t) ≡ false
-no-truth zero a = refl
-no-truth (suc zero) a = absurd (a refl)
-no-truth (suc (suc zero)) a = refl
-no-truth (suc (suc (suc zero))) a = refl
-no-truth (suc (suc (suc (suc zero)))) a = refl
-no-truth (suc (suc (suc (suc (suc zero))))) a = refl
-no-truth (suc (suc (suc (suc (suc (suc zero)))))) a = refl
-no-truth (suc (suc (suc (suc (suc (suc (suc zero))))))) a = refl
-no-truth (suc (suc (suc (suc (suc (suc (suc (suc zero)))))))) a = refl
-no-truth (suc (suc (suc (suc (suc (suc (suc (suc (suc zero))))))))) a = refl
-no-truth (suc (suc (suc (suc (suc (suc (suc (suc (suc (suc zero)))))))))) a = refl
-no-truth (suc (suc (suc (suc (suc (suc (suc (suc (suc (suc (suc zero))))))))))) a = refl
-no-truth (suc (suc (suc (suc (suc (suc (suc (suc (suc (suc (suc (suc zero)))))))))))) a = refl
-no-truth (suc (suc (suc (suc (suc (suc (suc (suc (suc (suc (suc (suc (suc zero))))))))))))) a = refl
-no-truth (suc (suc (suc (suc (suc (suc (suc (suc (suc (suc (suc (suc (suc (suc t)))))))))))))) a = refl
+read-alike : (t : ℕ) (l : List ℕ) (v : Value) → (t ≡ 1 → ⊥) → readValue ical (typeAt t) l ≡ some v → valueCharacters v ≡ parameterValue v
+read-alike t l v a h = alike v (λ e. no-truth t a (ap typePlace (sym (value-accepted ical (typeAt t) l v h .2)) ∙ e))
 
 module _ {d e : List ℕ} {o r : ℕ} (t : ℕ) (l : List ℕ) {x : ValueRead} (p : isRead (readValue ical (typeAt t) l) ≡ isGood x) where
   pub put-good : {k : ℕ} → (t ≡ 1 → ⊥) → x ≡ value.Good k → Put d e o r (ascii "\"" ⊕ orNothing (λ v. escaped (valueCharacters v)) (readValue ical (typeAt t) l) ⊕ ascii "\"") →
@@ -162,7 +125,7 @@ module _ {d e : List ℕ} {o r : ℕ} (t : ℕ) (l : List ℕ) {x : ValueRead} (
     where
       go : (u : Option Value) → readValue ical (typeAt t) l ≡ u → isRead u ≡ true → Put d e o r (ascii "\"" ⊕ orNothing (λ v. escaped (valueCharacters v)) u ⊕ ascii "\"") → Put d e o r (orNothing stringOf u)
       go none k z w = absurd (false≢true z)
-      go (some v) k z w = rw (← (alike (typeAt t) l v (no-truth t a) k)) w
+      go (some v) k z w = rw (← (read-alike t l v a k)) w
 
   pub put-bad : x ≡ value.Bad → Put d e o r [] → Put d e o r (orNothing stringOf (readValue ical (typeAt t) l))
   unfolding isRead
@@ -177,6 +140,10 @@ put-boolean t l h w = rw h w
 
 -- ---- a value, by what its parameter takes
 
+-- no parameter is a RECUR, 9: it would have to be cut in every encoding, and in mode 1 nothing is
+pub no-recur : (q : ℕ) {t : ℕ} → t ≡ typePlace (parameterAt q .type) → t ≡ 9 → ⊥
+no-recur q e h = false≢true (no-rule q 1 e h)
+
 module _ {d e : List ℕ} {o r : ℕ} (q : ℕ) (l : List ℕ) {t : Bool} (h : t ≡ isRead (parameterWordsAt q)) where
   pub put-word : t ≡ true → Put d e o r (quoted (upper l)) → Put d e o r (valueShown (rowAt q) l)
   unfolding rowAt valueShown
@@ -187,9 +154,13 @@ module _ {d e : List ℕ} {o r : ℕ} (q : ℕ) (l : List ℕ) {t : Bool} (h : t
     unfolding rowAt valueShown sameType
     put-raw z p = put-no _ _ _ (sym h ∙ k) (put-yes _ _ _ (eq-eqb _ _ (sym i ∙ z)) p)
 
-    pub put-typed : (n ≡ 10 → ⊥) → Put d e o r (orNothing stringOf (readValue ical (typeAt n) l)) → Put d e o r (valueShown (rowAt q) l)
+    pub put-unknown : (n ≡ 10 → ⊥) → n ≡ 14 → Put d e o r (quoted l) → Put d e o r (valueShown (rowAt q) l)
     unfolding rowAt valueShown sameType
-    put-typed z p = put-no _ _ _ (sym h ∙ k) (put-no _ _ _ (ne-eqb _ _ (λ y. z (i ∙ y))) (rw (← (place-type (parameterAt q .type)), ← i) p))
+    put-unknown z y p = put-no _ _ _ (sym h ∙ k) (put-no _ _ _ (ne-eqb _ _ (λ x. z (i ∙ x))) (put-yes _ _ _ (eq-eqb _ _ (sym i ∙ y)) p))
+
+    pub put-typed : (n ≡ 10 → ⊥) → (n ≡ 14 → ⊥) → Put d e o r (orNothing stringOf (readValue ical (typeAt n) l)) → Put d e o r (valueShown (rowAt q) l)
+    unfolding rowAt valueShown sameType
+    put-typed z y p = put-no _ _ _ (sym h ∙ k) (put-no _ _ _ (ne-eqb _ _ (λ x. z (i ∙ x))) (put-no _ _ _ (ne-eqb _ _ (λ x. y (i ∙ x))) (rw (← (place-type (parameterAt q .type)), ← i) p)))
 
 -- ---- the values of a parameter
 
@@ -197,10 +168,11 @@ array-of : (x y : List ℕ) (l : List (List ℕ)) → ascii "[" ⊕ x ⊕ eachAf
 unfolding joinedBy
 array-of x y l = ap (λ (m : List ℕ). ascii "[" ⊕ m) (sym (append-regroup x (eachAfter valueSeparator (y ∷ l)) (ascii "]")))
 
-module _ (ed : Edition) (p : ParameterRow) {m : ℕ} {s : List ℕ} {c : ℕ} {r : ParamAt} (y : cuts m ≡ true) (v : ValueAt paramValue m s c r) {d e : List ℕ} {o n : ℕ} where
-  first : ParamValue
-  first = valueIn m s (r .quoted) (r .from)
+-- the value that was found
+abbrev found : ℕ → List ℕ → ParamAt → ParamValue
+found m s r = valueIn m s (r .quoted) (r .from)
 
+module _ (ed : Edition) (p : ParameterRow) {m : ℕ} {s : List ℕ} {c : ℕ} {r : ParamAt} (y : cuts m ≡ true) (v : ValueAt paramValue m s c r) {d e : List ℕ} {o n : ℕ} where
   module _ {t : Bool} (h : r .ok ≡ true) (q : t ≡ not (isEmpty (items nextValue (rest m s (r .next))))) where
     pub put-several : t ≡ true →
         Put d e o n (ascii "[" ⊕ valueShown p (decode ed (rest m (take (r .to) s) (r .from))) ⊕ eachAfter valueSeparator (map (charsIn ed p) (items nextValue (rest m s (r .next)))) ⊕ ascii "]") →
@@ -209,16 +181,16 @@ module _ (ed : Edition) (p : ParameterRow) {m : ℕ} {s : List ℕ} {c : ℕ} {r
         rw (value-first v h) (go (items nextValue (rest m s (r .next))) (sym q ∙ z)
         (subst (λ (l : List ℕ). Put d e o n (ascii "[" ⊕ valueShown p (decode ed l) ⊕ eachAfter valueSeparator (map (charsIn ed p) (items nextValue (rest m s (r .next)))) ⊕ ascii "]")) (value-chars y v (value-there v)) w))
       where
-        go : (l : List ParamValue) → not (isEmpty l) ≡ true → Put d e o n (ascii "[" ⊕ charsIn ed p first ⊕ eachAfter valueSeparator (map (charsIn ed p) l) ⊕ ascii "]") →
-            Put d e o n (oneOrArray (charsIn ed p first ∷ map (charsIn ed p) l))
+        go : (l : List ParamValue) → not (isEmpty l) ≡ true → Put d e o n (ascii "[" ⊕ charsIn ed p (found m s r) ⊕ eachAfter valueSeparator (map (charsIn ed p) l) ⊕ ascii "]") →
+            Put d e o n (oneOrArray (charsIn ed p (found m s r) ∷ map (charsIn ed p) l))
         go [] k w = absurd (false≢true k)
-        go (a ∷ l) k w = subst (Put d e o n) (array-of (charsIn ed p first) (charsIn ed p a) (map (charsIn ed p) l)) w
+        go (a ∷ l) k w = subst (Put d e o n) (array-of (charsIn ed p (found m s r)) (charsIn ed p a) (map (charsIn ed p) l)) w
 
     pub put-alone : t ≡ false → Put d e o n (valueShown p (decode ed (rest m (take (r .to) s) (r .from)))) → Put d e o n (oneOrArray (map (charsIn ed p) (valuesAt m s c)))
     put-alone z w =
         rw (value-first v h) (go (items nextValue (rest m s (r .next))) (sym q ∙ z) (subst (λ (l : List ℕ). Put d e o n (valueShown p (decode ed l))) (value-chars y v (value-there v)) w))
       where
-        go : (l : List ParamValue) → not (isEmpty l) ≡ false → Put d e o n (charsIn ed p first) → Put d e o n (oneOrArray (charsIn ed p first ∷ map (charsIn ed p) l))
+        go : (l : List ParamValue) → not (isEmpty l) ≡ false → Put d e o n (charsIn ed p (found m s r)) → Put d e o n (oneOrArray (charsIn ed p (found m s r) ∷ map (charsIn ed p) l))
         go [] k w = w
         go (a ∷ l) k w = absurd (false≢true (sym k))
 

@@ -1,17 +1,17 @@
 -- Laws of what specs/Shown.antt defines.
 --     shown-is                       of parameters that are readable it is the jCal of what they state
-use mathlib.Core.Path.{_≡_, refl, ap}
+use mathlib.Core.Path.{_≡_, refl}
 use mathlib.Core.Bool.{Bool, true, false, not}
-use mathlib.Core.List.{List, [], _∷_, map}
+use mathlib.Core.List.{List, map}
 use mathlib.Core.Option.{Option, none, some, Option·map}
 use Prim.Native.Nat.{ℕ}
 use Rattle.octets.specs.Pick.{pick, _and_, _or_}
 use Rattle.octets.specs.Class.{upper}
 use Rattle.octets.specs.laws.Letters.{lower-any-case}
 use Rattle.octets.specs.Words.{isOneOf}
-use Rattle.octets.specs.Reading.{isRead, orNothing, readEach, consRead}
-use Rattle.octets.specs.laws.Reading.{none-some, provided-some, andThen-some, consRead-some}
-use Rattle.calendar.specs.Calendar.{ical, TEXT, Value, text, Parameter}
+use Rattle.octets.specs.Reading.{isRead, orNothing, readEach}
+use Rattle.octets.specs.laws.Reading.{none-some, provided-some}
+use Rattle.calendar.specs.Calendar.{ical, TEXT, UNKNOWN, Value, text, unknown, Parameter}
 use Rattle.schema.specs.Types.{sameType}
 use Rattle.schema.specs.Parameters.{parameterRow, parameterType, parameterWords, isListedParameter, isQuotedParameter}
 use Rattle.values.specs.ReadValue.{readValue}
@@ -20,21 +20,16 @@ use Rattle.read_text_line.specs.ContentLine.{ParamValue, RawParameter}
 use Rattle.text.specs.Parameters.{readWord, readParamValue, isSingle, readParameter, ownParameters, readParameters}
 use Rattle.json.specs.Write.{quoted}
 use Rattle.jcal.specs.WriteJcal.{parameterValue, parameterJson}
+use Rattle.write_jcal_value.specs.laws.Each.{each-written}
 use Rattle.write_jcal_parameters.specs.Shown.{stringOf, valueShown, charsShown, shown, membersShown}
-
--- what is written of each is what is written of what it was read as
-each-written : {A B : Type 0} (reading : A → Option B) (f : A → List ℕ) (g : B → List ℕ) → ((a : A) (b : B) → reading a ≡ some b → f a ≡ g b) →
-    (l : List A) (r : List B) → readEach reading l ≡ some r → map f l ≡ map g r
-unfolding readEach
-each-written reading f g k [] r h = let z : [] ≡ r = cc in rw (← z)
-each-written reading f g k (a ∷ l) r h =
-    let e = andThen-some (reading a) (λ b. consRead b (readEach reading l)) r h in
-    let t = consRead-some (e .0) (readEach reading l) r (e .2) in
-    rw (← (t .2), k a (e .0) (e .1), each-written reading f g k l (t .0) (t .1))
 
 text-string : (s : List ℕ) → quoted s ≡ stringOf (text s)
 unfolding parameterValue valueCharacters
 text-string s = refl
+
+unknown-string : (s : List ℕ) → quoted s ≡ stringOf (unknown s)
+unfolding parameterValue valueCharacters
+unknown-string s = refl
 
 value-is : (n : List ℕ) (v : ParamValue) (x : Value) → readParamValue n v ≡ some x → charsShown (parameterRow n) v ≡ stringOf x
 unfolding valueShown readParamValue pick isRead
@@ -43,14 +38,20 @@ value-is n v x h = quotes (not (v .quoted) and isQuotedParameter n) h
     s : List ℕ
     s = v .chars
 
-    typed : (t : Bool) → pick t (some (text s)) (readValue ical (parameterType n) s) ≡ some x →
+    other : (t : Bool) → pick t (some (unknown s)) (readValue ical (parameterType n) s) ≡ some x →
         pick t (quoted s) (orNothing stringOf (readValue ical (parameterType n) s)) ≡ stringOf x
+    other true h = let z : unknown s ≡ x = cc in rw (← z) (unknown-string s)
+    other false h = rw h
+
+    typed : (t : Bool) → pick t (some (text s)) (pick (sameType (parameterType n) UNKNOWN) (some (unknown s)) (readValue ical (parameterType n) s)) ≡ some x →
+        pick t (quoted s) (pick (sameType (parameterType n) UNKNOWN) (quoted s) (orNothing stringOf (readValue ical (parameterType n) s))) ≡ stringOf x
     typed true h = let z : text s ≡ x = cc in rw (← z) (text-string s)
-    typed false h = rw h
+    typed false h = other (sameType (parameterType n) UNKNOWN) h
 
     word : (o : Option (List (List ℕ))) → readWord o (parameterType n) s ≡ some x →
         pick (isRead o) (quoted (upper s))
-        (pick (sameType (parameterType n) TEXT) (quoted s) (orNothing stringOf (readValue ical (parameterType n) s))) ≡ stringOf x
+        (pick (sameType (parameterType n) TEXT) (quoted s)
+        (pick (sameType (parameterType n) UNKNOWN) (quoted s) (orNothing stringOf (readValue ical (parameterType n) s)))) ≡ stringOf x
     word none h = typed (sameType (parameterType n) TEXT) h
     word (some ws) h = rw (← (provided-some (isOneOf (upper s) ws) (text (upper s)) x h .1)) (text-string (upper s))
 

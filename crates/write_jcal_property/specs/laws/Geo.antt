@@ -1,6 +1,6 @@
 -- Laws of what specs/Geo.antt defines.
 --     put-geo, put-no-geo    what is read, written number by number
-use mathlib.Core.Path.{_≡_, refl, sym, ap, _∙_}
+use mathlib.Core.Path.{_≡_, sym, ap, _∙_}
 use mathlib.Core.Bool.{true, false≢true}
 use mathlib.Core.List.{List}
 use mathlib.Core.Option.{Option, none, some}

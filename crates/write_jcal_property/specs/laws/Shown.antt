@@ -13,15 +13,15 @@ use Rattle.octets.specs.Pick.{pick}
 use Rattle.octets.specs.laws.Pick.{and-both}
 use Rattle.octets.specs.Append.{_⊕_}
 use Rattle.octets.specs.laws.Append.{append-none}
-use Rattle.octets.specs.Class.{upper, lower}
+use Rattle.octets.specs.Class.{upper}
 use Rattle.octets.specs.Words.{isOneOf, isEmpty, cutAt, eachAfter, joinedBy}
-use Rattle.octets.specs.Reading.{provided, andThen, isRead, readOr, consRead, readEach, orNothing}
-use Rattle.octets.specs.laws.Reading.{none-some, andThen-some, consRead-some, read-some}
+use Rattle.octets.specs.Reading.{provided, isRead, readOr, readEach, orNothing}
+use Rattle.octets.specs.laws.Reading.{none-some, andThen-some, read-some}
 use Rattle.names.specs.Table.{placeOf}
 use Rattle.calendar.specs.Calendar.{ical, ValueType, Value, text, requestStatus}
 use Rattle.sink.specs.Sink.{Put}
 use Rattle.source.specs.Source.{rest}
-use Rattle.schema.specs.Types.{typeName, typePlace}
+use Rattle.schema.specs.Types.{typePlace}
 use Rattle.schema.specs.Components.{componentNames}
 use Rattle.schema.specs.Properties.{propertyNames, isListedProperty}
 use Rattle.schema.specs.Numbers.{typeAt, componentName}
@@ -35,7 +35,7 @@ use Rattle.texts.specs.Text.{splitText}
 use Rattle.texts.specs.TextList.{readTexts}
 use Rattle.texts.specs.RequestStatus.{statusOf, readRequestStatus}
 use Rattle.values.specs.ReadValue.{readValue}
-use Rattle.values.specs.WriteValue.{valueCharacters, typeOfAll}
+use Rattle.values.specs.WriteValue.{valueCharacters}
 use Rattle.values.specs.Valid.{isAmount, areValuesOf}
 use Rattle.text.specs.Values.{oneValue, readListed, readChosen, readValues}
 use Rattle.text.specs.laws.AcceptedValues.{values-accepted}
@@ -44,6 +44,7 @@ use Rattle.json.specs.Write.{quoted}
 use Rattle.jcal.specs.WriteJcal.{valueJson}
 use Rattle.write_jcal_value.specs.Texts.{stringsOf}
 use Rattle.write_jcal_value.specs.Labels.{typeLabel}
+use Rattle.write_jcal_value.specs.laws.Each.{each-written}
 use Rattle.write_jcal_property.specs.Pieces.{pieceJson, piecesJson, listedJson, statusJson}
 use Rattle.write_jcal_property.specs.Shown.{singleJson, shownJson, typedShown, typedJson}
 use Rattle.write_jcal_property.specs.laws.Placed.{ownAt, valuesAt, values-at, type-text}
@@ -92,12 +93,7 @@ texts-shown none h = absurd (false≢true h)
 texts-shown (some ts) h = ap (joinedBy valueSeparator) (each-text ts)
 
 each-piece : (t : ValueType) (ps : List (List ℕ)) (vs : List Value) → readEach (readValue ical t) ps ≡ some vs → map (pieceJson t) ps ≡ map valueJson vs
-unfolding readEach
-each-piece t [] vs h = let z : [] ≡ vs = cc in rw (← z)
-each-piece t (p ∷ ps) vs h =
-    let e = andThen-some (readValue ical t p) (λ b. consRead b (readEach (readValue ical t) ps)) vs h in
-    let f = consRead-some (e .0) (readEach (readValue ical t) ps) vs (e .2) in
-    rw (← (f .2), e .1, each-piece t ps (f .0) (f .1))
+each-piece t ps vs h = each-written (readValue ical t) (pieceJson t) valueJson (λ p v e. ap (orNothing valueJson) e) ps vs h
 
 pieces-shown : (t : ValueType) (ps : List (List ℕ)) → isRead (readEach (readValue ical t) ps) ≡ true → piecesJson t ps ≡ joinedJson (readOr [] (readEach (readValue ical t) ps))
 unfolding piecesJson readOr
@@ -189,19 +185,19 @@ bad-no t false h = refl
 
 -- the numbers of the component and the type are a, u, and r is what reading answered
 module _ {a u : ℕ} (k : ℕ) (row : Row) (t m : ℕ) (s : List ℕ) (c : ℕ) {r : ValuesRead} (f : a ≡ placeOf (componentName k) componentNames) (h : (typeAt u ≡ typeAt t) × (u ≤ 14))
-    (q : ValuesAsked a row u m s c r) (w : List ℕ) (g : row ≡ rowAt (placeOf w propertyNames)) {d e : List ℕ} {at o : ℕ} where
+    (q : ValuesAsked a row u m s c r) (w : List ℕ) (g : row ≡ rowAt (placeOf w propertyNames)) where
   asked : r ≡ valuesRead u (isRead (readValues (componentName k) w (typeAt t) (rest m s c)))
   asked = values-named a row u (rest m s c) q (componentName k) w f g (h .1) ∙ ap (λ (x : ValueType). valuesRead u (isRead (readValues (componentName k) w x (rest m s c)))) (h .0)
 
-  pub put-values : (n : ℕ) → r ≡ Good n → Put d e at o (typedShown a row u (rest m s c)) → Put d e at o (typedJson (readOr [] (readValues (componentName k) w (typeAt t) (rest m s c))))
+  pub put-values : {d e : List ℕ} {at o : ℕ} (n : ℕ) → r ≡ Good n → Put d e at o (typedShown a row u (rest m s c)) → Put d e at o (typedJson (readOr [] (readValues (componentName k) w (typeAt t) (rest m s c))))
   put-values n z x =
       let y : isRead (readValues (componentName k) w (typeAt t) (rest m s c)) ≡ true = good-yes u (isRead (readValues (componentName k) w (typeAt t) (rest m s c))) (sym z ∙ asked) in
       let v = typed-shown (componentName k) w u (rest m s c) (ap (λ (v : ValueType). isRead (readValues (componentName k) w v (rest m s c))) (h .0) ∙ y) in
       rw (← (h .0), ← v, ← f, ← g) x
 
-  pub put-no-values : r ≡ Bad → Put d e at o (typeLabel 14) → Put d e at o (typedJson (readOr [] (readValues (componentName k) w (typeAt t) (rest m s c))))
+  pub put-no-values : {d e : List ℕ} {at o : ℕ} → r ≡ Bad → Put d e at o (typeLabel 14) → Put d e at o (typedJson (readOr [] (readValues (componentName k) w (typeAt t) (rest m s c))))
   unfolding isRead readOr typedJson joinedBy eachAfter
-  put-no-values z x = go (readValues (componentName k) w (typeAt t) (rest m s c)) (bad-no u (isRead (readValues (componentName k) w (typeAt t) (rest m s c))) (sym z ∙ asked))
+  put-no-values {d} {e} {at} {o} z x = go (readValues (componentName k) w (typeAt t) (rest m s c)) (bad-no u (isRead (readValues (componentName k) w (typeAt t) (rest m s c))) (sym z ∙ asked))
     where
       go : (v : Option (List Value)) → isRead v ≡ false → Put d e at o (typedJson (readOr [] v))
       go none y = subst (Put d e at o) (sym (append-none (typeLabel 14))) x

@@ -5,20 +5,22 @@
 --     put-at         the type by its number
 use mathlib.Core.Path.{_≡_, refl, sym, _∙_, subst}
 use mathlib.Core.Bool.{Bool, true, false, false≢true}
-use mathlib.Core.List.{List, []}
+use mathlib.Core.List.{List}
 use mathlib.Core.Option.{Option, none, some, Option·map}
-use Prim.Native.Nat.{ℕ, zero, suc, _*_, _^_, _≤_, _<_}
+use Prim.Native.Nat.{ℕ, _*_, _^_, _≤_, _<_}
 use native.Mathlib.Omega.{arith}
+use lib.Dec.{eqb}
 use lib.ListN.{length, List·getD-eq-default}
-use Rattle.octets.specs.Pick.{pick}
+use borrow.Author.Tests.{ne-eqb}
+use Rattle.octets.specs.Pick.{pick, _or_}
 use Rattle.octets.specs.Reading.{provided, orNothing}
-use Rattle.octets.specs.laws.Reading.{none-some}
 use Rattle.calendar.specs.Calendar.{ical, ValueType, BINARY, BOOLEAN, CAL-ADDRESS, DATE, DATE-TIME, DURATION, FLOAT, INTEGER, PERIOD, RECUR, TEXT, TIME, URI, UTC-OFFSET, UNKNOWN}
-use Rattle.calendar.specs.Calendar.{RulePart, Value, binary, boolean, calAddress, date, dateTime, duration, float, integer, recur, text, time, uri, utcOffset, unknown}
+use Rattle.calendar.specs.Calendar.{Value, binary, boolean, calAddress, date, dateTime, duration, float, integer, recur, text, time, uri, utcOffset, unknown}
 use Rattle.sink.specs.Sink.{Put}
 use Rattle.sink.specs.laws.Sink.{put-none}
-use Rattle.schema.specs.Types.{valueTypes}
+use Rattle.schema.specs.Types.{valueTypes, typePlace}
 use Rattle.schema.specs.Numbers.{typeAt}
+use Rattle.schema.specs.laws.Places.{type-back}
 use Rattle.times.specs.Date.{readDate}
 use Rattle.times.specs.Time.{readTime}
 use Rattle.times.specs.DateTime.{readDateTime}
@@ -36,6 +38,7 @@ use Rattle.texts.specs.Chars.{asIs}
 use Rattle.recur.specs.Rule.{readRule}
 use Rattle.values.specs.ReadValue.{readValue}
 use Rattle.values.specs.WriteValue.{valueCharacters}
+use Rattle.values.specs.laws.ReadBack.{made}
 use Rattle.values.specs.laws.Bare.{date-bare, time-bare, date-time-bare, duration-bare, offset-bare, integer-bare, float-bare, boolean-bare, binary-bare}
 use Rattle.xml.specs.Escape.{escaped as entities}
 use Rattle.json.specs.Write.{escaped}
@@ -83,65 +86,34 @@ module _ {d e : List ℕ} {o r : ℕ} (l : List ℕ) where
 
 -- ---- the other types
 
--- types whose values have characters that XML or JSON escapes
+-- types whose values have characters that XML or JSON escapes: CAL-ADDRESS (2), TEXT (10), URI (12), and those of no known type (14)
 abbrev isFree : ValueType → Bool
-isFree BINARY = false
-isFree BOOLEAN = false
-isFree CAL-ADDRESS = true
-isFree DATE = false
-isFree DATE-TIME = false
-isFree DURATION = false
-isFree FLOAT = false
-isFree INTEGER = false
-isFree PERIOD = false
-isFree RECUR = false
-isFree TEXT = true
-isFree TIME = false
-isFree URI = true
-isFree UTC-OFFSET = false
-isFree UNKNOWN = true
+isFree u = eqb (typePlace u) 2 or eqb (typePlace u) 10 or eqb (typePlace u) 12 or eqb (typePlace u) 14
 
 abbrev Alike : Value → Type 0
 Alike v = entities (valueCharacters v) ≡ escaped (valueCharacters v)
 
-alike-of : {A : Type 0} (g : A → Value) (u : Option A) → ((a : A) → u ≡ some a → Alike (g a)) → (v : Value) → Option·map g u ≡ some v → Alike v
-alike-of g none k v h = none-some h
-alike-of g (some a) k v h = let z : g a ≡ v = cc in rw (← z) (k a refl)
-
 alike : (u : ValueType) (l : List ℕ) (v : Value) → isFree u ≡ false → readValue ical u l ≡ some v → Alike v
-unfolding readValue valueCharacters entities escaped
-alike BINARY l v m h = alike-of binary (readBinary ical l) (λ a e. binary-bare l a e ∙ sym (binary-plain l a e)) v h
-alike BOOLEAN l v m h = alike-of boolean (readBoolean ical l) (λ a e. boolean-bare a ∙ sym (boolean-plain a)) v h
+unfolding readValue valueCharacters entities escaped _or_
+alike BINARY l v m h = made Alike binary (readBinary ical l) v h (λ a e. binary-bare l a e ∙ sym (binary-plain l a e))
+alike BOOLEAN l v m h = made Alike boolean (readBoolean ical l) v h (λ a e. boolean-bare a ∙ sym (boolean-plain a))
 alike CAL-ADDRESS l v m h = absurd (false≢true (sym m))
-alike DATE l v m h = alike-of date (readDate ical l) (λ a e. date-bare l a e ∙ sym (date-plain l a e)) v h
-alike DATE-TIME l v m h = alike-of dateTime (readDateTime ical l) (λ a e. date-time-bare l a e ∙ sym (date-time-plain l a e)) v h
-alike DURATION l v m h = alike-of duration (readDuration ical l) (λ a e. duration-bare l a e ∙ sym (duration-plain l a e)) v h
-alike FLOAT l v m h = alike-of float (readFloat l) (λ a e. float-bare l a e ∙ sym (float-plain l a e)) v h
-alike INTEGER l v m h = alike-of integer (readInteger l) (λ a e. integer-bare a ∙ sym (integer-plain a)) v h
+alike DATE l v m h = made Alike date (readDate ical l) v h (λ a e. date-bare l a e ∙ sym (date-plain l a e))
+alike DATE-TIME l v m h = made Alike dateTime (readDateTime ical l) v h (λ a e. date-time-bare l a e ∙ sym (date-time-plain l a e))
+alike DURATION l v m h = made Alike duration (readDuration ical l) v h (λ a e. duration-bare l a e ∙ sym (duration-plain l a e))
+alike FLOAT l v m h = made Alike float (readFloat l) v h (λ a e. float-bare l a e ∙ sym (float-plain l a e))
+alike INTEGER l v m h = made Alike integer (readInteger l) v h (λ a e. integer-bare a ∙ sym (integer-plain a))
 alike PERIOD l v m h = period-accepted Alike (λ a z h k. refl) (λ a z h k. refl) l v h
-alike RECUR l v m h = alike-of recur (readRule l) (λ a e. refl) v h
+alike RECUR l v m h = made Alike recur (readRule l) v h (λ a e. refl)
 alike TEXT l v m h = absurd (false≢true (sym m))
-alike TIME l v m h = alike-of time (readTime ical l) (λ a e. time-bare l a e ∙ sym (time-plain l a e)) v h
+alike TIME l v m h = made Alike time (readTime ical l) v h (λ a e. time-bare l a e ∙ sym (time-plain l a e))
 alike URI l v m h = absurd (false≢true (sym m))
-alike UTC-OFFSET l v m h = alike-of utcOffset (readUtcOffset ical l) (λ a e. offset-bare l a e ∙ sym (offset-plain l a e)) v h
+alike UTC-OFFSET l v m h = made Alike utcOffset (readUtcOffset ical l) v h (λ a e. offset-bare l a e ∙ sym (offset-plain l a e))
 alike UNKNOWN l v m h = absurd (false≢true (sym m))
 
 not-free : (t : ℕ) → (t ≡ 2 → ⊥) → (t ≡ 10 → ⊥) → (t ≡ 12 → ⊥) → t < 14 → isFree (typeAt t) ≡ false
-not-free zero a b c h = refl
-not-free (suc zero) a b c h = refl
-not-free (suc (suc zero)) a b c h = absurd (a refl)
-not-free (suc (suc (suc zero))) a b c h = refl
-not-free (suc (suc (suc (suc zero)))) a b c h = refl
-not-free (suc (suc (suc (suc (suc zero))))) a b c h = refl
-not-free (suc (suc (suc (suc (suc (suc zero)))))) a b c h = refl
-not-free (suc (suc (suc (suc (suc (suc (suc zero))))))) a b c h = refl
-not-free (suc (suc (suc (suc (suc (suc (suc (suc zero)))))))) a b c h = refl
-not-free (suc (suc (suc (suc (suc (suc (suc (suc (suc zero))))))))) a b c h = refl
-not-free (suc (suc (suc (suc (suc (suc (suc (suc (suc (suc zero)))))))))) a b c h = absurd (b refl)
-not-free (suc (suc (suc (suc (suc (suc (suc (suc (suc (suc (suc zero))))))))))) a b c h = refl
-not-free (suc (suc (suc (suc (suc (suc (suc (suc (suc (suc (suc (suc zero)))))))))))) a b c h = absurd (c refl)
-not-free (suc (suc (suc (suc (suc (suc (suc (suc (suc (suc (suc (suc (suc zero))))))))))))) a b c h = refl
-not-free (suc (suc (suc (suc (suc (suc (suc (suc (suc (suc (suc (suc (suc (suc t)))))))))))))) a b c h = absurd (omega arith)
+unfolding _or_
+not-free t a b c h = rw (type-back t (omega arith), ne-eqb t 2 a, ne-eqb t 10 b, ne-eqb t 12 c, ne-eqb t 14 (λ e. omega arith))
 
 beyond-unknown : (t : ℕ) → 14 ≤ t → typeAt t ≡ UNKNOWN
 beyond-unknown t h = List·getD-eq-default valueTypes UNKNOWN h

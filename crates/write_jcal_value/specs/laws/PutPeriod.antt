@@ -1,6 +1,6 @@
 -- Laws of what specs/PutPeriod.antt defines.
 --     put-period, put-no-period     it is the array of the period that is read
-use mathlib.Core.Path.{_≡_, refl, sym, ap, _∙_}
+use mathlib.Core.Path.{_≡_, refl, ap, _∙_}
 use mathlib.Core.Bool.{Bool, true, false≢true}
 use mathlib.Core.List.{List, [], _∷_}
 use mathlib.Core.Option.{Option, none, some}

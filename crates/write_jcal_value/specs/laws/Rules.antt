@@ -16,7 +16,7 @@ use Rattle.octets.specs.laws.Reading.{andThen-some, consRead-some, provided-som
 use Rattle.octets.specs.Front.{past}
 use Rattle.calendar.specs.Calendar.{ical, xcal, RuleItem, moment, number, word, weekday, RulePart}
 use Rattle.recur.specs.Parts.{ItemForm, wordOf, enddate, counting, unsigned, signed, weekdaynum, Part, partOf, partNames}
-use Rattle.recur.specs.Item.{readItem, writeItem, writeEnddate, isOfForm, isFor, isItem}
+use Rattle.recur.specs.Item.{readItem, writeItem, writeEnddate, isOfForm, isFor}
 use Rattle.recur.specs.Shown.{shownAt}
 use Rattle.recur.specs.laws.Shown.{item-shown}
 use Rattle.recur.specs.laws.ItemLaws.{item-accepted}
@@ -25,6 +25,7 @@ use Rattle.recur.specs.Pieces.{pieceName}
 use Rattle.json.specs.Write.{escaped}
 use Rattle.jcal.specs.WriteJcal.{itemJson, partJson}
 use Rattle.jcal.specs.laws.Plain.{item-plain}
+use Rattle.write_jcal_value.specs.laws.Each.{each-written}
 use Rattle.write_jcal_value.specs.Rules.{isNumbers, hasNumbers, plainJson, itemShown, itemsShown, pieceShown, withMember, namedShown}
 
 -- ---- an item is a number or not, by its part
@@ -73,12 +74,7 @@ item-json n w i h =
 -- ---- a part
 
 items-json : (n : List ℕ) (ws : List (List ℕ)) (is : List RuleItem) → readEach (readItem ical n) ws ≡ some is → map itemJson is ≡ map (itemShown n) ws
-unfolding readEach
-items-json n [] is h = let z : [] ≡ is = cc in rw (← z)
-items-json n (w ∷ ws) is h =
-    let e = andThen-some (readItem ical n w) (λ b. consRead b (readEach (readItem ical n) ws)) is h in
-    let f = consRead-some (e .0) (readEach (readItem ical n) ws) is (e .2) in
-    sym (ap (map itemJson) (f .2)) ∙ rw (item-json n w (e .0) (e .1), items-json n ws (f .0) (f .1))
+items-json n ws is h = sym (each-written (readItem ical n) (itemShown n) itemJson (λ w i e. sym (item-json n w i e)) ws is h)
 
 part-json : (w : List ℕ) (p : RulePart) → readPart w ≡ some p → (p .part ≡ pieceName w) × (partJson p ≡ pieceShown (pieceName w) w)
 unfolding pieceShown itemsShown

@@ -4,7 +4,7 @@
 --     put-strings, put-text, put-unread    what was written, from what was read
 use mathlib.Core.Path.{_≡_, refl, sym, ap, _∙_}
 use mathlib.Core.Bool.{Bool, true, false, false≢true}
-use mathlib.Core.List.{List, [], _∷_, _++_, map}
+use mathlib.Core.List.{List, [], _∷_, map}
 use mathlib.Core.Option.{Option, none, some}
 use Prim.Native.Nat.{ℕ, _*_, _^_, _<_}
 use lib.Dec.{eqb}
@@ -15,7 +15,7 @@ use Rattle.octets.specs.Pick.{pick, _or_}
 use Rattle.octets.specs.Append.{_⊕_}
 use Rattle.octets.specs.laws.Append.{append-none, append-empty, append-regroup}
 use Rattle.octets.specs.Words.{onto, isEmpty, eachAfter, joinedBy}
-use Rattle.octets.specs.Reading.{isRead, orNothing, consRead}
+use Rattle.octets.specs.Reading.{isRead, orNothing}
 use Rattle.octets.specs.laws.Reading.{none-some, andThen-some, consRead-some}
 use Rattle.sink.specs.Sink.{Put, Todo}
 use Rattle.sink.specs.laws.Sink.{put-none, todo-step, todo-done, writing}
@@ -26,7 +26,7 @@ use Rattle.texts.specs.Text.{Sign, char, opening, separator, fault, isEscaped, 
 use Rattle.texts.specs.laws.Text.{split-filled}
 use Rattle.json.specs.Bytes.{valueSeparator}
 use Rattle.json.specs.Write.{escapedByte, escaped, quoted}
-use Rattle.write_jcal_value.specs.Texts.{meantJson, bareJson, byteJson, stringsFrom, stringsOf}
+use Rattle.write_jcal_value.specs.Texts.{byteJson, stringsFrom, stringsOf}
 
 -- ---- a byte by its sign
 

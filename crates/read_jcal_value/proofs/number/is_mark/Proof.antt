@@ -9,6 +9,6 @@ use Rattle.read_jcal_value.proofs.number.is_mark.Tie as tie
 pub is-mark-spec : {M : Type 1} → statement M
 unfolding _or_
 is-mark-spec = tie.close (tie.spec
-    (λ c. search (mark-point, mark-letter, needs))  -- returns
-    (λ c. search (mark-point, mark-letter, needs))  -- returns-2
+    (λ c. search (mark-point, needs))  -- returns
+    (λ c. search (mark-letter, needs))  -- returns-2
     )

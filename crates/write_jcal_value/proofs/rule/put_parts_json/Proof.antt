@@ -1,7 +1,6 @@
 -- `write_jcal_value::rule::put_parts_json` meets its contract.
 use mathlib.Core.Bool.{false}
 use Prim.Native.Nat.{_-_}
-use native.Mathlib.Omega.{arith}
 use Rattle.octets.specs.Words.{cutAt}
 use Rattle.source.specs.Source.{rest}
 use Rattle.recur.specs.Parts.{partNames}
