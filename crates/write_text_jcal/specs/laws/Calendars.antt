@@ -74,13 +74,13 @@ module _ (ed : Edition) (s : List ℕ) (i : ℕ) where
   pub alone-tail : (n : ℕ) → fits ed n (calendarOf (elementsAt s i)) ≡ true → {m : ℕ} → m ≡ n → 6 + length (nameOf (elementsAt s i)) ≤ m
   alone-tail n h z = let a = head-parts ed n (nameOf (elementsAt s i)) (readProperties (listAt s i)) (parts n h .0) in omega (arith, a .0, z)
 
-  pub alone-put : {c : ℕ} → elementsAt s c ≡ streamIn (firstOf (without 2 (elementsAt s i))) → {e f f₂ f₃ : List ℕ} {p a₁ a₂ a₃ : ℕ} {l j₁ j₂ j : List ℕ} →
+  pub alone-put : (c : ℕ) → elementsAt s c ≡ streamIn (firstOf (without 2 (elementsAt s i))) → {e f f₂ f₃ : List ℕ} {p a₁ a₂ a₃ : ℕ} (l : List ℕ) {j₁ j₂ j : List ℕ} →
       PutBy e f p a₁ (headText ed (elementsAt s i)) j₁ (headRoom ed (elementsAt s i) l) →
       PutBy f f₂ a₁ a₂ (writeCalendar ed (shallow 8 (readComponents (elementsAt s c)))) j₂ (calendarRoom ed (shallow 8 (readComponents (elementsAt s c))) j₁) →
       PutBy f₂ f₃ a₂ a₃ (endLine (nameOf (elementsAt s i))) j (overwrite j₂ 0 (ascii "END:" ⊕ nameOf (elementsAt s i))) →
       PutBy e f₃ p a₃ (writeCalendar ed (calendarOf (elementsAt s i))) j (calendarRoom ed (calendarOf (elementsAt s i)) l)
   unfolding writeCalendar calendarRoom
-  alone-put {c} g {e} {f} {f₂} {f₃} {p} {a₁} {a₂} {a₃} {l} {j₁} {j₂} {j} u₁ u₂ u₃ =
+  alone-put c g {e} {f} {f₂} {f₃} {p} {a₁} {a₂} {a₃} l {j₁} {j₂} {j} u₁ u₂ u₃ =
       let w : PutBy f f₂ a₁ a₂ (writeCalendar ed I) j₂ (calendarRoom ed I j₁) = subst (λ (xs : Elements). PutBy f f₂ a₁ a₂ (writeCalendar ed (shallow 8 (readComponents xs))) j₂ (calendarRoom ed (shallow 8 (readComponents xs)) j₁)) g u₂ in
       record {
         put = subst (Put e f₃ p a₃) (sym (ap (writeCalendar ed) (inner-of (elementsAt s i)) ∙ component-parts ed (elementsAt s i) I noMore ∙ append-none _)) (u₁ .put ▷ w .put ▷ u₃ .put);
@@ -114,13 +114,13 @@ module _ (s : List ℕ) (i : ℕ) (g : elementsAt s i ≡ streamIn (firstOf (ele
       ∙ ap (λ (es : Elements). calendarOf es) (ap (λ (v : Json). streamIn v) (value-is s) ∙ sym g)
 
   module _ (ed : Edition) where
-    pub fits-stream : {n : ℕ} → b ≡ true → fits ed n (readCalendars (calendarsIn (valueOf s))) ≡ true → fits ed n (shallow 9 (readComponents (elementsAt s i))) ≡ true
-    fits-stream {n} y h = subst (λ (es : Elements). fits ed n (readCalendars es) ≡ true) (stream-calendars y) h
+    pub fits-stream : (n : ℕ) → b ≡ true → fits ed n (readCalendars (calendarsIn (valueOf s))) ≡ true → fits ed n (shallow 9 (readComponents (elementsAt s i))) ≡ true
+    fits-stream n y h = subst (λ (es : Elements). fits ed n (readCalendars es) ≡ true) (stream-calendars y) h
 
-    pub fits-alone : {n : ℕ} → b ≡ false → fits ed n (readCalendars (calendarsIn (valueOf s))) ≡ true → fits ed n (calendarOf (elementsAt s i)) ≡ true
-    fits-alone {n} y h = subst (λ (c : Components). fits ed n c ≡ true) (alone-calendars y) h
+    pub fits-alone : (n : ℕ) → b ≡ false → fits ed n (readCalendars (calendarsIn (valueOf s))) ≡ true → fits ed n (calendarOf (elementsAt s i)) ≡ true
+    fits-alone n y h = subst (λ (c : Components). fits ed n c ≡ true) (alone-calendars y) h
 
-    module _ {d e : List ℕ} {o r : ℕ} {l k : List ℕ} where
+    module _ {d e : List ℕ} {o r : ℕ} {l : List ℕ} (k : List ℕ) where
       pub calendars-stream : b ≡ true → PutBy d e o r (writeCalendar ed (shallow 9 (readComponents (elementsAt s i)))) l (calendarRoom ed (shallow 9 (readComponents (elementsAt s i))) k) →
           PutBy d e o r (writeCalendar ed (readCalendars (calendarsIn (valueOf s)))) l (calendarRoom ed (readCalendars (calendarsIn (valueOf s))) k)
       calendars-stream y u = subst (λ (es : Elements). PutBy d e o r (writeCalendar ed (readCalendars es)) l (calendarRoom ed (readCalendars es) k)) (sym (stream-calendars y)) u

@@ -67,6 +67,12 @@ members-are s inside at q i j =
     ∙ sym (object-list (firstOf (without 1 (elementsAt s inside))))
     ∙ sym (ap (λ (o : Option (List Member)). readOr [] o) (nth-first asObject refl 1 (elementsAt s inside)))
 
+pub values-put : (s : List ℕ) (from : ℕ) {x : Context} {b : Bool} {d e f : List ℕ} {o a r : ℕ} → Put d e o a (ascii ":") →
+    ((c w : List ℕ) → ReadAs x c w (listAt s from) b → Put e f a r (writeValues (statedAs x c w (listAt s from)))) →
+    (c w : List ℕ) → ReadAs x c w (listAt s from) b → Put d f o r (58 ∷ writeValues (statedAs x c w (listAt s from)))
+unfolding _⊕_
+values-put s from u v c w k = u ▷ v c w k
+
 module _ (ed : Edition) (s : List ℕ) where
   pub parameters-put : (inside from at q : ℕ) {x : Context} {b : Bool} {t : ℕ} {d e f : List ℕ} {o a r : ℕ} →
       elementsAt s at ≡ without 1 (elementsAt s inside) → membersAt s q ≡ membersIn (firstOf (elementsAt s at)) →
@@ -80,12 +86,6 @@ module _ (ed : Edition) (s : List ℕ) where
       (rw (value-at w t (default-of w (k .row)) (z .1), z .0, members-are s inside at q i j)
       (sym (with-value ed w (typeOfAll (statedAs x c w (listAt s from))) (map rawOf (readOr [] (readParameters (memberList (listAt s inside))))))))
       (u ▷ v)
-
-  pub values-put : (from : ℕ) {x : Context} {b : Bool} {d e f : List ℕ} {o a r : ℕ} → Put d e o a (ascii ":") →
-      ((c w : List ℕ) → ReadAs x c w (listAt s from) b → Put e f a r (writeValues (statedAs x c w (listAt s from)))) →
-      (c w : List ℕ) → ReadAs x c w (listAt s from) b → Put d f o r (58 ∷ writeValues (statedAs x c w (listAt s from)))
-  unfolding _⊕_
-  values-put from u v c w k = u ▷ v c w k
 
   pub end-put : (inside from : ℕ) {x : Context} {b : Bool} {d e f : List ℕ} {o a r : ℕ} → x .«value_type» ≤ 14 → elementsAt s from ≡ without 3 (elementsAt s inside) →
       ((c w : List ℕ) → x .component ≡ placeOf c componentNames → x .row ≡ rowAt (placeOf w propertyNames) → x .«value_type» ≤ 14 → b ≡ isRead (readValues c w (typeAt (x .«value_type»)) (listAt s from))) →

@@ -1,20 +1,22 @@
 -- Laws of the context of a property's values.
 --     name-is          the name of an array is that of its first element
 --     type-word, type-other    the ways of `type_at`
---     context-made     that of `context_at`
+--     context-made     that of `context_at`;   values-good, values-bad: those of `are_read`
 use mathlib.Core.Path.{_≡_, refl, sym, ap, _∙_}
+use mathlib.Core.Bool.{true, false}
 use mathlib.Core.List.{List, []}
 use mathlib.Core.Option.{Option, none, some}
 use Prim.Native.Nat.{ℕ, zero, suc, _≤_, _<_}
 use native.Mathlib.Omega.{arith}
 use Rattle.octets.specs.Ascii.{ascii}
 use Rattle.octets.specs.Class.{upper}
-use Rattle.octets.specs.Reading.{andThen, readOr}
+use Rattle.octets.specs.Reading.{andThen, isRead, readOr}
 use Rattle.octets.specs.Computing.{octets-compute}
 use Rattle.calendar.specs.Calendar.{ValueType, TEXT}
 use Rattle.source.specs.Source.{rest}
 use Rattle.names.specs.Table.{placeOf, namesIn}
 use Rattle.schema.specs.Types.{typeNamed}
+use Rattle.schema.specs.Components.{componentNames}
 use Rattle.schema.specs.Properties.{propertyNames}
 use Rattle.schema.specs.Numbers.{typeAt, typeWords}
 use Rattle.schema.specs.Coded.{rowAt}
@@ -26,6 +28,10 @@ use Rattle.read_xml_value.specs.laws.ElementTypes.{type-there, type-nowhere}
 use Rattle.json.specs.Tree.{Elements, elementList, firstOf}
 use Rattle.json.specs.Kinds.{asString, nth}
 use Rattle.jcal.specs.Property.{nameIn, typeOf, propertyName, valueType}
+use Rattle.jcal.specs.Values.{readValues}
+use Rattle.read_jcal_value.specs.Values.{areRead}
+use Rattle.read_jcal_value.specs.declared.valued.ValuesRead.{ValuesRead}
+use Rattle.read_jcal_value.specs.declared.valued.ValuesRead.the-variants.{Read, Bad}
 use Rattle.read_json.specs.TreeAt.{elementsAt}
 use Rattle.write_text_jcal_values.specs.Elements.{listAt, without, charactersIn}
 use Rattle.write_text_jcal_values.specs.laws.Elements.{nth-first}
@@ -83,3 +89,13 @@ context-made k s inside c j e y = record {
   type = y .0;
   small = y .1;
 }
+
+-- ---- whether the values can be read
+
+module _ (s : List ℕ) (from : ℕ) {x : Context} {v : ValuesRead}
+    (y : (c w : List ℕ) → x .component ≡ placeOf c componentNames → x .row ≡ rowAt (placeOf w propertyNames) → x .«value_type» ≤ 14 → areRead v ≡ isRead (readValues c w (typeAt (x .«value_type»)) (listAt s from))) where
+  pub values-good : v ≡ Read → (c w : List ℕ) → x .component ≡ placeOf c componentNames → x .row ≡ rowAt (placeOf w propertyNames) → x .«value_type» ≤ 14 → true ≡ isRead (readValues c w (typeAt (x .«value_type»)) (listAt s from))
+  values-good e c w p q l = sym (ap areRead e) ∙ y c w p q l
+
+  pub values-bad : v ≡ Bad → (c w : List ℕ) → x .component ≡ placeOf c componentNames → x .row ≡ rowAt (placeOf w propertyNames) → x .«value_type» ≤ 14 → false ≡ isRead (readValues c w (typeAt (x .«value_type»)) (listAt s from))
+  values-bad e c w p q l = sym (ap areRead e) ∙ y c w p q l

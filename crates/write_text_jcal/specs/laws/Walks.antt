@@ -68,7 +68,7 @@ array-list (literal p s) = refl
 array-list (array p e vs) = refl
 array-list (object p e ms) = refl
 
-inside-is : (v : Json) → readInside v ≡ readInner (streamIn v) 2
+pub inside-is : (v : Json) → readInside v ≡ readInner (streamIn v) 2
 unfolding readInside readInner
 inside-is (string p s) = refl
 inside-is (number p s) = refl
@@ -96,6 +96,10 @@ inner-is es = inner-first 2 es ∙ array-read (firstOf (without 2 es))
 
 name-of : (es : Elements) → nameOf es ≡ upper (charactersIn es)
 name-of es = ap upper (name-is es)
+
+-- the content of an array that stands behind others
+pub array-behind : (s : List ℕ) (inside at r k : ℕ) → elementsAt s at ≡ without k (elementsAt s inside) → elementsAt s r ≡ streamIn (firstOf (elementsAt s at)) → elementsAt s r ≡ streamIn (firstOf (without k (elementsAt s inside)))
+array-behind s inside at r k i j = j ∙ ap (λ (es : Elements). streamIn (firstOf es)) i
 
 -- ---- properties by the number of their component
 
@@ -175,6 +179,7 @@ module _ (ed : Edition) (s : List ℕ) (inside c : ℕ) (j : rest 3 s c ≡ char
   head-put from {k} q i z u v =
       rw (properties-are s inside from c j q i, name-of (elementsAt s inside), ← j) (record { put = u .put ▷ v .put; room = v .room ∙ ap (propertiesRoom ed (propertiesOf (componentName k) (elementsAt s from))) (u .room) })
 
+module _ (s : List ℕ) (inside c : ℕ) (j : rest 3 s c ≡ charactersIn (elementsAt s inside)) where
   pub tail-name : {n : ℕ} → 6 + length (nameOf (elementsAt s inside)) ≤ n → 4 + length (rest 3 s c) ≤ n
   tail-name h = omega (arith, h, ap length (name-of (elementsAt s inside) ∙ ap upper (sym j)), upper-length (rest 3 s c))
 
@@ -251,7 +256,7 @@ module _ (ed : Edition) (k : ℕ) where
     unfolding elementList propertyLines propertiesRoom
     own-end y = walk-end ownText ownRoom (ownFits (length x)) m (none-is t q y) refl refl
 
-    module _ {i : ℕ} (g : elementsAt s i ≡ streamIn (firstOf (elementsAt s at))) (y : b ≡ true) where
+    module _ (i : ℕ) (g : elementsAt s i ≡ streamIn (firstOf (elementsAt s at))) (y : b ≡ true) where
       first : elementsAt s i ≡ streamIn (valueOfHead s h)
       first = g ∙ ap (λ (v : Json). streamIn v) (sym (head-first t))
 
@@ -337,15 +342,15 @@ module _ (ed : Edition) (v : ℕ) {s : List ℕ} {from : ℕ} {d : List ℕ} {o 
   unfolding readComponents shallow writeCalendar calendarRoom
   inner-end y = walk-end (innerText ed v) (innerRoom ed v) (innerFits ed v (length x)) m (none-is t q y) refl refl
 
-  module _ {i : ℕ} (g : elementsAt s i ≡ streamIn (firstOf (elementsAt s at))) (y : b ≡ true) (w : 1 ≤ v) where
-    first : elementsAt s i ≡ streamIn (valueOfHead s h)
-    first = g ∙ ap (λ (u : Json). streamIn u) (sym (head-first t))
+  module _ (i : ℕ) (g : elementsAt s i ≡ streamIn (firstOf (elementsAt s at))) (y : b ≡ true) (w : 1 ≤ v) where
+    array-first : elementsAt s i ≡ streamIn (valueOfHead s h)
+    array-first = g ∙ ap (λ (u : Json). streamIn u) (sym (head-first t))
 
     here : (n : ℕ) (es : Elements) → innerFits ed v n (element (valueOfHead s h) es) ≡ true →
         (headFits ed n (nameOf (elementsAt s i)) (readProperties (listAt s i)) ≡ true) × (fits ed n (shallow (v - 1) (readComponents (streamIn (firstOf (without 2 (elementsAt s i)))))) ≡ true) × (innerFits ed v n es ≡ true)
     here n es f =
         fits-parts ed n (nameOf (elementsAt s i)) (readProperties (listAt s i)) (shallow (v - 1) (readComponents (streamIn (firstOf (without 2 (elementsAt s i)))))) (shallow v (readComponents es))
-        (subst (λ (ks : Elements). fits ed n (stated v ks (shallow v (readComponents es))) ≡ true) (sym first) (subst (λ (c : Components). fits ed n c ≡ true) (component-is v (valueOfHead s h) es w) f))
+        (subst (λ (ks : Elements). fits ed n (stated ed v ks (shallow v (readComponents es))) ≡ true) (sym array-first) (subst (λ (c : Components). fits ed n c ≡ true) (component-is ed v (valueOfHead s h) es w) f))
 
     parts : (headFits ed (length x) (nameOf (elementsAt s i)) (readProperties (listAt s i)) ≡ true) × (fits ed (length x) (shallow (v - 1) (readComponents (streamIn (firstOf (without 2 (elementsAt s i)))))) ≡ true)
     parts =
@@ -356,8 +361,8 @@ module _ (ed : Edition) (v : ℕ) {s : List ℕ} {from : ℕ} {d : List ℕ} {o 
     pub inner-head : headFits ed (length l) (nameOf (elementsAt s i)) (readProperties (listAt s i)) ≡ true
     inner-head = subst (λ (n : ℕ). headFits ed n (nameOf (elementsAt s i)) (readProperties (listAt s i)) ≡ true) (sym (m .room)) (parts .0)
 
-    pub inner-inside : {c : ℕ} → elementsAt s c ≡ streamIn (firstOf (without 2 (elementsAt s i))) → {n : ℕ} → n ≡ length l → fits ed n (shallow (v - 1) (readComponents (elementsAt s c))) ≡ true
-    inner-inside j {n} z =
+    pub inner-inside : (c : ℕ) → elementsAt s c ≡ streamIn (firstOf (without 2 (elementsAt s i))) → {n : ℕ} → n ≡ length l → fits ed n (shallow (v - 1) (readComponents (elementsAt s c))) ≡ true
+    inner-inside c j {n} z =
         subst (λ (k : ℕ). fits ed k (shallow (v - 1) (readComponents (elementsAt s _))) ≡ true) (sym (z ∙ m .room))
         (subst (λ (es : Elements). fits ed (length x) (shallow (v - 1) (readComponents es)) ≡ true) (sym j) (parts .1))
 
@@ -365,17 +370,17 @@ module _ (ed : Edition) (v : ℕ) {s : List ℕ} {from : ℕ} {d : List ℕ} {o 
     inner-tail z = let a = head-parts ed (length x) (nameOf (elementsAt s i)) (readProperties (listAt s i)) (parts .0) in omega (arith, a .0, z, m .room)
 
     -- a component whose three parts were put
-    pub inner-put : {c : ℕ} → elementsAt s c ≡ streamIn (firstOf (without 2 (elementsAt s i))) → {r : ℕ} → NextAt s h r → {f f₂ f₃ : List ℕ} {a₁ a₂ a₃ : ℕ} {j₁ j₂ j : List ℕ} →
+    pub inner-put : (c : ℕ) → elementsAt s c ≡ streamIn (firstOf (without 2 (elementsAt s i))) → {r : ℕ} → NextAt s h r → {f f₂ f₃ : List ℕ} {a₁ a₂ a₃ : ℕ} {j₁ j₂ j : List ℕ} →
         PutBy e f p a₁ (headText ed (elementsAt s i)) j₁ (headRoom ed (elementsAt s i) l) →
         PutBy f f₂ a₁ a₂ (writeCalendar ed (shallow (v - 1) (readComponents (elementsAt s c)))) j₂ (calendarRoom ed (shallow (v - 1) (readComponents (elementsAt s c))) j₁) →
         PutBy f₂ f₃ a₂ a₃ (endLine (nameOf (elementsAt s i))) j (overwrite j₂ 0 (ascii "END:" ⊕ nameOf (elementsAt s i))) →
         length j ≡ length l → Walking (innerText ed v) (innerRoom ed v) (innerFits ed v (length x)) s from d o x f₃ a₃ j r
-    inner-put {c} g₂ {r} n {f} {f₂} {f₃} {a₁} {a₂} {a₃} {j₁} {j₂} {j} u₁ u₂ u₃ z =
+    inner-put c g₂ {r} n {f} {f₂} {f₃} {a₁} {a₂} {a₃} {j₁} {j₂} {j} u₁ u₂ u₃ z =
         let u = valueOfHead s h in
         let es = elementsAt s r in
         let k = there-is t q n y in
         let I = shallow (v - 1) (readComponents (streamIn (firstOf (without 2 (elementsAt s i))))) in
-        let is : shallow v (readComponents (element u es)) ≡ stated v (elementsAt s i) (shallow v (readComponents es)) = component-is v u es w ∙ ap (λ (ks : Elements). stated v ks (shallow v (readComponents es))) (sym first) in
+        let is : shallow v (readComponents (element u es)) ≡ stated ed v (elementsAt s i) (shallow v (readComponents es)) = component-is ed v u es w ∙ ap (λ (ks : Elements). stated ed v ks (shallow v (readComponents es))) (sym array-first) in
         let w₂ : PutBy f f₂ a₁ a₂ (writeCalendar ed I) j₂ (calendarRoom ed I j₁) = subst (λ (xs : Elements). PutBy f f₂ a₁ a₂ (writeCalendar ed (shallow (v - 1) (readComponents xs))) j₂ (calendarRoom ed (shallow (v - 1) (readComponents xs)) j₁)) g₂ u₂ in
         walk-put (innerText ed v) (innerRoom ed v) (innerFits ed v (length x)) m u r (headText ed (elementsAt s i) ⊕ writeCalendar ed I ⊕ endLine (nameOf (elementsAt s i))) k
         (ap (writeCalendar ed) is ∙ component-parts ed (elementsAt s i) I (shallow v (readComponents es)))
