@@ -312,11 +312,11 @@ module _ (ed : Edition) (v : ℕ) where
   inner-start s from d o l h z = walk-start innerText innerRoom (innerFits (length l)) s from d o l h z
 
   -- the component whose array has the elements ks, in front of es
-  stated : Elements → Components → Components
+  abbrev stated : Elements → Components → Components
   stated ks x = component (nameOf ks) (readProperties (elementList ks)) (shallow (v - 1) (readComponents (streamIn (firstOf (without 2 ks))))) x
 
   component-is : (u : Json) (es : Elements) → 1 ≤ v → shallow v (readComponents (element u es)) ≡ stated (streamIn u) (shallow v (readComponents es))
-  unfolding readComponents stated
+  unfolding readComponents
   component-is u es h =
       shallow-more v _ _ _ _ h
       ∙ ap (λ (vs : List Json). component (jcalName vs) (readProperties vs) (shallow (v - 1) (readInside u)) (shallow v (readComponents es))) (array-list u)
@@ -363,7 +363,7 @@ module _ (ed : Edition) (v : ℕ) {s : List ℕ} {from : ℕ} {d : List ℕ} {o 
 
     pub inner-inside : (c : ℕ) → elementsAt s c ≡ streamIn (firstOf (without 2 (elementsAt s i))) → {n : ℕ} → n ≡ length l → fits ed n (shallow (v - 1) (readComponents (elementsAt s c))) ≡ true
     inner-inside c j {n} z =
-        subst (λ (k : ℕ). fits ed k (shallow (v - 1) (readComponents (elementsAt s _))) ≡ true) (sym (z ∙ m .room))
+        subst (λ (k : ℕ). fits ed k (shallow (v - 1) (readComponents (elementsAt s c))) ≡ true) (sym (z ∙ m .room))
         (subst (λ (es : Elements). fits ed (length x) (shallow (v - 1) (readComponents es)) ≡ true) (sym j) (parts .1))
 
     pub inner-tail : {n : ℕ} → n ≡ length l → 6 + length (nameOf (elementsAt s i)) ≤ n

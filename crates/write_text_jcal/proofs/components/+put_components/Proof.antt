@@ -24,7 +24,7 @@ use Rattle.write_text_jcal.proofs.components.+put_components.{statement
 use Rattle.write_text_jcal.proofs.components.+put_components.Tie.{close}
 
 abbrev μ-put-components : Measures 3 put-components-kinds.ps ℕ
-μ-put-components κs a = ?
+μ-put-components κs a = a .1 .1 .1 .1 .1 .1 .0
 
 abbrev put-components-at : ℕ → In 3 put-components-kinds.ps
 put-components-at t =
@@ -65,14 +65,14 @@ pub +put-components-spec : {M : Type 1} → statement M
     (λ c κs. search writing)  -- element-at-requires
     (λ c κs. search writing)  -- is-there-requires
     (λ c κs. search writing)  -- array-at-requires
-    (λ c κs. (c .before .before .before .before .before .before .before .before .before .before .before .pre .1 .0, inner-head _ _ (c .before .before .before .before .before .before .loop .inv) (c .before .before .before .before .before .element-at .ensures) (c .before .before .before .before .is-there .ensures) _ (c .before .before .array-at .ensures) (c .before .before .before .if2 .taken) (c .before .before .before .before .before .before .before .if1 .left)))  -- put-head-requires
+    (λ c κs. (c .before .before .before .before .before .before .before .before .before .before .before .pre .1 .0, inner-head (c .before .before .before .before .before .before .before .before .before .before .before .args .edition) (c .before .before .before .before .before .before .before .before .before .before .before .args .left) (c .before .before .before .before .before .before .loop .inv) (c .before .before .before .before .before .element-at .ensures) (c .before .before .before .before .is-there .ensures) _ (c .before .before .array-at .ensures) (c .before .before .before .if2 .taken) (c .before .before .before .before .before .before .before .if1 .left)))  -- put-head-requires
     (λ c κs. search writing)  -- components-inside-requires
-    (λ c κs. (omega (arith, c .before .before .before .before .before .before .before .before .before .before .before .before .before .before .before .if1 .left, c .before .before .before .before .before .before .before .before .before .before .before .before .before .before .before .before .before .before .before .pre .0), (c .before .before .before .before .before .before .before .before .before .before .before .before .before .before .before .before .before .before .before .pre .1 .0, inner-inside _ _ (c .before .before .before .before .before .before .before .before .before .before .before .before .before .before .loop .inv) (c .before .before .before .before .before .before .before .before .before .before .before .before .before .element-at .ensures) (c .before .before .before .before .before .before .before .before .before .before .before .before .is-there .ensures) _ (c .before .before .before .before .before .before .before .before .before .before .array-at .ensures) (c .before .before .before .before .before .before .before .before .before .before .before .if2 .taken) (c .before .before .before .before .before .before .before .before .before .before .before .before .before .before .before .if1 .left) _ (c .before .before .components-inside .ensures) (c .before .before .before .before .before .before .before .put-head .kept .1 .1 .1 .0))))  -- put-components-requires
-    (λ c κs. (c .before .before .before .before .before .before .before .before .before .before .before .before .before .before .before .before .before .before .before .before .before .before .before .before .before .before .pre .1 .0, inner-tail _ _ (c .before .before .before .before .before .before .before .before .before .before .before .before .before .before .before .before .before .before .before .before .before .loop .inv) (c .before .before .before .before .before .before .before .before .before .before .before .before .before .before .before .before .before .before .before .before .element-at .ensures) (c .before .before .before .before .before .before .before .before .before .before .before .before .before .before .before .before .before .before .before .is-there .ensures) _ (c .before .before .before .before .before .before .before .before .before .before .before .before .before .before .before .before .before .array-at .ensures) (c .before .before .before .before .before .before .before .before .before .before .before .before .before .before .before .before .before .before .if2 .taken) (c .before .before .before .before .before .before .before .before .before .before .before .before .before .before .before .before .before .before .before .before .before .before .if1 .left) (c .before .before .before .before .before .before .put-components .kept .1 .1 .1 .0 ∙ c .before .before .before .before .before .before .before .before .before .before .before .before .before .before .put-head .kept .1 .1 .1 .0)))  -- put-tail-requires
+    (λ c κs. (omega (arith, c .before .before .before .before .before .before .before .before .before .before .before .before .before .before .before .if1 .left, c .before .before .before .before .before .before .before .before .before .before .before .before .before .before .before .before .before .before .before .pre .0), (c .before .before .before .before .before .before .before .before .before .before .before .before .before .before .before .before .before .before .before .pre .1 .0, inner-inside (c .before .before .before .before .before .before .before .before .before .before .before .before .before .before .before .before .before .before .before .args .edition) (c .before .before .before .before .before .before .before .before .before .before .before .before .before .before .before .before .before .before .before .args .left) (c .before .before .before .before .before .before .before .before .before .before .before .before .before .before .loop .inv) (c .before .before .before .before .before .before .before .before .before .before .before .before .before .element-at .ensures) (c .before .before .before .before .before .before .before .before .before .before .before .before .is-there .ensures) _ (c .before .before .before .before .before .before .before .before .before .before .array-at .ensures) (c .before .before .before .before .before .before .before .before .before .before .before .if2 .taken) (c .before .before .before .before .before .before .before .before .before .before .before .before .before .before .before .if1 .left) _ (c .before .before .components-inside .ensures) (c .before .before .before .before .before .before .before .put-head .kept .1 .1 .1 .0))))  -- put-components-requires
+    (λ c κs. (c .before .before .before .before .before .before .before .before .before .before .before .before .before .before .before .before .before .before .before .before .before .before .before .before .before .before .pre .1 .0, inner-tail (c .before .before .before .before .before .before .before .before .before .before .before .before .before .before .before .before .before .before .before .before .before .before .before .before .before .before .args .edition) (c .before .before .before .before .before .before .before .before .before .before .before .before .before .before .before .before .before .before .before .before .before .before .before .before .before .before .args .left) (c .before .before .before .before .before .before .before .before .before .before .before .before .before .before .before .before .before .before .before .before .before .loop .inv) (c .before .before .before .before .before .before .before .before .before .before .before .before .before .before .before .before .before .before .before .before .element-at .ensures) (c .before .before .before .before .before .before .before .before .before .before .before .before .before .before .before .before .before .before .before .is-there .ensures) _ (c .before .before .before .before .before .before .before .before .before .before .before .before .before .before .before .before .before .array-at .ensures) (c .before .before .before .before .before .before .before .before .before .before .before .before .before .before .before .before .before .before .if2 .taken) (c .before .before .before .before .before .before .before .before .before .before .before .before .before .before .before .before .before .before .before .before .before .before .if1 .left) (c .before .before .before .before .before .before .put-components .kept .1 .1 .1 .0 ∙ c .before .before .before .before .before .before .before .before .before .before .before .before .before .before .put-head .kept .1 .1 .1 .0)))  -- put-tail-requires
     (λ c κs. c .before .before .before .before .before .before .before .before .before .before .before .before .before .before .before .before .before .before .before .before .before .before .before .before .before .element-at .ensures .inside)  -- element-next-requires
     (λ c. there-less (c .before .before .before .before .before .before .before .before .before .before .before .before .before .before .before .before .before .before .before .before .before .before .before .before .before .before .element-at .ensures) (c .before .before .before .before .before .before .before .before .before .before .before .before .before .before .before .before .before .before .before .before .before .before .before .before .before .is-there .ensures) (c .element-next .ensures) (c .before .before .before .before .before .before .before .before .before .before .before .before .before .before .before .before .before .before .before .before .before .before .before .before .if2 .taken))  -- loop-less
-    (λ c. inner-put _ _ (c .before .before .before .before .before .before .before .before .before .before .before .before .before .before .before .before .before .before .before .before .before .before .before .before .before .before .before .loop .inv) (c .before .before .before .before .before .before .before .before .before .before .before .before .before .before .before .before .before .before .before .before .before .before .before .before .before .before .element-at .ensures) (c .before .before .before .before .before .before .before .before .before .before .before .before .before .before .before .before .before .before .before .before .before .before .before .before .before .is-there .ensures) _ (c .before .before .before .before .before .before .before .before .before .before .before .before .before .before .before .before .before .before .before .before .before .before .before .array-at .ensures) (c .before .before .before .before .before .before .before .before .before .before .before .before .before .before .before .before .before .before .before .before .before .before .before .before .if2 .taken) (c .before .before .before .before .before .before .before .before .before .before .before .before .before .before .before .before .before .before .before .before .before .before .before .before .before .before .before .before .if1 .left) _ (c .before .before .before .before .before .before .before .before .before .before .before .before .before .before .before .components-inside .ensures) (c .element-next .ensures) (c .before .before .before .before .before .before .before .before .before .before .before .before .before .before .before .before .before .before .before .before .put-head .ensures) (c .before .before .before .before .before .before .before .before .before .before .before .before .put-components .ensures) (c .before .before .before .before .before .put-tail .ensures) (c .before .before .before .before .before .put-tail .kept .1 .1 .0 ∙ c .before .before .before .before .before .before .before .before .before .before .before .before .put-components .kept .1 .1 .1 .0 ∙ c .before .before .before .before .before .before .before .before .before .before .before .before .before .before .before .before .before .before .before .before .put-head .kept .1 .1 .1 .0))  -- loop-again
+    (λ c. inner-put (c .before .before .before .before .before .before .before .before .before .before .before .before .before .before .before .before .before .before .before .before .before .before .before .before .before .before .before .before .before .before .before .before .args .edition) (c .before .before .before .before .before .before .before .before .before .before .before .before .before .before .before .before .before .before .before .before .before .before .before .before .before .before .before .before .before .before .before .before .args .left) (c .before .before .before .before .before .before .before .before .before .before .before .before .before .before .before .before .before .before .before .before .before .before .before .before .before .before .before .loop .inv) (c .before .before .before .before .before .before .before .before .before .before .before .before .before .before .before .before .before .before .before .before .before .before .before .before .before .before .element-at .ensures) (c .before .before .before .before .before .before .before .before .before .before .before .before .before .before .before .before .before .before .before .before .before .before .before .before .before .is-there .ensures) _ (c .before .before .before .before .before .before .before .before .before .before .before .before .before .before .before .before .before .before .before .before .before .before .before .array-at .ensures) (c .before .before .before .before .before .before .before .before .before .before .before .before .before .before .before .before .before .before .before .before .before .before .before .before .if2 .taken) (c .before .before .before .before .before .before .before .before .before .before .before .before .before .before .before .before .before .before .before .before .before .before .before .before .before .before .before .before .if1 .left) _ (c .before .before .before .before .before .before .before .before .before .before .before .before .before .before .before .components-inside .ensures) (c .element-next .ensures) (c .before .before .before .before .before .before .before .before .before .before .before .before .before .before .before .before .before .before .before .before .put-head .ensures) (c .before .before .before .before .before .before .before .before .before .before .before .before .put-components .ensures) (c .before .before .before .before .before .put-tail .ensures) (c .before .before .before .before .before .put-tail .kept .1 .1 .0 ∙ c .before .before .before .before .before .before .before .before .before .before .before .before .put-components .kept .1 .1 .1 .0 ∙ c .before .before .before .before .before .before .before .before .before .before .before .before .before .before .before .before .before .before .before .before .put-head .kept .1 .1 .1 .0))  -- loop-again
     (λ c. c .before .before .before .loop .inv .kept)  -- same-length
     (λ c. c .before .before .before .loop .inv .room)  -- same-length-2
-    (λ c. inner-end _ _ (c .before .before .before .loop .inv) (c .before .before .element-at .ensures) (c .before .is-there .ensures) (c .if2 .left))  -- returns-2
+    (λ c. inner-end (c .before .before .before .before .before .before .before .before .args .edition) (c .before .before .before .before .before .before .before .before .args .left) (c .before .before .before .loop .inv) (c .before .before .element-at .ensures) (c .before .is-there .ensures) (c .if2 .left))  -- returns-2
     )

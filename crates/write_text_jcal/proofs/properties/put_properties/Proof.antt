@@ -22,11 +22,11 @@ put-properties-spec = tie.close (tie.spec
     (λ c κs. search writing)  -- element-at-requires
     (λ c κs. search writing)  -- is-there-requires
     (λ c κs. search writing)  -- array-at-requires
-    (λ c κs. (c .before .before .before .before .before .before .before .before .before .before .pre .0, c .before .before .before .before .before .before .before .before .before .before .pre .1, own-within _ _ (c .before .before .before .before .before .before .loop .inv) (c .before .before .before .before .before .element-at .ensures) (c .before .before .before .before .is-there .ensures) _ (c .before .before .array-at .ensures) (c .before .before .before .if1 .taken)))  -- put-property-line-requires
+    (λ c κs. (c .before .before .before .before .before .before .before .before .before .before .pre .0, c .before .before .before .before .before .before .before .before .before .before .pre .1, own-within (c .before .before .before .before .before .before .before .before .before .before .args .edition) (c .before .before .before .before .before .before .before .before .before .before .args .k) (c .before .before .before .before .before .before .loop .inv) (c .before .before .before .before .before .element-at .ensures) (c .before .before .before .before .is-there .ensures) _ (c .before .before .array-at .ensures) (c .before .before .before .if1 .taken)))  -- put-property-line-requires
     (λ c κs. c .before .before .before .before .before .before .before .before .before .before .element-at .ensures .inside)  -- element-next-requires
     (λ c. there-less (c .before .before .before .before .before .before .before .before .before .before .before .element-at .ensures) (c .before .before .before .before .before .before .before .before .before .before .is-there .ensures) (c .element-next .ensures) (c .before .before .before .before .before .before .before .before .before .if1 .taken))  -- loop-less
-    (λ c. own-put _ _ (c .before .before .before .before .before .before .before .before .before .before .before .before .loop .inv) (c .before .before .before .before .before .before .before .before .before .before .before .element-at .ensures) (c .before .before .before .before .before .before .before .before .before .before .is-there .ensures) _ (c .before .before .before .before .before .before .before .before .array-at .ensures) (c .before .before .before .before .before .before .before .before .before .if1 .taken) (c .element-next .ensures) (c .before .before .before .before .before .put-property-line .ensures) (c .before .before .before .before .before .put-property-line .kept .1 .1 .1 .0))  -- loop-again
+    (λ c. own-put (c .before .before .before .before .before .before .before .before .before .before .before .before .before .before .before .before .args .edition) (c .before .before .before .before .before .before .before .before .before .before .before .before .before .before .before .before .args .k) (c .before .before .before .before .before .before .before .before .before .before .before .before .loop .inv) (c .before .before .before .before .before .before .before .before .before .before .before .element-at .ensures) (c .before .before .before .before .before .before .before .before .before .before .is-there .ensures) _ (c .before .before .before .before .before .before .before .before .array-at .ensures) (c .before .before .before .before .before .before .before .before .before .if1 .taken) (c .element-next .ensures) (c .before .before .before .before .before .put-property-line .ensures) (c .before .before .before .before .before .put-property-line .kept .1 .1 .1 .0))  -- loop-again
     (λ c. c .before .before .before .loop .inv .kept)  -- same-length
     (λ c. c .before .before .before .loop .inv .room)  -- same-length-2
-    (λ c. own-end _ _ (c .before .before .before .loop .inv) (c .before .before .element-at .ensures) (c .before .is-there .ensures) (c .if1 .left))  -- returns
+    (λ c. own-end (c .before .before .before .before .before .before .before .args .edition) (c .before .before .before .before .before .before .before .args .k) (c .before .before .before .loop .inv) (c .before .before .element-at .ensures) (c .before .is-there .ensures) (c .if1 .left))  -- returns
     )
