@@ -1,3 +1,7 @@
 -- Laws. JSON by its grammar (RFC 8259).
 --     Accepted      a text of the grammar is accepted
+--     Rest          what must still come, for each state of the check
+--     Back          what completes a text behind a move, with the byte before it
 pub mod Accepted
+pub mod Rest
+pub mod Back
