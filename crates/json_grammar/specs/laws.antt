@@ -2,6 +2,8 @@
 --     Accepted      a text of the grammar is accepted
 --     Rest          what must still come, for each state of the check
 --     Back          what completes a text behind a move, with the byte before it
+--     JsonGrammar   the check accepts exactly the texts of the grammar
 pub mod Accepted
 pub mod Rest
 pub mod Back
+pub mod JsonGrammar
