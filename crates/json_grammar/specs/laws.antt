@@ -3,7 +3,9 @@
 --     Rest          what must still come, for each state of the check
 --     Back          what completes a text behind a move, with the byte before it
 --     JsonGrammar   the check accepts exactly the texts of the grammar
+--     Ready         in each state the bytes so far can go on to a text
 pub mod Accepted
 pub mod Rest
 pub mod Back
 pub mod JsonGrammar
+pub mod Ready

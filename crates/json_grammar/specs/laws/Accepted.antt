@@ -160,7 +160,7 @@ module _ (limit : ℕ) where
         go false e = e
 
     -- what may follow a value may follow a number
-    ends-number : (r : List ℕ) → Accepts limit (Expects After) cs r →
+    pub ends-number : (r : List ℕ) → Accepts limit (Expects After) cs r →
         Accepts limit (InNumber Zero) cs r × Accepts limit (InNumber Int) cs r × Accepts limit (InNumber Frac) cs r × Accepts limit (InNumber Exp) cs r
     unfolding check followed pick _or_ _and_
     ends-number [] h = (h, h, h, h)

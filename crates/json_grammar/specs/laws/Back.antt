@@ -457,12 +457,12 @@ module _ (limit : ℕ) (N : List Char → Bool → Bool) where
 
   module _ (law : Naming N) {R : List ℕ → Type 0} where
     -- the quotation mark at the end
-    no-chars : (s : List ℕ) → R s → Charred limit N false R (34 ∷ s)
+    pub no-chars : (s : List ℕ) → R s → Charred limit N false R (34 ∷ s)
     unfolding spelledChars _⊕_
     no-chars s t = record { it = record { chars = []; named = law .nothing }; rest = s; is = refl; on = t }
 
     module _ (s : List ℕ) where
-      plain-char : (b : Byte isUnescaped) → Charred limit N false R s → Charred limit N false R (b .byte ∷ s)
+      pub plain-char : (b : Byte isUnescaped) → Charred limit N false R s → Charred limit N false R (b .byte ∷ s)
       plain-char b t = record {
         it = record { chars = unescaped b ∷ t .it .chars; named = law .plain b (t .it .chars) (t .it .named) };
         rest = t .rest;
@@ -470,7 +470,7 @@ module _ (limit : ℕ) (N : List Char → Bool → Bool) where
         on = t .on;
       }
 
-      two-char : (b : Byte isEscaped) → namesBad (b .byte) ≡ false → Charred limit N false R s → Charred limit N false R (92 ∷ b .byte ∷ s)
+      pub two-char : (b : Byte isEscaped) → namesBad (b .byte) ≡ false → Charred limit N false R s → Charred limit N false R (92 ∷ b .byte ∷ s)
       unfolding _⊕_
       two-char b n t = record {
         it = record { chars = escaped b ∷ t .it .chars; named = law .two b (t .it .chars) n (t .it .named) };
@@ -480,7 +480,7 @@ module _ (limit : ℕ) (N : List Char → Bool → Bool) where
       }
 
       module _ (a b c d : Byte isHexdig) where
-        unit-char : (before behind : Bool) → ((us : List Char) → N us behind ≡ true → N (escapedUnit a b c d ∷ us) before ≡ true) → Charred limit N behind R s →
+        pub unit-char : (before behind : Bool) → ((us : List Char) → N us behind ≡ true → N (escapedUnit a b c d ∷ us) before ≡ true) → Charred limit N behind R s →
             Charred limit N before R (92 ∷ 117 ∷ a .byte ∷ b .byte ∷ c .byte ∷ d .byte ∷ s)
         unfolding _⊕_
         unit-char before behind f t = record {
@@ -506,7 +506,7 @@ module _ (limit : ℕ) (N : List Char → Bool → Bool) where
   spelled-last [] b s = refl
   spelled-last (d ∷ ds) b s = ap (λ (l : List ℕ). d .byte ∷ l) (spelled-last ds b s)
 
-  more-hex : {R : List ℕ → Type 0} (high : Bool) (k v : ℕ) (b : Byte isHexdig) (s : List ℕ) → eqb k 0 ≡ false → Digited limit N high (k - 1) (grown v (hexValue (b .byte))) R s → Digited limit N high k v R (b .byte ∷ s)
+  pub more-hex : {R : List ℕ → Type 0} (high : Bool) (k v : ℕ) (b : Byte isHexdig) (s : List ℕ) → eqb k 0 ≡ false → Digited limit N high (k - 1) (grown v (hexValue (b .byte))) R s → Digited limit N high k v R (b .byte ∷ s)
   more-hex {R} high k v b s z f ds l w =
       let n = eqb-false k 0 z in
       subst (λ (l : List ℕ). Charred limit N high R (92 ∷ 117 ∷ l)) (spelled-last ds b s) (f (ds ⊕ (b ∷ [])) (ap (λ (x : ℕ). x + (k - 1)) (length-last ds b) ∙ less n) (worth-last ds 0 b ∙ ap (λ (x : ℕ). grown x (hexValue (b .byte))) w))
@@ -514,7 +514,7 @@ module _ (limit : ℕ) (N : List Char → Bool → Bool) where
       less : (k ≡ 0 → ⊥) → length ds + 1 + (k - 1) ≡ 3
       less n = omega (arith, l)
 
-  three-digits : (P : List (Byte isHexdig) → Type 0) → ((x y z : Byte isHexdig) → P (x ∷ y ∷ z ∷ [])) → (ds : List (Byte isHexdig)) → length ds ≡ 3 → P ds
+  pub three-digits : (P : List (Byte isHexdig) → Type 0) → ((x y z : Byte isHexdig) → P (x ∷ y ∷ z ∷ [])) → (ds : List (Byte isHexdig)) → length ds ≡ 3 → P ds
   three-digits P f [] l = absurd (omega arith)
   three-digits P f (x ∷ []) l = absurd (omega arith)
   three-digits P f (x ∷ y ∷ []) l = absurd (omega arith)
@@ -582,7 +582,7 @@ module _ (limit : ℕ) (N : List Char → Bool → Bool) where
         (λ z h. rw (eqb-true k 0 z) (last-low law cs n (record { byte = b; passes = hexdig-is b e }) s from v h))
         (λ z h. more-hex true k v (record { byte = b; passes = hexdig-is b e }) s z h))
 
-    digits-begin : (high : Bool) → Digited limit N high 3 0 (λ x. Behind limit N n cs x) s → Charred limit N high (λ x. Behind limit N n cs x) (92 ∷ 117 ∷ s)
+    pub digits-begin : (high : Bool) → Digited limit N high 3 0 (λ x. Behind limit N n cs x) s → Charred limit N high (λ x. Behind limit N n cs x) (92 ∷ 117 ∷ s)
     unfolding spelledBytes _⊕_
     digits-begin high f = f [] refl refl
 
