@@ -78,7 +78,7 @@ digit1-9-is b h e =
     go : (b ≡ 48 → ⊥) → 48 ≤ b → 49 ≤ b
     go n l = omega arith
 
-hexdig-is : (b : ℕ) → eqb (hexValue b) 16 ≡ false → isHexdig b ≡ true
+pub hexdig-is : (b : ℕ) → eqb (hexValue b) 16 ≡ false → isHexdig b ≡ true
 unfolding pick _or_
 hexdig-is b h = go (isDigit b) (within 0x41 0x46 b) (within 0x61 0x66 b) h
   where
