@@ -5,9 +5,11 @@
 --     JsonGrammar   the check accepts exactly the texts of the grammar
 --     Ready         in each state the bytes so far can go on to a text
 --     Outcome       where a fault is told
+--     Told          by which byte a fault is told
 pub mod Accepted
 pub mod Rest
 pub mod Back
 pub mod JsonGrammar
 pub mod Ready
 pub mod Outcome
+pub mod Told

@@ -85,12 +85,12 @@ Cut (InString n t) ds l = CutInside t ds l
 -- ---- what a move leads to, and where its fault is
 
 -- a state that a fault at the byte itself is told in
-abbrev Faults : State → Type 0
+abbrev pub Faults : State → Type 0
 Faults st = Plain st ⊎ IsHex st
 
-abbrev Placed : State → ℕ → ℕ → Move → Type 0
+abbrev pub Placed : State → ℕ → ℕ → Move → Type 0
 Placed st i b (To st′) =
-    ((k : ℕ) → Began st′ k → (Plain st × (k ≡ i)) ⊎ Began st k)
+    ((k : ℕ) → Began st′ k → (Plain st × (b ≡ 92) × (k ≡ i)) ⊎ Began st k)
     × ((ds : List (Byte isHexdig)) (l : List ℕ) → Cut st′ ds l → (Plain st × (b ≡ 92) × (length ds ≤ 3) × (l ≡ 117 ∷ spelledBytes ds)) ⊎ ((es : List (Byte isHexdig)) × Cut st es (b ∷ l)))
 Placed st i b OpenArray = Plain st
 Placed st i b OpenObject = Plain st
@@ -168,7 +168,7 @@ module _ (n : Bool) (i b : ℕ) where
   unfolding spelledBytes
   string-placed Chars =
       pick-case (Placed (InString n Chars) i b) (eqb b 34) _ _ (λ e. pick-either (Placed (InString n Chars) i b) n _ _ (λ k z. absurd z, λ ds l z. absurd z) (λ k z. absurd z, λ ds l z. absurd z))
-      (λ _. pick-case (Placed (InString n Chars) i b) (eqb b 92) _ _ (λ e. (λ k z. inl (tt, sym z), λ ds l z. inl (tt, eqb-true b 92 e, z .0, z .1)))
+      (λ _. pick-case (Placed (InString n Chars) i b) (eqb b 92) _ _ (λ e. (λ k z. inl (tt, eqb-true b 92 e, sym z), λ ds l z. inl (tt, eqb-true b 92 e, z .0, z .1)))
       (λ _. pick-case (Placed (InString n Chars) i b) (ltb b 32) _ _ (λ e. inl (refl, inl tt)) (λ e. (λ k z. absurd z, λ ds l z. absurd z))))
   string-placed (Escape from) =
       pick-case (Placed (InString n (Escape from)) i b) (eqb b 117) _ _ (λ e. (λ k z. inr z, λ ds l z. inr (ds, (z .0, rw (eqb-true b 117 e, z .1)))))
@@ -191,7 +191,7 @@ module _ (n : Bool) (i b : ℕ) where
       (λ z. pick-either (Placed (InString n (Low from k v)) i b) (isLow (grown v (hexValue b))) _ _ (λ k z. absurd z, λ ds l z. absurd z) (inr refl))
       (λ z. (λ k z. inr z, λ ds l z. absurd z)))
 
-placed : (st : State) (a : Around) (i b : ℕ) → Placed st i b (move st a i b)
+pub placed : (st : State) (a : Around) (i b : ℕ) → Placed st i b (move st a i b)
 placed (Expects e) a i b = between-placed (Expects e) tt i b e a
 placed (InLiteral w) a i b = literal-placed (InLiteral w) tt i b w
 placed (InNumber n) a i b = number-placed (InNumber n) tt i b n a
@@ -237,7 +237,7 @@ module _ (l k : ℕ) where
   number-ended Sign a h = sym (at-same l k h)
   number-ended Exp a h = closed-ended a h
 
-  ended : (st : State) (a : Around) → end st a l ≡ At k → ((k ≡ l) × Faults st) ⊎ Began st k
+  pub ended : (st : State) (a : Around) → end st a l ≡ At k → ((k ≡ l) × Faults st) ⊎ Began st k
   ended (Expects e) a h = inl (expects-ended e a h, inl tt)
   ended (InLiteral w) a h = inl (sym (at-same l k h), inl tt)
   ended (InNumber n) a h = inl (number-ended n a h, inl tt)
@@ -262,7 +262,7 @@ pub data Outcome (H : Type 0) (limit : ℕ) (N : List Char → Bool → Bool) (s
   digits : H → (p : ℕ) → i ≤ p → p ≤ k → (ds : List (Byte isHexdig)) → length ds ≤ 3 → take (k - p) (drop (p - i) s) ≡ 92 ∷ 117 ∷ spelledBytes ds →
       (t : List ℕ) → Completes limit N st cs (take (p - i) s ⊕ t) → Outcome H limit N st cs i k s
 
-abbrev GoesBy : ℕ → (List Char → Bool → Bool) → State → List Container → Type 0
+abbrev pub GoesBy : ℕ → (List Char → Bool → Bool) → State → List Container → Type 0
 GoesBy limit N st cs = (t : List ℕ) × Completes limit N st cs t
 
 module _ (H : Type 0) (limit : ℕ) (N : List Char → Bool → Bool) (law : Naming N)
@@ -317,8 +317,8 @@ module _ (H : Type 0) (limit : ℕ) (N : List Char → Bool → Bool) (law : Nam
     onward st′ cs′ back at (here l t c) = here (omega arith) t (more-before t k l (back _ c))
     onward st′ cs′ back at (begun z) = go (at .0 k z)
       where
-        go : (Plain st × (k ≡ i)) ⊎ Began st k → Outcome H limit N st cs i k (b ∷ s)
-        go (inl (p, e)) = at-once st cs i k (b ∷ s) e (plains st p cs)
+        go : (Plain st × (b ≡ 92) × (k ≡ i)) ⊎ Began st k → Outcome H limit N st cs i k (b ∷ s)
+        go (inl (p, _, e)) = at-once st cs i k (b ∷ s) e (plains st p cs)
         go (inr z) = begun z
     onward st′ cs′ back at (cut h l ds c) = go (at .1 ds (take (k - (i + 1)) s) c)
       where
