@@ -250,38 +250,42 @@ module _ (l k : ℕ) where
 
 -- ---- all faults
 
--- H holds where the digits of an escape may hinder: what N says of them may not be met, whatever follows
+-- no text is accepted that goes on from the bytes l, which stand at i
+abbrev pub Never : ℕ → State → List Container → ℕ → List ℕ → Type 0
+Never limit st cs i l = (t : List ℕ) → check (l ⊕ t) limit i st cs ≡ Fine → ⊥
+
+-- H holds where the digits of an escape may hinder: what N says of them can't be met, whatever follows
 pub data Outcome (H : Type 0) (limit : ℕ) (N : List Char → Bool → Bool) (st : State) (cs : List Container) (i k : ℕ) (s : List ℕ) : Type 0 where
   -- the bytes before the place can go on
   here : i ≤ k → (t : List ℕ) → Completes limit N st cs (take (k - i) s ⊕ t) → Outcome H limit N st cs i k s
   -- it is the escape that the state stands in
   begun : Began st k → Outcome H limit N st cs i k s
   -- it stands in the digits of the escape that the state stands in
-  cut : H → i ≤ k → (ds : List (Byte isHexdig)) → Cut st ds (take (k - i) s) → Outcome H limit N st cs i k s
+  cut : H → i ≤ k → (ds : List (Byte isHexdig)) → Cut st ds (take (k - i) s) → Never limit st cs i (take (k - i) s) → Outcome H limit N st cs i k s
   -- it stands in the digits of the escape at p, and the bytes before p can go on
   digits : H → (p : ℕ) → i ≤ p → p ≤ k → (ds : List (Byte isHexdig)) → length ds ≤ 3 → take (k - p) (drop (p - i) s) ≡ 92 ∷ 117 ∷ spelledBytes ds →
-      (t : List ℕ) → Completes limit N st cs (take (p - i) s ⊕ t) → Outcome H limit N st cs i k s
+      (t : List ℕ) → Completes limit N st cs (take (p - i) s ⊕ t) → Never limit st cs i (take (k - i) s) → Outcome H limit N st cs i k s
 
 abbrev pub GoesBy : ℕ → (List Char → Bool → Bool) → State → List Container → Type 0
 GoesBy limit N st cs = (t : List ℕ) × Completes limit N st cs t
 
 module _ (H : Type 0) (limit : ℕ) (N : List Char → Bool → Bool) (law : Naming N)
     (plains : (st : State) → Plain st → (cs : List Container) → GoesBy limit N st cs)
-    (hexes : (st : State) → IsHex st → (cs : List Container) → H ⊎ GoesBy limit N st cs) where
+    (hexes : (st : State) → IsHex st → (cs : List Container) → (H × ((i : ℕ) → Never limit st cs i [])) ⊎ GoesBy limit N st cs) where
   -- at the byte itself
   at-once : (st : State) (cs : List Container) (i k : ℕ) (s : List ℕ) → k ≡ i → GoesBy limit N st cs → Outcome H limit N st cs i k s
   at-once st cs i k s e g =
       let z : k - i ≡ 0 = omega arith in
       here (omega arith) (g .0) (rw (z, append-empty (g .0)) (g .1))
 
-  cut-once : (st : State) (cs : List Container) (i k : ℕ) (s : List ℕ) → k ≡ i → IsHex st → H → Outcome H limit N st cs i k s
+  cut-once : (st : State) (cs : List Container) (i k : ℕ) (s : List ℕ) → k ≡ i → IsHex st → H × ((j : ℕ) → Never limit st cs j []) → Outcome H limit N st cs i k s
   unfolding spelledBytes
   cut-once (Expects e) cs i k s q x h = absurd x
   cut-once (InLiteral w) cs i k s q x h = absurd x
   cut-once (InNumber n) cs i k s q x h = absurd x
   cut-once (InString n Chars) cs i k s q x h = absurd x
   cut-once (InString n (Escape from)) cs i k s q x h = absurd x
-  cut-once (InString n (Hex from m v)) cs i k s q x h = let z : k - i ≡ 0 = omega arith in cut h (omega arith) [] (omega arith, rw z)
+  cut-once (InString n (Hex from m v)) cs i k s q x h = let z : k - i ≡ 0 = omega arith in cut (h .0) (omega arith) [] (omega arith, rw z) (rw z (h .1 i))
   cut-once (InString n (High from)) cs i k s q x h = absurd x
   cut-once (InString n (HighEscape from)) cs i k s q x h = absurd x
   cut-once (InString n (Low from m v)) cs i k s q x h = absurd x
@@ -290,7 +294,7 @@ module _ (H : Type 0) (limit : ℕ) (N : List Char → Bool → Bool) (law : Nam
   faults-here st cs i k s (inl (e, inl p)) = at-once st cs i k s e (plains st p cs)
   faults-here st cs i k s (inl (e, inr x)) = go (hexes st x cs)
     where
-      go : H ⊎ GoesBy limit N st cs → Outcome H limit N st cs i k s
+      go : (H × ((j : ℕ) → Never limit st cs j [])) ⊎ GoesBy limit N st cs → Outcome H limit N st cs i k s
       go (inl h) = cut-once st cs i k s e x h
       go (inr g) = at-once st cs i k s e g
   faults-here st cs i k s (inr z) = begun z
@@ -306,50 +310,57 @@ module _ (H : Type 0) (limit : ℕ) (N : List Char → Bool → Bool) (law : Nam
     more-before : (t : List ℕ) (p : ℕ) → i + 1 ≤ p → Completes limit N st cs (b ∷ (take (p - (i + 1)) s ⊕ t)) → Completes limit N st cs (take (p - i) (b ∷ s) ⊕ t)
     more-before t p h c = subst (λ (l : List ℕ). Completes limit N st cs l) (sym (append-cons b (take (p - (i + 1)) s) t) ∙ ap (λ (l : List ℕ). l ⊕ t) (sym (take-on b s i p h))) c
 
-    escape-here : H → Plain st → i ≤ k → b ≡ 92 → (ds : List (Byte isHexdig)) → length ds ≤ 3 → i + 1 ≤ k → take (k - (i + 1)) s ≡ 117 ∷ spelledBytes ds → Outcome H limit N st cs i k (b ∷ s)
-    escape-here h p lo e ds d l q =
+    escape-here : H → Plain st → i ≤ k → b ≡ 92 → (ds : List (Byte isHexdig)) → length ds ≤ 3 → i + 1 ≤ k → take (k - (i + 1)) s ≡ 117 ∷ spelledBytes ds → Never limit st cs i (take (k - i) (b ∷ s)) →
+        Outcome H limit N st cs i k (b ∷ s)
+    escape-here h p lo e ds d l q n =
         let g = plains st p cs in
         let z : i - i ≡ 0 = omega arith in
-        digits h i (omega arith) lo ds d (rw z (take-on b s i k l ∙ rw (e, q))) (g .0) (rw (z, append-empty (g .0)) (g .1))
+        digits h i (omega arith) lo ds d (rw z (take-on b s i k l ∙ rw (e, q))) (g .0) (rw (z, append-empty (g .0)) (g .1)) n
 
-    onward : (st′ : State) (cs′ : List Container) → ((u : List ℕ) → Completes limit N st′ cs′ u → Completes limit N st cs (b ∷ u)) → Placed st i b (To st′) →
+    never-on : (st′ : State) (cs′ : List Container) → ((u : List ℕ) → check (b ∷ u) limit i st cs ≡ check u limit (i + 1) st′ cs′) → i + 1 ≤ k → Never limit st′ cs′ (i + 1) (take (k - (i + 1)) s) →
+        Never limit st cs i (take (k - i) (b ∷ s))
+    never-on st′ cs′ f l n t q =
+        let e : take (k - i) (b ∷ s) ⊕ t ≡ b ∷ (take (k - (i + 1)) s ⊕ t) = ap (λ (x : List ℕ). x ⊕ t) (take-on b s i k l) ∙ append-cons b _ t in
+        n t (sym (f _) ∙ subst (λ (x : List ℕ). check x limit i st cs ≡ Fine) e q)
+
+    onward : (st′ : State) (cs′ : List Container) → ((u : List ℕ) → check (b ∷ u) limit i st cs ≡ check u limit (i + 1) st′ cs′) → ((u : List ℕ) → Completes limit N st′ cs′ u → Completes limit N st cs (b ∷ u)) → Placed st i b (To st′) →
         Outcome H limit N st′ cs′ (i + 1) k s → Outcome H limit N st cs i k (b ∷ s)
-    onward st′ cs′ back at (here l t c) = here (omega arith) t (more-before t k l (back _ c))
-    onward st′ cs′ back at (begun z) = go (at .0 k z)
+    onward st′ cs′ f back at (here l t c) = here (omega arith) t (more-before t k l (back _ c))
+    onward st′ cs′ f back at (begun z) = go (at .0 k z)
       where
         go : (Plain st × (b ≡ 92) × (k ≡ i)) ⊎ Began st k → Outcome H limit N st cs i k (b ∷ s)
         go (inl (p, _, e)) = at-once st cs i k (b ∷ s) e (plains st p cs)
         go (inr z) = begun z
-    onward st′ cs′ back at (cut h l ds c) = go (at .1 ds (take (k - (i + 1)) s) c)
+    onward st′ cs′ f back at (cut h l ds c n) = go (at .1 ds (take (k - (i + 1)) s) c)
       where
         go : (Plain st × (b ≡ 92) × (length ds ≤ 3) × (take (k - (i + 1)) s ≡ 117 ∷ spelledBytes ds)) ⊎ ((es : List (Byte isHexdig)) × Cut st es (b ∷ take (k - (i + 1)) s)) → Outcome H limit N st cs i k (b ∷ s)
-        go (inl (p, e, d, q)) = escape-here h p (omega arith) e ds d l q
-        go (inr (es, z)) = cut h (omega arith) es (subst (λ (x : List ℕ). Cut st es x) (sym (take-on b s i k l)) z)
-    onward st′ cs′ back at (digits h p lo hi ds d e t c) = digits h p (omega arith) hi ds d (ap (λ (x : List ℕ). take (k - p) x) (drop-on b s i p lo) ∙ e) t (more-before t p lo (back _ c))
+        go (inl (p, e, d, q)) = escape-here h p (omega arith) e ds d l q (never-on st′ cs′ f l n)
+        go (inr (es, z)) = cut h (omega arith) es (subst (λ (x : List ℕ). Cut st es x) (sym (take-on b s i k l)) z) (never-on st′ cs′ f l n)
+    onward st′ cs′ f back at (digits h p lo hi ds d e t c n) = digits h p (omega arith) hi ds d (ap (λ (x : List ℕ). take (k - p) x) (drop-on b s i p lo) ∙ e) t (more-before t p lo (back _ c)) (never-on st′ cs′ f (omega arith) n)
 
     quiet : (st : State) (e : Expect) → Placed st i b (To (Expects e))
     quiet st e = (λ k z. absurd z, λ ds l z. absurd z)
 
-    turned : (m : Move) → Placed st i b m → ((u : List ℕ) → Back limit N m cs u → Completes limit N st cs (b ∷ u)) →
+    turned : (m : Move) → m ≡ move st (around cs) i b → Placed st i b m → ((u : List ℕ) → Back limit N m cs u → Completes limit N st cs (b ∷ u)) →
         ((st′ : State) (cs′ : List Container) → check s limit (i + 1) st′ cs′ ≡ At k → Outcome H limit N st′ cs′ (i + 1) k s) →
         followed m limit i cs (check s limit (i + 1)) ≡ At k → Outcome H limit N st cs i k (b ∷ s)
-    unfolding followed pick
-    turned (To st′) at back ih h = onward st′ cs back at (ih st′ cs h)
-    turned OpenArray at back ih h = go (ltb (length cs) limit) refl h
+    unfolding check followed pick
+    turned (To st′) e at back ih h = onward st′ cs (λ u. rw (← e)) back at (ih st′ cs h)
+    turned OpenArray e at back ih h = go (ltb (length cs) limit) refl h
       where
         go : (t : Bool) → ltb (length cs) limit ≡ t → pick t (check s limit (i + 1) (Expects ValueOrEnd) (check.array ∷ cs)) (At i) ≡ At k → Outcome H limit N st cs i k (b ∷ s)
-        go true e h = onward (Expects ValueOrEnd) (check.array ∷ cs) (λ u c. back u (ltb-true (length cs) limit e, c)) (quiet st ValueOrEnd) (ih (Expects ValueOrEnd) (check.array ∷ cs) h)
-        go false e h = at-once st cs i k (b ∷ s) (sym (at-same i k h)) (plains st at cs)
-    turned OpenObject at back ih h = go (ltb (length cs) limit) refl h
+        go true q h = onward (Expects ValueOrEnd) (check.array ∷ cs) (λ u. rw (← e, q)) (λ u c. back u (ltb-true (length cs) limit q, c)) (quiet st ValueOrEnd) (ih (Expects ValueOrEnd) (check.array ∷ cs) h)
+        go false q h = at-once st cs i k (b ∷ s) (sym (at-same i k h)) (plains st at cs)
+    turned OpenObject e at back ih h = go (ltb (length cs) limit) refl h
       where
         go : (t : Bool) → ltb (length cs) limit ≡ t → pick t (check s limit (i + 1) (Expects NameOrEnd) (check.object ∷ cs)) (At i) ≡ At k → Outcome H limit N st cs i k (b ∷ s)
-        go true e h = onward (Expects NameOrEnd) (check.object ∷ cs) (λ u c. back u (ltb-true (length cs) limit e, c)) (quiet st NameOrEnd) (ih (Expects NameOrEnd) (check.object ∷ cs) h)
-        go false e h = at-once st cs i k (b ∷ s) (sym (at-same i k h)) (plains st at cs)
-    turned Close at back ih h = onward (Expects After) (outer cs) back (quiet st After) (ih (Expects After) (outer cs) h)
-    turned (Bad p) at back ih h = faults-here st cs i k (b ∷ s) (subst (λ (x : ℕ). ((x ≡ i) × Faults st) ⊎ Began st x) (at-same p k h) at)
+        go true q h = onward (Expects NameOrEnd) (check.object ∷ cs) (λ u. rw (← e, q)) (λ u c. back u (ltb-true (length cs) limit q, c)) (quiet st NameOrEnd) (ih (Expects NameOrEnd) (check.object ∷ cs) h)
+        go false q h = at-once st cs i k (b ∷ s) (sym (at-same i k h)) (plains st at cs)
+    turned Close e at back ih h = onward (Expects After) (outer cs) (λ u. rw (← e)) back (quiet st After) (ih (Expects After) (outer cs) h)
+    turned (Bad p) e at back ih h = faults-here st cs i k (b ∷ s) (subst (λ (x : ℕ). ((x ≡ i) × Faults st) ⊎ Began st x) (at-same p k h) at)
 
   pub faulty : (k : ℕ) (s : List ℕ) (i : ℕ) (st : State) (cs : List Container) → check s limit i st cs ≡ At k → Outcome H limit N st cs i k s
   unfolding check
   faulty k [] i st cs h = faults-here st cs i k [] (ended i k st (around cs) h)
   faulty k (b ∷ s) i st cs h =
-      turned st cs i b k s (move st (around cs) i b) (placed st (around cs) i b) (λ u c. step-back limit N law st cs i b u c) (λ st′ cs′ q. faulty k s (i + 1) st′ cs′ q) h
+      turned st cs i b k s (move st (around cs) i b) refl (placed st (around cs) i b) (λ u c. step-back limit N law st cs i b u c) (λ st′ cs′ q. faulty k s (i + 1) st′ cs′ q) h
