@@ -6,6 +6,7 @@
 --     Ready         in each state the bytes so far can go on to a text
 --     Outcome       where a fault is told
 --     Told          by which byte a fault is told
+--     Digits        among the digits of an escape: they can go on, or never can
 pub mod Accepted
 pub mod Rest
 pub mod Back
@@ -13,3 +14,4 @@ pub mod JsonGrammar
 pub mod Ready
 pub mod Outcome
 pub mod Told
+pub mod Digits

@@ -322,7 +322,7 @@ module _ (limit : ℕ) where
     -- ---- strings
 
     module _ (n : Bool) where
-      hex-step : (from k v b : ℕ) → 0 < k → isHexdig b ≡ true → (i : ℕ) (s : List ℕ) →
+      pub hex-step : (from k v b : ℕ) → 0 < k → isHexdig b ≡ true → (i : ℕ) (s : List ℕ) →
           (check (b ∷ s) limit i (InString n (Hex from k v)) cs ≡ check s limit (i + 1) (InString n (Hex from (k - 1) (grown v (hexValue b)))) cs)
           × (check (b ∷ s) limit i (InString n (Low from k v)) cs ≡ check s limit (i + 1) (InString n (Low from (k - 1) (grown v (hexValue b)))) cs)
       unfolding check followed pick
@@ -332,7 +332,7 @@ module _ (limit : ℕ) where
           let m : eqb k 0 ≡ false = ne-eqb k 0 (λ e. omega arith) in
           (rw (d, m), rw (d, m))
 
-      hex-last : (from v b : ℕ) → isHexdig b ≡ true → (i : ℕ) (s : List ℕ) →
+      pub hex-last : (from v b : ℕ) → isHexdig b ≡ true → (i : ℕ) (s : List ℕ) →
           (check (b ∷ s) limit i (InString n (Hex from 0 v)) cs ≡ followed (named n from (grown v (hexValue b))) limit i cs (check s limit (i + 1)))
           × (check (b ∷ s) limit i (InString n (Low from 0 v)) cs ≡ followed (lowPair n from (grown v (hexValue b))) limit i cs (check s limit (i + 1)))
       unfolding check followed pick

@@ -95,7 +95,7 @@ module _ (limit : ℕ) where
       go true e r = (w % 256 ∷ closers cs, λ i. rw (eq-eqb (w % 256) (w % 256) refl, e) (closers-accepted cs (i + 1)))
       go false e r = (w % 256 ∷ r .0, λ i. rw (eq-eqb (w % 256) (w % 256) refl, e) (r .1 (i + 1)))
 
-  ready-string : (n : Bool) (t : Inside) → PlainInside t → (cs : List Container) → Ready limit (InString n t) cs
+  pub ready-string : (n : Bool) (t : Inside) → PlainInside t → (cs : List Container) → Ready limit (InString n t) cs
   unfolding check followed pick _and_ _or_
   ready-string true Chars p cs = (34 ∷ 58 ∷ 34 ∷ 34 ∷ closers cs, λ i. closers-accepted cs (i + 1 + 1 + 1 + 1))
   ready-string false Chars p cs = (34 ∷ closers cs, λ i. closers-accepted cs (i + 1))
