@@ -7,6 +7,7 @@
 --     Outcome       where a fault is told
 --     Told          by which byte a fault is told
 --     Digits        among the digits of an escape: they can go on, or never can
+--     Places        the place of a fault is the first byte at which no text can go on
 pub mod Accepted
 pub mod Rest
 pub mod Back
@@ -15,3 +16,4 @@ pub mod Ready
 pub mod Outcome
 pub mod Told
 pub mod Digits
+pub mod Places

@@ -107,7 +107,7 @@ module _ (limit : ℕ) (N : List Char → Bool → Bool) where
   completes law [] i st cs h = end-back st cs i h
   completes law (b ∷ s) i st cs h = step-back limit N law st cs i b s (followed-back (move st (around cs) i b) i cs s (λ st ds k. completes law s (i + 1) st ds k) h)
 
-text-found : (most : ℕ) (s : List ℕ) → Valued most mayName [] s → JsonText most s
+pub text-found : (most : ℕ) (s : List ℕ) → Valued most mayName [] s → JsonText most s
 text-found most s t = record {
   text = record { before = t .it; value = t .on .it .part; behind = t .on .on .it };
   is = t .is ∙ ap (λ (l : List ℕ). spelledBytes (t .it) ⊕ l) (t .on .is ∙ ap (λ (l : List ℕ). spelledValue (t .on .it .part) ⊕ l) (t .on .on .is ∙ ap (λ (l : List ℕ). spelledBytes (t .on .on .it) ⊕ l) (t .on .on .on) ∙ append-none _));

@@ -90,7 +90,7 @@ Faults st = Plain st ⊎ IsHex st
 
 abbrev pub Placed : State → ℕ → ℕ → Move → Type 0
 Placed st i b (To st′) =
-    ((k : ℕ) → Began st′ k → (Plain st × (b ≡ 92) × (k ≡ i)) ⊎ Began st k)
+    ((k : ℕ) → Began st′ k → (Plain st × Plain st′ × (b ≡ 92) × (k ≡ i)) ⊎ Began st k)
     × ((ds : List (Byte isHexdig)) (l : List ℕ) → Cut st′ ds l → (Plain st × (b ≡ 92) × (length ds ≤ 3) × (l ≡ 117 ∷ spelledBytes ds)) ⊎ ((es : List (Byte isHexdig)) × Cut st es (b ∷ l)))
 Placed st i b OpenArray = Plain st
 Placed st i b OpenObject = Plain st
@@ -168,7 +168,7 @@ module _ (n : Bool) (i b : ℕ) where
   unfolding spelledBytes
   string-placed Chars =
       pick-case (Placed (InString n Chars) i b) (eqb b 34) _ _ (λ e. pick-either (Placed (InString n Chars) i b) n _ _ (λ k z. absurd z, λ ds l z. absurd z) (λ k z. absurd z, λ ds l z. absurd z))
-      (λ _. pick-case (Placed (InString n Chars) i b) (eqb b 92) _ _ (λ e. (λ k z. inl (tt, eqb-true b 92 e, sym z), λ ds l z. inl (tt, eqb-true b 92 e, z .0, z .1)))
+      (λ _. pick-case (Placed (InString n Chars) i b) (eqb b 92) _ _ (λ e. (λ k z. inl (tt, tt, eqb-true b 92 e, sym z), λ ds l z. inl (tt, eqb-true b 92 e, z .0, z .1)))
       (λ _. pick-case (Placed (InString n Chars) i b) (ltb b 32) _ _ (λ e. inl (refl, inl tt)) (λ e. (λ k z. absurd z, λ ds l z. absurd z))))
   string-placed (Escape from) =
       pick-case (Placed (InString n (Escape from)) i b) (eqb b 117) _ _ (λ e. (λ k z. inr z, λ ds l z. inr (ds, (z .0, rw (eqb-true b 117 e, z .1)))))
@@ -328,8 +328,8 @@ module _ (H : Type 0) (limit : ℕ) (N : List Char → Bool → Bool) (law : Nam
     onward st′ cs′ f back at (here l t c) = here (omega arith) t (more-before t k l (back _ c))
     onward st′ cs′ f back at (begun z) = go (at .0 k z)
       where
-        go : (Plain st × (b ≡ 92) × (k ≡ i)) ⊎ Began st k → Outcome H limit N st cs i k (b ∷ s)
-        go (inl (p, _, e)) = at-once st cs i k (b ∷ s) e (plains st p cs)
+        go : (Plain st × Plain st′ × (b ≡ 92) × (k ≡ i)) ⊎ Began st k → Outcome H limit N st cs i k (b ∷ s)
+        go (inl (p, _, _, e)) = at-once st cs i k (b ∷ s) e (plains st p cs)
         go (inr z) = begun z
     onward st′ cs′ f back at (cut h l ds c n) = go (at .1 ds (take (k - (i + 1)) s) c)
       where

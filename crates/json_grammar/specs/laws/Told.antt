@@ -21,9 +21,19 @@ use Rattle.json.specs.declared.State.the-variants.{Expects}
 use Rattle.json.specs.declared.Move.{Move}
 use Rattle.json.specs.declared.Move.the-variants.{To, OpenArray, OpenObject, Close, Bad}
 use Rattle.json.specs.declared.Checked.{Checked}
-use Rattle.json.specs.declared.Checked.the-variants.{At}
-use Rattle.json_grammar.specs.laws.Ready.{Plain}
+use Rattle.json.specs.declared.Checked.the-variants.{Fine, At}
+use Rattle.json_grammar.specs.laws.Ready.{Plain, ready-plain}
 use Rattle.json_grammar.specs.laws.Outcome.{Began, Faults, Placed, placed, ended, at-same}
+
+-- a reverse solidus of s stands at k, p bytes from place i on, and can stand there
+pub record Escape (limit : ℕ) (st : State) (cs : List Container) (i k : ℕ) (s : List ℕ) (by : ℕ) : Type 0 where
+  pub p : ℕ
+  pub at : k ≡ i + p
+  pub before : p ≤ by
+  pub inside : p < length s
+  pub stands : take 1 (drop p s) ≡ 92 ∷ []
+  pub tail : List ℕ
+  pub goes : check (take (p + 1) s ⊕ tail) limit i st cs ≡ Fine
 
 -- the bytes from place i on are s
 pub record Told (limit : ℕ) (st : State) (cs : List Container) (i k : ℕ) (s : List ℕ) : Type 0 where
@@ -32,7 +42,7 @@ pub record Told (limit : ℕ) (st : State) (cs : List Container) (i k : ℕ) (s 
   pub inside : by ≤ length s
   pub told : by < length s → (t : List ℕ) → check (take (by + 1) s ⊕ t) limit i st cs ≡ At k
   -- the fault is there; or at the escape that the state stands in; or at a reverse solidus before
-  pub place : (k ≡ i + by) ⊎ Began st k ⊎ ((p : ℕ) × (k ≡ i + p) × (p ≤ by) × (p < length s) × (take 1 (drop p s) ≡ 92 ∷ []))
+  pub place : (k ≡ i + by) ⊎ Began st k ⊎ Escape limit st cs i k s by
 
 module _ (limit : ℕ) (st : State) (cs : List Container) (i b k : ℕ) (s : List ℕ) where
   -- by the byte itself
@@ -40,36 +50,40 @@ module _ (limit : ℕ) (st : State) (cs : List Container) (i b k : ℕ) (s : Lis
   unfolding _⊕_
   told-here f q = record { by = 0; inside = omega arith; told = λ _ t. f t; place = go q }
     where
-      go : (k ≡ i) ⊎ Began st k → (k ≡ i + 0) ⊎ Began st k ⊎ ((p : ℕ) × (k ≡ i + p) × (p ≤ 0) × (p < length (b ∷ s)) × (take 1 (drop p (b ∷ s)) ≡ 92 ∷ []))
+      go : (k ≡ i) ⊎ Began st k → (k ≡ i + 0) ⊎ Began st k ⊎ Escape limit st cs i k (b ∷ s) 0
       go (inl e) = inl (omega arith)
       go (inr z) = inr (inl z)
 
   -- by a byte behind it
   told-on : (st′ : State) (cs′ : List Container) → ((u : List ℕ) → check (b ∷ u) limit i st cs ≡ check u limit (i + 1) st′ cs′) →
-      ((k : ℕ) → Began st′ k → ((b ≡ 92) × (k ≡ i)) ⊎ Began st k) → Told limit st′ cs′ (i + 1) k s → Told limit st cs i k (b ∷ s)
+      ((k : ℕ) → Began st′ k → (Plain st′ × (b ≡ 92) × (k ≡ i)) ⊎ Began st k) → Told limit st′ cs′ (i + 1) k s → Told limit st cs i k (b ∷ s)
   unfolding _⊕_
   told-on st′ cs′ f at r = record { by = suc (r .by); inside = omega (arith, r .inside); told = λ l t. let j : suc (r .by) + 1 ≡ suc (r .by + 1) = omega arith in rw j (f (take (r .by + 1) s ⊕ t) ∙ r .told (omega arith) t); place = go (r .place) }
     where
-      go : (k ≡ i + 1 + r .by) ⊎ Began st′ k ⊎ ((p : ℕ) × (k ≡ i + 1 + p) × (p ≤ r .by) × (p < length s) × (take 1 (drop p s) ≡ 92 ∷ [])) →
-          (k ≡ i + suc (r .by)) ⊎ Began st k ⊎ ((p : ℕ) × (k ≡ i + p) × (p ≤ suc (r .by)) × (p < length (b ∷ s)) × (take 1 (drop p (b ∷ s)) ≡ 92 ∷ []))
+      go : (k ≡ i + 1 + r .by) ⊎ Began st′ k ⊎ Escape limit st′ cs′ (i + 1) k s (r .by) →
+          (k ≡ i + suc (r .by)) ⊎ Began st k ⊎ Escape limit st cs i k (b ∷ s) (suc (r .by))
       go (inl e) = inl (omega arith)
       go (inr (inl z)) = began (at k z)
         where
-          began : ((b ≡ 92) × (k ≡ i)) ⊎ Began st k → (k ≡ i + suc (r .by)) ⊎ Began st k ⊎ ((p : ℕ) × (k ≡ i + p) × (p ≤ suc (r .by)) × (p < length (b ∷ s)) × (take 1 (drop p (b ∷ s)) ≡ 92 ∷ []))
-          began (inl (e, q)) = inr (inr (0, omega arith, omega arith, omega arith, rw e))
+          began : (Plain st′ × (b ≡ 92) × (k ≡ i)) ⊎ Began st k → (k ≡ i + suc (r .by)) ⊎ Began st k ⊎ Escape limit st cs i k (b ∷ s) (suc (r .by))
+          began (inl (x, e, q)) =
+              let g = ready-plain limit st′ x cs′ in
+              inr (inr (record { p = 0; at = omega arith; before = omega arith; inside = omega arith; stands = rw e; tail = g .0; goes = f (g .0) ∙ g .1 (i + 1) }))
           began (inr z) = inr (inl z)
-      go (inr (inr (p, e, l, m, q))) = inr (inr (suc p, omega arith, omega arith, omega arith, q))
+      go (inr (inr x)) =
+          let j : suc (x .p) + 1 ≡ suc (x .p + 1) = omega arith in
+          inr (inr (record { p = suc (x .p); at = omega (arith, x .at); before = omega (arith, x .before); inside = omega (arith, x .inside); stands = x .stands; tail = x .tail; goes = rw j (f _ ∙ x .goes) }))
 
   turned : (m : Move) → m ≡ move st (around cs) i b → Placed st i b m → ((st′ : State) (cs′ : List Container) → check s limit (i + 1) st′ cs′ ≡ At k → Told limit st′ cs′ (i + 1) k s) →
       followed m limit i cs (check s limit (i + 1)) ≡ At k → Told limit st cs i k (b ∷ s)
   unfolding check followed pick
   turned (To st′) e at ih h = told-on st′ cs (λ u. rw (← e)) weaker (ih st′ cs h)
     where
-      weaker : (k : ℕ) → Began st′ k → ((b ≡ 92) × (k ≡ i)) ⊎ Began st k
+      weaker : (k : ℕ) → Began st′ k → (Plain st′ × (b ≡ 92) × (k ≡ i)) ⊎ Began st k
       weaker k z = go (at .0 k z)
         where
-          go : (Plain st × (b ≡ 92) × (k ≡ i)) ⊎ Began st k → ((b ≡ 92) × (k ≡ i)) ⊎ Began st k
-          go (inl (p, q, r)) = inl (q, r)
+          go : (Plain st × Plain st′ × (b ≡ 92) × (k ≡ i)) ⊎ Began st k → (Plain st′ × (b ≡ 92) × (k ≡ i)) ⊎ Began st k
+          go (inl (_, p, q, r)) = inl (p, q, r)
           go (inr z) = inr z
   turned OpenArray e at ih h = go (ltb (length cs) limit) refl h
     where
@@ -92,7 +106,7 @@ pub told-by : (s : List ℕ) (limit k i : ℕ) (st : State) (cs : List Container
 unfolding check
 told-by [] limit k i st cs h = record { by = 0; inside = omega arith; told = λ l. absurd (omega arith); place = go (ended i k st (around cs) h) }
   where
-    go : ((k ≡ i) × Faults st) ⊎ Began st k → (k ≡ i + 0) ⊎ Began st k ⊎ ((p : ℕ) × (k ≡ i + p) × (p ≤ 0) × (p < 0) × (take {A = ℕ} 1 (drop p []) ≡ 92 ∷ []))
+    go : ((k ≡ i) × Faults st) ⊎ Began st k → (k ≡ i + 0) ⊎ Began st k ⊎ Escape limit st cs i k [] 0
     go (inl (e, _)) = inl (omega arith)
     go (inr z) = inr (inl z)
 told-by (b ∷ s) limit k i st cs h = turned limit st cs i b k s (move st (around cs) i b) refl (placed st (around cs) i b) (λ st′ cs′ q. told-by s limit k (i + 1) st′ cs′ q) h
