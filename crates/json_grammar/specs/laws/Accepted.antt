@@ -354,15 +354,15 @@ module _ (limit : ℕ) where
             × (check (a .byte ∷ b .byte ∷ c .byte ∷ d .byte ∷ s) limit i (InString n (Low from 3 0)) cs ≡ followed (lowPair n from unitOf) limit (i + 1 + 1 + 1) cs (check s limit (i + 1 + 1 + 1 + 1)))
         unit-on from i s = (
           hex-step from 3 _ (a .byte) (omega arith) (a .passes) i _ .0
-          ∙ hex-step from 2 _ (b .byte) (omega arith) (b .passes) (i + 1) _ .0
-          ∙ hex-step from 1 _ (c .byte) (omega arith) (c .passes) (i + 1 + 1) _ .0
-          ∙ hex-last from _ (d .byte) (d .passes) (i + 1 + 1 + 1) s .0
-          ∙ ap (λ (v : ℕ). followed (named n from v) limit (i + 1 + 1 + 1) cs (check s limit (i + 1 + 1 + 1 + 1))) unit-is,
+              ∙ hex-step from 2 _ (b .byte) (omega arith) (b .passes) (i + 1) _ .0
+              ∙ hex-step from 1 _ (c .byte) (omega arith) (c .passes) (i + 1 + 1) _ .0
+              ∙ hex-last from _ (d .byte) (d .passes) (i + 1 + 1 + 1) s .0
+              ∙ ap (λ (v : ℕ). followed (named n from v) limit (i + 1 + 1 + 1) cs (check s limit (i + 1 + 1 + 1 + 1))) unit-is,
           hex-step from 3 _ (a .byte) (omega arith) (a .passes) i _ .1
-          ∙ hex-step from 2 _ (b .byte) (omega arith) (b .passes) (i + 1) _ .1
-          ∙ hex-step from 1 _ (c .byte) (omega arith) (c .passes) (i + 1 + 1) _ .1
-          ∙ hex-last from _ (d .byte) (d .passes) (i + 1 + 1 + 1) s .1
-          ∙ ap (λ (v : ℕ). followed (lowPair n from v) limit (i + 1 + 1 + 1) cs (check s limit (i + 1 + 1 + 1 + 1))) unit-is,
+              ∙ hex-step from 2 _ (b .byte) (omega arith) (b .passes) (i + 1) _ .1
+              ∙ hex-step from 1 _ (c .byte) (omega arith) (c .passes) (i + 1 + 1) _ .1
+              ∙ hex-last from _ (d .byte) (d .passes) (i + 1 + 1 + 1) s .1
+              ∙ ap (λ (v : ℕ). followed (lowPair n from v) limit (i + 1 + 1 + 1) cs (check s limit (i + 1 + 1 + 1 + 1))) unit-is,
         )
 
       escape-steps : (from i : ℕ) (s : List ℕ) →

@@ -339,11 +339,11 @@ module _ (limit : ℕ) (N : List Char → Bool → Bool) where
           (λ e. pick-case (From ((u : List ℕ) × (b ∷ s ≡ (c ∷ d ∷ l) ⊕ u) × Rest limit N cs u) cs s) (eqb (w / 256) 0) _ _
           (λ f h. let k = eqb-true (w / 256) 0 f in absurd (omega (arith, r, t, q, k)))
           (λ f h.
-              let k = eqb-true b (w % 256) e in
-              let m : b ≡ c = omega (arith, r, q, k) in
-              let n : word (d ∷ l) ≡ w / 256 = omega (arith, r, q) in
-              let x = h (d ∷ l) (p .1) (omega arith) n in
-              (x .0, ap (λ (y : ℕ). y ∷ s) m ∙ joined-cons c (d ∷ l) (x .0) (x .1), x .2)))
+          let k = eqb-true b (w % 256) e in
+          let m : b ≡ c = omega (arith, r, q, k) in
+          let n : word (d ∷ l) ≡ w / 256 = omega (arith, r, q) in
+          let x = h (d ∷ l) (p .1) (omega arith) n in
+          (x .0, ap (λ (y : ℕ). y ∷ s) m ∙ joined-cons c (d ∷ l) (x .0) (x .1), x .2)))
           (λ e h. absurd h)
 
   -- ---- values
