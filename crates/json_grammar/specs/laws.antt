@@ -1,4 +1,6 @@
 -- Laws. JSON by its grammar (RFC 8259).
+--     Steps         what single bytes do in the check
+--     Onward        what a text of the grammar comes to
 --     Accepted      a text of the grammar is accepted
 --     Rest          what must still come, for each state of the check
 --     Back          what completes a text behind a move, with the byte before it
@@ -8,6 +10,8 @@
 --     Told          by which byte a fault is told
 --     Digits        among the digits of an escape: they can go on, or never can
 --     Places        the place of a fault is the first byte at which no text can go on
+pub mod Steps
+pub mod Onward
 pub mod Accepted
 pub mod Rest
 pub mod Back

@@ -36,7 +36,7 @@ use Rattle.json.specs.declared.Move.{Move}
 use Rattle.json.specs.declared.Move.the-variants.{To, OpenArray, OpenObject, Close, Bad}
 use Rattle.json_grammar.specs.Grammar as grammar
 use Rattle.json_grammar.specs.Grammar.{Byte, spelledBytes, optional, Ws, Structural, structural, falseName, nullName, trueName, Digits, spelledDigits, spelledSign, spelledExp, spelledFrac, isDigit1-9, zeroInt, digitsInt, spelledInt, isUnescaped, isEscaped, isHexdig, Char, unescaped, escaped, escapedUnit, spelledChar, spelledChars, literal, emptyObject, object, emptyArray, array, number, string, member, noMembers, andMember, Values, noValues, andValue, spelledValue, spelledMember, spelledMembers, spelledValues, depth, depthMember, depthMembers, depthValues, codeUnit, everyString, everyStringMember, everyStringMembers, everyStringValues}
-use Rattle.json_grammar.specs.laws.Accepted.{hexdig-value, unit-grown}
+use Rattle.json_grammar.specs.laws.Steps.{hexdig-value, unit-grown}
 use Rattle.json_grammar.specs.laws.Rest.{Then, spelledWs, spelledDigit, Empty, Fit, isLetters, worth, namesOf, FitValue, FitMember, FitMembers, FitValues, ThenValue, ThenMember, Rest, Valued, Membered, Coloned, Between, Lettered, Exponent, Fraction, Numbered, FitChars, Charred, Digited, Stringed, Behind, Completes, Back}
 
 pub record Naming (N : List Char → Bool → Bool) : Type 0 where

@@ -21,7 +21,7 @@ use Rattle.json.specs.declared.State.the-variants.{Expects, InLiteral, InNumber
 use Rattle.json.specs.declared.Move.{Move}
 use Rattle.json.specs.declared.Checked.the-variants.{Fine, At}
 use Rattle.json_grammar.specs.Grammar.{isHexdig}
-use Rattle.json_grammar.specs.laws.Accepted.{Accepts, fault-not-fine, hexdig-value, hex-step, hex-last}
+use Rattle.json_grammar.specs.laws.Steps.{fault-not-fine, hexdig-value, hex-step, hex-last}
 use Rattle.json_grammar.specs.laws.Back.{hexdig-is}
 use Rattle.json_grammar.specs.laws.Ready.{Ready, ready-string}
 use Rattle.json_grammar.specs.laws.Outcome.{IsHex, Never}

@@ -28,7 +28,8 @@ use Rattle.json.specs.declared.Move.{Move}
 use Rattle.json.specs.declared.Move.the-variants.{To, OpenArray, OpenObject, Close, Bad}
 use Rattle.json.specs.declared.Checked.the-variants.{Fine, At}
 use Rattle.json_grammar.specs.Grammar.{spelledBytes, optional, Char, spelledValue, spelledText, mayName, JsonText}
-use Rattle.json_grammar.specs.laws.Accepted.{fault-not-fine, text-accepted}
+use Rattle.json_grammar.specs.laws.Steps.{fault-not-fine}
+use Rattle.json_grammar.specs.laws.Accepted.{text-accepted}
 use Rattle.json_grammar.specs.laws.Rest.{Rest, Between, Numbered, Valued, Completes, Back}
 use Rattle.json_grammar.specs.laws.Back.{Naming, step-back}
 

@@ -19,7 +19,7 @@ use Rattle.json.specs.declared.State.the-variants.{Expects}
 use Rattle.json.specs.declared.Checked.the-variants.{Fine, At}
 use Rattle.json_grammar.specs.Grammar.{spelledBytes, spelledValue, mayName, GrammarText}
 use Rattle.json_grammar.specs.Faults.{InDigits, Stops, byByte, byEscape, byEnd}
-use Rattle.json_grammar.specs.laws.Accepted.{Accepts, fault-not-fine, text-accepted}
+use Rattle.json_grammar.specs.laws.Accepted.{text-accepted}
 use Rattle.json_grammar.specs.laws.Rest.{Valued}
 use Rattle.json_grammar.specs.laws.JsonGrammar.{naming-well, completes, text-found}
 use Rattle.json_grammar.specs.laws.Ready.{Plain, Ready, ready-plain, anything, naming-any, ready}

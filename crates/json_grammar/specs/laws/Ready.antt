@@ -26,7 +26,8 @@ use Rattle.json.specs.declared.State.{State}
 use Rattle.json.specs.declared.State.the-variants.{Expects, InLiteral, InNumber, InString}
 use Rattle.json.specs.declared.Checked.the-variants.{Fine}
 use Rattle.json_grammar.specs.Grammar.{Byte, spelledBytes, isEscaped, isHexdig, Char}
-use Rattle.json_grammar.specs.laws.Accepted.{Accepts, ends-number}
+use Rattle.json_grammar.specs.laws.Onward.{ends-number}
+use Rattle.json_grammar.specs.laws.Accepted.{Accepts, accepts-onward}
 use Rattle.json_grammar.specs.laws.Rest.{worth, Charred, Digited, Behind, Completes}
 use Rattle.json_grammar.specs.laws.Back.{Naming, unit-char, two-char, more-hex, three-digits}
 use Rattle.json_grammar.specs.laws.JsonGrammar.{completes}
@@ -73,14 +74,14 @@ module _ (limit : ℕ) where
 
   ready-number : (n : NumberState) (cs : List Container) → Ready limit (InNumber n) cs
   unfolding check followed pick _and_ _or_
-  ready-number Minus cs = (48 ∷ closers cs, λ i. ends-number limit cs (closers cs) (closers-accepted cs) .0 (i + 1))
-  ready-number Zero cs = (closers cs, ends-number limit cs (closers cs) (closers-accepted cs) .0)
-  ready-number Int cs = (closers cs, ends-number limit cs (closers cs) (closers-accepted cs) .1)
-  ready-number Point cs = (48 ∷ closers cs, λ i. ends-number limit cs (closers cs) (closers-accepted cs) .2 (i + 1))
-  ready-number Frac cs = (closers cs, ends-number limit cs (closers cs) (closers-accepted cs) .2)
-  ready-number E cs = (48 ∷ closers cs, λ i. ends-number limit cs (closers cs) (closers-accepted cs) .3 (i + 1))
-  ready-number Sign cs = (48 ∷ closers cs, λ i. ends-number limit cs (closers cs) (closers-accepted cs) .3 (i + 1))
-  ready-number Exp cs = (closers cs, ends-number limit cs (closers cs) (closers-accepted cs) .3)
+  ready-number Minus cs = (48 ∷ closers cs, λ i. ends-number limit (Accepts limit) (accepts-onward limit) cs (closers cs) (closers-accepted cs) .0 (i + 1))
+  ready-number Zero cs = (closers cs, ends-number limit (Accepts limit) (accepts-onward limit) cs (closers cs) (closers-accepted cs) .0)
+  ready-number Int cs = (closers cs, ends-number limit (Accepts limit) (accepts-onward limit) cs (closers cs) (closers-accepted cs) .1)
+  ready-number Point cs = (48 ∷ closers cs, λ i. ends-number limit (Accepts limit) (accepts-onward limit) cs (closers cs) (closers-accepted cs) .2 (i + 1))
+  ready-number Frac cs = (closers cs, ends-number limit (Accepts limit) (accepts-onward limit) cs (closers cs) (closers-accepted cs) .2)
+  ready-number E cs = (48 ∷ closers cs, λ i. ends-number limit (Accepts limit) (accepts-onward limit) cs (closers cs) (closers-accepted cs) .3 (i + 1))
+  ready-number Sign cs = (48 ∷ closers cs, λ i. ends-number limit (Accepts limit) (accepts-onward limit) cs (closers cs) (closers-accepted cs) .3 (i + 1))
+  ready-number Exp cs = (closers cs, ends-number limit (Accepts limit) (accepts-onward limit) cs (closers cs) (closers-accepted cs) .3)
 
   -- the letters of w, one by one
   ready-literal : (fuel w : ℕ) → w ≤ fuel → (cs : List Container) → Ready limit (InLiteral w) cs
