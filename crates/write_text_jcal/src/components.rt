@@ -32,7 +32,14 @@ ghost use Rattle.write_text_jcal.specs.Fitting.{headFits, fits};
 ghost use Rattle.write_text_jcal.specs.Walks.{nameOf, headText, headRoom};
 
 // The line of `word` and the name from the cursor `c` on in capitals.
-fn put_name_line(out: &mut [u8], o: usize, line: &mut [u8], word: &[u8], s: &[u8], c: usize) -> usize
+fn put_name_line(
+    out: &mut [u8],
+    o: usize,
+    line: &mut [u8],
+    word: &[u8],
+    s: &[u8],
+    c: usize,
+) -> usize
     requires { ⌜ length (now word) + length (rest 3 (now s) c) ≤ length (now line) ⌝ }
     ensures { λ r. ⌜
         PutBy (now (out .entry)) (now (out .exit)) o r

@@ -112,7 +112,14 @@ fn written_type(context: Context) -> usize
 }
 
 // The values from `from` on, as iCalendar text, where `read` says that they can be read.
-pub fn put_values(out: &mut [u8], o: usize, context: Context, read: bool, s: &[u8], from: usize) -> usize
+pub fn put_values(
+    out: &mut [u8],
+    o: usize,
+    context: Context,
+    read: bool,
+    s: &[u8],
+    from: usize,
+) -> usize
     requires { ⌜ (length (now s) ≤ 65535) × (context .«value_type» ≤ 14) ⌝ }
     ensures { λ r. ⌜
         ((c w : List ℕ) →

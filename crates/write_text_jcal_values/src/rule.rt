@@ -66,7 +66,15 @@ fn find_part(p: usize, s: &[u8], from: usize) -> MemberHead
 }
 
 // A part, behind a semicolon where it is not the first: its name stands at `name`, its value from `value` on.
-fn put_part(out: &mut [u8], o: usize, started: bool, p: usize, s: &[u8], name: usize, value: usize) -> usize
+fn put_part(
+    out: &mut [u8],
+    o: usize,
+    started: bool,
+    p: usize,
+    s: &[u8],
+    name: usize,
+    value: usize,
+) -> usize
     requires { ⌜ (length (now s) ≤ 65535) × (name < length (now s)) ⌝ }
     ensures { λ r. ⌜
         ((is : List RuleItem) →

@@ -85,9 +85,9 @@ module _ (ed : Edition) (s : List ℕ) (i : ℕ) where
       record {
         put = subst (Put e f₃ p a₃) (sym (ap (writeCalendar ed) (inner-of (elementsAt s i)) ∙ component-parts ed (elementsAt s i) I noMore ∙ append-none _)) (u₁ .put ▷ w .put ▷ u₃ .put);
         room = sym (ap (λ (b : Components). calendarRoom ed b l) (inner-of (elementsAt s i)) ∙ component-room ed (elementsAt s i) I noMore l
-        ∙ ap (λ (b : List ℕ). overwrite (calendarRoom ed I b) 0 (ascii "END:" ⊕ nameOf (elementsAt s i))) (sym (u₁ .room))
-        ∙ ap (λ (b : List ℕ). overwrite b 0 (ascii "END:" ⊕ nameOf (elementsAt s i))) (sym (w .room))
-        ∙ sym (u₃ .room));
+            ∙ ap (λ (b : List ℕ). overwrite (calendarRoom ed I b) 0 (ascii "END:" ⊕ nameOf (elementsAt s i))) (sym (u₁ .room))
+            ∙ ap (λ (b : List ℕ). overwrite b 0 (ascii "END:" ⊕ nameOf (elementsAt s i))) (sym (w .room))
+            ∙ sym (u₃ .room));
       }
 
 -- ---- the calendars of a text

@@ -58,9 +58,9 @@ module _ {A : Type 0} (f : Json → Option A) (w : A → List ℕ) (c : ℕ) whe
     joining-more k {r} n {d′} {q} z p = record {
       kept = z ∙ j .kept;
       left = λ xs i.
-        let l = j .left xs i in
-        let g = each-first f (valueOfHead s h) (listAt s r) (l .0) (sym (ap (readEach f) (there-list t e n k)) ∙ l .1) in
-        (g .1, g .3, todo-step (l .2) (p (g .0) (g .2)) (ap (λ (x : List A). following b c (map w x)) (g .4) ∙ following-more b c (w (g .0)) (map w (g .1))));
+          let l = j .left xs i in
+          let g = each-first f (valueOfHead s h) (listAt s r) (l .0) (sym (ap (readEach f) (there-list t e n k)) ∙ l .1) in
+          (g .1, g .3, todo-step (l .2) (p (g .0) (g .2)) (ap (λ (x : List A). following b c (map w x)) (g .4) ∙ following-more b c (w (g .0)) (map w (g .1))));
     }
 
     pub joining-end : y ≡ false → (xs : List A) → readEach f (listAt s from) ≡ some xs → Put d₀ d o₀ o (joinedBy c (map w xs))

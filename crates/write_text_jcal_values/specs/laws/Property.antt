@@ -19,7 +19,6 @@ use Rattle.octets.specs.Reading.{provided, andThen, isRead, readOr, consRead, r
 use Rattle.octets.specs.laws.Reading.{none-some, read-some, provided-some, andThen-some}
 use Rattle.calendar.specs.Calendar.{xcal, FLOAT, TEXT, Value, text, typeOf}
 use Rattle.sink.specs.Sink.{Put}
-
 use Rattle.names.specs.Table.{placeOf}
 use Rattle.schema.specs.Types.{isTypeOf}
 use Rattle.schema.specs.Components.{componentNames}

@@ -210,26 +210,26 @@ module _ {s : List ℕ} {at : ℕ} {d₀ : List ℕ} {o₀ : ℕ} {d : List ℕ}
     parts-more y {d′} {q} l w = record {
       kept = l ∙ t .kept;
       left = λ qs h.
-        let m : Member = memberOf s (r .name) (r .next) in
-        let i : rowOf upperName (partName p) (memberListAt s at) ≡ some m = f .is ∙ ap (λ (z : Bool). memberFound z s (r .name) (r .next)) y in
-        let g = named-part (partName p) (memberListAt s at) qs h m i in
-        let e = part-stated m (g .0) (g .1) in
-        let n : upperName m ≡ partName p = row-named upperName (partName p) (memberListAt s at) m i in
-        let j : partOf (partName p) ≡ some (e .0) = ap partOf (sym n) ∙ e .2 in
-        let v = w (e .1) (same-items p (e .0) (orAlone (m .value)) (e .1) j (e .3)) in
-        let x : inOrder (drop p partNames) qs ≡ g .0 ∷ inOrder (drop (p + 1) partNames) qs = parts-here p qs k (g .0) (g .2) in
-        let u : writePart (g .0) ≡ upper (stringAt s (r .name)) ⊕ ascii "=" ⊕ joinedBy 44 (map (writeItem ical) (e .1)) = ap writePart (e .4) in
-        todo-step (t .left qs h) (subst (λ (z : List ℕ). Put d d′ o q (pick b (59 ∷ []) [] ⊕ z)) (sym u) v)
-        (ap (λ (z : List RulePart). following b 59 (map writePart z)) x ∙ following-more b 59 (writePart (g .0)) (partsText (p + 1) qs));
+          let m : Member = memberOf s (r .name) (r .next) in
+          let i : rowOf upperName (partName p) (memberListAt s at) ≡ some m = f .is ∙ ap (λ (z : Bool). memberFound z s (r .name) (r .next)) y in
+          let g = named-part (partName p) (memberListAt s at) qs h m i in
+          let e = part-stated m (g .0) (g .1) in
+          let n : upperName m ≡ partName p = row-named upperName (partName p) (memberListAt s at) m i in
+          let j : partOf (partName p) ≡ some (e .0) = ap partOf (sym n) ∙ e .2 in
+          let v = w (e .1) (same-items p (e .0) (orAlone (m .value)) (e .1) j (e .3)) in
+          let x : inOrder (drop p partNames) qs ≡ g .0 ∷ inOrder (drop (p + 1) partNames) qs = parts-here p qs k (g .0) (g .2) in
+          let u : writePart (g .0) ≡ upper (stringAt s (r .name)) ⊕ ascii "=" ⊕ joinedBy 44 (map (writeItem ical) (e .1)) = ap writePart (e .4) in
+          todo-step (t .left qs h) (subst (λ (z : List ℕ). Put d d′ o q (pick b (59 ∷ []) [] ⊕ z)) (sym u) v)
+          (ap (λ (z : List RulePart). following b 59 (map writePart z)) x ∙ following-more b 59 (writePart (g .0)) (partsText (p + 1) qs));
     }
 
     pub parts-none : r .there ≡ false → Parting s at d₀ o₀ d o b (p + 1)
     parts-none y = record {
       kept = t .kept;
       left = λ qs h.
-        let i : rowOf upperName (partName p) (memberListAt s at) ≡ none = f .is ∙ ap (λ (z : Bool). memberFound z s (r .name) (r .next)) y in
-        let x : inOrder (drop p partNames) qs ≡ inOrder (drop (p + 1) partNames) qs = parts-not p qs k (unnamed-part (partName p) (memberListAt s at) qs h i) in
-        subst (λ (z : List RulePart). Todo d₀ o₀ (joinedBy 59 (map writePart (inOrder partNames qs))) d o (following b 59 (map writePart z))) x (t .left qs h);
+          let i : rowOf upperName (partName p) (memberListAt s at) ≡ none = f .is ∙ ap (λ (z : Bool). memberFound z s (r .name) (r .next)) y in
+          let x : inOrder (drop p partNames) qs ≡ inOrder (drop (p + 1) partNames) qs = parts-not p qs k (unnamed-part (partName p) (memberListAt s at) qs h i) in
+          subst (λ (z : List RulePart). Todo d₀ o₀ (joinedBy 59 (map writePart (inOrder partNames qs))) d o (following b 59 (map writePart z))) x (t .left qs h);
     }
 
   pub parts-end : 14 ≤ p → (qs : List RulePart) → readEach readPart (memberListAt s at) ≡ some qs → Put d₀ d o₀ o (joinedBy 59 (map writePart (inOrder partNames qs)))
