@@ -56,7 +56,7 @@ openingName true = NameOrEnd
 openingName false = Name
 
 module _ (limit : ℕ) (A : State → List Container → List ℕ → Type 0) (law : Onward limit A) where
-  step : (b : ℕ) (st st′ : State) (cs cs′ : List Container) → ((i : ℕ) (u : List ℕ) → check (b ∷ u) limit i st cs ≡ check u limit (i + 1) st′ cs′) → (s : List ℕ) → A st′ cs′ s → A st cs (b ∷ s)
+  pub step : (b : ℕ) (st st′ : State) (cs cs′ : List Container) → ((i : ℕ) (u : List ℕ) → check (b ∷ u) limit i st cs ≡ check u limit (i + 1) st′ cs′) → (s : List ℕ) → A st′ cs′ s → A st cs (b ∷ s)
   unfolding _⊕_
   step b st st′ cs cs′ f s h = law .chunk (b ∷ []) st st′ cs cs′ f s h
 
