@@ -2,28 +2,27 @@
 --     Naming        what is asked of N
 --     step-back     the law for all states
 use mathlib.Core.Path.{_≡_, refl, sym, ap, subst, _∙_}
-use mathlib.Core.Logic.{_⊎_, inl, inr}
+use mathlib.Core.Logic.{inl, inr}
 use mathlib.Core.Bool.{Bool, true, false, false≢true}
 use mathlib.Core.List.{List, [], _∷_}
-use mathlib.Core.Option.{Option, none, some}
-use Prim.Native.Nat.{ℕ, zero, suc, _+_, _-_, _*_, _/_, _%_, max, _≤_, _<_}
+use mathlib.Core.Option.{none, some}
+use Prim.Native.Nat.{ℕ, _+_, _-_, _/_, _%_, _≤_, _<_}
 use native.Mathlib.Omega.{arith}
 use native.Mathlib.Decide.{decLe}
-use lib.Dec.{eqb, ltb, leb}
+use lib.Dec.{eqb, ltb}
 use lib.ListN.{length}
-use borrow.Author.Tests.{eq-eqb, ne-eqb, lt-ltb, le-ltb, le-leb, leb-true, eqb-true, eqb-false, ltb-true, ltb-false}
+use borrow.Author.Tests.{le-leb, eqb-true, eqb-false, ltb-false}
 use Rattle.octets.specs.Ascii.{ascii}
-use Rattle.octets.specs.Pick.{pick, within, _and_, _or_}
-use Rattle.octets.specs.laws.Pick.{and-both, and-yes, or-cases, or-left, or-right, within-range, within-yes, eqb-passes, pick-case}
+use Rattle.octets.specs.Pick.{pick, within, _or_, _and_}
+use Rattle.octets.specs.laws.Pick.{and-yes, or-cases, or-left, or-right, within-range, within-yes, eqb-passes, pick-case}
 use Rattle.octets.specs.Append.{_⊕_}
-use Rattle.octets.specs.laws.Append.{append-empty, append-cons, append-none, append-regroup}
+use Rattle.octets.specs.laws.Append.{append-empty, append-cons, append-regroup}
 use Rattle.octets.specs.Class.{isSpace, isDigit}
 use Rattle.octets.specs.Scan.{allOf}
 use Rattle.octets.specs.laws.Scan.{all-split}
 use Rattle.json.specs.Bytes.{isE, isSign, word, namesGood, namesBad, hexValue, grown, isHigh, isLow, namedBad}
 use Rattle.json.specs.Check as check
-use Rattle.json.specs.Check.{Container, around, outer, move}
-use Rattle.json.specs.declared.Around.{Around}
+use Rattle.json.specs.Check.{Container, around, move}
 use Rattle.json.specs.declared.Expect.{Expect}
 use Rattle.json.specs.declared.Expect.the-variants.{Value, ValueOrEnd, Name, NameOrEnd, Colon, After}
 use Rattle.json.specs.declared.Number.{Number as NumberState}
@@ -33,11 +32,10 @@ use Rattle.json.specs.declared.Inside.the-variants.{Chars, Escape, Hex, High, H
 use Rattle.json.specs.declared.State.{State}
 use Rattle.json.specs.declared.State.the-variants.{Expects, InLiteral, InNumber, InString}
 use Rattle.json.specs.declared.Move.{Move}
-use Rattle.json.specs.declared.Move.the-variants.{To, OpenArray, OpenObject, Close, Bad}
 use Rattle.json_grammar.specs.Grammar as grammar
-use Rattle.json_grammar.specs.Grammar.{Byte, spelledBytes, optional, Ws, Structural, structural, falseName, nullName, trueName, Digits, spelledDigits, spelledSign, spelledExp, spelledFrac, isDigit1-9, zeroInt, digitsInt, spelledInt, isUnescaped, isEscaped, isHexdig, Char, unescaped, escaped, escapedUnit, spelledChar, spelledChars, literal, emptyObject, object, emptyArray, array, number, string, member, noMembers, andMember, Values, noValues, andValue, spelledValue, spelledMember, spelledMembers, spelledValues, depth, depthMember, depthMembers, depthValues, codeUnit, everyString, everyStringMember, everyStringMembers, everyStringValues}
+use Rattle.json_grammar.specs.Grammar.{Byte, spelledBytes, optional, Ws, Structural, structural, falseName, nullName, trueName, spelledDigits, spelledSign, spelledExp, spelledFrac, isDigit1-9, zeroInt, digitsInt, spelledInt, isUnescaped, isEscaped, isHexdig, Char, unescaped, escaped, escapedUnit, spelledChar, spelledChars, literal, emptyObject, object, emptyArray, array, number, string, member, noMembers, andMember, Values, noValues, andValue, spelledValue, spelledMember, spelledMembers, spelledValues, depth, depthMember, depthMembers, depthValues, codeUnit, everyString, everyStringMember, everyStringMembers, everyStringValues}
 use Rattle.json_grammar.specs.laws.Steps.{hexdig-value, unit-grown}
-use Rattle.json_grammar.specs.laws.Rest.{Then, spelledWs, spelledDigit, Empty, Fit, isLetters, worth, namesOf, FitValue, FitMember, FitMembers, FitValues, ThenValue, ThenMember, Rest, Valued, Membered, Coloned, Between, Lettered, Exponent, Fraction, Numbered, FitChars, Charred, Digited, Stringed, Behind, Completes, Back}
+use Rattle.json_grammar.specs.laws.Rest.{Then, spelledWs, spelledDigit, isLetters, worth, namesOf, Rest, Valued, Membered, Coloned, Between, Lettered, Exponent, Fraction, Numbered, Charred, Digited, Stringed, Behind, Completes, Back}
 
 pub record Naming (N : List Char → Bool → Bool) : Type 0 where
   pub nothing : N [] false ≡ true

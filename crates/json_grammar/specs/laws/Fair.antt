@@ -1,11 +1,11 @@
 -- A text of the grammar is accepted, or its fault is at an escape.
 --     Fair             from a state on no fault is found, or one at a byte with which a text can go on
 --     grammar-fair     so it is with each text of the grammar
-use mathlib.Core.Path.{_≡_, refl, sym, ap, subst, _∙_}
+use mathlib.Core.Path.{_≡_, refl, sym, ap, _∙_}
 use mathlib.Core.Logic.{_⊎_, inl, inr}
 use mathlib.Core.Bool.{Bool, true, false}
 use mathlib.Core.List.{List, [], _∷_}
-use Prim.Native.Nat.{ℕ, suc, _+_, _≤_, _<_}
+use Prim.Native.Nat.{ℕ, suc, _+_, _<_}
 use native.Mathlib.Omega.{arith}
 use lib.Dec.{eqb}
 use lib.ListN.{length, take}
@@ -13,14 +13,13 @@ use borrow.Author.Tests.{eqb-true}
 use Rattle.octets.specs.Pick.{pick, _and_, _or_}
 use Rattle.octets.specs.laws.Pick.{or-cases, eqb-apart}
 use Rattle.octets.specs.Append.{_⊕_}
-use Rattle.octets.specs.laws.Append.{append-empty, append-cons, append-regroup, length-both}
+use Rattle.octets.specs.laws.Append.{append-cons, append-regroup, length-both}
 use Rattle.json.specs.Bytes.{namesBad, isHigh, isLow, namedBad}
-use Rattle.json.specs.Check.{Container, check, followed, named, lowPair, verdict}
+use Rattle.json.specs.Check.{Container, check, followed, verdict}
 use Rattle.json.specs.declared.Expect.the-variants.{Value}
-use Rattle.json.specs.declared.Inside.the-variants.{Chars, Escape, Hex, High}
+use Rattle.json.specs.declared.Inside.the-variants.{Chars, Escape, High}
 use Rattle.json.specs.declared.State.{State}
 use Rattle.json.specs.declared.State.the-variants.{Expects, InString}
-use Rattle.json.specs.declared.Checked.{Checked}
 use Rattle.json.specs.declared.Checked.the-variants.{Fine, At}
 use Rattle.json_grammar.specs.Grammar as grammar
 use Rattle.json_grammar.specs.Grammar.{Byte, isUnescaped, isEscaped, isHexdig, Char, unescaped, escaped, escapedUnit, spelledChars, literal, emptyObject, object, emptyArray, array, number, string, Member, member, Members, noMembers, andMember, Values, noValues, andValue, codeUnit, everyString, everyStringMember, everyStringMembers, everyStringValues, GrammarText}

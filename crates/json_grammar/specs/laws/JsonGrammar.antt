@@ -1,12 +1,12 @@
 -- The check accepts exactly the texts of the grammar (RFC 8259) that are not too deep and whose strings name only what they may.
 --     json-grammar     the law
 --     completes        what the check accepts from a state on completes a text there
-use mathlib.Core.Path.{_≡_, refl, sym, ap, _∙_}
-use mathlib.Core.Logic.{_↔_, inl, inr}
-use mathlib.Core.Bool.{Bool, true, false, not}
+use mathlib.Core.Path.{_≡_, refl, ap, _∙_}
+use mathlib.Core.Logic.{_↔_}
+use mathlib.Core.Bool.{Bool, true, false}
 use mathlib.Core.List.{List, [], _∷_}
 use mathlib.Core.Option.{none}
-use Prim.Native.Nat.{ℕ, _+_, _-_, _≤_, _<_}
+use Prim.Native.Nat.{ℕ, _+_}
 use native.Mathlib.Omega.{arith}
 use lib.Dec.{ltb}
 use lib.ListN.{length}
@@ -27,7 +27,7 @@ use Rattle.json.specs.declared.State.the-variants.{Expects, InLiteral, InNumber
 use Rattle.json.specs.declared.Move.{Move}
 use Rattle.json.specs.declared.Move.the-variants.{To, OpenArray, OpenObject, Close, Bad}
 use Rattle.json.specs.declared.Checked.the-variants.{Fine, At}
-use Rattle.json_grammar.specs.Grammar.{spelledBytes, optional, Char, spelledValue, spelledText, mayName, JsonText}
+use Rattle.json_grammar.specs.Grammar.{spelledBytes, optional, Char, spelledValue, mayName, JsonText}
 use Rattle.json_grammar.specs.laws.Steps.{fault-not-fine}
 use Rattle.json_grammar.specs.laws.Accepted.{text-accepted}
 use Rattle.json_grammar.specs.laws.Rest.{Rest, Between, Numbered, Valued, Completes, Back}
