@@ -55,9 +55,6 @@ join a b u e f = e ∙ ap (λ (l : List ℕ). a ⊕ l) f ∙ sym (append-regroup
 joined-cons : (x : ℕ) (a u : List ℕ) {s : List ℕ} → s ≡ a ⊕ u → x ∷ s ≡ (x ∷ a) ⊕ u
 joined-cons x a u e = ap (λ (l : List ℕ). x ∷ l) e ∙ sym (append-cons x a u)
 
-one-more : (p : ℕ → Bool) (b : ℕ) → p b ≡ true → List (Byte p) → List (Byte p)
-one-more p b e bs = record { byte = b; passes = e } ∷ bs
-
 -- white space before a structural character
 abbrev spaced : (b : ℕ) → isSpace b ≡ true → Structural → Structural
 spaced b e m = record { before = record { byte = b; passes = e } ∷ m .before; behind = m .behind }
@@ -455,12 +452,12 @@ module _ (limit : ℕ) (N : List Char → Bool → Bool) where
 
   module _ (law : Naming N) {R : List ℕ → Type 0} where
     -- the quotation mark at the end
-    pub no-chars : (s : List ℕ) → R s → Charred limit N false R (34 ∷ s)
+    no-chars : (s : List ℕ) → R s → Charred limit N false R (34 ∷ s)
     unfolding spelledChars _⊕_
     no-chars s t = record { it = record { chars = []; named = law .nothing }; rest = s; is = refl; on = t }
 
     module _ (s : List ℕ) where
-      pub plain-char : (b : Byte isUnescaped) → Charred limit N false R s → Charred limit N false R (b .byte ∷ s)
+      plain-char : (b : Byte isUnescaped) → Charred limit N false R s → Charred limit N false R (b .byte ∷ s)
       plain-char b t = record {
         it = record { chars = unescaped b ∷ t .it .chars; named = law .plain b (t .it .chars) (t .it .named) };
         rest = t .rest;
@@ -580,7 +577,7 @@ module _ (limit : ℕ) (N : List Char → Bool → Bool) where
         (λ z h. rw (eqb-true k 0 z) (last-low law cs n (record { byte = b; passes = hexdig-is b e }) s from v h))
         (λ z h. more-hex true k v (record { byte = b; passes = hexdig-is b e }) s z h))
 
-    pub digits-begin : (high : Bool) → Digited limit N high 3 0 (λ x. Behind limit N n cs x) s → Charred limit N high (λ x. Behind limit N n cs x) (92 ∷ 117 ∷ s)
+    digits-begin : (high : Bool) → Digited limit N high 3 0 (λ x. Behind limit N n cs x) s → Charred limit N high (λ x. Behind limit N n cs x) (92 ∷ 117 ∷ s)
     unfolding spelledBytes _⊕_
     digits-begin high f = f [] refl refl
 

@@ -11,18 +11,17 @@ use native.Mathlib.Omega.{arith}
 use native.Mathlib.Decide.{decLe}
 use lib.ListN.{length, take, drop}
 use Rattle.octets.specs.Append.{_⊕_}
-use Rattle.octets.specs.laws.Append.{append-none}
 use Rattle.json.specs.Check.{Container, verdict}
 use Rattle.json.specs.declared.Expect.the-variants.{Value}
 use Rattle.json.specs.declared.State.{State}
 use Rattle.json.specs.declared.State.the-variants.{Expects}
 use Rattle.json.specs.declared.Checked.the-variants.{Fine, At}
-use Rattle.json_grammar.specs.Grammar.{spelledBytes, spelledValue, mayName, GrammarText}
+use Rattle.json_grammar.specs.Grammar.{mayName, GrammarText}
 use Rattle.json_grammar.specs.Faults.{InDigits, Stops, byByte, byEscape, byEnd}
 use Rattle.json_grammar.specs.laws.Steps.{fault-not-fine}
 use Rattle.json_grammar.specs.laws.Accepted.{text-accepted}
 use Rattle.json_grammar.specs.laws.Rest.{Valued}
-use Rattle.json_grammar.specs.laws.JsonGrammar.{naming-well, completes, text-found}
+use Rattle.json_grammar.specs.laws.JsonGrammar.{naming-well, completes, textOf, text-is, text-found}
 use Rattle.json_grammar.specs.laws.Ready.{Ready, ready-plain, anything, naming-any, ready}
 use Rattle.json_grammar.specs.laws.Outcome.{Never, Outcome, here, begun, cut, digits, GoesBy, at-same, faulty}
 use Rattle.json_grammar.specs.laws.Told.{Told, Escape, told-by}
@@ -32,11 +31,7 @@ use Rattle.json_grammar.specs.laws.Fair.{Later, grammar-fair}
 -- ---- by the grammar
 
 grammar-found : (most : ℕ) (s : List ℕ) → Valued most anything [] s → GrammarText most s
-grammar-found most s t = record {
-  text = record { before = t .it; value = t .on .it .part; behind = t .on .on .it };
-  is = t .is ∙ ap (λ (l : List ℕ). spelledBytes (t .it) ⊕ l) (t .on .is ∙ ap (λ (l : List ℕ). spelledValue (t .on .it .part) ⊕ l) (t .on .on .is ∙ ap (λ (l : List ℕ). spelledBytes (t .on .on .it) ⊕ l) (t .on .on .on) ∙ append-none _));
-  deep = omega (arith, t .on .it .fits);
-}
+grammar-found most s t = record { text = textOf most anything s t; is = text-is most anything s t; deep = omega (arith, t .on .it .fits) }
 
 -- Where a fault is told at k, the first k bytes of the text begin a JSON-text of RFC 8259, with at most `most` arrays and objects open at once.
 -- Of a text that is cut short these are all its bytes.

@@ -3,7 +3,7 @@
 --     Rest cs s              s completes a text behind a value, inside the open arrays and objects cs
 --     Completes st cs s      s completes a text from the state st on
 --     Back m cs s            the same from what a move leads to
--- In strings counts what N says of their characters: `mayName`, or nothing (laws/Grammatical).
+-- In strings counts what N says of their characters: `mayName`, or nothing (`anything` of laws/Ready).
 use mathlib.Core.Path.{_≡_}
 use mathlib.Core.Logic.{_⊎_}
 use mathlib.Core.Bool.{Bool, true, false}
