@@ -1,15 +1,13 @@
 -- By computation: a derivation and its spelling; what escapes may name; places of faults at which the bytes before can't all go on.
 use mathlib.Core.Path.{_≡_, refl}
-use mathlib.Core.Bool.{Bool, true, false}
-use mathlib.Core.List.{List, [], _∷_, map}
-use mathlib.Core.Option.{Option, none, some}
-use Prim.Native.Nat.{ℕ}
+use mathlib.Core.Bool.{true, false}
+use mathlib.Core.List.{[], _∷_, map}
+use mathlib.Core.Option.{some}
 use Prim.Native.String.{String}
 use Rattle.octets.specs.Ascii.{ascii}
 use Rattle.json.specs.Check.{verdict}
-use Rattle.json.specs.declared.Checked.{Checked}
 use Rattle.json.specs.declared.Checked.the-variants.{Fine, At}
-use Rattle.json_grammar.specs.Grammar.{Byte, Ws, Structural, nullName, Digits, digitsInt, Char, unescaped, escaped, escapedUnit, literal, emptyArray, object, array, number, string, member, noMembers, noValues, andValue, Text, spelledText, depth, mayName, everyString, isHexdig}
+use Rattle.json_grammar.specs.Grammar.{Structural, nullName, digitsInt, unescaped, escaped, literal, emptyArray, object, array, number, member, noMembers, noValues, andValue, Text, spelledText, depth, mayName, everyString}
 use Rattle.json_grammar.specs.Computing.{grammar-compute}
 
 -- ` [-12.5e+3 ,{"a\n":null},[]]`

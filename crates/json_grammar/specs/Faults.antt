@@ -9,7 +9,7 @@ use Rattle.octets.specs.Append.{_⊕_}
 use Rattle.json.specs.Bytes.{escape, letterU}
 use Rattle.json.specs.Check.{verdict}
 use Rattle.json.specs.declared.Checked.the-variants.{Fine, At}
-use Rattle.json_grammar.specs.Grammar.{Byte, spelledBytes, isHexdig}
+use Rattle.json_grammar.specs.Grammar.{Byte, spelledBytes, isHexdig, GrammarText}
 
 pub record InDigits (most : ℕ) (s : List ℕ) (k : ℕ) : Type 0 where
   -- the escape, and its digits before k
@@ -23,8 +23,8 @@ pub record InDigits (most : ℕ) (s : List ℕ) (k : ℕ) : Type 0 where
   pub never : (t : List ℕ) → verdict most (take k s ⊕ t) ≡ Fine → ⊥
 
 pub data Stops (most : ℕ) (s : List ℕ) (k : ℕ) : Type 0 where
-  -- the byte at k: whatever follows it, the fault is the same
-  byByte : k < length s → ((t : List ℕ) → verdict most (take (k + 1) s ⊕ t) ≡ At k) → Stops most s k
+  -- the byte at k: whatever follows it, the fault is the same, and the text is none of the grammar
+  byByte : k < length s → ((t : List ℕ) → verdict most (take (k + 1) s ⊕ t) ≡ At k) → ((t : List ℕ) → GrammarText most (take (k + 1) s ⊕ t) → ⊥) → Stops most s k
   -- a reverse solidus stands at k, and can stand there; the byte at j behind it, or the end of the text, shows that the escape names what it may not
   byEscape : take 1 (drop k s) ≡ escape ∷ [] → (t : List ℕ) × (verdict most (take (k + 1) s ⊕ t) ≡ Fine) →
       (j : ℕ) → k < j → j ≤ length s → (j < length s → (t : List ℕ) → verdict most (take (j + 1) s ⊕ t) ≡ At k) → Stops most s k

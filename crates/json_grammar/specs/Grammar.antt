@@ -235,7 +235,7 @@ unfoldable mutual
   depthValues noValues = 0
   depthValues (andValue c v vs) = max (depth v) (depthValues vs)
 
--- ---- beside the grammar: what escapes may name (section 8.2 leaves lone surrogates open; refusal CHARACTER has the rest)
+-- ---- beside the grammar: what escapes may name (section 8.2 leaves the meaning of lone surrogates open; refusal CHARACTER has the rest)
 
 -- the code unit that four digits state
 abbrev pub codeUnit : ℕ → ℕ → ℕ → ℕ → ℕ

@@ -9,6 +9,7 @@
 --     Outcome       where a fault is told
 --     Told          by which byte a fault is told
 --     Digits        among the digits of an escape: they can go on, or never can
+--     Fair          a text of the grammar is accepted, or its fault is at an escape
 --     Places        the place of a fault is the first byte at which no text can go on
 pub mod Steps
 pub mod Onward
@@ -20,4 +21,5 @@ pub mod Ready
 pub mod Outcome
 pub mod Told
 pub mod Digits
+pub mod Fair
 pub mod Places

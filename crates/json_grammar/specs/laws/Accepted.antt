@@ -1,7 +1,7 @@
 -- A text of the grammar whose strings name only what they may is accepted.
 --     Accepts          the check of s, in a state and inside what is open, finds no fault, wherever s stands
 --     text-accepted    a text is accepted
-use mathlib.Core.Path.{_≡_, refl, sym, ap, _∙_}
+use mathlib.Core.Path.{_≡_, refl, _∙_}
 use mathlib.Core.Bool.{Bool, true, false, not, false≢true}
 use mathlib.Core.List.{List, [], _∷_}
 use Prim.Native.Nat.{ℕ, _+_}

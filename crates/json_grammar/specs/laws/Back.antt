@@ -2,28 +2,27 @@
 --     Naming        what is asked of N
 --     step-back     the law for all states
 use mathlib.Core.Path.{_≡_, refl, sym, ap, subst, _∙_}
-use mathlib.Core.Logic.{_⊎_, inl, inr}
+use mathlib.Core.Logic.{inl, inr}
 use mathlib.Core.Bool.{Bool, true, false, false≢true}
 use mathlib.Core.List.{List, [], _∷_}
-use mathlib.Core.Option.{Option, none, some}
-use Prim.Native.Nat.{ℕ, zero, suc, _+_, _-_, _*_, _/_, _%_, max, _≤_, _<_}
+use mathlib.Core.Option.{none, some}
+use Prim.Native.Nat.{ℕ, _+_, _-_, _/_, _%_, _≤_, _<_}
 use native.Mathlib.Omega.{arith}
 use native.Mathlib.Decide.{decLe}
-use lib.Dec.{eqb, ltb, leb}
+use lib.Dec.{eqb, ltb}
 use lib.ListN.{length}
-use borrow.Author.Tests.{eq-eqb, ne-eqb, lt-ltb, le-ltb, le-leb, leb-true, eqb-true, eqb-false, ltb-true, ltb-false}
+use borrow.Author.Tests.{le-leb, eqb-true, eqb-false, ltb-false}
 use Rattle.octets.specs.Ascii.{ascii}
-use Rattle.octets.specs.Pick.{pick, within, _and_, _or_}
-use Rattle.octets.specs.laws.Pick.{and-both, and-yes, or-cases, or-left, or-right, within-range, within-yes, eqb-passes, pick-case}
+use Rattle.octets.specs.Pick.{pick, within, _or_, _and_}
+use Rattle.octets.specs.laws.Pick.{and-yes, or-cases, or-left, or-right, within-range, within-yes, eqb-passes, pick-case}
 use Rattle.octets.specs.Append.{_⊕_}
-use Rattle.octets.specs.laws.Append.{append-empty, append-cons, append-none, append-regroup}
+use Rattle.octets.specs.laws.Append.{append-empty, append-cons, append-regroup}
 use Rattle.octets.specs.Class.{isSpace, isDigit}
 use Rattle.octets.specs.Scan.{allOf}
 use Rattle.octets.specs.laws.Scan.{all-split}
 use Rattle.json.specs.Bytes.{isE, isSign, word, namesGood, namesBad, hexValue, grown, isHigh, isLow, namedBad}
 use Rattle.json.specs.Check as check
-use Rattle.json.specs.Check.{Container, around, outer, move}
-use Rattle.json.specs.declared.Around.{Around}
+use Rattle.json.specs.Check.{Container, around, move}
 use Rattle.json.specs.declared.Expect.{Expect}
 use Rattle.json.specs.declared.Expect.the-variants.{Value, ValueOrEnd, Name, NameOrEnd, Colon, After}
 use Rattle.json.specs.declared.Number.{Number as NumberState}
@@ -33,11 +32,10 @@ use Rattle.json.specs.declared.Inside.the-variants.{Chars, Escape, Hex, High, H
 use Rattle.json.specs.declared.State.{State}
 use Rattle.json.specs.declared.State.the-variants.{Expects, InLiteral, InNumber, InString}
 use Rattle.json.specs.declared.Move.{Move}
-use Rattle.json.specs.declared.Move.the-variants.{To, OpenArray, OpenObject, Close, Bad}
 use Rattle.json_grammar.specs.Grammar as grammar
-use Rattle.json_grammar.specs.Grammar.{Byte, spelledBytes, optional, Ws, Structural, structural, falseName, nullName, trueName, Digits, spelledDigits, spelledSign, spelledExp, spelledFrac, isDigit1-9, zeroInt, digitsInt, spelledInt, isUnescaped, isEscaped, isHexdig, Char, unescaped, escaped, escapedUnit, spelledChar, spelledChars, literal, emptyObject, object, emptyArray, array, number, string, member, noMembers, andMember, Values, noValues, andValue, spelledValue, spelledMember, spelledMembers, spelledValues, depth, depthMember, depthMembers, depthValues, codeUnit, everyString, everyStringMember, everyStringMembers, everyStringValues}
+use Rattle.json_grammar.specs.Grammar.{Byte, spelledBytes, optional, Ws, Structural, structural, falseName, nullName, trueName, spelledDigits, spelledSign, spelledExp, spelledFrac, isDigit1-9, zeroInt, digitsInt, spelledInt, isUnescaped, isEscaped, isHexdig, Char, unescaped, escaped, escapedUnit, spelledChar, spelledChars, literal, emptyObject, object, emptyArray, array, number, string, member, noMembers, andMember, Values, noValues, andValue, spelledValue, spelledMember, spelledMembers, spelledValues, depth, depthMember, depthMembers, depthValues, codeUnit, everyString, everyStringMember, everyStringMembers, everyStringValues}
 use Rattle.json_grammar.specs.laws.Steps.{hexdig-value, unit-grown}
-use Rattle.json_grammar.specs.laws.Rest.{Then, spelledWs, spelledDigit, Empty, Fit, isLetters, worth, namesOf, FitValue, FitMember, FitMembers, FitValues, ThenValue, ThenMember, Rest, Valued, Membered, Coloned, Between, Lettered, Exponent, Fraction, Numbered, FitChars, Charred, Digited, Stringed, Behind, Completes, Back}
+use Rattle.json_grammar.specs.laws.Rest.{Then, spelledWs, spelledDigit, isLetters, worth, namesOf, Rest, Valued, Membered, Coloned, Between, Lettered, Exponent, Fraction, Numbered, Charred, Digited, Stringed, Behind, Completes, Back}
 
 pub record Naming (N : List Char → Bool → Bool) : Type 0 where
   pub nothing : N [] false ≡ true
@@ -56,9 +54,6 @@ join a b u e f = e ∙ ap (λ (l : List ℕ). a ⊕ l) f ∙ sym (append-regroup
 -- behind one byte
 joined-cons : (x : ℕ) (a u : List ℕ) {s : List ℕ} → s ≡ a ⊕ u → x ∷ s ≡ (x ∷ a) ⊕ u
 joined-cons x a u e = ap (λ (l : List ℕ). x ∷ l) e ∙ sym (append-cons x a u)
-
-one-more : (p : ℕ → Bool) (b : ℕ) → p b ≡ true → List (Byte p) → List (Byte p)
-one-more p b e bs = record { byte = b; passes = e } ∷ bs
 
 -- white space before a structural character
 abbrev spaced : (b : ℕ) → isSpace b ≡ true → Structural → Structural
@@ -457,12 +452,12 @@ module _ (limit : ℕ) (N : List Char → Bool → Bool) where
 
   module _ (law : Naming N) {R : List ℕ → Type 0} where
     -- the quotation mark at the end
-    pub no-chars : (s : List ℕ) → R s → Charred limit N false R (34 ∷ s)
+    no-chars : (s : List ℕ) → R s → Charred limit N false R (34 ∷ s)
     unfolding spelledChars _⊕_
     no-chars s t = record { it = record { chars = []; named = law .nothing }; rest = s; is = refl; on = t }
 
     module _ (s : List ℕ) where
-      pub plain-char : (b : Byte isUnescaped) → Charred limit N false R s → Charred limit N false R (b .byte ∷ s)
+      plain-char : (b : Byte isUnescaped) → Charred limit N false R s → Charred limit N false R (b .byte ∷ s)
       plain-char b t = record {
         it = record { chars = unescaped b ∷ t .it .chars; named = law .plain b (t .it .chars) (t .it .named) };
         rest = t .rest;
@@ -582,7 +577,7 @@ module _ (limit : ℕ) (N : List Char → Bool → Bool) where
         (λ z h. rw (eqb-true k 0 z) (last-low law cs n (record { byte = b; passes = hexdig-is b e }) s from v h))
         (λ z h. more-hex true k v (record { byte = b; passes = hexdig-is b e }) s z h))
 
-    pub digits-begin : (high : Bool) → Digited limit N high 3 0 (λ x. Behind limit N n cs x) s → Charred limit N high (λ x. Behind limit N n cs x) (92 ∷ 117 ∷ s)
+    digits-begin : (high : Bool) → Digited limit N high 3 0 (λ x. Behind limit N n cs x) s → Charred limit N high (λ x. Behind limit N n cs x) (92 ∷ 117 ∷ s)
     unfolding spelledBytes _⊕_
     digits-begin high f = f [] refl refl
 

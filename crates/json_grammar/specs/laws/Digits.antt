@@ -1,24 +1,21 @@
 -- Among the digits of an escape: they can go on to name what they may, or never can.
 --     hexes     one of the two, for each state
-use mathlib.Core.Path.{_≡_, refl, sym, ap, subst, _∙_}
+use mathlib.Core.Path.{_≡_, refl, sym, _∙_}
 use mathlib.Core.Logic.{_⊎_, inl, inr}
-use mathlib.Core.Bool.{Bool, true, false, false≢true}
+use mathlib.Core.Bool.{Bool, true, false}
 use mathlib.Core.List.{List, [], _∷_}
-use Prim.Native.Nat.{ℕ, zero, suc, _+_, _-_, _*_, _%_, _≤_, _<_}
+use Prim.Native.Nat.{ℕ, zero, suc, _+_, _-_, _%_, _≤_, _<_}
 use native.Mathlib.Omega.{arith}
-use lib.Dec.{eqb, ltb, leb}
-use borrow.Author.Tests.{eq-eqb, ne-eqb, le-leb, lt-leb, eqb-true, eqb-false}
+use lib.Dec.{eqb}
+use borrow.Author.Tests.{le-leb, lt-leb, eqb-true}
 use Rattle.octets.specs.Pick.{pick, within, _and_, _or_}
-use Rattle.octets.specs.laws.Pick.{or-cases, or-left, or-right, within-range, within-yes, and-no-left, and-no-right, pick-case}
-use Rattle.octets.specs.Append.{_⊕_}
+use Rattle.octets.specs.laws.Pick.{or-cases, or-left, or-right, within-range, within-yes, and-no-left, and-no-right}
 use Rattle.octets.specs.laws.Append.{append-empty}
 use Rattle.json.specs.Bytes.{hexValue, grown, isHigh, isLow, namedBad}
-use Rattle.json.specs.Check as check
-use Rattle.json.specs.Check.{Container, check, followed, named, hex}
+use Rattle.json.specs.Check.{Container, check, followed, named}
 use Rattle.json.specs.declared.Inside.the-variants.{Chars, Escape, Hex, High, HighEscape, Low}
 use Rattle.json.specs.declared.State.{State}
 use Rattle.json.specs.declared.State.the-variants.{Expects, InLiteral, InNumber, InString}
-use Rattle.json.specs.declared.Move.{Move}
 use Rattle.json.specs.declared.Checked.the-variants.{Fine, At}
 use Rattle.json_grammar.specs.Grammar.{isHexdig}
 use Rattle.json_grammar.specs.laws.Steps.{fault-not-fine, hexdig-value, hex-step, hex-last}

@@ -1,12 +1,12 @@
 -- The check accepts exactly the texts of the grammar (RFC 8259) that are not too deep and whose strings name only what they may.
 --     json-grammar     the law
 --     completes        what the check accepts from a state on completes a text there
-use mathlib.Core.Path.{_≡_, refl, sym, ap, _∙_}
-use mathlib.Core.Logic.{_↔_, inl, inr}
-use mathlib.Core.Bool.{Bool, true, false, not}
+use mathlib.Core.Path.{_≡_, refl, ap, _∙_}
+use mathlib.Core.Logic.{_↔_}
+use mathlib.Core.Bool.{Bool, true, false}
 use mathlib.Core.List.{List, [], _∷_}
 use mathlib.Core.Option.{none}
-use Prim.Native.Nat.{ℕ, _+_, _-_, _≤_, _<_}
+use Prim.Native.Nat.{ℕ, _+_}
 use native.Mathlib.Omega.{arith}
 use lib.Dec.{ltb}
 use lib.ListN.{length}
@@ -27,7 +27,7 @@ use Rattle.json.specs.declared.State.the-variants.{Expects, InLiteral, InNumber
 use Rattle.json.specs.declared.Move.{Move}
 use Rattle.json.specs.declared.Move.the-variants.{To, OpenArray, OpenObject, Close, Bad}
 use Rattle.json.specs.declared.Checked.the-variants.{Fine, At}
-use Rattle.json_grammar.specs.Grammar.{spelledBytes, optional, Char, spelledValue, spelledText, mayName, JsonText}
+use Rattle.json_grammar.specs.Grammar.{spelledBytes, optional, Char, spelledValue, Text, spelledText, mayName, JsonText}
 use Rattle.json_grammar.specs.laws.Steps.{fault-not-fine}
 use Rattle.json_grammar.specs.laws.Accepted.{text-accepted}
 use Rattle.json_grammar.specs.laws.Rest.{Rest, Between, Numbered, Valued, Completes, Back}
@@ -108,13 +108,18 @@ module _ (limit : ℕ) (N : List Char → Bool → Bool) where
   completes law [] i st cs h = end-back st cs i h
   completes law (b ∷ s) i st cs h = step-back limit N law st cs i b s (followed-back (move st (around cs) i b) i cs s (λ st ds k. completes law s (i + 1) st ds k) h)
 
+-- what completes a text from its beginning on is the spelling of one
+module _ (most : ℕ) (N : List Char → Bool → Bool) (s : List ℕ) (t : Valued most N [] s) where
+  abbrev pub textOf : Text
+  textOf = record { before = t .it; value = t .on .it .part; behind = t .on .on .it }
+
+  pub text-is : s ≡ spelledText textOf
+  text-is =
+      t .is ∙ ap (λ (l : List ℕ). spelledBytes (t .it) ⊕ l) (t .on .is ∙ ap (λ (l : List ℕ). spelledValue (t .on .it .part) ⊕ l)
+      (t .on .on .is ∙ ap (λ (l : List ℕ). spelledBytes (t .on .on .it) ⊕ l) (t .on .on .on) ∙ append-none _))
+
 pub text-found : (most : ℕ) (s : List ℕ) → Valued most mayName [] s → JsonText most s
-text-found most s t = record {
-  text = record { before = t .it; value = t .on .it .part; behind = t .on .on .it };
-  is = t .is ∙ ap (λ (l : List ℕ). spelledBytes (t .it) ⊕ l) (t .on .is ∙ ap (λ (l : List ℕ). spelledValue (t .on .it .part) ⊕ l) (t .on .on .is ∙ ap (λ (l : List ℕ). spelledBytes (t .on .on .it) ⊕ l) (t .on .on .on) ∙ append-none _));
-  deep = omega (arith, t .on .it .fits);
-  names = t .on .it .names;
-}
+text-found most s t = record { text = textOf most mayName s t; is = text-is most mayName s t; deep = omega (arith, t .on .it .fits); names = t .on .it .names }
 
 -- A text is accepted, with at most `most` arrays and objects open at once, exactly when it is the spelling of a JSON-text of RFC 8259
 -- that is no deeper and whose strings name only what they may.

@@ -3,11 +3,11 @@
 --     Strings     that it holds over the characters of a string that are good
 --     value-on    then it holds from where a value must come on, if it holds behind the value
 --     text-on     and of a whole text
-use mathlib.Core.Path.{_≡_, refl, sym, ap, _∙_}
+use mathlib.Core.Path.{_≡_, refl, ap, _∙_}
 use mathlib.Core.Bool.{Bool, true, false}
 use mathlib.Core.List.{List, [], _∷_}
 use mathlib.Core.Option.{Option, none, some}
-use Prim.Native.Nat.{ℕ, _+_, _≤_, _<_}
+use Prim.Native.Nat.{ℕ, _+_, _≤_}
 use native.Mathlib.Omega.{arith}
 use lib.Dec.{eqb}
 use lib.ListN.{length}
@@ -26,7 +26,7 @@ use Rattle.json.specs.declared.Number.{Number as NumberState}
 use Rattle.json.specs.declared.Number.the-variants.{Minus, Zero, Int, Point, Frac, E, Sign, Exp}
 use Rattle.json.specs.declared.Inside.the-variants.{Chars}
 use Rattle.json.specs.declared.State.{State}
-use Rattle.json.specs.declared.State.the-variants.{Expects, InLiteral, InNumber, InString}
+use Rattle.json.specs.declared.State.the-variants.{Expects, InNumber, InString}
 use Rattle.json.specs.declared.Checked.the-variants.{Fine}
 use Rattle.json_grammar.specs.Grammar as grammar
 use Rattle.json_grammar.specs.Grammar.{Byte, spelledBytes, optional, Ws, Structural, structural, Literal, falseName, nullName, trueName, spelledLiteral, Digits, spelledDigits, spelledSign, spelledExp, spelledFrac, isDigit1-9, zeroInt, digitsInt, spelledInt, spelledNumber, Char, spelledChars, spelledString, literal, emptyObject, object, emptyArray, array, number, string, Member, member, Members, noMembers, andMember, Values, noValues, andValue, spelledValue, spelledMember, spelledMembers, spelledValues, Text, spelledText, depth, depthMember, depthMembers, depthValues, everyString, everyStringMember, everyStringMembers, everyStringValues}
@@ -56,7 +56,7 @@ openingName true = NameOrEnd
 openingName false = Name
 
 module _ (limit : ℕ) (A : State → List Container → List ℕ → Type 0) (law : Onward limit A) where
-  step : (b : ℕ) (st st′ : State) (cs cs′ : List Container) → ((i : ℕ) (u : List ℕ) → check (b ∷ u) limit i st cs ≡ check u limit (i + 1) st′ cs′) → (s : List ℕ) → A st′ cs′ s → A st cs (b ∷ s)
+  pub step : (b : ℕ) (st st′ : State) (cs cs′ : List Container) → ((i : ℕ) (u : List ℕ) → check (b ∷ u) limit i st cs ≡ check u limit (i + 1) st′ cs′) → (s : List ℕ) → A st′ cs′ s → A st cs (b ∷ s)
   unfolding _⊕_
   step b st st′ cs cs′ f s h = law .chunk (b ∷ []) st st′ cs cs′ f s h
 

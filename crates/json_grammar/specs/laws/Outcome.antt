@@ -5,12 +5,12 @@ use mathlib.Core.Path.{_≡_, refl, sym, ap, subst, _∙_}
 use mathlib.Core.Logic.{_⊎_, inl, inr}
 use mathlib.Core.Bool.{Bool, true, false, false≢true}
 use mathlib.Core.List.{List, [], _∷_}
-use Prim.Native.Nat.{ℕ, zero, suc, _+_, _-_, _/_, _%_, _≤_}
+use Prim.Native.Nat.{ℕ, suc, _+_, _-_, _/_, _%_, _≤_}
 use native.Mathlib.Omega.{arith}
 use lib.Dec.{eqb, ltb}
 use lib.ListN.{length, take, drop}
 use borrow.Author.Tests.{eqb-true, eqb-false, ltb-true}
-use Rattle.octets.specs.Pick.{pick, _or_}
+use Rattle.octets.specs.Pick.{pick}
 use Rattle.octets.specs.laws.Pick.{pick-case, pick-either}
 use Rattle.octets.specs.Append.{_⊕_}
 use Rattle.octets.specs.laws.Append.{append-empty, append-cons}
@@ -35,7 +35,7 @@ use Rattle.json.specs.declared.Checked.the-variants.{Fine, At}
 use Rattle.json_grammar.specs.Grammar.{Byte, spelledBytes, isHexdig, Char}
 use Rattle.json_grammar.specs.laws.Rest.{Completes, Back}
 use Rattle.json_grammar.specs.laws.Back.{Naming, hexdig-is, step-back}
-use Rattle.json_grammar.specs.laws.Ready.{PlainInside, Plain}
+use Rattle.json_grammar.specs.laws.Ready.{Plain}
 
 -- the state stands in the escape that began at k
 abbrev pub BeganInside : Inside → ℕ → Type 0

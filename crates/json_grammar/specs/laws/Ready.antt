@@ -3,14 +3,13 @@
 --     ready-plain       from such a state some bytes are accepted
 --     naming-any        strings that may name anything
 --     ready             from every state some bytes complete a text of the grammar
-use mathlib.Core.Path.{_≡_, refl, sym, ap, _∙_}
+use mathlib.Core.Path.{_≡_, refl, sym}
 use mathlib.Core.Bool.{Bool, true, false}
 use mathlib.Core.List.{List, [], _∷_}
 use Prim.Native.Nat.{ℕ, zero, suc, _+_, _-_, _/_, _%_, _≤_}
 use native.Mathlib.Omega.{arith}
 use lib.Dec.{eqb}
-use lib.ListN.{length}
-use borrow.Author.Tests.{eq-eqb, ne-eqb, eqb-true, eqb-false}
+use borrow.Author.Tests.{eq-eqb, ne-eqb}
 use Rattle.octets.specs.Pick.{pick, _and_, _or_}
 use Rattle.octets.specs.Append.{_⊕_}
 use Rattle.json.specs.Bytes.{namesBad, grown, hexValue}
@@ -24,11 +23,10 @@ use Rattle.json.specs.declared.Inside.{Inside}
 use Rattle.json.specs.declared.Inside.the-variants.{Chars, Escape, Hex, High, HighEscape, Low}
 use Rattle.json.specs.declared.State.{State}
 use Rattle.json.specs.declared.State.the-variants.{Expects, InLiteral, InNumber, InString}
-use Rattle.json.specs.declared.Checked.the-variants.{Fine}
 use Rattle.json_grammar.specs.Grammar.{Byte, spelledBytes, isEscaped, isHexdig, Char}
 use Rattle.json_grammar.specs.laws.Onward.{ends-number}
 use Rattle.json_grammar.specs.laws.Accepted.{Accepts, accepts-onward}
-use Rattle.json_grammar.specs.laws.Rest.{worth, Charred, Digited, Behind, Completes}
+use Rattle.json_grammar.specs.laws.Rest.{Charred, Digited, Behind, Completes}
 use Rattle.json_grammar.specs.laws.Back.{Naming, unit-char, two-char, more-hex, three-digits}
 use Rattle.json_grammar.specs.laws.JsonGrammar.{completes}
 

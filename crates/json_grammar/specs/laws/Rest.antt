@@ -3,19 +3,18 @@
 --     Rest cs s              s completes a text behind a value, inside the open arrays and objects cs
 --     Completes st cs s      s completes a text from the state st on
 --     Back m cs s            the same from what a move leads to
--- In strings counts what N says of their characters: `mayName`, or nothing (laws/Grammatical).
+-- In strings counts what N says of their characters: `mayName`, or nothing (`anything` of laws/Ready).
 use mathlib.Core.Path.{_≡_}
 use mathlib.Core.Logic.{_⊎_}
 use mathlib.Core.Bool.{Bool, true, false}
 use mathlib.Core.List.{List, [], _∷_}
-use mathlib.Core.Option.{Option}
 use Prim.Native.Nat.{ℕ, _+_, _-_, _≤_, _<_}
 use lib.ListN.{length}
 use Rattle.octets.specs.Pick.{within}
 use Rattle.octets.specs.Append.{_⊕_}
 use Rattle.octets.specs.Class.{isDigit}
 use Rattle.octets.specs.Scan.{allOf}
-use Rattle.json.specs.Bytes.{endArray, endObject, nameSeparator, quotationMark, escape, letterU, isSign, word, hexValue, grown}
+use Rattle.json.specs.Bytes.{endArray, endObject, nameSeparator, quotationMark, escape, letterU, word, hexValue, grown}
 use Rattle.json.specs.Check as check
 use Rattle.json.specs.Check.{Container, outer}
 use Rattle.json.specs.declared.Expect.{Expect}
@@ -28,8 +27,7 @@ use Rattle.json.specs.declared.State.{State}
 use Rattle.json.specs.declared.State.the-variants.{Expects, InLiteral, InNumber, InString}
 use Rattle.json.specs.declared.Move.{Move}
 use Rattle.json.specs.declared.Move.the-variants.{To, OpenArray, OpenObject, Close, Bad}
-use Rattle.json_grammar.specs.Grammar as grammar
-use Rattle.json_grammar.specs.Grammar.{Byte, spelledBytes, optional, Ws, Structural, structural, Digits, spelledDigits, spelledSign, spelledExp, spelledFrac, spelledInt, isHexdig, Char, spelledChars, Member, Members, Values, spelledValue, spelledMember, spelledMembers, spelledValues, depth, depthMember, depthMembers, depthValues, everyString, everyStringMember, everyStringMembers, everyStringValues}
+use Rattle.json_grammar.specs.Grammar.{Byte, spelledBytes, optional, Ws, structural, spelledDigits, spelledSign, spelledExp, spelledFrac, spelledInt, isHexdig, Char, spelledChars, spelledValue, spelledMember, spelledMembers, spelledValues, depth, depthMember, depthMembers, depthValues, everyString, everyStringMember, everyStringMembers, everyStringValues}
 
 pub record Then {A : Type 0} (spelled : A → List ℕ) (R : List ℕ → Type 0) (s : List ℕ) : Type 0 where
   pub it : A

@@ -7,32 +7,25 @@
 use mathlib.Core.Path.{_≡_, refl, sym, ap, _∙_}
 use mathlib.Core.Bool.{Bool, true, false, not, false≢true}
 use mathlib.Core.List.{List, [], _∷_}
-use mathlib.Core.Option.{Option, none, some}
 use Prim.Native.Nat.{ℕ, _+_, _-_, _*_, _≤_, _<_}
 use native.Mathlib.Omega.{arith}
-use lib.Dec.{eqb, ltb, leb}
+use lib.Dec.{eqb}
 use lib.ListN.{length}
-use borrow.Author.Tests.{eq-eqb, ne-eqb, lt-ltb, le-ltb, leb-true, eqb-true}
-use Rattle.octets.specs.Pick.{pick, within, _and_, _or_}
-use Rattle.octets.specs.laws.Pick.{and-both, or-cases, or-right, within-range, within-wider, eqb-apart, eqb-passes, pick-case}
-use Rattle.octets.specs.Append.{_⊕_}
-use Rattle.octets.specs.laws.Append.{append-empty, append-cons, append-none, append-regroup}
+use borrow.Author.Tests.{ne-eqb, lt-ltb, le-ltb, leb-true, eqb-true}
+use Rattle.octets.specs.Pick.{pick, within, _or_, _and_}
+use Rattle.octets.specs.laws.Pick.{or-cases, within-range, within-wider, eqb-apart, eqb-passes}
 use Rattle.octets.specs.Class.{isSpace, isDigit}
-use Rattle.json.specs.Bytes.{isE, isSign, namesGood, namesBad, hexValue, grown, isHigh, isLow, namedBad}
+use Rattle.json.specs.Bytes.{isE, isSign, namesGood, namesBad, hexValue, grown}
 use Rattle.json.specs.Check as check
-use Rattle.json.specs.Check.{Container, check, followed, named, lowPair, verdict}
+use Rattle.json.specs.Check.{Container, check, followed, named, lowPair}
 use Rattle.json.specs.declared.Expect.{Expect}
 use Rattle.json.specs.declared.Expect.the-variants.{Value, ValueOrEnd, Name, NameOrEnd, Colon, After}
-use Rattle.json.specs.declared.Number.{Number as NumberState}
 use Rattle.json.specs.declared.Number.the-variants.{Minus, Zero, Int, Point, Frac, E, Sign, Exp}
-use Rattle.json.specs.declared.Inside.the-variants.{Chars, Escape, Hex, High, HighEscape, Low}
-use Rattle.json.specs.declared.State.{State}
-use Rattle.json.specs.declared.State.the-variants.{Expects, InLiteral, InNumber, InString}
-use Rattle.json.specs.declared.Move.the-variants.{To, OpenArray, OpenObject, Close, Bad}
+use Rattle.json.specs.declared.Inside.the-variants.{Chars, Hex, High, Low}
+use Rattle.json.specs.declared.State.the-variants.{Expects, InNumber, InString}
 use Rattle.json.specs.declared.Checked.{Checked}
 use Rattle.json.specs.declared.Checked.the-variants.{Fine, At}
-use Rattle.json_grammar.specs.Grammar as grammar
-use Rattle.json_grammar.specs.Grammar.{Byte, spelledBytes, optional, Ws, Structural, structural, Literal, falseName, nullName, trueName, spelledLiteral, Digits, spelledDigits, spelledSign, spelledExp, spelledFrac, isDigit1-9, zeroInt, digitsInt, spelledInt, spelledNumber, isUnescaped, isEscaped, isHexdig, Char, unescaped, escaped, escapedUnit, spelledChar, spelledChars, spelledString, literal, emptyObject, object, emptyArray, array, number, string, Member, member, Members, noMembers, andMember, Values, noValues, andValue, spelledValue, spelledMember, spelledMembers, spelledValues, Text, spelledText, depth, depthMember, depthMembers, depthValues, codeUnit, mayNameUnit, mayName, everyString, everyStringMember, everyStringMembers, everyStringValues, JsonText}
+use Rattle.json_grammar.specs.Grammar.{Byte, isDigit1-9, isUnescaped, isEscaped, isHexdig, object, array, codeUnit}
 
 abbrev isFine : Checked → Bool
 isFine Fine = true

@@ -1,26 +1,23 @@
 -- By which byte a fault is told, whatever follows.
 --     Told       a fault at k, from a state on: it is told by the byte j, or by the end of the text
 --     told-by    each fault is told so
-use mathlib.Core.Path.{_≡_, refl, sym, ap, subst, _∙_}
+use mathlib.Core.Path.{_≡_, refl, sym, subst, _∙_}
 use mathlib.Core.Logic.{_⊎_, inl, inr}
 use mathlib.Core.Bool.{Bool, true, false}
 use mathlib.Core.List.{List, [], _∷_}
-use Prim.Native.Nat.{ℕ, zero, suc, _+_, _-_, _≤_, _<_}
+use Prim.Native.Nat.{ℕ, suc, _+_, _≤_, _<_}
 use native.Mathlib.Omega.{arith}
 use lib.Dec.{ltb}
 use lib.ListN.{length, take, drop}
 use Rattle.octets.specs.Pick.{pick}
 use Rattle.octets.specs.Append.{_⊕_}
-use Rattle.octets.specs.laws.Append.{append-cons}
 use Rattle.json.specs.Check as check
 use Rattle.json.specs.Check.{Container, around, outer, move, followed, check}
-use Rattle.json.specs.declared.Expect.{Expect}
 use Rattle.json.specs.declared.Expect.the-variants.{ValueOrEnd, NameOrEnd, After}
 use Rattle.json.specs.declared.State.{State}
 use Rattle.json.specs.declared.State.the-variants.{Expects}
 use Rattle.json.specs.declared.Move.{Move}
 use Rattle.json.specs.declared.Move.the-variants.{To, OpenArray, OpenObject, Close, Bad}
-use Rattle.json.specs.declared.Checked.{Checked}
 use Rattle.json.specs.declared.Checked.the-variants.{Fine, At}
 use Rattle.json_grammar.specs.laws.Ready.{Plain, ready-plain}
 use Rattle.json_grammar.specs.laws.Outcome.{Began, Faults, Placed, placed, ended, at-same}
