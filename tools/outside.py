@@ -12,7 +12,8 @@ text accepts; and those that it refuses for what they say, and not as XML (refus
 - Each judge must reject a document in which it must find a fault.
 
 jCal: that which the way to jCal writes, from the same cases and samples. It must read in Python's json as the same value as in a reading of a few lines, which knows
-canonical JSON only; and as the value that RFC 7265 gives the XML of the same text, as expat reads that (if target/bin/to_xml is built; of texts in edition 0).
+canonical JSON only; and as the value that RFC 7265 gives the XML of the same text, as expat reads that (if target/bin/to_xml is built; of texts in edition 0). What the way from
+jCal to text accepts, or refuses for what it says (5 to 9), must be JSON for Python.
 
 The schema has no unrecognised components: documents with one are left out there, and counted.
 A URI may hold nearly any visible ASCII (docs/FORMAT.md); the judges take less. Documents with a URI that a judge does not take are left out there, and counted.
@@ -380,6 +381,8 @@ def judge_jcal():
         report("the value of the XML", list(plain), {n: value_complaints(d, lambda t=text: value_by_xml(run("to_xml", t))) for n, (text, d) in plain.items()})
     else:
         print("skipped: the value of the XML, since target/bin/to_xml is not built")
+    read = {f"case-{i}.json": given for i, (way, _, refusal, given, _) in all_cases() if way == 4 and (refusal == 0 or 5 <= refusal <= 9)}
+    report("JSON that is read", list(read), {n: value_complaints(d, lambda d=d: value_of_json(d)) for n, d in read.items()})
     sample = (TOP / "samples/rota.json").read_bytes()
     no_end, longer = sample[:-1], sample.replace(b"r1", b"r12")
     report("json finds the fault in a broken text", ["no-end.json"], {"no-end.json": [] if value_complaints(no_end, lambda: value_of_canonical(no_end)) else ["it does not"]})

@@ -1,4 +1,4 @@
-//! iCalendar text (RFC 5545) to xCal (RFC 6321) and back, and to jCal (RFC 7265), by the static library `libmallettriton.a`, which is proved.
+//! iCalendar text (RFC 5545) to xCal (RFC 6321) or jCal (RFC 7265) and back, by the static library `libmallettriton.a`, which is proved.
 //!
 //! ```
 //! let text = b"BEGIN:VCALENDAR\r\nPRODID:-//A//B//EN\r\nVERSION:2.0\r\nBEGIN:VTODO\r\n\
@@ -9,14 +9,15 @@
 //! assert_eq!(mallettriton::to_text(&xml, Edition::Rfc5545)?, text);
 //! let jcal = mallettriton::to_jcal(text, Edition::Rfc5545)?;
 //! assert!(jcal.starts_with(br#"["vcalendar",[["prodid",{},"text","-//A//B//EN"],"#));
+//! assert_eq!(mallettriton::jcal_to_text(&jcal, Edition::Rfc5545)?, text);
 //!
 //! let refusal = mallettriton::to_xml(b"BEGIN:VCALENDAR\r\n", Edition::Rfc5545).unwrap_err();
 //! assert_eq!((refusal.number, refusal.place), (mallettriton::Number::Frame, 17));
 //! # Ok::<(), mallettriton::Refusal>(())
 //! ```
 //!
-//! [`to_xml`], [`to_jcal`] and [`to_text`] take a slice and give a `Vec`. [`to_xml_into`], [`to_jcal_into`] and [`to_text_into`] work on buffers that the caller lends, allocate
-//! nothing, and tell the exact length that an output which is too short would need. `docs/FORMAT.md` of the repository says what is accepted and what is written.
+//! [`to_xml`], [`to_jcal`], [`to_text`] and [`jcal_to_text`] take a slice and give a `Vec`. [`to_xml_into`], [`to_jcal_into`], [`to_text_into`] and [`jcal_to_text_into`] work on
+//! buffers that the caller lends, allocate nothing, and tell the exact length that an output which is too short would need. `docs/FORMAT.md` of the repository says what is accepted and what is written.
 //!
 //! # What is proved, and what is not
 //!
@@ -30,7 +31,7 @@
 //!
 //! # Stack and threads
 //!
-//! Allow [`to_text`] and [`to_text_into`] 1,200 kB of stack, most of it a room for one line, and the calls from text, to XML and to jCal, 250 kB, for names that are compared. A main thread and the threads of `std::thread`
+//! Allow the calls to text, from XML and from jCal, 1,200 kB of stack, most of it a room for one line, and the calls from text, to XML and to jCal, 250 kB, for names that are compared. A main thread and the threads of `std::thread`
 //! (2 MB) have that. In a thread of a smaller stack the call overflows it, which under `std::thread` ends the process.
 //!
 //! The library keeps nothing between calls: any number of threads may call it at once.
@@ -55,6 +56,11 @@ pub const fn longest_jcal(length: usize) -> usize {
 /// How long the text of a document of `length` bytes can be; as [`longest_xml`].
 pub const fn longest_text(length: usize) -> usize {
     6 * length
+}
+
+/// How long the text of jCal of `length` bytes can be; as [`longest_xml`].
+pub const fn longest_text_of_jcal(length: usize) -> usize {
+    16 * length
 }
 
 /// An edition of iCalendar text. The discriminants are the numbers that the library takes.
@@ -94,6 +100,8 @@ pub enum Number {
     Count = 9,
     /// Outside the XML that is read. Only the way from XML answers it.
     Xml = 11,
+    /// Outside JSON's grammar, an escape that names what may not stand there, or a 33rd open array or object. Only the way from jCal answers it.
+    Json = 12,
     /// An edition that there is not. No call of this crate is refused so.
     Edition = 13,
 }
@@ -111,6 +119,7 @@ impl fmt::Display for Number {
             Number::Value => "a value that is not of a permitted type",
             Number::Count => "a property missing or too often, or a pair broken",
             Number::Xml => "outside the XML that is read",
+            Number::Json => "outside the JSON that is read",
             Number::Edition => "an edition that there is not",
         })
     }
@@ -121,7 +130,7 @@ impl fmt::Display for Number {
 pub struct Refusal {
     /// Why.
     pub number: Number,
-    /// Where: the start of the line, tag, reference or character; the input's length if something is open or missing at its end; 0 for [`Number::Length`] and
+    /// Where: the start of the line, tag, reference, array or character; the input's length if something is open or missing at its end; 0 for [`Number::Length`] and
     /// [`Number::Work`]. A line starts at the first of its bytes that unfolding keeps.
     pub place: usize,
 }
@@ -162,6 +171,7 @@ extern "C" {
     fn mallettriton_to_xml(input: *const u8, input_length: usize, work: *mut u8, work_length: usize, out: *mut u8, out_length: usize, edition: u32) -> u64;
     fn mallettriton_to_jcal(input: *const u8, input_length: usize, work: *mut u8, work_length: usize, out: *mut u8, out_length: usize, edition: u32) -> u64;
     fn mallettriton_to_text(input: *const u8, input_length: usize, out: *mut u8, out_length: usize, edition: u32) -> u64;
+    fn mallettriton_jcal_to_text(input: *const u8, input_length: usize, out: *mut u8, out_length: usize, edition: u32) -> u64;
 }
 
 /// Takes an answer of the library apart: its number times 2 ^ 32, and its value.
@@ -180,6 +190,7 @@ fn answer(code: u64, out: &[u8]) -> Answer<'_> {
         9 => Number::Count,
         10 => return Answer::Needs(value),
         11 => Number::Xml,
+        12 => Number::Json,
         13 => Number::Edition,
         other => panic!("libmallettriton.a answered the number {other}, which this crate does not know: they are of different versions"),
     };
@@ -225,6 +236,15 @@ pub fn to_text_into<'a>(input: &[u8], out: &'a mut [u8], edition: Edition) -> An
     answer(code, out)
 }
 
+/// Converts the jCal text `input` to canonical iCalendar text, at the start of `out`.
+///
+/// Allow it 1,200 kB of stack.
+pub fn jcal_to_text_into<'a>(input: &[u8], out: &'a mut [u8], edition: Edition) -> Answer<'a> {
+    // SAFETY: as above.
+    let code = unsafe { mallettriton_jcal_to_text(input.as_ptr(), input.len(), out.as_mut_ptr(), out.len(), edition as u32) };
+    answer(code, out)
+}
+
 /// An output of the length that always has room, cut to the result.
 fn in_a_vec(length: usize, convert: impl Fn(&mut [u8]) -> Answer<'_>) -> Result<Vec<u8>, Refusal> {
     let mut out = vec![0; length];
@@ -263,4 +283,12 @@ pub fn to_jcal(input: &[u8], edition: Edition) -> Result<Vec<u8>, Refusal> {
 pub fn to_text(input: &[u8], edition: Edition) -> Result<Vec<u8>, Refusal> {
     let length = if input.len() <= LONGEST { input.len() } else { 0 };
     in_a_vec(longest_text(length), |out| to_text_into(input, out, edition))
+}
+
+/// Converts the jCal text `input` to canonical iCalendar text.
+///
+/// It allocates an output of [`longest_text_of_jcal`] bytes, and gives back what the result does not fill. Allow it 1,200 kB of stack. To use a buffer over and over, call [`jcal_to_text_into`].
+pub fn jcal_to_text(input: &[u8], edition: Edition) -> Result<Vec<u8>, Refusal> {
+    let length = if input.len() <= LONGEST { input.len() } else { 0 };
+    in_a_vec(longest_text_of_jcal(length), |out| jcal_to_text_into(input, out, edition))
 }

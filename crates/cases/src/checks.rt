@@ -4,17 +4,20 @@ use crate::bytes::all_from;
 use crate::bytes::begins;
 use crate::bytes::fill;
 use crate::packed::Case;
+use crate::packed::JCAL_TO_TEXT;
 use crate::packed::TO_JCAL;
 use crate::packed::TO_XML;
 use crate::packed::is_from_text;
 use calls::Answer;
 use calls::number_of;
 use calls::value_of;
+use mallettriton::mallettriton_jcal_to_text;
 use mallettriton::mallettriton_to_jcal;
 use mallettriton::mallettriton_to_text;
 use mallettriton::mallettriton_to_xml;
 use std::num::wrapping_add_usize;
 use std::num::wrapping_sub_usize;
+use text_from_jcal::jcal_to_text;
 use text_to_jcal::to_jcal;
 use text_to_xml::to_xml;
 use xml_to_text::to_text;
@@ -163,6 +166,9 @@ fn answer(way: u8, edition: u32, input: &[u8], work: &mut [u8], out: &mut [u8]) 
     if way == TO_JCAL {
         return to_jcal(input, work, out, edition);
     }
+    if way == JCAL_TO_TEXT {
+        return jcal_to_text(input, out, edition);
+    }
     to_text(input, out, edition)
 }
 
@@ -173,6 +179,9 @@ fn answer_for_c(way: u8, edition: u32, input: &[u8], work: &mut [u8], out: &mut 
     }
     if way == TO_JCAL {
         return mallettriton_to_jcal(input, work, out, edition);
+    }
+    if way == JCAL_TO_TEXT {
+        return mallettriton_jcal_to_text(input, out, edition);
     }
     mallettriton_to_text(input, out, edition)
 }

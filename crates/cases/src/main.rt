@@ -1,7 +1,7 @@
 // Runs the cases on standard input through the conversions and prints a line for each, as `to XML: agreed N, differing M`; the numbers of the
 // cases that differ go to standard error. A case agrees if all checks of it hold (checks.rt).
 //
-// A case is a byte for its way, 1 text to XML, 2 XML to text, 3 text to jCal, the edition, the answer's number and value, the input, the result. Numbers have four bytes,
+// A case is a byte for its way, 1 text to XML, 2 XML to text, 3 text to jCal, 4 jCal to text, the edition, the answer's number and value, the input, the result. Numbers have four bytes,
 // the highest first. The value of number 0 is the result's length; a refusal has an empty result. Input and result are each four
 // lengths, of a front, of a middle, of the middle when it is repeated, of a back, and then the bytes of front, middle and back. So an
 // input of 65,535 bytes is a short case as well.
@@ -13,6 +13,7 @@ use checks::agrees;
 use libc::STDERR_FILENO;
 use libc::STDOUT_FILENO;
 use packed::Case;
+use packed::JCAL_TO_TEXT;
 use packed::TO_JCAL;
 use packed::TO_TEXT;
 use packed::TO_XML;
@@ -33,6 +34,7 @@ struct Tallies {
     xml: Tally,
     text: Tally,
     jcal: Tally,
+    text_of_jcal: Tally,
 }
 
 // Lends a case the front parts of the buffers that it needs.
@@ -98,9 +100,11 @@ fn tell(t: Tallies) {
     let xml = t.xml;
     let text = t.text;
     let jcal = t.jcal;
+    let text_of_jcal = t.text_of_jcal;
     tell_way(b"to XML", xml);
     tell_way(b"to text", text);
     tell_way(b"to jCal", jcal);
+    tell_way(b"jCal to text", text_of_jcal);
 }
 
 // Runs a case.
@@ -118,11 +122,13 @@ fn with_case(
     let xml = t.xml;
     let text = t.text;
     let jcal = t.jcal;
+    let text_of_jcal = t.text_of_jcal;
     Tallies {
         cases: n,
         xml: counted(xml, c.way == TO_XML, is_agreed),
         text: counted(text, c.way == TO_TEXT, is_agreed),
         jcal: counted(jcal, c.way == TO_JCAL, is_agreed),
+        text_of_jcal: counted(text_of_jcal, c.way == JCAL_TO_TEXT, is_agreed),
     }
 }
 
@@ -136,6 +142,7 @@ fn none() -> Tallies {
         xml: t,
         text: t,
         jcal: t,
+        text_of_jcal: t,
     }
 }
 

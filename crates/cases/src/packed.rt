@@ -11,6 +11,8 @@ pub const TO_TEXT: u8 = 2;
 
 pub const TO_JCAL: u8 = 3;
 
+pub const JCAL_TO_TEXT: u8 = 4;
+
 // What a case says: its way, the edition, the answer with room enough, how long the input and the result are. After the last case the way is
 // none of these.
 pub struct Case {
@@ -23,7 +25,7 @@ pub struct Case {
 }
 
 pub fn is_case(c: Case) -> bool {
-    (c.way == TO_XML) | (c.way == TO_TEXT) | (c.way == TO_JCAL)
+    (c.way == TO_XML) | (c.way == TO_TEXT) | (c.way == TO_JCAL) | (c.way == JCAL_TO_TEXT)
 }
 
 // The input is a text, and a work room is lent.

@@ -1,7 +1,8 @@
 // The conversions for C: slices are a pointer and a length, and the answer is one number. See include/mallettriton.h.
-// The library for Rattle is in crates text_to_xml (`to_xml`), xml_to_text (`to_text`), text_to_jcal (`to_jcal`) and calls (`Answer`, `number_of`, `value_of`).
+// The library for Rattle is in crates text_to_xml (`to_xml`), xml_to_text (`to_text`), text_to_jcal (`to_jcal`), text_from_jcal (`jcal_to_text`) and calls (`Answer`, `number_of`, `value_of`).
 use calls::number_of;
 use calls::value_of;
+use text_from_jcal::jcal_to_text;
 use text_to_jcal::to_jcal;
 use text_to_xml::to_xml;
 use xml_to_text::to_text;
@@ -11,6 +12,7 @@ ghost use Rattle.calls.specs.ToXml.{toXmlOutcome, toXmlOutput, toXmlWork};
 ghost use Rattle.calls.specs.ToText.{toTextOutcome, toTextOutput};
 ghost use Rattle.calls.specs.Answered.{codeOf};
 ghost use Rattle.calls_jcal.specs.ToJcal.{toJcalOutcome, toJcalOutput, toJcalWork};
+ghost use Rattle.calls_jcal.specs.JcalToText.{jcalToTextOutcome, jcalToTextOutput};
 
 // A number and a value as one number.
 fn joined(n: u64, v: usize) -> u64
@@ -66,6 +68,19 @@ pub extern "C" fn mallettriton_to_jcal(
         × (now (work .exit) ≡ toJcalWork (now (input .entry)) (now (work .entry)) edition) ⌝ }
 {
     let a = to_jcal(input, work, out, edition);
+    let n = number_of(a);
+    let v = value_of(a);
+    joined(n, v)
+}
+
+// `jcal_to_text` for C: the same.
+#[no_mangle]
+pub extern "C" fn mallettriton_jcal_to_text(input: &[u8], out: &mut [u8], edition: u32) -> u64
+    ensures { λ r. ⌜
+        (r ≡ codeOf (jcalToTextOutcome (now (input .entry)) (now (out .entry)) edition))
+        × (now (out .exit) ≡ jcalToTextOutput (now (input .entry)) (now (out .entry)) edition) ⌝ }
+{
+    let a = jcal_to_text(input, out, edition);
     let n = number_of(a);
     let v = value_of(a);
     joined(n, v)

@@ -1,6 +1,6 @@
 -- Every value that a conversion answers is below 2 ^ 32, so that its number and its value can be told from the one number that C gets.
---     to-xml-small, to-jcal-small, to-text-small    the value of an outcome
---     code-back                                     its number and its value from the one number
+--     to-xml-small, to-jcal-small, to-text-small, jcal-to-text-small    the value of an outcome
+--     code-back                                                         its number and its value from the one number
 use mathlib.Core.Path.{_≡_, refl, _∙_}
 use mathlib.Core.Bool.{Bool, true, false}
 use mathlib.Core.List.{List}
@@ -26,11 +26,16 @@ use Rattle.xml.specs.Nodes.{documentNodes}
 use Rattle.xcal.specs.WriteXml.{writeDocument}
 use Rattle.xcal.specs.ComponentNodes.{readRoot}
 use Rattle.xcal.specs.ReadDocument.{documentVerdict, readDocument}
+use Rattle.json.specs.Tree.{valueOf}
 use Rattle.jcal.specs.WriteJcal.{writeJcal}
+use Rattle.jcal.specs.Components.{readCalendars, calendarsIn}
+use Rattle.jcal.specs.ReadJcal.{jcalVerdict, readJcal}
 use Rattle.lengths_xml.specs.laws.Documents.{xml-short}
 use Rattle.lengths_jcal.specs.laws.Streams.{jcal-short}
 use Rattle.lengths_text.specs.laws.Documents.{text-short}
+use Rattle.lengths_jcal_text.specs.laws.Streams.{jcal-text-short}
 use Rattle.places.specs.laws.Documents.{document-place}
+use Rattle.lengths_jcal_text.specs.laws.Places.{jcal-place}
 use Rattle.calls.specs.Conversion.{result, fault, converted, Outcome, written, refusal, numbers, outcome}
 use Rattle.calls.specs.ToXml.{toXml, toXmlOutcome}
 use Rattle.calls.specs.ToText.{toText, toTextOutcome}
@@ -38,6 +43,7 @@ use Rattle.calls.specs.Answered.{outcomeOf, codeOf}
 use Rattle.calls.specs.laws.Answered.{number-small}
 use Rattle.calls.specs.declared.Answer.{Answer}
 use Rattle.calls_jcal.specs.ToJcal.{toJcal, toJcalOutcome}
+use Rattle.calls_jcal.specs.JcalToText.{jcalToText, jcalToTextOutcome}
 
 -- a place among the lent bytes, or their end
 origin-within : (s : List ℕ) (w : ℕ) → origin s w ≤ length s
@@ -112,8 +118,8 @@ text-in-edition-small ed s d = go (decLe (length s) 65535)
     go (yes h) = by-verdict (documentVerdict ed s) refl h
     go (no h) = rw (lt-leb (length s) 65535 (omega (arith, h))) (omega arith)
 
-text-no-edition-small : (s d : List ℕ) → numbers (outcome (toText none s) (length d)) .1 < 4294967296
-unfolding toText pick outcome
+text-no-edition-small : (s d : List ℕ) → numbers (outcome (pick (leb (length s) 65535) (fault EDITION 0) (fault LENGTH 0)) (length d)) .1 < 4294967296
+unfolding pick outcome
 text-no-edition-small s d = go (leb (length s) 65535)
   where
     go : (a : Bool) → numbers (outcome (pick a (fault EDITION 0) (fault LENGTH 0)) (length d)) .1 < 4294967296
@@ -121,10 +127,29 @@ text-no-edition-small s d = go (leb (length s) 65535)
     go false = omega arith
 
 pub to-text-small : (s d : List ℕ) (edition : ℕ) → numbers (toTextOutcome s d edition) .1 < 4294967296
+unfolding toText
 to-text-small s d edition = go (editionOf edition)
   where
     go : (o : Option Edition) → numbers (outcome (toText o s) (length d)) .1 < 4294967296
     go (some ed) = text-in-edition-small ed s d
+    go none = text-no-edition-small s d
+
+-- ---- from jCal to text
+
+jcal-in-edition-small : (ed : Edition) (s d : List ℕ) → numbers (outcome (converted (writeCalendar ed) (readJcal ed s)) (length d)) .1 < 4294967296
+unfolding readJcal pick outcome
+jcal-in-edition-small ed s d = go (jcalVerdict ed s) refl
+  where
+    go : (v : Verdict) → jcalVerdict ed s ≡ v → numbers (outcome (converted (writeCalendar ed) (answer v (readCalendars (calendarsIn (valueOf s))))) (length d)) .1 < 4294967296
+    go fine e = result-small (writeCalendar ed (readCalendars (calendarsIn (valueOf s)))) (length d) (jcal-text-short ed s e)
+    go (refuse r p) e = omega (arith, jcal-place ed s e)
+
+pub jcal-to-text-small : (s d : List ℕ) (edition : ℕ) → numbers (jcalToTextOutcome s d edition) .1 < 4294967296
+unfolding jcalToText
+jcal-to-text-small s d edition = go (editionOf edition)
+  where
+    go : (o : Option Edition) → numbers (outcome (jcalToText o s) (length d)) .1 < 4294967296
+    go (some ed) = jcal-in-edition-small ed s d
     go none = text-no-edition-small s d
 
 -- ---- the one number
