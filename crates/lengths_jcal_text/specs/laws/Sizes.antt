@@ -1,0 +1,132 @@
+-- The size of a JSON value: of a string its characters and a quotation mark, of a number or a literal its bytes, of an array or an object what is in it and a bracket.
+--     size, sizes, memberSizes    of a value, of elements, of members;   size-some: one at least
+--     total, memberTotal          of lists of them
+--     as-string .. as-object      the size of a value of a kind;   array-size: of any value, by its elements;   alone-size
+--     split-size                  the first three elements, and the others
+use mathlib.Core.Path.{_≡_, refl}
+use mathlib.Core.List.{List, [], _∷_}
+use mathlib.Core.Option.{Option, none, some}
+use Prim.Native.Nat.{ℕ, suc, _+_, _≤_}
+use native.Mathlib.Omega.{arith}
+use lib.ListN.{length, drop}
+use Rattle.octets.specs.Reading.{readOr}
+use Rattle.octets.specs.laws.Reading.{none-some}
+use Rattle.json.specs.Tree.{Json, string, number, literal, array, object, Elements, noElements, element, Members, noMembers, member, Member, elementList, memberList}
+use Rattle.json.specs.Kinds.{asString, asNumber, asLiteral, asArray, asObject, orAlone, nth}
+use Rattle.lengths_text.specs.laws.Bytes.{nameBytes, name-some}
+
+unfoldable mutual
+  pub size : Json → ℕ
+  size (string p s) = suc (length s)
+  size (number p s) = nameBytes s
+  size (literal p s) = nameBytes s
+  size (array p e vs) = suc (sizes vs)
+  size (object p e ms) = suc (memberSizes ms)
+
+  pub sizes : Elements → ℕ
+  sizes noElements = 0
+  sizes (element v vs) = size v + sizes vs
+
+  pub memberSizes : Members → ℕ
+  memberSizes noMembers = 0
+  memberSizes (member n v ms) = suc (length n) + size v + memberSizes ms
+
+pub size-some : (v : Json) → 1 ≤ size v
+unfolding size
+size-some (string p s) = omega arith
+size-some (number p s) = name-some s
+size-some (literal p s) = name-some s
+size-some (array p e vs) = omega arith
+size-some (object p e ms) = omega arith
+
+-- ---- lists
+
+unfoldable pub total : List Json → ℕ
+total [] = 0
+total (v ∷ vs) = size v + total vs
+
+unfoldable pub memberTotal : List Member → ℕ
+memberTotal [] = 0
+memberTotal (m ∷ ms) = suc (length (m .name)) + size (m .value) + memberTotal ms
+
+pub elements-total : (vs : Elements) → total (elementList vs) ≡ sizes vs
+unfolding total elementList sizes
+elements-total noElements = refl
+elements-total (element v vs) = omega (arith, elements-total vs)
+
+pub members-total : (ms : Members) → memberTotal (memberList ms) ≡ memberSizes ms
+unfolding memberTotal memberList memberSizes
+members-total noMembers = refl
+members-total (member n v ms) = omega (arith, members-total ms)
+
+-- ---- by kind
+
+pub as-string : (v : Json) (s : List ℕ) → asString v ≡ some s → size v ≡ suc (length s)
+unfolding size
+as-string (string p t) s h = let q : t ≡ s = cc in rw q
+as-string (number p t) s h = none-some h
+as-string (literal p t) s h = none-some h
+as-string (array p e vs) s h = none-some h
+as-string (object p e ms) s h = none-some h
+
+pub as-number : (v : Json) (s : List ℕ) → asNumber v ≡ some s → size v ≡ nameBytes s
+unfolding size
+as-number (string p t) s h = none-some h
+as-number (number p t) s h = let q : t ≡ s = cc in rw q
+as-number (literal p t) s h = none-some h
+as-number (array p e vs) s h = none-some h
+as-number (object p e ms) s h = none-some h
+
+pub as-literal : (v : Json) (s : List ℕ) → asLiteral v ≡ some s → size v ≡ nameBytes s
+unfolding size
+as-literal (string p t) s h = none-some h
+as-literal (number p t) s h = none-some h
+as-literal (literal p t) s h = let q : t ≡ s = cc in rw q
+as-literal (array p e vs) s h = none-some h
+as-literal (object p e ms) s h = none-some h
+
+pub as-array : (v : Json) (l : List Json) → asArray v ≡ some l → size v ≡ suc (total l)
+unfolding size
+as-array (string p t) l h = none-some h
+as-array (number p t) l h = none-some h
+as-array (literal p t) l h = none-some h
+as-array (array p e vs) l h = let q : elementList vs ≡ l = cc in rw (← q) (omega (arith, elements-total vs))
+as-array (object p e ms) l h = none-some h
+
+pub as-object : (v : Json) (l : List Member) → asObject v ≡ some l → size v ≡ suc (memberTotal l)
+unfolding size
+as-object (string p t) l h = none-some h
+as-object (number p t) l h = none-some h
+as-object (literal p t) l h = none-some h
+as-object (array p e vs) l h = none-some h
+as-object (object p e ms) l h = let q : memberList ms ≡ l = cc in rw (← q) (omega (arith, members-total ms))
+
+-- no elements where it is no array
+pub array-size : (v : Json) → suc (total (readOr [] (asArray v))) ≤ size v
+unfolding readOr
+array-size v = go (asArray v) refl
+  where
+    go : (o : Option (List Json)) → asArray v ≡ o → suc (total (readOr [] o)) ≤ size v
+    go none e = unfold total in size-some v
+    go (some l) e = omega (arith, as-array v l e)
+
+pub alone-size : (v : Json) → total (orAlone v) ≤ size v
+unfolding readOr
+alone-size v = go (asArray v) refl
+  where
+    go : (o : Option (List Json)) → asArray v ≡ o → total (readOr (v ∷ []) o) ≤ size v
+    go none e = unfold total in omega arith
+    go (some l) e = omega (arith, as-array v l e)
+
+-- ---- by places
+
+unfoldable pub sizeIn : Option Json → ℕ
+sizeIn none = 0
+sizeIn (some v) = size v
+
+pub split-size : (l : List Json) → sizeIn (nth 0 l) + sizeIn (nth 1 l) + sizeIn (nth 2 l) + total (drop 3 l) ≡ total l
+unfolding total sizeIn
+split-size [] = refl
+split-size (a ∷ []) = omega arith
+split-size (a ∷ b ∷ []) = omega arith
+split-size (a ∷ b ∷ c ∷ l) = omega arith
