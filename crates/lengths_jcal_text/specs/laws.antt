@@ -1,2 +1,4 @@
 pub mod Sizes
 pub mod Tokens
+pub mod Strings
+pub mod Names
