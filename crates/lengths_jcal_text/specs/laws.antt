@@ -2,3 +2,4 @@ pub mod Sizes
 pub mod Tokens
 pub mod Strings
 pub mod Names
+pub mod Numbers

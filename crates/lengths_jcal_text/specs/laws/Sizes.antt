@@ -1,4 +1,5 @@
 -- The size of a JSON value: of a string its characters and a quotation mark, of a number or a literal its bytes, of an array or an object what is in it and a bracket.
+--     literalSize                 of a literal's name
 --     size, sizes, memberSizes    of a value, of elements, of members;   size-some: one at least
 --     total, memberTotal          of lists of them
 --     as-string .. as-object      the size of a value of a kind;   array-size: of any value, by its elements;   alone-size
@@ -9,17 +10,30 @@ use mathlib.Core.Option.{Option, none, some}
 use Prim.Native.Nat.{ℕ, suc, _+_, _≤_}
 use native.Mathlib.Omega.{arith}
 use lib.ListN.{length, drop}
+use Rattle.octets.specs.Pick.{pick}
+use Rattle.octets.specs.laws.Pick.{pick-either}
+use Rattle.octets.specs.Class.{isSmall}
 use Rattle.octets.specs.Reading.{readOr}
 use Rattle.octets.specs.laws.Reading.{none-some}
 use Rattle.json.specs.Tree.{Json, string, number, literal, array, object, Elements, noElements, element, Members, noMembers, member, Member, elementList, memberList}
 use Rattle.json.specs.Kinds.{asString, asNumber, asLiteral, asArray, asObject, orAlone, nth}
 use Rattle.lengths_text.specs.laws.Bytes.{nameBytes, name-some}
 
+-- of a literal, which begins with a small letter; six where it does not, as none does
+unfoldable pub literalSize : List ℕ → ℕ
+literalSize [] = 1
+literalSize (b ∷ s) = pick (isSmall b) (suc (length s)) 6
+
+pub literal-some : (s : List ℕ) → 1 ≤ literalSize s
+unfolding literalSize
+literal-some [] = omega arith
+literal-some (b ∷ s) = pick-either (λ (n : ℕ). 1 ≤ n) (isSmall b) (suc (length s)) 6 (omega arith) (omega arith)
+
 unfoldable mutual
   pub size : Json → ℕ
   size (string p s) = suc (length s)
   size (number p s) = nameBytes s
-  size (literal p s) = nameBytes s
+  size (literal p s) = literalSize s
   size (array p e vs) = suc (sizes vs)
   size (object p e ms) = suc (memberSizes ms)
 
@@ -35,7 +49,7 @@ pub size-some : (v : Json) → 1 ≤ size v
 unfolding size
 size-some (string p s) = omega arith
 size-some (number p s) = name-some s
-size-some (literal p s) = name-some s
+size-some (literal p s) = literal-some s
 size-some (array p e vs) = omega arith
 size-some (object p e ms) = omega arith
 
@@ -77,7 +91,7 @@ as-number (literal p t) s h = none-some h
 as-number (array p e vs) s h = none-some h
 as-number (object p e ms) s h = none-some h
 
-pub as-literal : (v : Json) (s : List ℕ) → asLiteral v ≡ some s → size v ≡ nameBytes s
+pub as-literal : (v : Json) (s : List ℕ) → asLiteral v ≡ some s → size v ≡ literalSize s
 unfolding size
 as-literal (string p t) s h = none-some h
 as-literal (number p t) s h = none-some h

@@ -23,7 +23,7 @@ use Rattle.json.specs.Bytes.{beginArray, beginObject, quotationMark, nameSepara
 use Rattle.json.specs.Strings.{Char, closing, char, named, hexWorth, paired, escaped, charAt, characters, charactersBy, charactersFrom, quotedLength, lengthBy, lengthFrom}
 use Rattle.json.specs.Tree.{Json, string, number, literal, array, object, Elements, noElements, element, Members, noMembers, member, Token, opensArray, opensObject, closes, name, scalar, isClosing, isSeparator, isScalar, stringToken, wordToken, tokensBy, scan, endPlace, firstOf, elementsBy, membersBy, elements, members, valueOf}
 use Rattle.lengths_text.specs.laws.Bytes.{nameBytes}
-use Rattle.lengths_jcal_text.specs.laws.Sizes.{size, size-some, sizes, memberSizes}
+use Rattle.lengths_jcal_text.specs.laws.Sizes.{literalSize, size, size-some, sizes, memberSizes}
 
 -- ---- strings: a character has no more bytes than what it is spelled by
 
@@ -112,10 +112,10 @@ unfolding size
 string-bytes p s = pick-either (λ t. tokenBytes t ≡ suc (length (characters s))) (beginsBy (λ b. eqb b nameSeparator) (afterRun isSpace (drop (quotedLength s) s))) (name p (characters s)) (scalar (string p (characters s))) refl refl
 
 word-bytes : (p b : ℕ) (s : List ℕ) → tokenBytes (wordToken p b s) ≤ suc (spanLen isScalar s)
-unfolding size nameBytes runOf
+unfolding size nameBytes literalSize runOf
 word-bytes p b s =
-    pick-either (λ t. tokenBytes t ≤ suc (spanLen isScalar s)) (isSmall b) (scalar (literal p (b ∷ runOf isScalar s))) (scalar (number p (b ∷ runOf isScalar s)))
-    (omega (arith, length-take (spanLen isScalar s) s)) (omega (arith, length-take (spanLen isScalar s) s))
+    pick-case (λ t. tokenBytes t ≤ suc (spanLen isScalar s)) (isSmall b) (scalar (literal p (b ∷ runOf isScalar s))) (scalar (number p (b ∷ runOf isScalar s)))
+    (λ e. rw e (unfold pick in omega (arith, length-take (spanLen isScalar s) s))) (λ e. omega (arith, length-take (spanLen isScalar s) s))
 
 pub scan-within : (s : List ℕ) (p k : ℕ) → bytesOf (scan s p k) ≤ length s - k
 unfolding scan bytesOf
@@ -232,7 +232,7 @@ mutual
   named-within (scalar v ∷ ts) h ks = omega (arith, scalar-deeper ts v ks 0, added-within ts h (false ∷ ks))
 
 first-size : (vs : Elements) (n : ℕ) → 1 ≤ n → sizes vs ≤ n → size (firstOf vs) ≤ n
-unfolding size sizes nameBytes
+unfolding size sizes literalSize
 first-size noElements n l h = l
 first-size (element v vs) n l h = omega arith
 
