@@ -3,3 +3,5 @@ pub mod Tokens
 pub mod Strings
 pub mod Names
 pub mod Numbers
+pub mod Rules
+pub mod Values

@@ -4,19 +4,21 @@
 --     total, memberTotal          of lists of them
 --     as-string .. as-object      the size of a value of a kind;   array-size: of any value, by its elements;   alone-size
 --     split-size                  the first three elements, and the others
+--     each-weight                 each of a list read, and written with a separator
 use mathlib.Core.Path.{_≡_, refl}
-use mathlib.Core.List.{List, [], _∷_}
+use mathlib.Core.List.{List, [], _∷_, map}
 use mathlib.Core.Option.{Option, none, some}
-use Prim.Native.Nat.{ℕ, suc, _+_, _≤_}
+use Prim.Native.Nat.{ℕ, suc, _+_, _*_, _≤_}
 use native.Mathlib.Omega.{arith}
 use lib.ListN.{length, drop}
 use Rattle.octets.specs.Pick.{pick}
 use Rattle.octets.specs.laws.Pick.{pick-either}
 use Rattle.octets.specs.Class.{isSmall}
-use Rattle.octets.specs.Reading.{readOr}
-use Rattle.octets.specs.laws.Reading.{none-some}
+use Rattle.octets.specs.Reading.{readOr, consRead, readEach}
+use Rattle.octets.specs.laws.Reading.{none-some, andThen-some, consRead-some}
 use Rattle.json.specs.Tree.{Json, string, number, literal, array, object, Elements, noElements, element, Members, noMembers, member, Member, elementList, memberList}
 use Rattle.json.specs.Kinds.{asString, asNumber, asLiteral, asArray, asObject, orAlone, nth}
+use Rattle.lengths_xml.specs.laws.Pieces.{weight}
 use Rattle.lengths_text.specs.laws.Bytes.{nameBytes, name-some}
 
 -- of a literal, which begins with a small letter; six where it does not, as none does
@@ -144,3 +146,31 @@ split-size [] = refl
 split-size (a ∷ []) = omega arith
 split-size (a ∷ b ∷ []) = omega arith
 split-size (a ∷ b ∷ c ∷ l) = omega arith
+
+-- ---- each of a list
+
+unfoldable pub costs : {A : Type 0} → (A → ℕ) → List A → ℕ
+costs f [] = 0
+costs f (a ∷ l) = f a + costs f l
+
+pub total-costs : (l : List Json) → costs size l ≡ total l
+unfolding costs total
+total-costs [] = refl
+total-costs (v ∷ l) = omega (arith, total-costs l)
+
+abbrev pub memberSize : Member → ℕ
+memberSize m = suc (length (m .name)) + size (m .value)
+
+pub member-costs : (l : List Member) → costs memberSize l ≡ memberTotal l
+unfolding costs memberTotal
+member-costs [] = refl
+member-costs (m ∷ l) = omega (arith, member-costs l)
+
+module _ {A B : Type 0} (cost : A → ℕ) (reading : A → Option B) (writing : B → List ℕ) (brief : (a : A) (b : B) → reading a ≡ some b → length (writing b) + 1 ≤ 4 * cost a) where
+  pub each-weight : (l : List A) (r : List B) → readEach reading l ≡ some r → weight (map writing r) ≤ 4 * costs cost l
+  unfolding readEach weight costs
+  each-weight [] r h = let q : [] ≡ r = cc in rw (← q) (omega arith)
+  each-weight (a ∷ l) r h =
+      let e = andThen-some (reading a) (λ b. consRead b (readEach reading l)) r h in
+      let f = consRead-some (e .0) (readEach reading l) r (e .2) in
+      rw (← (f .2)) (omega (arith, brief a (e .0) (e .1), each-weight l (f .0) (f .1)))
