@@ -8,7 +8,7 @@
 use Prim.{Unit}
 use mathlib.Core.Path.{_≡_}
 use mathlib.Core.Bool.{Bool, true, not}
-use mathlib.Core.List.{List, []}
+use mathlib.Core.List.{List}
 use mathlib.Core.Option.{Option, none, some}
 use Prim.Native.Nat.{ℕ, _-_, _≤_}
 use lib.Dec.{eqb, ltb}
@@ -23,7 +23,7 @@ use Rattle.schema.specs.Columns.{mayBegin}
 use Rattle.schema.specs.Counts.{Around, methodFor, complete}
 use Rattle.schema.specs.Completing.{completeAt}
 use Rattle.edition.specs.declared.Edition.{Edition}
-use Rattle.json.specs.Tree.{Json, Elements, endPlace, elementList}
+use Rattle.json.specs.Tree.{Json, endPlace, elementList}
 use Rattle.jcal.specs.Components.{componentName, propertyArrays, componentArrays, componentFault, propertiesVerdict, componentsVerdict, componentVerdict, innerVerdict}
 use Rattle.read_json.specs.TreeAt.{tokensAt, elementsAt, stringAt}
 use Rattle.tallies.specs.Counting.{Counted}

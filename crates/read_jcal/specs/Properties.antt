@@ -36,8 +36,6 @@ use Rattle.jcal.specs.Values.{readValues}
 use Rattle.jcal.specs.Property.{propertyFault, propertyOf}
 use Rattle.jcal.specs.Components.{at, propertyVerdict, propertiesVerdict}
 use Rattle.read_json.specs.TreeAt.{elementsAt, membersAt, stringAt}
-use Rattle.read_json.specs.Heads.{valueOfHead}
-use Rattle.read_json.specs.declared.Head.{Head}
 use Rattle.tallies.specs.Counting.{Counted, Numbered}
 use Rattle.read_jcal.specs.Judging.{judgedAs}
 use Rattle.read_jcal.specs.Arrays.{nameFound, objectFound, typeFound}

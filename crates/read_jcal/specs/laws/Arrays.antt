@@ -5,10 +5,10 @@
 --     value-array, value-other, value-place    its value
 --     three-first, three-second, three-third, three-others     the first three of a list
 --     arrays        the rules of the elements of an array
-use mathlib.Core.Path.{_≡_, refl, sym, ap, subst, _∙_}
+use mathlib.Core.Path.{_≡_, refl, sym, ap, _∙_}
 use mathlib.Core.Bool.{Bool, true, false, not, false≢true}
-use mathlib.Core.List.{List, [], _∷_}
-use mathlib.Core.Option.{Option, none, some}
+use mathlib.Core.List.{List, _∷_}
+use mathlib.Core.Option.{none, some}
 use Prim.Native.Nat.{ℕ, _-_, _≤_, _<_}
 use native.Mathlib.Omega.{arith}
 use lib.ListN.{length, drop}
@@ -19,7 +19,7 @@ use Rattle.octets.specs.Pick.{pick, _or_}
 use Rattle.octets.specs.Words.{isEmpty}
 use Rattle.octets.specs.Reading.{andThen, isRead}
 use Rattle.values.specs.Valid.{isAmount}
-use Rattle.json.specs.Tree.{Json, array, Member, Elements, noElements, element, placeOf, endPlace, elementList, memberList}
+use Rattle.json.specs.Tree.{Json, array, Elements, noElements, element, placeOf, endPlace, elementList, memberList}
 use Rattle.json.specs.Kinds.{asString, asArray, asObject, firstIn, nth}
 use Rattle.read_json.specs.TreeAt.{tokensAt, elementsAt, membersAt, stringAt}
 use Rattle.read_json.specs.Pieces.{Taken}

@@ -6,7 +6,7 @@
 --     closing      the rules of a component behind them
 use Prim.{tt}
 use mathlib.Core.Path.{_≡_, refl, sym, ap, subst, _∙_}
-use mathlib.Core.Bool.{Bool, true, false, not, false≢true}
+use mathlib.Core.Bool.{Bool, true, false, not}
 use mathlib.Core.List.{List, [], _∷_}
 use mathlib.Core.Option.{Option, none, some}
 use Prim.Native.Nat.{ℕ, suc, _-_, _≤_, _<_}
@@ -23,32 +23,29 @@ use Rattle.octets.specs.Reading.{andThen, isRead, readOr}
 use Rattle.octets.specs.laws.Reading.{none-some}
 use Rattle.names.specs.Table.{placeOf}
 use Rattle.calendar.specs.Calendar.{Property}
-use Rattle.calendar.specs.Refusal.{NAME, FRAME, COUNT, Verdict, fine, refuse, _otherwise_}
+use Rattle.calendar.specs.Refusal.{FRAME, refuse, _otherwise_}
 use Rattle.schema.specs.Components.{componentNames, mayContain}
 use Rattle.schema.specs.Columns.{mayBegin}
-use Rattle.schema.specs.Counts.{Around, methodFor, complete}
+use Rattle.schema.specs.Counts.{methodFor, complete}
 use Rattle.schema.specs.Completing.{completeAt}
 use Rattle.edition.specs.declared.Edition.{Edition}
 use Rattle.json.specs.Tree.{Json, string, number, literal, array, object, Elements, placeOf as jsonPlace, endPlace, elementList}
 use Rattle.json.specs.Kinds.{asString, asArray, nth}
-use Rattle.jcal.specs.Property.{nameIn, isBadName, passes}
-use Rattle.jcal.specs.Components.{at, componentName, propertyArrays, componentArrays, isComponent, componentFault, propertiesVerdict, componentsVerdict, componentVerdict, innerVerdict, arrayVerdict}
+use Rattle.jcal.specs.Property.{nameIn, isBadName}
+use Rattle.jcal.specs.Components.{componentName, propertyArrays, componentArrays, componentFault, propertiesVerdict, componentsVerdict, componentVerdict, innerVerdict, arrayVerdict}
 use Rattle.read_json.specs.TreeAt.{tokensAt, elementsAt, stringAt}
 use Rattle.read_json.specs.Closing.{EndedAt}
 use Rattle.read_json.specs.Heads.{valueOfHead}
 use Rattle.read_json.specs.declared.Ended.{Ended}
 use Rattle.read_json.specs.declared.Head.{Head}
-use Rattle.tallies.specs.Counting.{Counted}
 use Rattle.tallies.specs.declared.Kept.{Kept}
-use Rattle.read_jcal.specs.Judging.{judgedAs}
 use Rattle.read_jcal.specs.laws.Judging.{name-number, frame-number, count-number}
-use Rattle.read_jcal.specs.Kinds.{isThere, isString, isArray, placeIn}
-use Rattle.read_jcal.specs.Arrays.{found, ThreeAt, nameFound, arrayFound}
+use Rattle.read_jcal.specs.Kinds.{isString, isArray, placeIn}
+use Rattle.read_jcal.specs.Arrays.{ThreeAt, nameFound, arrayFound}
 use Rattle.read_jcal.specs.laws.Arrays.{as-string, no-string, as-array, value-array, value-other, value-place, array-read, string-there, array-there, three-first, three-second, three-third, three-others, three-elements, three-in}
 use Rattle.read_jcal.specs.Properties.{statedIn, ListedAt}
 use Rattle.read_jcal.specs.laws.Properties.{first-in}
-use Rattle.read_jcal.specs.Components.{mayAt, Names, isWhole, shapeAs, WholeAt, ShapeFits, ShapeAt, NamedFits, NamedShape, openedAs, OpenedFits, OpenedAt, endOf, around, BehindAt, partOf, PartFits, BegunAt}
-use Rattle.read_jcal.specs.declared.Judged.{Judged}
+use Rattle.read_jcal.specs.Components.{mayAt, Names, isWhole, WholeAt, ShapeFits, ShapeAt, NamedFits, NamedShape, openedAs, OpenedFits, OpenedAt, endOf, around, BehindAt, partOf, PartFits, BegunAt}
 use Rattle.read_jcal.specs.declared.Judged.the-variants.{Fine, Refused}
 use Rattle.read_jcal.specs.declared.Three.{Three}
 use Rattle.read_jcal.specs.declared.Listed.{Listed}

@@ -23,7 +23,7 @@ use Rattle.schema.specs.Completing.{actionNames, actionNumber}
 use Rattle.schema.specs.laws.Sets.{action-place}
 use Rattle.schema.specs.Property as property
 use Rattle.json.specs.Tree.{Json, string, number, literal, array, object, elementList}
-use Rattle.json.specs.Kinds.{asString, firstIn}
+use Rattle.json.specs.Kinds.{asString}
 use Rattle.jcal.specs.Values.{readOne, readValues}
 use Rattle.read_json.specs.TreeAt.{elementsAt, stringAt}
 use Rattle.read_json.specs.Heads.{HeadAt}

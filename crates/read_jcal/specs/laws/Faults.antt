@@ -1,6 +1,6 @@
 -- The fault of a property, by what its elements are.
 --     fault-by     the fault by its name, parameters, type and values
-use mathlib.Core.Path.{_≡_, refl, sym, ap, _∙_}
+use mathlib.Core.Path.{_≡_, refl, ap, _∙_}
 use mathlib.Core.Bool.{Bool, true, false, not}
 use mathlib.Core.List.{List, []}
 use mathlib.Core.Option.{Option, none, some}

@@ -6,7 +6,6 @@ use mathlib.Core.Path.{_≡_, refl}
 use mathlib.Core.Bool.{Bool, true, false, false≢true}
 use Prim.Native.Nat.{ℕ}
 use Rattle.calendar.specs.Refusal.{NAME, FRAME, PARAMETER, VALUE, COUNT, Verdict, fine, refuse, _otherwise_, refusalAt}
-use Rattle.read_jcal.specs.declared.Judged.{Judged}
 use Rattle.read_jcal.specs.declared.Judged.the-variants.{Fine, Refused}
 
 pub name-number : NAME ≡ refusalAt 5

@@ -7,7 +7,7 @@ use Prim.{tt}
 use mathlib.Core.Path.{_≡_, refl, sym, ap, subst, _∙_}
 use mathlib.Core.Bool.{Bool, true, false, not}
 use mathlib.Core.List.{List, [], _∷_}
-use mathlib.Core.Option.{Option, none, some}
+use mathlib.Core.Option.{Option, some}
 use Prim.Native.Nat.{ℕ, _≤_, _<_}
 use lib.Dec.{ltb}
 use lib.ListN.{length}
@@ -21,7 +21,7 @@ use Rattle.octets.specs.Lists.{anyOne}
 use Rattle.octets.specs.Reading.{andThen, isRead, readOr}
 use Rattle.names.specs.Table.{placeOf}
 use Rattle.names.specs.laws.Table.{one-of-place}
-use Rattle.calendar.specs.Calendar.{ValueType, TEXT, Property}
+use Rattle.calendar.specs.Calendar.{Property}
 use Rattle.calendar.specs.Refusal.{NAME, _otherwise_}
 use Rattle.schema.specs.Components.{componentNames, mayStand}
 use Rattle.schema.specs.Properties.{propertyNames, isKnownProperty, isListedProperty}
@@ -38,8 +38,8 @@ use Rattle.json.specs.Tree.{Json, Member, elementList, memberList}
 use Rattle.json.specs.Kinds.{asString, asArray, asObject}
 use Rattle.jcal.specs.Parameters.{parametersGood}
 use Rattle.jcal.specs.Values.{readValues}
-use Rattle.jcal.specs.Property.{nameIn, parametersIn, typeOf, typeIn, valuesIn, isBadProperty, isBadParameter, passes, propertyFault, propertyOf}
-use Rattle.jcal.specs.Components.{at, propertyVerdict, propertiesVerdict}
+use Rattle.jcal.specs.Property.{nameIn, parametersIn, typeOf, typeIn, isBadProperty, isBadParameter, passes, propertyFault, propertyOf}
+use Rattle.jcal.specs.Components.{at, propertiesVerdict}
 use Rattle.read_json.specs.TreeAt.{elementsAt, membersAt, stringAt}
 use Rattle.read_json.specs.Heads.{valueOfHead, HeadAt, NextAt}
 use Rattle.read_json.specs.declared.Head.{Head}
@@ -48,15 +48,14 @@ use Rattle.read_jcal_value.specs.declared.valued.ValuesRead.{ValuesRead}
 use Rattle.read_jcal_value.specs.declared.valued.ValuesRead.the-variants.{Read, Bad as Unread}
 use Rattle.tallies.specs.Counting.{Counted, CountsOn}
 use Rattle.tallies.specs.declared.Kept.{Kept}
-use Rattle.read_jcal.specs.Judging.{judgedAs}
 use Rattle.read_jcal.specs.laws.Judging.{name-number, frame-number, parameter-number, value-number, not-fine}
 use Rattle.read_jcal.specs.Kinds.{isThere, isString, isArray, isObject, placeIn}
-use Rattle.read_jcal.specs.Arrays.{found, Inside, ThreeAt, ThreeIn, nameFound, objectFound, typeFound}
+use Rattle.read_jcal.specs.Arrays.{Inside, ThreeAt, ThreeIn, nameFound, objectFound, typeFound}
 use Rattle.read_jcal.specs.laws.Arrays.{as-string, no-string, as-object, no-object, value-array, value-other, value-place, none-found, list-found, head-inside, next-less, three-first, three-second, three-third, three-others, three-in}
-use Rattle.read_jcal.specs.Types.{namedAs, TypeAt}
+use Rattle.read_jcal.specs.Types.{TypeAt}
 use Rattle.read_jcal.specs.Counting.{WordAt}
 use Rattle.read_jcal.specs.laws.Faults.{fault-by}
-use Rattle.read_jcal.specs.Properties.{valuesFault, knownFault, typedFault, objectFault, shapeFault, faultAs, NumbersOf, StandsAt, Holder, ValuesAt, KnownAt, NamedAt, ShapedAt, PropertyAt, statedIn, EntryFits, ArrayAt, EntryAt, ListedAt}
+use Rattle.read_jcal.specs.Properties.{knownFault, shapeFault, NumbersOf, StandsAt, Holder, ValuesAt, KnownAt, NamedAt, ShapedAt, PropertyAt, statedIn, EntryFits, ArrayAt, EntryAt, ListedAt}
 use Rattle.read_jcal.specs.declared.Judged.the-variants.{Fine, Refused}
 use Rattle.read_jcal.specs.declared.Three.{Three}
 use Rattle.read_jcal.specs.declared.Named.{Named}
@@ -65,7 +64,6 @@ use Rattle.read_jcal.specs.declared.PropertyRead.{PropertyRead}
 use Rattle.read_jcal.specs.declared.PropertyRead.the-variants.{Good, Faulty}
 use Rattle.read_jcal.specs.declared.Entry.{Entry}
 use Rattle.read_jcal.specs.declared.Entry.the-variants.{Stands, Off}
-use Rattle.read_jcal.specs.declared.Listed.{Listed}
 
 number-of : {row : Row} (w : List ℕ) → row ≡ rowAt (placeOf w propertyNames) → row .number ≡ placeOf w propertyNames
 number-of w e = ap (λ (r : Row). r .number) e ∙ number-place w

@@ -6,7 +6,6 @@ use mathlib.Core.Bool.{Bool, true, false}
 use mathlib.Core.List.{List}
 use Prim.Native.Nat.{ℕ, _+_, _*_, _-_, _≤_, _<_}
 use native.Mathlib.Omega.{arith}
-use lib.ListN.{length}
 use borrow.Author.Needs.{needs}
 use Rattle.names.specs.Table.{placeOf}
 use Rattle.calendar.specs.Calendar.{Property}
@@ -28,7 +27,7 @@ use Rattle.tallies.specs.declared.Kept.{Kept}
 use Rattle.read_jcal.specs.Judging.{judgedAs}
 use Rattle.read_jcal.specs.Kinds.{isThere}
 use Rattle.read_jcal.specs.laws.Arrays.{none-found, element-found, head-inside, next-less}
-use Rattle.read_jcal.specs.Components.{mayAt, Names, around, BehindAt, PartFits, BegunAt}
+use Rattle.read_jcal.specs.Components.{Names, around, BehindAt, PartFits, BegunAt}
 use Rattle.read_jcal.specs.Subcomponents.{ComponentAt, CompsAt}
 use Rattle.read_jcal.specs.declared.Judged.{Judged}
 use Rattle.read_jcal.specs.declared.Judged.the-variants.{Fine, Refused}

@@ -29,10 +29,8 @@ use Rattle.jcal.specs.Property.{typeOf}
 use Rattle.read_json.specs.TreeAt.{stringAt}
 use Rattle.read_json.specs.declared.Head.{Head}
 use Rattle.read_jcal.specs.Kinds.{isString}
-use Rattle.read_jcal.specs.laws.Kinds.{kind-string}
 use Rattle.read_jcal.specs.laws.Arrays.{as-string, no-string, string-inside}
 use Rattle.read_jcal.specs.Types.{TypeAt}
-use Rattle.read_jcal.specs.declared.Named.{Named}
 use Rattle.read_jcal.specs.declared.Named.the-variants.{«Type» as Typed, Bad}
 
 -- ---- the type of a word

@@ -1,6 +1,6 @@
 -- Laws of what specs/Digits.antt defines.
 --     worth-is      the digits that are kept, up to the cap, where the others are zeros
---     worth-join    one list after another;   worth-most: never more than the cap
+--     worth-join    one list after another
 --     Walking       the invariant of the loop over digits;   `search walking`
 use mathlib.Core.Path.{_≡_, refl, sym, ap, _∙_}
 use mathlib.Core.Bool.{Bool, true, false}
@@ -88,15 +88,10 @@ next-far cap k b = go (eqb k 0) (eqb b digitZero)
 
 -- ---- all of them
 
-pub worth-far : (cap : ℕ) (s : List ℕ) (k : ℕ) → worthOf cap s k cap ≡ cap
+worth-far : (cap : ℕ) (s : List ℕ) (k : ℕ) → worthOf cap s k cap ≡ cap
 unfolding worthOf
 worth-far cap [] k = refl
 worth-far cap (b ∷ s) k = rw (next-far cap k b) (worth-far cap s (k - 1))
-
-pub worth-most : (cap : ℕ) (s : List ℕ) (k v : ℕ) → v ≤ cap → worthOf cap s k v ≤ cap
-unfolding worthOf
-worth-most cap [] k v h = h
-worth-most cap (b ∷ s) k v h = worth-most cap s (k - 1) (nextWorth cap k v b) (next-most cap k v b h)
 
 pub worth-join : (cap : ℕ) (s t : List ℕ) (k v : ℕ) → worthOf cap (s ⊕ t) k v ≡ worthOf cap t (k - length s) (worthOf cap s k v)
 unfolding worthOf _⊕_

@@ -5,7 +5,7 @@
 --     kinds               what an element is, by its code
 --     Each                the invariant of a loop over elements that each pass a test;   `search eaching`
 use mathlib.Core.Path.{_≡_, refl, sym, ap, subst, _∙_}
-use mathlib.Core.Bool.{Bool, true, false, false≢true}
+use mathlib.Core.Bool.{Bool, true, false}
 use mathlib.Core.List.{List, [], _∷_}
 use mathlib.Core.Option.{Option, none, some}
 use Prim.Native.Nat.{ℕ, _-_, _≤_, _<_}
@@ -138,7 +138,7 @@ module _ (s : List ℕ) (at p n : ℕ) where
   text-by true k h = number-by k ∙ rw (ne-eqb (codeOf k) 2 h)
   text-by false k h = string-by k ∙ rw (ne-eqb (codeOf k) 1 h)
 
-pub some-leaf : (b : Bool) → leafCode b ≡ 0 → ⊥
+some-leaf : (b : Bool) → leafCode b ≡ 0 → ⊥
 some-leaf true h = omega arith
 some-leaf false h = omega arith
 
@@ -226,12 +226,6 @@ module _ {s : List ℕ} {at : ℕ} {h : Head} (t : HeadAt s at h) where
 pub ruleset ends = (end-is, needs)
 
 pub ruleset leafing = (leaf-here, leaf-none, needs)
-
-pub leaf-number : (b : Bool) → b ≡ true → 2 ≡ leafCode b
-leaf-number b h = rw h
-
-pub leaf-string : (b : Bool) → b ≡ false → 1 ≡ leafCode b
-leaf-string b h = rw h
 
 -- ---- what `leaf_at` says
 

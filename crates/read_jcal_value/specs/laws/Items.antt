@@ -2,21 +2,19 @@
 --     each-read        each of a list is read
 --     numbered-at, numbered-beyond    the entries of the code's table
 --     item-number, item-string        an item, by what its part has
---     items-both, items-missing       several items;   part-array, part-alone: with an array or without
+--     items-good, items-bad           several items;   part-array, part-alone: with an array or without
 --     place-found      the number of a name in the table of small letters
 use mathlib.Core.Path.{_≡_, refl, sym, ap, _∙_}
 use mathlib.Core.Bool.{Bool, true, false, false≢true}
 use mathlib.Core.List.{List, [], _∷_, map}
 use mathlib.Core.Option.{Option, none, some}
 use Prim.Native.Nat.{ℕ, suc, _≤_}
-use native.Mathlib.Omega.{arith}
 use lib.Dec.{eqb}
 use lib.ListN.{length, getD, List·getD-map}
 use borrow.Author.Needs.{needs}
 use borrow.Author.Tests.{ne-eqb}
 use Rattle.octets.specs.Ascii.{ascii}
 use Rattle.octets.specs.Pick.{pick, _and_}
-use Rattle.octets.specs.laws.Pick.{and-true}
 use Rattle.octets.specs.Class.{upper, lower}
 use Rattle.octets.specs.laws.Letters.{lower-any-case}
 use Rattle.octets.specs.Words.{same, isEmpty}
@@ -24,9 +22,9 @@ use Rattle.octets.specs.laws.Words.{same-self, same-true}
 use Rattle.octets.specs.Lists.{every}
 use Rattle.octets.specs.laws.Lists.{every-both}
 use Rattle.octets.specs.Reading.{provided, andThen, isRead, readOr, consRead, readEach}
-use Rattle.octets.specs.laws.Reading.{none-some, andThen-some, consRead-some, each-empty}
+use Rattle.octets.specs.laws.Reading.{andThen-some, consRead-some, each-empty}
 use Rattle.octets.specs.Computing.{octets-compute}
-use Rattle.calendar.specs.Calendar.{xcal, RuleItem, RulePart}
+use Rattle.calendar.specs.Calendar.{xcal, RuleItem}
 use Rattle.names.specs.Table.{placeOf, namesIn}
 use Rattle.recur.specs.Parts.{ItemForm, wordOf, enddate, counting, unsigned, signed, weekdaynum, Part, partOf, partTable, partNames, isListed}
 use Rattle.recur.specs.Item.{readForm}
@@ -38,12 +36,12 @@ use Rattle.recur.specs.declared.item.ItemRead.{ItemRead}
 use Rattle.recur.specs.declared.item.ItemRead.the-variants.{Good, Bad}
 use Rattle.recur.specs.laws.PieceLaws.{cons-read}
 use Rattle.json.specs.Tree.{Json, firstOf, elementList}
-use Rattle.json.specs.Kinds.{asString, asNumber, asArray, orAlone}
+use Rattle.json.specs.Kinds.{asString, asNumber}
 use Rattle.jcal.specs.Values.{itemText, readItem, readItems}
 use Rattle.read_json.specs.TreeAt.{elementsAt}
 use Rattle.read_json.specs.Heads.{valueOfHead, HeadAt, NextAt}
 use Rattle.read_json.specs.declared.Head.{Head}
-use Rattle.read_jcal_value.specs.Elements.{codeOf, stringOf, numberOf, arrayOf}
+use Rattle.read_jcal_value.specs.Elements.{codeOf, stringOf, numberOf}
 use Rattle.read_jcal_value.specs.laws.Elements.{array-by, list-over, list-more, first-value, stands-head}
 use Rattle.read_jcal_value.specs.Items.{numbered, isNumbered, itemIn, amounts, itemsIn, partIn, partPlace}
 

@@ -5,8 +5,8 @@
 use mathlib.Core.Path.{_≡_, refl, sym, ap, subst, _∙_}
 use mathlib.Core.Bool.{Bool, true, false, not, cond, false≢true}
 use mathlib.Core.List.{List, [], _∷_, map}
-use mathlib.Core.Option.{Option, none, some, Option·map}
-use Prim.Native.Nat.{ℕ, zero, suc, _-_, _≤_, _<_}
+use mathlib.Core.Option.{Option, none, some}
+use Prim.Native.Nat.{ℕ, zero, suc, _-_, _<_}
 use native.Mathlib.Omega.{arith}
 use lib.Dec.{eqb}
 use lib.ListN.{length, getD}
@@ -24,7 +24,7 @@ use Rattle.octets.specs.Lists.{distinct}
 use Rattle.octets.specs.Reading.{provided, andThen, isRead, consRead, readEach}
 use Rattle.octets.specs.laws.Reading.{none-some, provided-some, andThen-some, consRead-some}
 use Rattle.octets.specs.Computing.{octets-compute}
-use Rattle.calendar.specs.Calendar.{RuleItem, RulePart, recur}
+use Rattle.calendar.specs.Calendar.{RulePart, recur}
 use Rattle.names.specs.Table.{placeOf, nth}
 use Rattle.names.specs.laws.Table.{row-place}
 use Rattle.recur.specs.Parts.{Part, partOf, partTable, partNames}
@@ -33,7 +33,7 @@ use Rattle.recur.specs.laws.Fits.{part-at, provided-is}
 use Rattle.recur.specs.laws.PieceLaws.{cons-read}
 use Rattle.recur.specs.laws.Whole.{part-same}
 use Rattle.values.specs.laws.ValueAt.{mapped}
-use Rattle.json.specs.Tree.{Json, Member, noMembers, member, firstOf, memberList}
+use Rattle.json.specs.Tree.{Member, firstOf, memberList}
 use Rattle.json.specs.Kinds.{orAlone}
 use Rattle.jcal.specs.Values.{readItem, readItems, readPart, readRecur}
 use Rattle.read_json.specs.TreeAt.{elementsAt, membersAt, stringAt}

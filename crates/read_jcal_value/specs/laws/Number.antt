@@ -9,17 +9,15 @@ use mathlib.Core.Bool.{Bool, true, false}
 use mathlib.Core.List.{List, [], _∷_}
 use mathlib.Core.Option.{Option, none, some}
 use Prim.Native.Nat.{ℕ, zero, suc, _+_, _-_, _*_, _^_, _≤_, _<_, min}
-use native.Mathlib.Nat.{mul-le-mul-left, mul-le-mul-right, mul-one}
+use native.Mathlib.Nat.{mul-le-mul-left, mul-le-mul-right}
 use native.Mathlib.Omega.{arith}
 use native.Mathlib.Decide.{decLe}
 use lib.Dec.{eqb, ltb, leb}
-use lib.Pow.{pow-pos}
 use lib.ListN.{length, getD, take, drop, length-drop, drop-of-length-le}
 use lib.Seq.{take-all, take-take, length-take-le}
 use borrow.Author.Needs.{needs}
-use borrow.Author.Tests.{eq-eqb, ne-eqb, eqb-true, eqb-false, lt-ltb, le-ltb, ltb-true, ltb-false, le-leb, lt-leb, leb-true, leb-false}
+use borrow.Author.Tests.{eq-eqb, ne-eqb, eqb-true, eqb-false, lt-ltb, le-ltb, le-leb, lt-leb, leb-true, leb-false}
 use Rattle.octets.specs.Pick.{pick, _and_, _or_}
-use Rattle.octets.specs.laws.Pick.{flag-yes, flag-no}
 use Rattle.octets.specs.Scan.{allOf}
 use Rattle.octets.specs.Append.{_⊕_}
 use Rattle.octets.specs.laws.Append.{length-both}
@@ -31,11 +29,11 @@ use Rattle.numbers.specs.Sign.{hasMinus, afterSign}
 use Rattle.numbers.specs.Integer.{most, integerOf}
 use Rattle.numbers.specs.ReadInteger.{wholeIs}
 use Rattle.source.specs.Source.{rest}
-use Rattle.source.specs.laws.Facts.{rest-byte, rest-past, rest-part, plain-byte, cut-is, reach-other}
+use Rattle.source.specs.laws.Facts.{rest-byte, rest-past, plain-byte, cut-is, reach-other}
 use Rattle.json.specs.Bytes.{digitZero, isE}
 use Rattle.jcal.specs.Integer.{isPoint, int, frac, exp, raised, lowered, moved, readNumber}
 use Rattle.read_jcal_value.specs.Digits.{worthOf, Worth}
-use Rattle.read_jcal_value.specs.laws.Digits.{worth-is, worth-join, worth-most}
+use Rattle.read_jcal_value.specs.laws.Digits.{worth-is, worth-join}
 use Rattle.read_jcal_value.specs.Number.{far, keptOf, upOf, raisedTo, worthBy, magnitudeOf, signedTo, markOf, MarkAt, SignAt, ExponentAt, Power, Most}
 use Rattle.read_jcal_value.specs.declared.number.Exponent.{Exponent}
 

@@ -2,21 +2,19 @@
 --     typed-is             it is the value of the type of the number
 --     leaves               the rules of the readers of a string, and of bytes
 --     periods, geos, statuses    the rules of the readers of these arrays
-use mathlib.Core.Path.{_≡_, refl, sym, ap, _∙_}
+use mathlib.Core.Path.{_≡_, refl, sym, _∙_}
 use mathlib.Core.Bool.{Bool, true, false, false≢true}
 use mathlib.Core.List.{List, [], _∷_}
 use mathlib.Core.Option.{Option, none, some, Option·map}
 use Prim.Native.Nat.{ℕ, zero, suc, _≤_}
 use native.Mathlib.Omega.{arith}
-use lib.Dec.{eqb}
-use lib.ListN.{length}
 use borrow.Author.Needs.{needs}
 use borrow.Author.Tests.{ne-eqb}
 use Rattle.octets.specs.Pick.{pick}
 use Rattle.octets.specs.Words.{isEmpty}
 use Rattle.octets.specs.Reading.{andThen, isRead, consRead, readEach}
 use Rattle.octets.specs.Computing.{octets-compute}
-use Rattle.calendar.specs.Calendar.{ical, xcal, BOOLEAN, DATE-TIME, DURATION, FLOAT, Decimal, Value, dateTime, duration, float, integer, periodExplicit, periodStart, geo}
+use Rattle.calendar.specs.Calendar.{ical, xcal, BOOLEAN, Decimal, Value, dateTime, duration, float, periodExplicit, periodStart, geo}
 use Rattle.times.specs.DateTime.{readDateTime}
 use Rattle.times.specs.Duration.{readDuration}
 use Rattle.numbers.specs.Float.{readFloat}
@@ -27,11 +25,11 @@ use Rattle.schema.specs.Numbers.{typeAt}
 use Rattle.recur.specs.Item.{orOther}
 use Rattle.values.specs.ReadValue.{readValue}
 use Rattle.values.specs.ValueAt.{valueRead, isReadAt}
-use Rattle.values.specs.laws.ValueAt.{good-yes, good-no, value-plain, value-there, mapped}
+use Rattle.values.specs.laws.ValueAt.{good-yes, good-no, value-plain, value-there}
 use Rattle.values.specs.declared.ValueRead.{ValueRead}
 use Rattle.values.specs.declared.ValueRead.the-variants.{Good, Bad}
 use Rattle.json.specs.Tree.{Json, string, number, elementList}
-use Rattle.json.specs.Kinds.{asString, asNumber}
+use Rattle.json.specs.Kinds.{asString}
 use Rattle.jcal.specs.Integer.{readNumber}
 use Rattle.jcal.specs.Values.{periodFrom, readPeriod, readTyped, readGeo, readStatus}
 use Rattle.read_json.specs.TreeAt.{elementsAt, stringAt, wordAt}

@@ -1,7 +1,7 @@
 -- Laws of what specs/Values.antt defines.
 --     one-in       an element by its head, and by its JSON value
 --     values-as    the values of a property, by numbers and by names
---     chosing, valuing    the rules of the code
+--     set-word, set-none    a word of a closed set;   answering: the rules of `values_read`
 use mathlib.Core.Path.{_≡_, refl, sym, ap, _∙_}
 use mathlib.Core.Bool.{Bool, true, false}
 use mathlib.Core.List.{List, [], _∷_}
@@ -9,16 +9,13 @@ use mathlib.Core.Option.{Option, none, some}
 use Prim.Native.Nat.{ℕ, _≤_}
 use lib.Dec.{eqb}
 use borrow.Author.Needs.{needs}
-use Rattle.octets.specs.Ascii.{ascii}
 use Rattle.octets.specs.Pick.{pick, _and_}
-use Rattle.octets.specs.Words.{same}
 use Rattle.octets.specs.Lists.{every}
 use Rattle.octets.specs.Reading.{andThen, isRead, readEach}
 use Rattle.calendar.specs.Calendar.{text}
 use Rattle.names.specs.Table.{placeOf}
-use Rattle.schema.specs.Types.{isTypeOf}
 use Rattle.schema.specs.Components.{componentNames}
-use Rattle.schema.specs.Properties.{propertyNames, permittedTypes, propertyWords}
+use Rattle.schema.specs.Properties.{propertyNames}
 use Rattle.schema.specs.Numbers.{typeAt}
 use Rattle.schema.specs.Coded.{rowAt}
 use Rattle.schema.specs.Columns.{permitsType}
@@ -32,14 +29,12 @@ use Rattle.schema.specs.declared.table.Row.{Row}
 use Rattle.schema.specs.declared.WordRead.{WordRead}
 use Rattle.schema.specs.declared.WordRead.the-variants.{At, NoWord}
 use Rattle.recur.specs.laws.Fits.{provided-is}
-use Rattle.json.specs.Tree.{Json, elementList}
+use Rattle.json.specs.Tree.{Json}
 use Rattle.json.specs.Kinds.{asArray}
-use Rattle.jcal.specs.Values.{readTyped, readGeo, readChosen, readOne, readValues}
-use Rattle.read_json.specs.TreeAt.{elementsAt}
+use Rattle.jcal.specs.Values.{readGeo, readChosen, readOne, readValues}
 use Rattle.read_json.specs.Heads.{valueOfHead}
 use Rattle.read_json.specs.declared.Head.{Head}
 use Rattle.read_jcal_value.specs.Elements.{stringOf, arrayOf}
-use Rattle.read_jcal_value.specs.Typed.{typedIn}
 use Rattle.read_jcal_value.specs.laws.Typed.{typed-is}
 use Rattle.read_jcal_value.specs.laws.Items.{each-read}
 use Rattle.read_jcal_value.specs.Values.{readStrings, readWordIn, chosenIn, oneIn, oneAt, valuesIn, areRead}

@@ -1,5 +1,4 @@
 -- `read_jcal_value::is_mark` meets its contract.
-use mathlib.Core.Path.{refl}
 use Rattle.octets.specs.Pick.{_or_}
 use borrow.Author.Needs.{needs}
 use Rattle.read_jcal_value.specs.laws.Number.{mark-point, mark-letter}
