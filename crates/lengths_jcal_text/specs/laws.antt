@@ -6,7 +6,7 @@
 --     Numbers     numbers and truth values
 --     Rules, Values, Parameters    the text of a value, of a recurrence rule, of parameters
 --     Lines       the content line of a property, and the lines of properties
---     Texts       the text of a jCal text
+--     Streams     the text of a jCal text
 pub mod Sizes
 pub mod Tokens
 pub mod Strings
@@ -16,4 +16,4 @@ pub mod Rules
 pub mod Values
 pub mod Parameters
 pub mod Lines
-pub mod Texts
+pub mod Streams

@@ -1,6 +1,7 @@
 -- The length of the text of a jCal text that is accepted grows no faster than the jCal's; and a room for one content line is large enough, accepted or not.
 --     text-bound    `rate` bytes for each byte of the jCal;   text-fits: an output that has them is long enough;   text-short: of a jCal text within the limit
 --     lines-fit     each content line
+--     jcal-text-short    the text of a jCal text whose whole verdict is fine
 use mathlib.Core.Path.{_≡_, refl, ap}
 use mathlib.Core.Bool.{Bool, true, false, false≢true}
 use mathlib.Core.List.{List, [], _∷_, map}
@@ -9,7 +10,7 @@ use Prim.Native.Nat.{ℕ, zero, suc, _+_, _-_, _*_, _^_, _≤_, _<_}
 use native.Mathlib.Omega.{arith}
 use lib.Dec.{ltb, leb}
 use lib.ListN.{length}
-use borrow.Author.Tests.{le-leb}
+use borrow.Author.Tests.{le-leb, leb-true}
 use Rattle.octets.specs.Ascii.{ascii}
 use Rattle.octets.specs.Pick.{pick, _and_}
 use Rattle.octets.specs.laws.Pick.{pick-either, and-both, and-yes}
@@ -20,21 +21,24 @@ use Rattle.octets.specs.Reading.{andThen, isRead, readOr}
 use Rattle.octets.specs.laws.Reading.{andThen-some}
 use Rattle.calendar.specs.Calendar.{Property, Components, noMore, component}
 use Rattle.calendar.specs.Levels.{levels, shallow}
-use Rattle.calendar.specs.Refusal.{Refusal, NAME, FRAME, COUNT, fine}
+use Rattle.calendar.specs.Refusal.{Refusal, LENGTH, NAME, FRAME, JSON, fine, characters, _otherwise_}
 use Rattle.calendar.specs.laws.Refusal.{refused-not}
 use Rattle.schema.specs.Components.{mayContain}
+use Rattle.utf8.specs.Utf8.{firstBad}
 use Rattle.edition.specs.declared.Edition.{Edition}
 use Rattle.validity.specs.ValidCalendar.{atTop}
 use Rattle.text.specs.WriteText.{contentLineOf, propertyLines, beginLine, endLine, writeCalendar}
 use Rattle.read_text_line.specs.Decoded.{writeLine}
-use Rattle.xcal.specs.laws.Accepted.{both-fine}
+use Rattle.xcal.specs.laws.Accepted.{both-fine, test-fine}
 use Rattle.json.specs.Bytes.{mostOpen}
 use Rattle.json.specs.Check.{verdict}
 use Rattle.json.specs.Tree.{Json, string, number, literal, array, object, Elements, noElements, element, elementList, valueOf}
 use Rattle.json.specs.Kinds.{asArray, nth}
-use Rattle.json.specs.declared.Checked.the-variants.{Fine}
+use Rattle.json.specs.declared.Checked.{Checked}
+use Rattle.json.specs.declared.Checked.the-variants.{Fine, At}
 use Rattle.jcal.specs.Property.{nameIn, isBadName, passes, propertyOf}
 use Rattle.jcal.specs.Components.{at, propertiesVerdict, componentName, propertyArrays, componentArrays, readProperties, isComponent, componentFault, methodInside, isComplete, componentsVerdict, componentVerdict, innerVerdict, arrayVerdict, readComponents, readInside, readInner, readArray, readCalendars, streamIn, isStream, calendarsIn}
+use Rattle.jcal.specs.ReadJcal.{json, jcalVerdict}
 use Rattle.jcal.specs.laws.PropertyAccepted.{past-fault, last-fault}
 use Rattle.lengths_jcal_text.specs.Fitting.{lineFits, headFits, fits}
 use Rattle.lengths_jcal_text.specs.laws.Sizes.{size, size-some, sizes, total, elements-total, as-array, array-size, sizeIn, split-size}
@@ -166,9 +170,6 @@ text-size : (s : List ℕ) → verdict mostOpen s ≡ Fine → sizes (calendarsI
 text-size s c = omega (arith, calendars-size (valueOf s), checked-size mostOpen s c)
 
 module _ (ed : Edition) (s : List ℕ) (c : verdict mostOpen s ≡ Fine) where
-  abbrev calendars : Components
-  calendars = readCalendars (calendarsIn (valueOf s))
-
   module _ (f : componentsVerdict ed (calendarsIn (valueOf s)) atTop levels false ≡ fine) where
     pub text-bound : length (writeCalendar ed (readCalendars (calendarsIn (valueOf s)))) ≤ rate * length s
     text-bound = omega (arith, shallow-length ed (readComponents (calendarsIn (valueOf s))) levels, components-length ed (calendarsIn (valueOf s)) atTop levels false f, text-size s c)
@@ -242,3 +243,17 @@ module _ (ed : Edition) where
 
   pub lines-fit : (s : List ℕ) → verdict mostOpen s ≡ Fine → length s ≤ 65535 → fits ed 262144 (readCalendars (calendarsIn (valueOf s))) ≡ true
   lines-fit s c h = shallow-fits (readComponents (calendarsIn (valueOf s))) levels (components-fit (calendarsIn (valueOf s)) (omega (arith, text-size s c)))
+
+-- ---- the whole verdict
+
+json-fine : (c : Checked) → json c ≡ fine → c ≡ Fine
+json-fine Fine h = refl
+json-fine (At p) h = refused-not JSON p h
+
+pub jcal-text-short : (ed : Edition) (s : List ℕ) → jcalVerdict ed s ≡ fine → length (writeCalendar ed (readCalendars (calendarsIn (valueOf s)))) < 2 ^ 32
+unfolding jcalVerdict
+jcal-text-short ed s h =
+    let a = test-fine (leb (length s) 65535) _ LENGTH 0 h in
+    let b = both-fine (characters (firstBad s)) _ (a .1) in
+    let c = both-fine (json (verdict mostOpen s)) _ (b .1) in
+    text-short ed s (json-fine (verdict mostOpen s) (c .0)) (c .1) (leb-true (length s) 65535 (a .0))
