@@ -17,7 +17,7 @@ ghost use Rattle.json.specs.Tree.{valueOf};
 ghost use Rattle.jcal.specs.Components.{readCalendars, calendarsIn};
 ghost use Rattle.read_json.specs.TreeAt.{elementsAt};
 ghost use Rattle.write_text_pieces.specs.Filled.{calendarRoom, PutBy};
-ghost use Rattle.write_text_jcal.specs.Fitting.{fits};
+ghost use Rattle.lengths_jcal_text.specs.Fitting.{fits};
 ghost use Rattle.write_text_jcal.specs.Calendars.{isArrayFirst, calendarOf};
 
 // The text's value, whose content begins at `inside` where it is an array, is a stream.

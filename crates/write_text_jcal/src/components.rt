@@ -28,7 +28,7 @@ ghost use Rattle.jcal.specs.Components.{readComponents, readProperties, streamI
 ghost use Rattle.read_json.specs.TreeAt.{elementsAt};
 ghost use Rattle.write_text_pieces.specs.Filled.{calendarRoom, PutBy};
 ghost use Rattle.write_text_jcal_values.specs.Elements.{without};
-ghost use Rattle.write_text_jcal.specs.Fitting.{headFits, fits};
+ghost use Rattle.lengths_jcal_text.specs.Fitting.{headFits, fits};
 ghost use Rattle.write_text_jcal.specs.Walks.{nameOf, headText, headRoom};
 
 // The line of `word` and the name from the cursor `c` on in capitals.

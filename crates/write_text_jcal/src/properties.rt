@@ -18,7 +18,7 @@ ghost use Rattle.text.specs.WriteText.{propertyLines};
 ghost use Rattle.read_json.specs.TreeAt.{elementsAt};
 ghost use Rattle.write_text_pieces.specs.Filled.{propertiesRoom, PutBy};
 ghost use Rattle.write_text_jcal.specs.Content.{lineText};
-ghost use Rattle.write_text_jcal.specs.Fitting.{lineFits};
+ghost use Rattle.lengths_jcal_text.specs.Fitting.{lineFits};
 ghost use Rattle.write_text_jcal.specs.Walks.{propertiesOf};
 
 // The line of the property whose array's content begins at `inside`, in the component of the number `k`.

@@ -35,7 +35,7 @@ use Rattle.lengths_jcal.specs.laws.Streams.{jcal-short}
 use Rattle.lengths_text.specs.laws.Documents.{text-short}
 use Rattle.lengths_jcal_text.specs.laws.Streams.{jcal-text-short}
 use Rattle.places.specs.laws.Documents.{document-place}
-use Rattle.lengths_jcal_text.specs.laws.Places.{jcal-place}
+use Rattle.places.specs.laws.Streams.{jcal-place-small}
 use Rattle.calls.specs.Conversion.{result, fault, converted, Outcome, written, refusal, numbers, outcome}
 use Rattle.calls.specs.ToXml.{toXml, toXmlOutcome}
 use Rattle.calls.specs.ToText.{toText, toTextOutcome}
@@ -142,7 +142,7 @@ jcal-in-edition-small ed s d = go (jcalVerdict ed s) refl
   where
     go : (v : Verdict) → jcalVerdict ed s ≡ v → numbers (outcome (converted (writeCalendar ed) (answer v (readCalendars (calendarsIn (valueOf s))))) (length d)) .1 < 4294967296
     go fine e = result-small (writeCalendar ed (readCalendars (calendarsIn (valueOf s)))) (length d) (jcal-text-short ed s e)
-    go (refuse r p) e = omega (arith, jcal-place ed s e)
+    go (refuse r p) e = omega (arith, jcal-place-small ed s e)
 
 pub jcal-to-text-small : (s d : List ℕ) (edition : ℕ) → numbers (jcalToTextOutcome s d edition) .1 < 4294967296
 unfolding jcalToText

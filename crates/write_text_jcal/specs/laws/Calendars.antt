@@ -31,7 +31,7 @@ use Rattle.write_text_pieces.specs.Filled.{calendarRoom, PutBy}
 use Rattle.write_text_jcal_values.specs.Elements.{listAt, isArray, without}
 use Rattle.write_text_jcal_values.specs.laws.Elements.{head-first, nth-first}
 use Rattle.write_text_jcal.specs.Calendars.{isArrayFirst, calendarOf}
-use Rattle.write_text_jcal.specs.Fitting.{headFits, fits}
+use Rattle.lengths_jcal_text.specs.Fitting.{headFits, fits}
 use Rattle.write_text_jcal.specs.laws.Fitting.{head-parts, fits-parts}
 use Rattle.write_text_jcal.specs.Walks.{nameOf, headText, headRoom}
 use Rattle.write_text_jcal.specs.laws.Walks.{array-list, inside-is, inner-is, shallow-more, component-parts, component-room}

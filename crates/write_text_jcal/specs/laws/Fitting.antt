@@ -15,7 +15,7 @@ use Rattle.calendar.specs.Calendar.{Property, Components, component}
 use Rattle.read_text_line.specs.Decoded.{writeLine}
 use Rattle.text.specs.WriteText.{contentLineOf}
 use Rattle.edition.specs.declared.Edition.{Edition}
-use Rattle.write_text_jcal.specs.Fitting.{lineFits, headFits, fits}
+use Rattle.lengths_jcal_text.specs.Fitting.{lineFits, headFits, fits}
 
 module _ (ed : Edition) (n : ℕ) where
   pub line-within : (p : Property) → lineFits ed n p ≡ true → length (writeLine ed (contentLineOf p)) ≤ n

@@ -54,7 +54,7 @@ use Rattle.write_text_jcal_values.specs.laws.Elements.{there-is, there-behind, 
 use Rattle.write_text_jcal.specs.laws.Context.{name-is}
 use Rattle.write_text_jcal.specs.Content.{lineText}
 use Rattle.write_text_jcal.specs.laws.Content.{component-place}
-use Rattle.write_text_jcal.specs.Fitting.{lineFits, headFits, fits}
+use Rattle.lengths_jcal_text.specs.Fitting.{lineFits, headFits, fits}
 use Rattle.write_text_jcal.specs.laws.Fitting.{line-within, head-parts, fits-parts}
 use Rattle.write_text_jcal.specs.Walks.{propertiesOf, nameOf, headText, headRoom}
 

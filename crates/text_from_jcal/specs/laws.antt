@@ -1,0 +1,3 @@
+-- Laws. jCal to canonical iCalendar text.
+--     Steps  laws of the steps of the code
+pub mod Steps
