@@ -31,8 +31,7 @@ extern "C" {
  * does not measure the result before it writes it. */
 #define MALLETTRITON_XML_MOST(n) (19 * (size_t)(n) + 109)
 #define MALLETTRITON_JCAL_MOST(n) (19 * (size_t)(n) + 2)
-#define MALLETTRITON_TEXT_MOST(n) (6 * (size_t)(n))
-#define MALLETTRITON_JCAL_TEXT_MOST(n) (16 * (size_t)(n))
+#define MALLETTRITON_TEXT_MOST(n) (6 * (size_t)(n)) /* of a document, and of jCal */
 
 /* What an answer's number says, and what its value is then. Places count bytes of the input from 0; a line's place is the first of its
  * bytes that unfolding keeps, and so is that of a parameter's name or of a value (of an empty one it is the CR at the line's end); a

@@ -53,14 +53,9 @@ pub const fn longest_jcal(length: usize) -> usize {
     19 * length + 2
 }
 
-/// How long the text of a document of `length` bytes can be; as [`longest_xml`].
+/// How long the text of a document, or of jCal, of `length` bytes can be; as [`longest_xml`].
 pub const fn longest_text(length: usize) -> usize {
     6 * length
-}
-
-/// How long the text of jCal of `length` bytes can be; as [`longest_xml`].
-pub const fn longest_text_of_jcal(length: usize) -> usize {
-    16 * length
 }
 
 /// An edition of iCalendar text. The discriminants are the numbers that the library takes.
@@ -287,8 +282,8 @@ pub fn to_text(input: &[u8], edition: Edition) -> Result<Vec<u8>, Refusal> {
 
 /// Converts the jCal text `input` to canonical iCalendar text.
 ///
-/// It allocates an output of [`longest_text_of_jcal`] bytes, and gives back what the result does not fill. Allow it 1,200 kB of stack. To use a buffer over and over, call [`jcal_to_text_into`].
+/// It allocates an output of [`longest_text`] bytes, and gives back what the result does not fill. Allow it 1,200 kB of stack. To use a buffer over and over, call [`jcal_to_text_into`].
 pub fn jcal_to_text(input: &[u8], edition: Edition) -> Result<Vec<u8>, Refusal> {
     let length = if input.len() <= LONGEST { input.len() } else { 0 };
-    in_a_vec(longest_text_of_jcal(length), |out| jcal_to_text_into(input, out, edition))
+    in_a_vec(longest_text(length), |out| jcal_to_text_into(input, out, edition))
 }

@@ -11,9 +11,9 @@ fn convert(input: &[u8], out: &mut [u8]) {
     say_answer(a, out);
 }
 
-// An output with 16 bytes for each byte of the longest input: no text is longer (lengths_jcal_text/specs/laws/Streams.antt).
+// An output with 6 bytes for each byte of the longest input: no text is longer (lengths_jcal_text/specs/laws/Streams.antt).
 fn with_room(input: &[u8]) {
-    let mut out = [0u8; 1048576];
+    let mut out = [0u8; 393216];
     convert(input, &mut out);
 }
 

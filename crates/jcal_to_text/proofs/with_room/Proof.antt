@@ -8,7 +8,7 @@ use Rattle.jcal_to_text.proofs.with_room.Tie as tie
 
 pub with-room-spec : {M : Type 1} → statement M
 with-room-spec = tie.close (tie.spec
-    (λ c. sym (length-replicate {A = ℕ} 1048576 0))  -- slice-aggregate-convert
+    (λ c. sym (length-replicate {A = ℕ} 393216 0))  -- slice-aggregate-convert
     (λ c κs. search needs)  -- convert-requires
     (λ c. search needs)  -- returns
     )

@@ -1,7 +1,7 @@
 -- The length of the text of a jCal text that is accepted grows no faster than the jCal's; and a room for one content line is large enough, accepted or not.
 --     text-bound    `rate` bytes for each byte of the jCal;   text-fits: an output that has them is long enough;   text-short: of a jCal text within the limit
 --     lines-fit     each content line
---     jcal-text-short    the text of a jCal text whose whole verdict is fine
+--     jcal-text-bound, jcal-text-short    the text of a jCal text whose whole verdict is fine
 use mathlib.Core.Path.{_≡_, refl, ap}
 use mathlib.Core.Bool.{Bool, true, false, false≢true}
 use mathlib.Core.List.{List, [], _∷_, map}
@@ -257,3 +257,11 @@ jcal-text-short ed s h =
     let b = both-fine (characters (firstBad s)) _ (a .1) in
     let c = both-fine (json (verdict mostOpen s)) _ (b .1) in
     text-short ed s (json-fine (verdict mostOpen s) (c .0)) (c .1) (leb-true (length s) 65535 (a .0))
+
+pub jcal-text-bound : (ed : Edition) (s : List ℕ) → jcalVerdict ed s ≡ fine → length (writeCalendar ed (readCalendars (calendarsIn (valueOf s)))) ≤ 6 * length s
+unfolding jcalVerdict
+jcal-text-bound ed s h =
+    let a = test-fine (leb (length s) 65535) _ LENGTH 0 h in
+    let b = both-fine (characters (firstBad s)) _ (a .1) in
+    let c = both-fine (json (verdict mostOpen s)) _ (b .1) in
+    text-bound ed s (json-fine (verdict mostOpen s) (c .0)) (c .1)
