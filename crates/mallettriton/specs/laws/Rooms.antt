@@ -1,5 +1,5 @@
 -- An output that is long enough for every input of a length: the call never answers ROOM.
---     xml-room, jcal-room, text-room
+--     xml-room, jcal-room, text-room, text-of-jcal-room
 use mathlib.Core.Path.{_≡_}
 use mathlib.Core.List.{List}
 use Prim.Native.Nat.{ℕ, _+_, _*_, _≤_}
