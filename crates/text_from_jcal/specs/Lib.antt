@@ -1,5 +1,5 @@
 -- jCal to canonical iCalendar text.
---     Steps    what the steps of the code give
---     laws     laws of these, and what proofs need
+--     Steps   what the steps of the call give
+--     laws    laws of these, and what proofs need
 pub mod Steps
 pub mod laws

@@ -1,3 +1,3 @@
 -- Laws. jCal to canonical iCalendar text.
---     Steps  laws of the steps of the code
+--     Steps   what the steps of the call give
 pub mod Steps

@@ -17,45 +17,46 @@ ghost use mathlib.Core.Bool.{true, false};
 ghost use Prim.Native.Nat.{_*_, _≤_};
 ghost use lib.ListN.{length};
 ghost use Rattle.calendar.specs.Levels.{levels};
-ghost use Rattle.calendar.specs.Refusal.{characters, fine, _otherwise_};
+ghost use Rattle.calendar.specs.Refusal.{characters, fine, answer, _otherwise_};
 ghost use Rattle.utf8.specs.Utf8.{firstBad};
 ghost use Rattle.validity.specs.ValidCalendar.{atTop};
+ghost use Rattle.text.specs.WriteText.{writeCalendar};
 ghost use Rattle.json.specs.Bytes.{mostOpen};
 ghost use Rattle.json.specs.Check.{verdict};
 ghost use Rattle.json.specs.Tree.{valueOf};
 ghost use Rattle.json.specs.declared.Checked.the-variants.{Fine};
-ghost use Rattle.text.specs.WriteText.{writeCalendar};
 ghost use Rattle.jcal.specs.Components.{componentsVerdict, readCalendars, calendarsIn};
 ghost use Rattle.jcal.specs.ReadJcal.{json};
-ghost use Rattle.lengths_jcal_text.specs.Fitting.{fits};
+ghost use Rattle.calls.specs.Conversion.{converted};
 ghost use Rattle.calls.specs.Answered.{outcomeOf, Done};
 ghost use Rattle.calls_jcal.specs.JcalToText.{jcalToTextOutcome, jcalToTextOutput};
+ghost use Rattle.lengths_jcal_text.specs.Fitting.{fits};
 ghost use Rattle.text_from_jcal.specs.Steps.{jcalGives};
 
-// The text of the calendars of `s`, where there is certainly room for it. `line` is the room for a line.
+// The text of the calendars, where there is certainly room for it. `line` is the room for a line.
 fn written_at_once(edition: Edition, s: &[u8], line: &mut [u8], out: &mut [u8]) -> Answer
     requires { ⌜
         (length (now s) ≤ 65535)
-        × (length (now line) ≡ 262144)
-        × (fits edition 262144 (readCalendars (calendarsIn (valueOf (now s)))) ≡ true)
+        × (fits edition (length (now line)) (readCalendars (calendarsIn (valueOf (now s)))) ≡ true)
         × (length (writeCalendar edition (readCalendars (calendarsIn (valueOf (now s))))) ≤ 6 * length (now s))
         × (6 * length (now s) ≤ length (now out)) ⌝ }
     ensures { λ r. ⌜
-        Done (jcalGives edition (now (s .entry)) fine) (now (out .entry)) (now (out .exit)) r ⌝ }
+        Done (converted (writeCalendar edition)
+        (answer fine (readCalendars (calendarsIn (valueOf (now (s .entry))))))) (now (out .entry)) (now (out .exit)) r ⌝ }
 {
     let n = put_calendars(out, 0, edition, line, s);
     Answer::Written(n)
 }
 
-// The text of the calendars of `s`: first how long it is, then, if there is room, all of it.
+// The text of the calendars: first how long it is, then, if there is room, all of it.
 fn measured(edition: Edition, s: &[u8], line: &mut [u8], out: &mut [u8]) -> Answer
     requires { ⌜
         (length (now s) ≤ 65535)
-        × (length (now line) ≡ 262144)
-        × (fits edition 262144 (readCalendars (calendarsIn (valueOf (now s)))) ≡ true)
+        × (fits edition (length (now line)) (readCalendars (calendarsIn (valueOf (now s)))) ≡ true)
         × (length (writeCalendar edition (readCalendars (calendarsIn (valueOf (now s))))) ≤ 6 * length (now s)) ⌝ }
     ensures { λ r. ⌜
-        Done (jcalGives edition (now (s .entry)) fine) (now (out .entry)) (now (out .exit)) r ⌝ }
+        Done (converted (writeCalendar edition)
+        (answer fine (readCalendars (calendarsIn (valueOf (now (s .entry))))))) (now (out .entry)) (now (out .exit)) r ⌝ }
 {
     let need = put_calendars(&mut out[..0], 0, edition, line, s);
     if need <= out.len() {
@@ -65,15 +66,15 @@ fn measured(edition: Edition, s: &[u8], line: &mut [u8], out: &mut [u8]) -> Answ
     Answer::Needs(need)
 }
 
-// The text of the calendars of `s`: it has no more than 6 bytes for each byte of the jCal.
+// The text of the calendars: it has no more than 6 bytes for each byte of the jCal.
 fn written(edition: Edition, s: &[u8], line: &mut [u8], out: &mut [u8]) -> Answer
     requires { ⌜
         (length (now s) ≤ 65535)
-        × (length (now line) ≡ 262144)
-        × (fits edition 262144 (readCalendars (calendarsIn (valueOf (now s)))) ≡ true)
+        × (fits edition (length (now line)) (readCalendars (calendarsIn (valueOf (now s)))) ≡ true)
         × (length (writeCalendar edition (readCalendars (calendarsIn (valueOf (now s))))) ≤ 6 * length (now s)) ⌝ }
     ensures { λ r. ⌜
-        Done (jcalGives edition (now (s .entry)) fine) (now (out .entry)) (now (out .exit)) r ⌝ }
+        Done (converted (writeCalendar edition)
+        (answer fine (readCalendars (calendarsIn (valueOf (now (s .entry))))))) (now (out .entry)) (now (out .exit)) r ⌝ }
 {
     let most = 6 * s.len();
     if most <= out.len() {
@@ -82,20 +83,21 @@ fn written(edition: Edition, s: &[u8], line: &mut [u8], out: &mut [u8]) -> Answe
     measured(edition, s, line, out)
 }
 
-// The same with a room for a line of its own: no content line of a jCal text within the limit is longer.
+// The same with a room for a line of its own: a content line of a jCal text within the limit is shorter.
 fn lined(edition: Edition, s: &[u8], out: &mut [u8]) -> Answer
     requires { ⌜
         (length (now s) ≤ 65535)
         × (fits edition 262144 (readCalendars (calendarsIn (valueOf (now s)))) ≡ true)
         × (length (writeCalendar edition (readCalendars (calendarsIn (valueOf (now s))))) ≤ 6 * length (now s)) ⌝ }
     ensures { λ r. ⌜
-        Done (jcalGives edition (now (s .entry)) fine) (now (out .entry)) (now (out .exit)) r ⌝ }
+        Done (converted (writeCalendar edition)
+        (answer fine (readCalendars (calendarsIn (valueOf (now (s .entry))))))) (now (out .entry)) (now (out .exit)) r ⌝ }
 {
     let mut line = [0u8; 262144];
     written(edition, s, &mut line, out)
 }
 
-// The first fault in a JSON text that is within the grammar; or its text.
+// The first fault in a text that is JSON; or the text of its calendars.
 fn judged(edition: Edition, s: &[u8], out: &mut [u8]) -> Answer
     requires { ⌜ (length (now s) ≤ 65535) × (verdict mostOpen (now s) ≡ Fine) ⌝ }
     ensures { λ r. ⌜
@@ -109,8 +111,8 @@ fn judged(edition: Edition, s: &[u8], out: &mut [u8]) -> Answer
     }
 }
 
-// Where a text is no JSON text; or its first fault; or its text.
-fn checked(edition: Edition, s: &[u8], out: &mut [u8]) -> Answer
+// Where a text is not JSON; or its first fault; or the text of its calendars.
+fn formed(edition: Edition, s: &[u8], out: &mut [u8]) -> Answer
     requires { ⌜ length (now s) ≤ 65535 ⌝ }
     ensures { λ r. ⌜
         Done (jcalGives edition (now (s .entry))
@@ -124,7 +126,7 @@ fn checked(edition: Edition, s: &[u8], out: &mut [u8]) -> Answer
     }
 }
 
-// The first byte of a text that begins no character; or where it is no JSON text; or its first fault; or its text.
+// The first byte of a text that begins no character; or where it is not JSON; or its first fault; or the text of its calendars.
 fn in_edition(edition: Edition, s: &[u8], out: &mut [u8]) -> Answer
     requires { ⌜ length (now s) ≤ 65535 ⌝ }
     ensures { λ r. ⌜
@@ -136,7 +138,7 @@ fn in_edition(edition: Edition, s: &[u8], out: &mut [u8]) -> Answer
 {
     match first_bad(s) {
         Found::At(p) => Answer::Refused(Refusal::Character, p),
-        Found::Nothing => checked(edition, s, out),
+        Found::Nothing => formed(edition, s, out),
     }
 }
 

@@ -10,18 +10,17 @@ use borrow.Author.Tests.{le-leb, lt-leb}
 use Rattle.octets.specs.Pick.{pick}
 use Rattle.calendar.specs.Calendar.{Components}
 use Rattle.calendar.specs.Levels.{levels}
-use Rattle.calendar.specs.Refusal.{JSON, characters, fine, refuse, answer, _otherwise_}
+use Rattle.calendar.specs.Refusal.{Verdict, characters, fine, answer, _otherwise_}
 use Rattle.utf8.specs.Utf8.{firstBad}
 use Rattle.validity.specs.ValidCalendar.{atTop}
+use Rattle.text.specs.WriteText.{writeCalendar}
 use Rattle.json.specs.Bytes.{mostOpen}
 use Rattle.json.specs.Check.{verdict}
 use Rattle.json.specs.Tree.{valueOf}
+use Rattle.json.specs.declared.Checked.{Checked}
 use Rattle.json.specs.declared.Checked.the-variants.{Fine, At}
-use Rattle.text.specs.WriteText.{writeCalendar}
 use Rattle.jcal.specs.Components.{componentsVerdict, readCalendars, calendarsIn}
 use Rattle.jcal.specs.ReadJcal.{json, jcalVerdict, readJcal}
-use Rattle.lengths_jcal_text.specs.Fitting.{fits}
-use Rattle.lengths_jcal_text.specs.laws.Streams.{rate, text-bound, lines-fit}
 use Rattle.read_jcal.specs.Judging.{judgedAs}
 use Rattle.read_jcal.specs.declared.Judged.{Judged}
 use Rattle.read_jcal.specs.declared.Judged.the-variants as judged
@@ -35,11 +34,17 @@ use Rattle.calls.specs.declared.Answer.the-variants.{Refused}
 use Rattle.calls_jcal.specs.JcalToText.{jcalToText, jcalToTextOutcome, jcalToTextOutput}
 use Rattle.edition.specs.Edition.{editionOf}
 use Rattle.edition.specs.declared.Edition.{Edition}
+use Rattle.lengths_jcal_text.specs.Fitting.{fits}
+use Rattle.lengths_jcal_text.specs.laws.Streams.{text-bound, lines-fit}
 use Rattle.text_from_jcal.specs.Steps.{jcalGives}
 
 -- the contract of the call: all that it answers, and leaves in the output
 abbrev pub Converts : List ℕ → List ℕ → List ℕ → ℕ → Answer → Type 0
 Converts s d d′ edition r = (outcomeOf r ≡ jcalToTextOutcome s d edition) × (d′ ≡ jcalToTextOutput s d edition)
+
+-- the verdict on the calendars
+abbrev pub judgedIn : Edition → List ℕ → Verdict
+judgedIn ed s = componentsVerdict ed (calendarsIn (valueOf s)) atTop levels false
 
 module _ (s d : List ℕ) (edition : ℕ) where
   -- whatever the edition
@@ -56,46 +61,46 @@ module _ (s d : List ℕ) (edition : ℕ) where
   no-edition h k = let e : leb (length s) 65535 ≡ true = le-leb (length s) 65535 h in (rw (← k, e), rw (← k, e))
 
   pub in-edition : {ed : Edition} {e : List ℕ} {r : Answer} → length s ≤ 65535 → some ed ≡ editionOf edition →
-      Done (jcalGives ed s (characters (firstBad s) otherwise json (verdict mostOpen s) otherwise componentsVerdict ed (calendarsIn (valueOf s)) atTop levels false)) d e r → Converts s d e edition r
+      Done (jcalGives ed s (characters (firstBad s) otherwise json (verdict mostOpen s) otherwise judgedIn ed s)) d e r → Converts s d e edition r
   unfolding jcalToText readJcal jcalVerdict pick
   in-edition h k g = let e : leb (length s) 65535 ≡ true = le-leb (length s) 65535 h in (g .answer ∙ rw (← k, e), g .left ∙ rw (← k, e))
 
--- a room as long as another
-pub room-fits : (ed : Edition) (c : Components) {n : ℕ} → n ≡ 262144 → fits ed 262144 c ≡ true → fits ed n c ≡ true
-room-fits ed c e h = subst (λ (n : ℕ). fits ed n c ≡ true) (sym e) h
+-- a room of the same length
+pub fits-again : (ed : Edition) (c : Components) (m n : ℕ) → m ≡ n → fits ed n c ≡ true → fits ed m c ≡ true
+fits-again ed c m n e h = subst (λ (k : ℕ). fits ed k c ≡ true) (sym e) h
 
-module _ (ed : Edition) (s : List ℕ) where
-  module _ (d : List ℕ) where
+module _ (ed : Edition) where
+  module _ (s d : List ℕ) where
     -- the characters
-    pub bad-character : {p : ℕ} → firstBad s ≡ some p → Done (jcalGives ed s (characters (firstBad s) otherwise json (verdict mostOpen s) otherwise componentsVerdict ed (calendarsIn (valueOf s)) atTop levels false)) d d (Refused Character p)
+    pub bad-character : {p : ℕ} → firstBad s ≡ some p → Done (jcalGives ed s (characters (firstBad s) otherwise json (verdict mostOpen s) otherwise judgedIn ed s)) d d (Refused Character p)
     unfolding _otherwise_
     bad-character k = rw k (done-fault d refl)
 
-    pub good-characters : {e : List ℕ} {r : Answer} → firstBad s ≡ none → Done (jcalGives ed s (json (verdict mostOpen s) otherwise componentsVerdict ed (calendarsIn (valueOf s)) atTop levels false)) d e r →
-        Done (jcalGives ed s (characters (firstBad s) otherwise json (verdict mostOpen s) otherwise componentsVerdict ed (calendarsIn (valueOf s)) atTop levels false)) d e r
+    pub good-characters : {e : List ℕ} {r : Answer} → firstBad s ≡ none → Done (jcalGives ed s (json (verdict mostOpen s) otherwise judgedIn ed s)) d e r →
+        Done (jcalGives ed s (characters (firstBad s) otherwise json (verdict mostOpen s) otherwise judgedIn ed s)) d e r
     unfolding _otherwise_
     good-characters k g = rw k g
 
-    -- the grammar of JSON
-    pub json-refused : {p : ℕ} → verdict mostOpen s ≡ At p → Done (jcalGives ed s (json (verdict mostOpen s) otherwise componentsVerdict ed (calendarsIn (valueOf s)) atTop levels false)) d d (Refused Json p)
+    -- JSON
+    pub json-refused : {c : Checked} {p : ℕ} → c ≡ verdict mostOpen s → c ≡ At p → Done (jcalGives ed s (json (verdict mostOpen s) otherwise judgedIn ed s)) d d (Refused Json p)
     unfolding _otherwise_
-    json-refused h = rw h (done-fault d refl)
+    json-refused e h = let z : verdict mostOpen s ≡ At _ = sym e ∙ h in rw z (done-fault d refl)
 
-    pub json-fine : {e : List ℕ} {r : Answer} → verdict mostOpen s ≡ Fine → Done (jcalGives ed s (componentsVerdict ed (calendarsIn (valueOf s)) atTop levels false)) d e r →
-        Done (jcalGives ed s (json (verdict mostOpen s) otherwise componentsVerdict ed (calendarsIn (valueOf s)) atTop levels false)) d e r
+    pub json-fine : {c : Checked} {e : List ℕ} {r : Answer} → c ≡ verdict mostOpen s → c ≡ Fine → Done (jcalGives ed s (judgedIn ed s)) d e r →
+        Done (jcalGives ed s (json (verdict mostOpen s) otherwise judgedIn ed s)) d e r
     unfolding _otherwise_
-    json-fine h g = rw h g
+    json-fine q h g = let z : verdict mostOpen s ≡ Fine = sym q ∙ h in rw z g
 
-  -- the calendars of a text within the grammar
-  module _ {j : Judged} (v : componentsVerdict ed (calendarsIn (valueOf s)) atTop levels false ≡ judgedAs j) where
-    pub calendars-bound : verdict mostOpen s ≡ Fine → j ≡ judged.Fine → length (writeCalendar ed (readCalendars (calendarsIn (valueOf s)))) ≤ rate * length s
-    calendars-bound c e = text-bound ed s c (v ∙ ap judgedAs e)
+    -- the calendars of a text that is JSON
+    module _ {j : Judged} (v : judgedIn ed s ≡ judgedAs j) where
+      pub calendars-refused : (n : ℕ) {p : ℕ} {r : Answer} → j ≡ judged.Refused n p → r ≡ answerAt n p → Done (jcalGives ed s (judgedIn ed s)) d d r
+      calendars-refused n {p} e g = rw (v, e) (done-fault d (ap outcomeOf g ∙ answer-refusal n p))
 
-    pub calendars-refused : (d : List ℕ) (n : ℕ) {p : ℕ} {r : Answer} → j ≡ judged.Refused n p → r ≡ answerAt n p → Done (jcalGives ed s (componentsVerdict ed (calendarsIn (valueOf s)) atTop levels false)) d d r
-    calendars-refused d n {p} e g = rw (v, e) (done-fault d (ap outcomeOf g ∙ answer-refusal n p))
+      pub calendars-fine : {e : List ℕ} {r : Answer} → j ≡ judged.Fine → Done (converted (writeCalendar ed) (answer fine (readCalendars (calendarsIn (valueOf s))))) d e r → Done (jcalGives ed s (judgedIn ed s)) d e r
+      calendars-fine e g = rw (v, e) g
 
-    pub calendars-fine : (d : List ℕ) {e : List ℕ} {r : Answer} → j ≡ judged.Fine → Done (jcalGives ed s fine) d e r → Done (jcalGives ed s (componentsVerdict ed (calendarsIn (valueOf s)) atTop levels false)) d e r
-    calendars-fine d e g = rw (v, e) g
+  pub calendars-bound : (s : List ℕ) → verdict mostOpen s ≡ Fine → {j : Judged} → judgedIn ed s ≡ judgedAs j → j ≡ judged.Fine → length (writeCalendar ed (readCalendars (calendarsIn (valueOf s)))) ≤ 6 * length s
+  calendars-bound s h v e = text-bound ed s h (v ∙ ap judgedAs e)
 
-  pub calendars-fit : verdict mostOpen s ≡ Fine → length s ≤ 65535 → fits ed 262144 (readCalendars (calendarsIn (valueOf s))) ≡ true
-  calendars-fit c h = lines-fit ed s c h
+  pub calendars-fit : (s : List ℕ) → length s ≤ 65535 → verdict mostOpen s ≡ Fine → fits ed 262144 (readCalendars (calendarsIn (valueOf s))) ≡ true
+  calendars-fit s l h = lines-fit ed s h l
