@@ -107,6 +107,21 @@ fn tell(t: Tallies) {
     tell_way(b"jCal to text", text_of_jcal);
 }
 
+// With one case more, which is of the way `way`.
+fn tallied(t: Tallies, n: u64, way: u8, is_agreed: bool) -> Tallies {
+    let xml = t.xml;
+    let text = t.text;
+    let jcal = t.jcal;
+    let text_of_jcal = t.text_of_jcal;
+    Tallies {
+        cases: n,
+        xml: counted(xml, way == TO_XML, is_agreed),
+        text: counted(text, way == TO_TEXT, is_agreed),
+        jcal: counted(jcal, way == TO_JCAL, is_agreed),
+        text_of_jcal: counted(text_of_jcal, way == JCAL_TO_TEXT, is_agreed),
+    }
+}
+
 // Runs a case.
 fn with_case(
     t: Tallies,
@@ -119,17 +134,7 @@ fn with_case(
     let n = wrapping_add_u64(t.cases, 1);
     let is_agreed = is_case_agreed(c, input, result, work, out);
     tell_case(n, is_agreed);
-    let xml = t.xml;
-    let text = t.text;
-    let jcal = t.jcal;
-    let text_of_jcal = t.text_of_jcal;
-    Tallies {
-        cases: n,
-        xml: counted(xml, c.way == TO_XML, is_agreed),
-        text: counted(text, c.way == TO_TEXT, is_agreed),
-        jcal: counted(jcal, c.way == TO_JCAL, is_agreed),
-        text_of_jcal: counted(text_of_jcal, c.way == JCAL_TO_TEXT, is_agreed),
-    }
+    tallied(t, n, c.way, is_agreed)
 }
 
 fn none() -> Tallies {
