@@ -113,7 +113,7 @@ uint64_t mallettriton_to_jcal(const uint8_t *input, size_t input_length,
 uint64_t mallettriton_to_text(const uint8_t *input, size_t input_length,
                               uint8_t *out, size_t out_length, uint32_t edition);
 
-/* Converts the jCal text `input` to canonical iCalendar text in `out`. Lent are the same buffers, and the call takes as much stack.
+/* Converts the jCal text `input` to canonical iCalendar text in `out`. Lent are the same buffers. Allow the call 400 kB of stack.
  *
  * Its answers are 0, 1, 3, 5 to 10, 12 and 13.
  */

@@ -31,7 +31,7 @@
 //!
 //! # Stack and threads
 //!
-//! Allow the calls to text, from XML and from jCal, 1,200 kB of stack, most of it a room for one line, and the calls from text, to XML and to jCal, 250 kB, for names that are compared. A main thread and the threads of `std::thread`
+//! Allow [`to_text`] 1,200 kB of stack and [`jcal_to_text`] 400, most of that a room for one line, and the calls from text, to XML and to jCal, 250 kB, for names that are compared. A main thread and the threads of `std::thread`
 //! (2 MB) have that. In a thread of a smaller stack the call overflows it, which under `std::thread` ends the process.
 //!
 //! The library keeps nothing between calls: any number of threads may call it at once.
@@ -233,7 +233,7 @@ pub fn to_text_into<'a>(input: &[u8], out: &'a mut [u8], edition: Edition) -> An
 
 /// Converts the jCal text `input` to canonical iCalendar text, at the start of `out`.
 ///
-/// Allow it 1,200 kB of stack.
+/// Allow it 400 kB of stack.
 pub fn jcal_to_text_into<'a>(input: &[u8], out: &'a mut [u8], edition: Edition) -> Answer<'a> {
     // SAFETY: as above.
     let code = unsafe { mallettriton_jcal_to_text(input.as_ptr(), input.len(), out.as_mut_ptr(), out.len(), edition as u32) };
@@ -282,7 +282,7 @@ pub fn to_text(input: &[u8], edition: Edition) -> Result<Vec<u8>, Refusal> {
 
 /// Converts the jCal text `input` to canonical iCalendar text.
 ///
-/// It allocates an output of [`longest_text`] bytes, and gives back what the result does not fill. Allow it 1,200 kB of stack. To use a buffer over and over, call [`jcal_to_text_into`].
+/// It allocates an output of [`longest_text`] bytes, and gives back what the result does not fill. Allow it 400 kB of stack. To use a buffer over and over, call [`jcal_to_text_into`].
 pub fn jcal_to_text(input: &[u8], edition: Edition) -> Result<Vec<u8>, Refusal> {
     let length = if input.len() <= LONGEST { input.len() } else { 0 };
     in_a_vec(longest_text(length), |out| jcal_to_text_into(input, out, edition))
