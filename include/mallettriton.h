@@ -1,4 +1,4 @@
-/* Mallettriton for C: iCalendar text (RFC 5545) to xCal (RFC 6321) and back, on buffers that the caller lends.
+/* Mallettriton for C: iCalendar text (RFC 5545) to xCal (RFC 6321) or jCal (RFC 7265) and back, on buffers that the caller lends.
  *
  * Link target/staticlib/libmallettriton.a, which `rt staticlib mallettriton` writes (x86-64 Linux). The library allocates nothing,
  * keeps nothing between calls and makes no system call. docs/FORMAT.md says what is accepted and what is written.
@@ -17,50 +17,60 @@
 extern "C" {
 #endif
 
-/* The version of these declarations: it grows where a call changes. 2: both calls take an edition. */
-#define MALLETTRITON_VERSION 2
+/* The version of these declarations: it grows where a call changes or is added. 2: both calls take an edition. 3: jCal. */
+#define MALLETTRITON_VERSION 3
 
 /* Editions of iCalendar text: RFC 5545 alone; with the carets of RFC 6868 in values of parameters. */
 #define MALLETTRITON_RFC_5545 0u
 #define MALLETTRITON_RFC_6868 1u
 
-/* The longest input in bytes, both ways. A work room of this length serves every input. */
+/* The longest input in bytes, of every call. A work room of this length serves every input. */
 #define MALLETTRITON_LONGEST 65535
 
 /* How long the result of an input of n bytes can be. An output of this length is never refused with ROOM, and the call is then faster: it
  * does not measure the result before it writes it. */
 #define MALLETTRITON_XML_MOST(n) (19 * (size_t)(n) + 109)
-#define MALLETTRITON_TEXT_MOST(n) (6 * (size_t)(n))
+#define MALLETTRITON_JCAL_MOST(n) (19 * (size_t)(n) + 2)
+#define MALLETTRITON_TEXT_MOST(n) (6 * (size_t)(n)) /* of a document, and of jCal */
 
 /* What an answer's number says, and what its value is then. Places count bytes of the input from 0; a line's place is the first of its
  * bytes that unfolding keeps, and so is that of a parameter's name or of a value (of an empty one it is the CR at the line's end); a
- * tag's place is its `<`.
+ * tag's place is its `<`, and that of an array its bracket.
  *
- * To XML all but XML are given: LENGTH, WORK, EDITION and CHARACTER first, then the lowest number that the first faulty line has. To text all but
- * WORK and LINE are given: LENGTH, EDITION, CHARACTER and XML first, over the whole document, then the fault at the smallest place, the lowest
- * number if there are several. ROOM comes last both ways. */
+ * From text, to XML and to jCal alike, all but XML and JSON are given: LENGTH, WORK, EDITION and CHARACTER first, then the lowest number that the first
+ * faulty line has. To text all but WORK and LINE are given: LENGTH, EDITION, CHARACTER and XML, from jCal JSON, first, over the whole input, then the
+ * fault at the smallest place, the lowest number if there are several. ROOM comes last. */
 enum mallettriton_number {
     MALLETTRITON_WRITTEN = 0,   /* converted                                              value: how many bytes were written   */
     MALLETTRITON_LENGTH = 1,    /* the input is longer than 65,535 bytes                  value: 0                             */
-    MALLETTRITON_WORK = 2,      /* to XML: the work room is shorter than the input        value: 0                             */
+    MALLETTRITON_WORK = 2,      /* from text: the work room is shorter than the input     value: 0                             */
     MALLETTRITON_CHARACTER = 3, /* not UTF-8, or a character that may not stand there     value: place of its first byte       */
-    MALLETTRITON_LINE = 4,      /* to XML: no content line, or not ended by CR LF         value: place of the line             */
-    MALLETTRITON_NAME = 5,      /* a name that can't be carried                           value: place of the line or tag      */
-    MALLETTRITON_FRAME = 6,     /* something where it may not stand, something missing,   value: place of the line or tag, of
-                                   still open at the end, or no calendar at all                  characters that may not stand
-                                                                                                 there their first; the text's
-                                                                                                 length at its end             */
+    MALLETTRITON_LINE = 4,      /* from text: no content line, or not ended by CR LF      value: place of the line             */
+    MALLETTRITON_NAME = 5,      /* a name that can't be carried                           value: place of the line, tag or
+                                                                                                 bracket                       */
+    MALLETTRITON_FRAME = 6,     /* something where it may not stand, something missing,   value: place of the line, tag or
+                                   still open at the end, or no calendar at all                  bracket, of what else may not
+                                                                                                 stand there its first byte; the
+                                                                                                 text's length at its end      */
     MALLETTRITON_PARAMETER = 7, /* a parameter not permitted, repeated, or of bad value   value: place of its name, of the value
                                                                                                  where ENCODING is missing, or of
-                                                                                                 the tag                       */
-    MALLETTRITON_VALUE = 8,     /* a value not of a permitted type                        value: place of the value or tag     */
+                                                                                                 the tag, or of the property's
+                                                                                                 bracket                       */
+    MALLETTRITON_VALUE = 8,     /* a value not of a permitted type                        value: place of the value or tag, or
+                                                                                                 of the property's bracket     */
     MALLETTRITON_COUNT = 9,     /* a property missing or too often, a pair broken, a      value: place of the END line or of
-                                   VTIMEZONE with nothing in it                                  the component's end tag       */
+                                   VTIMEZONE with nothing in it                                  the component's end tag or
+                                                                                                 closing bracket               */
     MALLETTRITON_ROOM = 10,     /* the result is longer than the output                   value: the result's exact length     */
-    MALLETTRITON_XML = 11,      /* to text: outside the XML that is read                  value: place of the tag, reference or
+    MALLETTRITON_XML = 11,      /* from XML: outside the XML that is read                 value: place of the tag, reference or
                                                                                                  character; the document's length
                                                                                                  if an element is still open or
                                                                                                  there is none                 */
+    MALLETTRITON_JSON = 12,     /* from jCal: outside JSON's grammar, an escape that      value: place of the first byte at
+                                   names what may not stand there, or a 33rd open                which no JSON can go on, the
+                                   array or object                                               text's length if it is cut short;
+                                                                                                 of the escape's backslash; of the
+                                                                                                 bracket                       */
     MALLETTRITON_EDITION = 13   /* an edition other than 0 and 1                          value: 0                             */
 };
 
@@ -83,6 +93,13 @@ uint64_t mallettriton_to_xml(const uint8_t *input, size_t input_length,
                              uint8_t *work, size_t work_length,
                              uint8_t *out, size_t out_length, uint32_t edition);
 
+/* Converts the iCalendar text `input` to canonical jCal in `out`. Lent are the same buffers, the answers are the same but for the result, and the
+ * call takes as much stack.
+ */
+uint64_t mallettriton_to_jcal(const uint8_t *input, size_t input_length,
+                              uint8_t *work, size_t work_length,
+                              uint8_t *out, size_t out_length, uint32_t edition);
+
 /* Converts the xCal document `input` to canonical iCalendar text in `out`.
  *
  *   input, input_length   the document; it is not changed
@@ -95,6 +112,13 @@ uint64_t mallettriton_to_xml(const uint8_t *input, size_t input_length,
  */
 uint64_t mallettriton_to_text(const uint8_t *input, size_t input_length,
                               uint8_t *out, size_t out_length, uint32_t edition);
+
+/* Converts the jCal text `input` to canonical iCalendar text in `out`. Lent are the same buffers. Allow the call 400 kB of stack.
+ *
+ * Its answers are 0, 1, 3, 5 to 10, 12 and 13.
+ */
+uint64_t mallettriton_jcal_to_text(const uint8_t *input, size_t input_length,
+                                   uint8_t *out, size_t out_length, uint32_t edition);
 
 #ifdef __cplusplus
 }

@@ -3,22 +3,23 @@
 
     tools/pack-cases.py FILE.. > crates/cases/stdin
 
-A FILE has a case a line, or is a JSON list of cases: {"call": "to_xml" or "to_text", "in": [INPUT], "answer": ["ok", {"b64": RESULT}] or ["refused", N, P]},
-INPUT and RESULT in base64; or, as for the base, {"way": "to-xml" or "to-text", "in": INPUT, "answer": ["ok", RESULT] or ["refused", N, P]}; "edition" is 0 where it is not given. Added are, both ways, an empty input and inputs as long as the limit and one byte longer; and to text, documents
-with 32 and with 33 open elements. The form of what is written stands in the program's main.rt.
+A FILE has a case a line, or is a JSON list of cases: {"call": "to_xml", "to_text", "to_jcal" or "jcal_to_text", "in": [INPUT], "answer": ["ok", {"b64": RESULT}] or ["refused", N, P]},
+INPUT and RESULT in base64; or, as for the base, {"way": "to-xml" or "to-text", "in": INPUT, "answer": ["ok", RESULT] or ["refused", N, P]}; "edition" is 0 where it is not given. Added are, of each call, an empty input and inputs as long as the limit and one byte longer; and to text, documents
+with 32 and with 33 open elements, and jCal with as many open arrays. The form of what is written stands in the program's main.rt.
 """
 import base64
 import json
 import sys
 
 LIMIT = 65535
-CALLS = {"to_xml": 1, "to_text": 2}
+CALLS = {"to_xml": 1, "to_text": 2, "to_jcal": 3, "jcal_to_text": 4}
 ROOT = b'<icalendar xmlns="urn:ietf:params:xml:ns:icalendar-2.0">'
 TEXT = (b"BEGIN:VCALENDAR\r\nPRODID:%s\r\nVERSION:2.0\r\n", b"END:VCALENDAR\r\n")
 XML = (
     b'<?xml version="1.0" encoding="utf-8"?>\n' + ROOT + b"<vcalendar><properties><prodid><text>%s</text></prodid><version><text>2.0</text></version>",
     b"</properties><components></components></vcalendar></icalendar>\n",
 )
+JCAL = (b'["vcalendar",[["prodid",{},"text","%s"],["version",{},"text","2.0"]', b"],[]]")
 
 
 def number(n):
@@ -79,13 +80,22 @@ def cases(name):
 
 def added():
     yield record("to_xml", 6, 0, parts(b""))
+    yield record("to_jcal", 6, 0, parts(b""))
     yield record("to_text", 11, 0, parts(b""))
+    yield record("jcal_to_text", 12, 0, parts(b""))
     for length in (LIMIT, LIMIT + 1):
         yield long("to_xml", TEXT, b"X-A:b\r\n", XML, b"<x-a><unknown>b</unknown></x-a>", length)
         yield long("to_xml", TEXT, b"X-A;C=d:b\r\n e&\r\n", XML, b"<x-a><parameters><c><unknown>d</unknown></c></parameters><unknown>be&amp;</unknown></x-a>", length)
+        yield long("to_jcal", TEXT, b"X-A:b\r\n", JCAL, b',["x-a",{},"unknown","b"]', length)
+        yield long("to_jcal", TEXT, b'X-A;C=d:b\r\n e"\r\n', JCAL, b',["x-a",{"c":"d"},"unknown","be\\""]', length)
         yield long("to_text", XML, b"<x-a><unknown>b</unknown></x-a>", TEXT, b"X-A:b\r\n", length)
         yield long("to_text", XML, b"<x-a>\n<date>2024-02-29</date>\r</x-a >", TEXT, b"X-A;VALUE=DATE:20240229\r\n", length)
+        yield long("jcal_to_text", JCAL, b',["x-a",{},"unknown","b"]', TEXT, b"X-A:b\r\n", length)
+        yield long("jcal_to_text", JCAL, b' ,[ "x-a",{} ,"date","2024\\u002d02-29"]', TEXT, b"X-A;VALUE=DATE:20240229\r\n", length)
     yield long_line(LIMIT)
+    # an array that holds nothing else states no component, and one too many is no JSON that is read
+    yield record("jcal_to_text", 6, 1, parts(b"[" * 32 + b"]" * 32))
+    yield record("jcal_to_text", 12, 32, parts(b"[" * 33 + b"]" * 33))
     # what stands at the first <a> is 6, unless the document is no XML of the profile
     yield nested(32, b"<a>", b"</a>", 6, len(ROOT))
     for last, end in ((b"<a>", b"</a>"), (b"<a/>", b"")):

@@ -1,9 +1,11 @@
-/* Standard input to standard output, iCalendar text to xCal or xCal to iCalendar text, by the static library. From the repository's root:
+/* Standard input to standard output, iCalendar text to xCal or jCal, or either to iCalendar text, by the static library. From the repository's root:
  *
  *     rt staticlib mallettriton
  *     cc -std=c99 -Wall -Iinclude examples/c/convert.c target/staticlib/libmallettriton.a -o target/convert_c
  *     target/convert_c to-xml < samples/rota.ics
+ *     target/convert_c to-jcal < samples/rota.ics
  *     target/convert_c to-text < samples/rota.xml
+ *     target/convert_c jcal-to-text < samples/rota.json
  */
 #include <stdio.h>
 #include <stdlib.h>
@@ -16,25 +18,37 @@ static uint8_t input[MALLETTRITON_LONGEST + 1];
 static uint8_t work[MALLETTRITON_LONGEST];
 static uint8_t none[1];
 
-static uint64_t convert(int is_to_xml, size_t length, uint8_t *out, size_t out_length)
+static const char *const ways[] = {"to-xml", "to-jcal", "to-text", "jcal-to-text"};
+enum { WAYS = sizeof ways / sizeof ways[0] };
+
+static uint64_t convert(int way, size_t length, uint8_t *out, size_t out_length)
 {
-    if (is_to_xml) {
+    switch (way) {
+    case 0:
         return mallettriton_to_xml(input, length, work, sizeof work, out, out_length, MALLETTRITON_RFC_5545);
+    case 1:
+        return mallettriton_to_jcal(input, length, work, sizeof work, out, out_length, MALLETTRITON_RFC_5545);
+    case 2:
+        return mallettriton_to_text(input, length, out, out_length, MALLETTRITON_RFC_5545);
+    default:
+        return mallettriton_jcal_to_text(input, length, out, out_length, MALLETTRITON_RFC_5545);
     }
-    return mallettriton_to_text(input, length, out, out_length, MALLETTRITON_RFC_5545);
 }
 
 int main(int argc, char **argv)
 {
-    int is_to_xml = argc == 2 && strcmp(argv[1], "to-xml") == 0;
-    if (!is_to_xml && !(argc == 2 && strcmp(argv[1], "to-text") == 0)) {
-        fprintf(stderr, "usage: convert_c to-xml < TEXT, or convert_c to-text < DOCUMENT\n");
+    int way = 0;
+    while (way < WAYS && !(argc == 2 && strcmp(argv[1], ways[way]) == 0)) {
+        way++;
+    }
+    if (way == WAYS) {
+        fprintf(stderr, "usage: convert_c to-xml < TEXT, to-jcal < TEXT, to-text < DOCUMENT, or jcal-to-text < JCAL\n");
         return 2;
     }
     size_t length = fread(input, 1, sizeof input, stdin);
 
     /* an output of no bytes: the answer tells the length that is needed */
-    uint64_t answer = convert(is_to_xml, length, none, 0);
+    uint64_t answer = convert(way, length, none, 0);
     if (MALLETTRITON_NUMBER(answer) != MALLETTRITON_ROOM) {
         printf("refused %u at %zu\n", MALLETTRITON_NUMBER(answer), MALLETTRITON_VALUE_OF(answer));
         return 1;
@@ -45,7 +59,7 @@ int main(int argc, char **argv)
     if (out == NULL) {
         return 2;
     }
-    answer = convert(is_to_xml, length, out, needed);
+    answer = convert(way, length, out, needed);
     if (MALLETTRITON_NUMBER(answer) == MALLETTRITON_WRITTEN) {
         fwrite(out, 1, MALLETTRITON_VALUE_OF(answer), stdout);
     }

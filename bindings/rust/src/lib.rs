@@ -1,4 +1,4 @@
-//! iCalendar text (RFC 5545) to xCal (RFC 6321) and back, by the static library `libmallettriton.a`, which is proved.
+//! iCalendar text (RFC 5545) to xCal (RFC 6321) or jCal (RFC 7265) and back, by the static library `libmallettriton.a`, which is proved.
 //!
 //! ```
 //! let text = b"BEGIN:VCALENDAR\r\nPRODID:-//A//B//EN\r\nVERSION:2.0\r\nBEGIN:VTODO\r\n\
@@ -7,28 +7,31 @@
 //! let xml = mallettriton::to_xml(text, Edition::Rfc5545)?;
 //! assert!(xml.starts_with(b"<?xml version=\"1.0\" encoding=\"utf-8\"?>\n<icalendar "));
 //! assert_eq!(mallettriton::to_text(&xml, Edition::Rfc5545)?, text);
+//! let jcal = mallettriton::to_jcal(text, Edition::Rfc5545)?;
+//! assert!(jcal.starts_with(br#"["vcalendar",[["prodid",{},"text","-//A//B//EN"],"#));
+//! assert_eq!(mallettriton::jcal_to_text(&jcal, Edition::Rfc5545)?, text);
 //!
 //! let refusal = mallettriton::to_xml(b"BEGIN:VCALENDAR\r\n", Edition::Rfc5545).unwrap_err();
 //! assert_eq!((refusal.number, refusal.place), (mallettriton::Number::Frame, 17));
 //! # Ok::<(), mallettriton::Refusal>(())
 //! ```
 //!
-//! [`to_xml`] and [`to_text`] take a slice and give a `Vec`. [`to_xml_into`] and [`to_text_into`] work on buffers that the caller lends, allocate nothing,
-//! and tell the exact length that an output which is too short would need. `docs/FORMAT.md` of the repository says what is accepted and what is written.
+//! [`to_xml`], [`to_jcal`], [`to_text`] and [`jcal_to_text`] take a slice and give a `Vec`. [`to_xml_into`], [`to_jcal_into`], [`to_text_into`] and [`jcal_to_text_into`] work on
+//! buffers that the caller lends, allocate nothing, and tell the exact length that an output which is too short would need. `docs/FORMAT.md` of the repository says what is accepted and what is written.
 //!
 //! # What is proved, and what is not
 //!
-//! Proved, of the two calls of the library: every call ends, on any bytes and any lengths of the buffers; its answer, and what each lent buffer holds
+//! Proved, of the calls of the library: every call ends, on any bytes and any lengths of the buffers; its answer, and what each lent buffer holds
 //! afterwards, is the one that the specification defines; accepted calendars come back unchanged. `docs/CLAIMS.md` has the theorems.
 //!
-//! Not proved: this crate, and the step over the boundary. Nothing checks that the declarations of the two functions below are those of the archive, that the archive
+//! Not proved: this crate, and the step over the boundary. Nothing checks that the declarations of the functions below are those of the archive, that the archive
 //! is the one that was proved, or that the compiler and the linker are right. The proof supposes of each buffer a pointer that is not null to as many bytes as its length
 //! says, with their contents set, and that the work room and the output overlap with nothing. Rust's slices are all this, which is why the calls here are safe
 //! functions: a slice's pointer is never null, not even that of an empty slice (it dangles, and is not read through), and `&mut` slices overlap with nothing.
 //!
 //! # Stack and threads
 //!
-//! Allow [`to_text`] and [`to_text_into`] 1,200 kB of stack, most of it a room for one line, and [`to_xml`] and [`to_xml_into`] 250 kB, for names that are compared. A main thread and the threads of `std::thread`
+//! Allow [`to_text`] 1,200 kB of stack and [`jcal_to_text`] 400, most of that a room for one line, and the calls from text, to XML and to jCal, 250 kB, for names that are compared. A main thread and the threads of `std::thread`
 //! (2 MB) have that. In a thread of a smaller stack the call overflows it, which under `std::thread` ends the process.
 //!
 //! The library keeps nothing between calls: any number of threads may call it at once.
@@ -45,7 +48,12 @@ pub const fn longest_xml(length: usize) -> usize {
     19 * length + 109
 }
 
-/// How long the text of a document of `length` bytes can be; as [`longest_xml`].
+/// How long the jCal of a text of `length` bytes can be; as [`longest_xml`].
+pub const fn longest_jcal(length: usize) -> usize {
+    19 * length + 2
+}
+
+/// How long the text of a document, or of jCal, of `length` bytes can be; as [`longest_xml`].
 pub const fn longest_text(length: usize) -> usize {
     6 * length
 }
@@ -68,11 +76,11 @@ pub enum Edition {
 pub enum Number {
     /// The input is longer than [`LONGEST`].
     Length = 1,
-    /// The work room is shorter than the input. Only [`to_xml_into`] answers it.
+    /// The work room is shorter than the input. Only [`to_xml_into`] and [`to_jcal_into`] answer it.
     Work = 2,
     /// Not UTF-8, or a character that may not stand there; the place is that of its first byte.
     Character = 3,
-    /// No content line, or one that is not ended by CR LF. Only the way to XML answers it.
+    /// No content line, or one that is not ended by CR LF. Only the ways from text answer it.
     Line = 4,
     /// A name that can't be carried.
     Name = 5,
@@ -85,8 +93,10 @@ pub enum Number {
     Value = 8,
     /// A property missing or too often, a pair broken, a VTIMEZONE with nothing in it.
     Count = 9,
-    /// Outside the XML that is read. Only the way to text answers it.
+    /// Outside the XML that is read. Only the way from XML answers it.
     Xml = 11,
+    /// Outside JSON's grammar, an escape that names what may not stand there, or a 33rd open array or object. Only the way from jCal answers it.
+    Json = 12,
     /// An edition that there is not. No call of this crate is refused so.
     Edition = 13,
 }
@@ -104,6 +114,7 @@ impl fmt::Display for Number {
             Number::Value => "a value that is not of a permitted type",
             Number::Count => "a property missing or too often, or a pair broken",
             Number::Xml => "outside the XML that is read",
+            Number::Json => "outside the JSON that is read",
             Number::Edition => "an edition that there is not",
         })
     }
@@ -114,7 +125,7 @@ impl fmt::Display for Number {
 pub struct Refusal {
     /// Why.
     pub number: Number,
-    /// Where: the start of the line, tag, reference or character; the input's length if something is open or missing at its end; 0 for [`Number::Length`] and
+    /// Where: the start of the line, tag, reference, array or character; the input's length if something is open or missing at its end; 0 for [`Number::Length`] and
     /// [`Number::Work`]. A line starts at the first of its bytes that unfolding keeps.
     pub place: usize,
 }
@@ -153,7 +164,9 @@ pub enum Answer<'a> {
 
 extern "C" {
     fn mallettriton_to_xml(input: *const u8, input_length: usize, work: *mut u8, work_length: usize, out: *mut u8, out_length: usize, edition: u32) -> u64;
+    fn mallettriton_to_jcal(input: *const u8, input_length: usize, work: *mut u8, work_length: usize, out: *mut u8, out_length: usize, edition: u32) -> u64;
     fn mallettriton_to_text(input: *const u8, input_length: usize, out: *mut u8, out_length: usize, edition: u32) -> u64;
+    fn mallettriton_jcal_to_text(input: *const u8, input_length: usize, out: *mut u8, out_length: usize, edition: u32) -> u64;
 }
 
 /// Takes an answer of the library apart: its number times 2 ^ 32, and its value.
@@ -172,6 +185,7 @@ fn answer(code: u64, out: &[u8]) -> Answer<'_> {
         9 => Number::Count,
         10 => return Answer::Needs(value),
         11 => Number::Xml,
+        12 => Number::Json,
         13 => Number::Edition,
         other => panic!("libmallettriton.a answered the number {other}, which this crate does not know: they are of different versions"),
     };
@@ -201,12 +215,28 @@ pub fn to_xml_into<'a>(input: &[u8], work: &mut [u8], out: &'a mut [u8], edition
     answer(code, out)
 }
 
+/// Converts the iCalendar text `input` to canonical jCal, at the start of `out`. Its buffers are those of [`to_xml_into`].
+pub fn to_jcal_into<'a>(input: &[u8], work: &mut [u8], out: &'a mut [u8], edition: Edition) -> Answer<'a> {
+    // SAFETY: as above.
+    let code = unsafe { mallettriton_to_jcal(input.as_ptr(), input.len(), work.as_mut_ptr(), work.len(), out.as_mut_ptr(), out.len(), edition as u32) };
+    answer(code, out)
+}
+
 /// Converts the xCal document `input` to canonical iCalendar text, at the start of `out`.
 ///
 /// Allow it 1,200 kB of stack.
 pub fn to_text_into<'a>(input: &[u8], out: &'a mut [u8], edition: Edition) -> Answer<'a> {
     // SAFETY: as above.
     let code = unsafe { mallettriton_to_text(input.as_ptr(), input.len(), out.as_mut_ptr(), out.len(), edition as u32) };
+    answer(code, out)
+}
+
+/// Converts the jCal text `input` to canonical iCalendar text, at the start of `out`.
+///
+/// Allow it 400 kB of stack.
+pub fn jcal_to_text_into<'a>(input: &[u8], out: &'a mut [u8], edition: Edition) -> Answer<'a> {
+    // SAFETY: as above.
+    let code = unsafe { mallettriton_jcal_to_text(input.as_ptr(), input.len(), out.as_mut_ptr(), out.len(), edition as u32) };
     answer(code, out)
 }
 
@@ -234,10 +264,26 @@ pub fn to_xml(input: &[u8], edition: Edition) -> Result<Vec<u8>, Refusal> {
     in_a_vec(longest_xml(length), |out| to_xml_into(input, &mut vec![0; length], out, edition))
 }
 
+/// Converts the iCalendar text `input` to canonical jCal.
+///
+/// It allocates the work room and an output of [`longest_jcal`] bytes, and gives back what the result does not fill. To use buffers over and over, call [`to_jcal_into`].
+pub fn to_jcal(input: &[u8], edition: Edition) -> Result<Vec<u8>, Refusal> {
+    let length = if input.len() <= LONGEST { input.len() } else { 0 };
+    in_a_vec(longest_jcal(length), |out| to_jcal_into(input, &mut vec![0; length], out, edition))
+}
+
 /// Converts the xCal document `input` to canonical iCalendar text.
 ///
 /// It allocates an output of [`longest_text`] bytes, and gives back what the result does not fill. Allow it 1,200 kB of stack. To use a buffer over and over, call [`to_text_into`].
 pub fn to_text(input: &[u8], edition: Edition) -> Result<Vec<u8>, Refusal> {
     let length = if input.len() <= LONGEST { input.len() } else { 0 };
     in_a_vec(longest_text(length), |out| to_text_into(input, out, edition))
+}
+
+/// Converts the jCal text `input` to canonical iCalendar text.
+///
+/// It allocates an output of [`longest_text`] bytes, and gives back what the result does not fill. Allow it 400 kB of stack. To use a buffer over and over, call [`jcal_to_text_into`].
+pub fn jcal_to_text(input: &[u8], edition: Edition) -> Result<Vec<u8>, Refusal> {
+    let length = if input.len() <= LONGEST { input.len() } else { 0 };
+    in_a_vec(longest_text(length), |out| jcal_to_text_into(input, out, edition))
 }

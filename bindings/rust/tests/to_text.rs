@@ -4,7 +4,7 @@ mod common;
 use common::inputs::{calendar, damaged, rearranged, rewritten, unfolded_text, with_folds, Random, XML_TOKENS};
 use common::readings::{assert_folded, bad_character, kept_of, BACK, FRONT};
 use common::{ample, in_every_room, to_text_in, Told};
-use mallettriton::{Edition, to_text, to_xml, Number, Refusal, LONGEST};
+use mallettriton::{to_text, to_xml, Edition, Number, Refusal, LONGEST};
 
 const SAMPLE: &[u8] = include_bytes!("../../../samples/rota.ics");
 const SAMPLE_XML: &[u8] = include_bytes!("../../../samples/rota.xml");

@@ -4,7 +4,7 @@ mod common;
 use common::inputs::{calendar, damaged, unfolded_text, with_folds, Random, TEXT_TOKENS};
 use common::readings::{assert_canonical, bad_character, kept_of, reading, unfolded};
 use common::{ample, in_every_room, to_xml_in, Told, FILL};
-use mallettriton::{Edition, to_xml, Number, Refusal, LONGEST};
+use mallettriton::{to_xml, Edition, Number, Refusal, LONGEST};
 
 const SAMPLE: &[u8] = include_bytes!("../../../samples/rota.ics");
 const SAMPLE_XML: &[u8] = include_bytes!("../../../samples/rota.xml");

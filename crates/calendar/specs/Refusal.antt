@@ -9,9 +9,9 @@ use Prim.Native.Nat.{ℕ, _-_}
 use lib.ListN.{getD}
 use Rattle.calendar.specs.Calendar.{Calendar}
 
--- 1 LENGTH, 2 WORK, 3 CHARACTER, 4 LINE, 5 NAME, 6 FRAME, 7 PARAMETER, 8 VALUE, 9 COUNT, 11 XML, 13 EDITION have a place; 10 ROOM has the exact length
+-- 1 LENGTH, 2 WORK, 3 CHARACTER, 4 LINE, 5 NAME, 6 FRAME, 7 PARAMETER, 8 VALUE, 9 COUNT, 11 XML, 12 JSON, 13 EDITION have a place; 10 ROOM has the exact length
 pub data Refusal : Type 0 where
-  LENGTH WORK CHARACTER LINE NAME FRAME PARAMETER VALUE COUNT ROOM XML EDITION : Refusal
+  LENGTH WORK CHARACTER LINE NAME FRAME PARAMETER VALUE COUNT ROOM XML JSON EDITION : Refusal
 
 abbrev pub numberOf : Refusal → ℕ
 numberOf LENGTH = 1
@@ -25,11 +25,11 @@ numberOf VALUE = 8
 numberOf COUNT = 9
 numberOf ROOM = 10
 numberOf XML = 11
+numberOf JSON = 12
 numberOf EDITION = 13
 
--- 12 is none
 unfoldable pub refusalAt : ℕ → Refusal
-refusalAt n = getD (LENGTH ∷ WORK ∷ CHARACTER ∷ LINE ∷ NAME ∷ FRAME ∷ PARAMETER ∷ VALUE ∷ COUNT ∷ ROOM ∷ XML ∷ LENGTH ∷ EDITION ∷ []) (n - 1) LENGTH
+refusalAt n = getD (LENGTH ∷ WORK ∷ CHARACTER ∷ LINE ∷ NAME ∷ FRAME ∷ PARAMETER ∷ VALUE ∷ COUNT ∷ ROOM ∷ XML ∷ JSON ∷ EDITION ∷ []) (n - 1) LENGTH
 
 -- what a check finds: nothing, or a refusal and its place
 pub data Verdict : Type 0 where

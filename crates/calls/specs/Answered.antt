@@ -10,9 +10,9 @@ use Prim.Native.Nat.{ℕ, _+_, _*_}
 use lib.Dec.{eqb}
 use lib.ListN.{length}
 use Rattle.octets.specs.Pick.{pick}
-use Rattle.calendar.specs.Refusal.{Refusal, LENGTH, WORK, CHARACTER, LINE, NAME, FRAME, PARAMETER, VALUE, COUNT, ROOM, XML, EDITION}
+use Rattle.calendar.specs.Refusal.{Refusal, LENGTH, WORK, CHARACTER, LINE, NAME, FRAME, PARAMETER, VALUE, COUNT, ROOM, XML, JSON, EDITION}
 use Rattle.refusals.specs.declared.Refusal as coded
-use Rattle.refusals.specs.declared.Refusal.the-variants.{Length, Work, Character, Line, Name, Frame, Parameter, Value, Count, Xml, Edition}
+use Rattle.refusals.specs.declared.Refusal.the-variants.{Length, Work, Character, Line, Name, Frame, Parameter, Value, Count, Xml, Json, Edition}
 use Rattle.calls.specs.Conversion.{Converted, Outcome, written, refusal, numbers, outcome, contents}
 use Rattle.calls.specs.declared.Answer.{Answer}
 use Rattle.calls.specs.declared.Answer.the-variants.{Written, Needs, Refused}
@@ -28,6 +28,7 @@ refusalOf Parameter = PARAMETER
 refusalOf Value = VALUE
 refusalOf Count = COUNT
 refusalOf Xml = XML
+refusalOf Json = JSON
 refusalOf Edition = EDITION
 
 abbrev pub outcomeOf : Answer → Outcome
@@ -37,7 +38,7 @@ outcomeOf (Refused r p) = refusal (refusalOf r) p
 
 -- the refusal that code names by a number
 abbrev pub namedElse : ℕ → coded.Refusal
-namedElse n = pick (eqb n 2) Work (pick (eqb n 3) Character (pick (eqb n 11) Xml (pick (eqb n 13) Edition Length)))
+namedElse n = pick (eqb n 2) Work (pick (eqb n 3) Character (pick (eqb n 11) Xml (pick (eqb n 12) Json (pick (eqb n 13) Edition Length))))
 
 abbrev pub named : ℕ → coded.Refusal
 named n = pick (eqb n 4) Line (pick (eqb n 5) Name (pick (eqb n 6) Frame (pick (eqb n 7) Parameter (pick (eqb n 8) Value (pick (eqb n 9) Count (namedElse n))))))

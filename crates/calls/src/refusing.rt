@@ -4,6 +4,7 @@ use refusals::CHARACTER;
 use refusals::COUNT;
 use refusals::EDITION;
 use refusals::FRAME;
+use refusals::JSON;
 use refusals::LINE;
 use refusals::NAME;
 use refusals::PARAMETER;
@@ -27,6 +28,9 @@ fn refusal_else(n: u8) -> Refusal
     }
     if n == XML {
         return Refusal::Xml;
+    }
+    if n == JSON {
+        return Refusal::Json;
     }
     if n == EDITION {
         return Refusal::Edition;

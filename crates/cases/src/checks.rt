@@ -4,14 +4,21 @@ use crate::bytes::all_from;
 use crate::bytes::begins;
 use crate::bytes::fill;
 use crate::packed::Case;
+use crate::packed::JCAL_TO_TEXT;
+use crate::packed::TO_JCAL;
 use crate::packed::TO_XML;
+use crate::packed::is_from_text;
 use calls::Answer;
 use calls::number_of;
 use calls::value_of;
+use mallettriton::mallettriton_jcal_to_text;
+use mallettriton::mallettriton_to_jcal;
 use mallettriton::mallettriton_to_text;
 use mallettriton::mallettriton_to_xml;
 use std::num::wrapping_add_usize;
 use std::num::wrapping_sub_usize;
+use text_from_jcal::jcal_to_text;
+use text_to_jcal::to_jcal;
 use text_to_xml::to_xml;
 use xml_to_text::to_text;
 
@@ -127,7 +134,7 @@ fn is_early(number: u64) -> bool {
 
 // The unfolded input stands in the work room afterwards.
 fn unfolds(t: Trial) -> bool {
-    if t.way == TO_XML {
+    if is_from_text(t.way) {
         return !is_early(t.number);
     }
     false
@@ -156,6 +163,12 @@ fn answer(way: u8, edition: u32, input: &[u8], work: &mut [u8], out: &mut [u8]) 
     if way == TO_XML {
         return to_xml(input, work, out, edition);
     }
+    if way == TO_JCAL {
+        return to_jcal(input, work, out, edition);
+    }
+    if way == JCAL_TO_TEXT {
+        return jcal_to_text(input, out, edition);
+    }
     to_text(input, out, edition)
 }
 
@@ -163,6 +176,12 @@ fn answer(way: u8, edition: u32, input: &[u8], work: &mut [u8], out: &mut [u8]) 
 fn answer_for_c(way: u8, edition: u32, input: &[u8], work: &mut [u8], out: &mut [u8]) -> u64 {
     if way == TO_XML {
         return mallettriton_to_xml(input, work, out, edition);
+    }
+    if way == TO_JCAL {
+        return mallettriton_to_jcal(input, work, out, edition);
+    }
+    if way == JCAL_TO_TEXT {
+        return mallettriton_jcal_to_text(input, out, edition);
     }
     mallettriton_to_text(input, out, edition)
 }
@@ -277,9 +296,9 @@ fn with_short_work(c: Case, input: &[u8], result: &[u8], work: &mut [u8], out: &
     both_do(t, input, &result[..0], work, out)
 }
 
-// To XML: a work room 7 bytes longer than the input, and one that is too short.
+// From text: a work room 7 bytes longer than the input, and one that is too short.
 fn with_works(c: Case, input: &[u8], result: &[u8], work: &mut [u8], out: &mut [u8]) -> bool {
-    if c.way == TO_XML {
+    if is_from_text(c.way) {
         let w = wrapping_add_usize(input.len(), 7);
         let long = both_do(with_rooms(c, w, result.len()), input, result, work, out);
         let short = with_short_work(c, input, result, work, out);

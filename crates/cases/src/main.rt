@@ -1,7 +1,7 @@
-// Runs the cases on standard input through the two conversions and prints a line for each, `to XML: agreed N, differing M` and
-// `to text: agreed N, differing M`; the numbers of the cases that differ go to standard error. A case agrees if all checks of it hold (checks.rt).
+// Runs the cases on standard input through the conversions and prints a line for each, as `to XML: agreed N, differing M`; the numbers of the
+// cases that differ go to standard error. A case agrees if all checks of it hold (checks.rt).
 //
-// A case is a byte for its way, 1 to XML and 2 to text, the edition, the answer's number and value, the input, the result. Numbers have four bytes,
+// A case is a byte for its way, 1 text to XML, 2 XML to text, 3 text to jCal, 4 jCal to text, the edition, the answer's number and value, the input, the result. Numbers have four bytes,
 // the highest first. The value of number 0 is the result's length; a refusal has an empty result. Input and result are each four
 // lengths, of a front, of a middle, of the middle when it is repeated, of a back, and then the bytes of front, middle and back. So an
 // input of 65,535 bytes is a short case as well.
@@ -13,6 +13,8 @@ use checks::agrees;
 use libc::STDERR_FILENO;
 use libc::STDOUT_FILENO;
 use packed::Case;
+use packed::JCAL_TO_TEXT;
+use packed::TO_JCAL;
 use packed::TO_TEXT;
 use packed::TO_XML;
 use packed::is_case;
@@ -31,6 +33,8 @@ struct Tallies {
     cases: u64,
     xml: Tally,
     text: Tally,
+    jcal: Tally,
+    text_of_jcal: Tally,
 }
 
 // Lends a case the front parts of the buffers that it needs.
@@ -95,8 +99,27 @@ fn tell_way(way: &[u8], t: Tally) {
 fn tell(t: Tallies) {
     let xml = t.xml;
     let text = t.text;
+    let jcal = t.jcal;
+    let text_of_jcal = t.text_of_jcal;
     tell_way(b"to XML", xml);
     tell_way(b"to text", text);
+    tell_way(b"to jCal", jcal);
+    tell_way(b"jCal to text", text_of_jcal);
+}
+
+// With one case more, which is of the way `way`.
+fn tallied(t: Tallies, n: u64, way: u8, is_agreed: bool) -> Tallies {
+    let xml = t.xml;
+    let text = t.text;
+    let jcal = t.jcal;
+    let text_of_jcal = t.text_of_jcal;
+    Tallies {
+        cases: n,
+        xml: counted(xml, way == TO_XML, is_agreed),
+        text: counted(text, way == TO_TEXT, is_agreed),
+        jcal: counted(jcal, way == TO_JCAL, is_agreed),
+        text_of_jcal: counted(text_of_jcal, way == JCAL_TO_TEXT, is_agreed),
+    }
 }
 
 // Runs a case.
@@ -111,26 +134,20 @@ fn with_case(
     let n = wrapping_add_u64(t.cases, 1);
     let is_agreed = is_case_agreed(c, input, result, work, out);
     tell_case(n, is_agreed);
-    let xml = t.xml;
-    let text = t.text;
-    Tallies {
-        cases: n,
-        xml: counted(xml, c.way == TO_XML, is_agreed),
-        text: counted(text, c.way == TO_TEXT, is_agreed),
-    }
+    tallied(t, n, c.way, is_agreed)
 }
 
 fn none() -> Tallies {
+    let t = Tally {
+        agreed: 0,
+        differing: 0,
+    };
     Tallies {
         cases: 0,
-        xml: Tally {
-            agreed: 0,
-            differing: 0,
-        },
-        text: Tally {
-            agreed: 0,
-            differing: 0,
-        },
+        xml: t,
+        text: t,
+        jcal: t,
+        text_of_jcal: t,
     }
 }
 

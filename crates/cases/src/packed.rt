@@ -4,13 +4,17 @@ use libc::STDIN_FILENO;
 use std::num::wrapping_add_u64;
 use std::num::wrapping_add_usize;
 
-// The ways of the two conversions.
+// The ways of the conversions.
 pub const TO_XML: u8 = 1;
 
 pub const TO_TEXT: u8 = 2;
 
+pub const TO_JCAL: u8 = 3;
+
+pub const JCAL_TO_TEXT: u8 = 4;
+
 // What a case says: its way, the edition, the answer with room enough, how long the input and the result are. After the last case the way is
-// neither.
+// none of these.
 pub struct Case {
     pub way: u8,
     pub edition: u32,
@@ -21,7 +25,12 @@ pub struct Case {
 }
 
 pub fn is_case(c: Case) -> bool {
-    (c.way == TO_XML) | (c.way == TO_TEXT)
+    (c.way == TO_XML) | (c.way == TO_TEXT) | (c.way == TO_JCAL) | (c.way == JCAL_TO_TEXT)
+}
+
+// The input is a text, and a work room is lent.
+pub fn is_from_text(way: u8) -> bool {
+    (way == TO_XML) | (way == TO_JCAL)
 }
 
 fn grown(n: u64, b: u8) -> u64 {

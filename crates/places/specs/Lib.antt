@@ -1,3 +1,3 @@
--- Where a document is refused: at a place within it, or at its end.
+-- Where a document or a jCal text is refused: at a place within it, or at its end.
 --     laws    laws, and what proofs need
 pub mod laws

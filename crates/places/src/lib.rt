@@ -1,1 +1,1 @@
-// Where a document is refused: specifications only.
+// Where a document or a jCal text is refused: specifications only.

@@ -26,8 +26,8 @@ use Rattle.xml.specs.NodesAt.{nodesAt}
 use Rattle.read_xml_nodes.specs.Judging.{judgedAs}
 use Rattle.read_xml_nodes.specs.declared.Judged.{Judged}
 use Rattle.edition.specs.declared.Edition.{Edition}
-use Rattle.read_xml.specs.Counting.{Counted}
-use Rattle.read_xml.specs.declared.Kept.{Kept}
+use Rattle.tallies.specs.Counting.{Counted}
+use Rattle.tallies.specs.declared.Kept.{Kept}
 use Rattle.read_xml.specs.declared.Which.{Which}
 use Rattle.read_xml.specs.declared.Which.the-variants.{Properties, Components, Other}
 use Rattle.read_xml.specs.declared.Met.{Met}

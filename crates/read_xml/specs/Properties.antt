@@ -22,7 +22,7 @@ use Rattle.read_xml_nodes.specs.declared.Judged.{Judged}
 use Rattle.read_xml_nodes.specs.declared.Judged.the-variants.{Fine}
 use Rattle.edition.specs.declared.Edition.{Edition}
 use Rattle.read_xml.specs.Children.{nameOf}
-use Rattle.read_xml.specs.Counting.{Counted}
+use Rattle.tallies.specs.Counting.{Counted}
 use Rattle.read_xml.specs.declared.Listed.{Listed}
 
 -- ---- a value of type BINARY with no ENCODING

@@ -25,7 +25,7 @@ use Rattle.read_xml_nodes.specs.declared.Judged.{Judged}
 use Rattle.read_xml_nodes.specs.declared.Judged.the-variants.{Fine}
 use Rattle.edition.specs.declared.Edition.{Edition}
 use Rattle.read_xml.specs.Components.{come}
-use Rattle.read_xml.specs.declared.Kept.{Kept}
+use Rattle.tallies.specs.declared.Kept.{Kept}
 use Rattle.read_xml.specs.declared.Numbered.{Numbered}
 use Rattle.read_xml.specs.declared.Numbered.the-variants.{Number, Other}
 use Rattle.read_xml.specs.declared.Sub.{Sub}

@@ -1,10 +1,8 @@
 // The children of a component, up to its `components` and behind it. See specs/Components.antt.
 use crate::Begun;
-use crate::Kept;
 use crate::Met;
 use crate::Part;
 use crate::Which;
-use crate::counting::none_counted;
 use crate::properties::properties_verdict;
 use edition::Edition;
 use markup::element;
@@ -19,6 +17,8 @@ use refusals::COUNT;
 use refusals::FRAME;
 use schema::complete_counts;
 use schema::component;
+use tallies::Kept;
+use tallies::none_counted;
 ghost use mathlib.Core.Path.{_≡_};
 ghost use Prim.Native.Nat.{_≤_};
 ghost use lib.ListN.{length, take};

@@ -1,5 +1,6 @@
 // The verdict on the elements of properties and components, up to the root. Definitions are in crate xcal (specs/PropertyNodes, specs/ComponentNodes), laws in specs/laws/.
 use read_xml_nodes::Judged;
+use tallies::Kept;
 
 mod action;
 mod children;
@@ -28,12 +29,6 @@ pub enum Tried {
 pub enum Next {
     Goes(usize, usize, bool, bool),
     Ends(Judged),
-}
-
-// What is kept of the properties of a component up to its end tag: how often each known one has come, and the number of the word of the first ACTION.
-pub struct Kept {
-    pub counts: [u8; 46],
-    pub action: usize,
 }
 
 // The verdict on the children of `properties`; where it is fine, what is kept of them.

@@ -2,8 +2,7 @@
 use crate::Listed;
 use crate::children::child_slot;
 use crate::children::children_verdict;
-use crate::counting::count;
-use crate::counting::none_counted;
+use crate::counting::word_of;
 use edition::Edition;
 use markup::element;
 use names::is_word;
@@ -25,6 +24,8 @@ use schema::may_stand;
 use schema::property;
 use schema::row_of;
 use schema::value_type;
+use tallies::count;
+use tallies::none_counted;
 ghost use mathlib.Core.Path.{_≡_};
 ghost use mathlib.Core.List.{List};
 ghost use Prim.Native.Nat.{ℕ, _≤_};
@@ -181,7 +182,8 @@ pub fn properties_verdict(edition: Edition, k: usize, s: &[u8], inside: usize) -
                 let j = property_verdict(edition, k, row, s, at, n);
                 match j {
                     Judged::Fine => {
-                        let more = count(kept, row.number, s, n.inside);
+                        let word = word_of(row.number, s, n.inside);
+                        let more = count(kept, row.number, word);
                         kept = more;
                         at = n.next;
                     }

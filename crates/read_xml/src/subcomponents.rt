@@ -1,6 +1,5 @@
 // A whole component, and the children of `components`. See specs/Subcomponents.antt.
 use crate::Held;
-use crate::Kept;
 use crate::Numbered;
 use crate::Part;
 use crate::Sub;
@@ -19,6 +18,7 @@ use refusals::NAME;
 use schema::component_number;
 use schema::may_begin;
 use schema::method_for;
+use tallies::Kept;
 ghost use mathlib.Core.Path.{_≡_};
 ghost use Prim.Native.Nat.{_≤_};
 ghost use lib.ListN.{length, take};

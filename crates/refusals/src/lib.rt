@@ -12,6 +12,7 @@ pub enum Refusal {
     Value = 8,
     Count = 9,
     Xml = 11,
+    Json = 12,
     Edition = 13,
 }
 
@@ -35,6 +36,8 @@ pub const VALUE: u8 = Refusal::Value as u8;
 pub const COUNT: u8 = Refusal::Count as u8;
 
 pub const XML: u8 = Refusal::Xml as u8;
+
+pub const JSON: u8 = Refusal::Json as u8;
 
 pub const EDITION: u8 = Refusal::Edition as u8;
 

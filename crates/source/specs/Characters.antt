@@ -1,21 +1,18 @@
 -- The characters of an XML element from a cursor on. A cursor is twice the place where a character begins. Within the character that a reference names,
 -- after j of its bytes, it is 2 * (p + j) - 1, where p is the place of the reference's `&`; so it grows, and stays below twice the length.
---     ampersand s q    the place of the `&` that stands at q or at most two bytes before
 --     remaining t j    what is left of the character of the reference t at the place p after j bytes of it, and what follows it
 --     charsFrom s c    the bytes of the characters from the cursor c on, up to a tag
 use mathlib.Core.List.{List, []}
 use Prim.Native.Nat.{ℕ, _+_, _-_, _/_, _%_}
 use lib.Dec.{eqb, ltb}
-use lib.ListN.{length, getD, drop}
+use lib.ListN.{length, drop}
 use Rattle.octets.specs.Pick.{pick}
 use Rattle.octets.specs.Append.{_⊕_}
 use Rattle.utf8.specs.Spell.{spell}
 use Rattle.xml.specs.Token.{Token, STag, EmptyElemTag, ETag, CharByte, Reference, Fault}
 use Rattle.xml.specs.NodesAt.{charsAt}
 use Rattle.xml.specs.CharAt.{charIn}
-
-unfoldable pub ampersand : List ℕ → ℕ → ℕ
-ampersand s q = pick (eqb (getD s q 0) 38) q (pick (eqb (getD s (q - 1) 0) 38) (q - 1) (q - 2))
+use Rattle.source.specs.Mark.{markBefore}
 
 unfoldable pub remaining : Token → ℕ → List ℕ → ℕ → List ℕ
 remaining (STag nm k) j s p = []
@@ -27,7 +24,7 @@ remaining Fault j s p = []
 
 -- within the reference at the `&` before q
 unfoldable pub charsWithin : List ℕ → ℕ → List ℕ
-charsWithin s q = let p = ampersand s q in remaining (charIn (drop p s)) (q - p + 1) s p
+charsWithin s q = let p = markBefore 38 s q in remaining (charIn (drop p s)) (q - p + 1) s p
 
 unfoldable pub charsFrom : List ℕ → ℕ → List ℕ
 charsFrom s c = pick (eqb (c % 2) 0) (charsAt s (c / 2)) (charsWithin s (c / 2))

@@ -1,7 +1,7 @@
 -- The characters that stand from a cursor on, as bytes, whatever encoding they stand in. A reader of values knows only these: a new encoding is one case more here.
 --     rest m s c     the bytes of the characters in s from the cursor c on, in the encoding m: 0 is bytes as they stand, to the end of s; 1 is the characters of
---                    an XML element, up to a tag (Characters); 2 is the bytes of a text with its folds in place, to the end of s; 4 and 5 are a parameter's value
---                    with carets (edition 1) over 0 and over 2
+--                    an XML element, up to a tag (Characters); 2 is the bytes of a text with its folds in place, to the end of s; 3 is the characters of a JSON
+--                    string, up to its end (Quoted); 4 and 5 are a parameter's value with carets (edition 1) over 0 and over 2
 --     Over b v       the encoding v has the carets of b decoded
 --     Decodes e m v  the encoding v has a value of edition e that stands in the encoding m
 --     cuts m         a cursor of m is an index, and what is lent may be cut there
@@ -21,6 +21,7 @@ use Rattle.folding.specs.Cut.{skipAfter}
 use Rattle.edition.specs.Edition.{decoding, decode}
 use Rattle.edition.specs.declared.Edition.{Edition}
 use Rattle.source.specs.Characters.{charsFrom}
+use Rattle.source.specs.Quoted.{quotedFrom}
 use Rattle.source.specs.declared.Step.{Step}
 
 unfoldable pub rest : ℕ → List ℕ → ℕ → List ℕ
@@ -28,9 +29,10 @@ rest m s c =
     pick (eqb m 0) (drop c s)
     (pick (eqb m 1) (charsFrom s c)
     (pick (eqb m 2) (unfolded (drop c s))
+    (pick (eqb m 3) (quotedFrom s c)
     (pick (eqb m 4) (decoding (drop c s) false)
     (pick (eqb m 5) (decoding (unfolded (drop c s)) false)
-    []))))
+    [])))))
 
 -- 0 and 2
 abbrev pub cuts : ℕ → Bool

@@ -1,6 +1,8 @@
 // A cursor over lent bytes in a given encoding: a value is read character by character, whatever encoding it stands in. See specs/Source.antt.
 mod carets;
 mod characters;
+mod points;
+mod quoted;
 
 use carets::caret_unit;
 pub use carets::value_mode;
@@ -8,6 +10,7 @@ pub use characters::xml_unit;
 use folding::skip::skip_folds;
 use octets::unit::END;
 use octets::wide;
+pub use quoted::quoted_unit;
 ghost use mathlib.Core.Path.{_≡_};
 ghost use Rattle.source.specs.Source.{Reads, Settled};
 
@@ -62,7 +65,7 @@ pub fn settled(mode: usize, s: &[u8], at: usize) -> usize
 
 // An encoding that there is not has no characters.
 fn no_unit(s: &[u8], at: usize, mode: usize) -> Step
-    requires { ⌜ (mode ≡ 0 → ⊥) × (mode ≡ 1 → ⊥) × (mode ≡ 2 → ⊥) × (mode ≡ 4 → ⊥) × (mode ≡ 5 → ⊥) ⌝ }
+    requires { ⌜ (mode ≡ 0 → ⊥) × (mode ≡ 1 → ⊥) × (mode ≡ 2 → ⊥) × (mode ≡ 3 → ⊥) × (mode ≡ 4 → ⊥) × (mode ≡ 5 → ⊥) ⌝ }
     ensures { λ r. ⌜ Reads mode (now (s .entry)) at r ⌝ }
 {
     Step { u: END, next: at }
@@ -79,6 +82,9 @@ pub fn other_unit(mode: usize, s: &[u8], at: usize) -> Step
     if mode == 2 {
         return folded_unit(s, at);
     }
+    if mode == 3 {
+        return quoted_unit(s, at);
+    }
     if mode == 4 {
         return caret_unit(0, mode, s, at);
     }
@@ -89,7 +95,7 @@ pub fn other_unit(mode: usize, s: &[u8], at: usize) -> Step
 }
 
 // The byte at the cursor `at`, in the encoding that `mode` names: 0 for bytes as they stand, 1 for the characters of an XML element,
-// 2 for a text with its folds in place, 4 and 5 for a parameter's value with carets over 0 and over 2; 3 is kept for the characters of a JSON string.
+// 2 for a text with its folds in place, 3 for the characters of a JSON string, 4 and 5 for a parameter's value with carets over 0 and over 2.
 pub fn unit(mode: usize, s: &[u8], at: usize) -> Step
     ensures { λ r. ⌜ Reads mode (now (s .entry)) at r ⌝ }
 {

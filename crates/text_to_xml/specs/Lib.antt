@@ -1,5 +1,3 @@
 -- iCalendar text to canonical XML.
---     Steps    laws of the steps of the code
---     laws     laws of these, and what proofs need
-pub mod Steps
+--     laws    what proofs of the steps need
 pub mod laws

@@ -21,9 +21,9 @@ ghost use Rattle.text.specs.WriteText.{endLine, writeCalendar};
 ghost use Rattle.calendar.specs.Levels.{shallow};
 ghost use Rattle.xcal.specs.ComponentNodes.{readComponents, readCalendars};
 ghost use Rattle.xml.specs.NodesAt.{nodesAt};
+ghost use Rattle.write_text_pieces.specs.Filled.{calendarRoom, PutBy};
 ghost use Rattle.write_text.specs.Children.{InsideAt, nameIn};
-ghost use Rattle.write_text.specs.Filled.{calendarRoom, headRoom, PutBy};
-ghost use Rattle.write_text.specs.Walks.{headText};
+ghost use Rattle.write_text.specs.Walks.{headText, headRoom};
 
 // The line of `word` and the name from `name` to `end` in capitals.
 fn put_name_line(

@@ -1,6 +1,5 @@
 // The content line of a property's element: its name in capitals, VALUE, its parameters, a colon, its values. See specs/Content.antt.
 use crate::children::parameters_inside;
-use crate::types::put_value_parameter;
 use edition::Edition;
 use names::put_upper;
 use read_xml_nodes::Element;
@@ -8,6 +7,7 @@ use read_xml_parameters::put_parameters;
 use schema::Row;
 use schema::row_of;
 use sink::put_all;
+use write_text_pieces::put_value_parameter;
 use write_text_values::put_values;
 use write_text_values::type_of_values;
 ghost use mathlib.Core.Path.{_≡_};

@@ -3,6 +3,5 @@ mod children;
 mod components;
 mod content;
 mod properties;
-mod types;
 
 pub use components::put_calendar;

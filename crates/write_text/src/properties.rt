@@ -14,8 +14,8 @@ ghost use Rattle.text.specs.WriteText.{propertyLines};
 ghost use Rattle.xcal.specs.PropertyNodes.{readProperties};
 ghost use Rattle.xml.specs.NodesAt.{nodesAt};
 ghost use Rattle.read_xml_nodes.specs.Elements.{nameAt};
+ghost use Rattle.write_text_pieces.specs.Filled.{propertiesRoom, PutBy};
 ghost use Rattle.write_text.specs.Content.{lineText};
-ghost use Rattle.write_text.specs.Filled.{propertiesRoom, PutBy};
 
 // The line of the property whose element is `e`.
 fn put_property_line(

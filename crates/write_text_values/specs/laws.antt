@@ -1,8 +1,6 @@
 -- Laws. A property's values from its XML elements, written as iCalendar text.
 --     Walking   a walk over nodes to the first that is sought
 --     Children  the first child of a name
---     Leaves    values that are character data
---     Joining   pieces with a separator between them, in a loop
 --     Periods   PERIOD
 --     Rules     RECUR: the items of a part
 --     PutRule   its parts
@@ -12,8 +10,6 @@
 --     ValuesAt  the values of a property by its number
 pub mod Walking
 pub mod Children
-pub mod Leaves
-pub mod Joining
 pub mod Periods
 pub mod Rules
 pub mod PutRule

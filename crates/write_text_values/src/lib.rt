@@ -1,7 +1,5 @@
 // A property's values from its XML elements, written as iCalendar text. Definitions are in crates xcal (specs/ValueNodes) and values (specs/WriteValue), laws in specs/laws/.
-mod between;
 mod child;
-mod leaf;
 mod own;
 mod period;
 mod property;

@@ -1,5 +1,4 @@
 // RECUR, which is made of elements: for each part in the schema's order its items, with commas between them. See specs/Rules.antt and specs/PutRule.antt.
-use crate::between::put_between;
 use markup::table;
 use names::find_word;
 use names::put_upper;
@@ -8,6 +7,7 @@ use read_xml_nodes::next_node;
 use recur::part;
 use recur::written::put_item;
 use sink::put_all;
+use write_text_pieces::put_between;
 ghost use mathlib.Core.Path.{_≡_};
 ghost use mathlib.Core.List.{[], _∷_, map};
 ghost use Prim.Native.Nat.{_≤_, _<_};

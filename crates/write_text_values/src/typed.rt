@@ -1,6 +1,4 @@
 // Values in elements that are named as their type. See specs/Typed.antt.
-use crate::between::put_between;
-use crate::leaf::put_leaf;
 use crate::period::put_period;
 use crate::rule::put_rule;
 use read_xml_nodes::NodeKind;
@@ -11,6 +9,8 @@ use read_xml_value::element_type;
 use schema::value_type;
 use values::ValueRead;
 use values::read_value;
+use write_text_pieces::put_between;
+use write_text_pieces::put_leaf;
 ghost use mathlib.Core.Path.{_≡_};
 ghost use mathlib.Core.List.{[], _∷_};
 ghost use Prim.Native.Nat.{_≤_};

@@ -1,7 +1,5 @@
 -- Laws of the loops.
 --     Walking    a walk over the lines of a component that writes
---     Past       the way past a component
 --     Leading    a walk over the properties before the first subcomponent
 pub mod Walking
-pub mod Past
 pub mod Leading

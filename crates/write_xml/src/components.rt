@@ -1,9 +1,9 @@
 // The components of a text, or of a component. See specs/Walks.antt.
-use crate::bound::bound_at;
-use crate::entry::Kind;
 use crate::parts::put_head;
 use crate::parts::put_tail;
 use edition::Edition;
+use text_entries::Kind;
+use text_entries::bound_at;
 ghost use Prim.Native.Nat.{_≤_};
 ghost use Rattle.read_text_line.specs.Ready.{Ready};
 ghost use Rattle.write_xml.specs.Places.{ComponentsPut};
@@ -36,12 +36,13 @@ pub fn put_components(
             Kind::Begin => {
                 let l = f.line;
                 let h = put_head(out, p, edition, mode, s, l.value, f.end, f.next, left);
-                if h.bare {
-                    p = put_tail(out, h.to, mode, &s[..f.end], l.value, h.bare);
-                    at = h.next;
+                let a = h.ahead;
+                if a.bare {
+                    p = put_tail(out, h.to, mode, &s[..f.end], l.value, a.bare);
+                    at = a.next;
                 } else {
-                    let b = put_components(out, h.to, edition, mode, s, h.inner, left - 1);
-                    p = put_tail(out, b.to, mode, &s[..f.end], l.value, h.bare);
+                    let b = put_components(out, h.to, edition, mode, s, a.inner, left - 1);
+                    p = put_tail(out, b.to, mode, &s[..f.end], l.value, a.bare);
                     at = b.next;
                 }
             }

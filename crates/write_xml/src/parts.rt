@@ -1,6 +1,5 @@
 // The parts of a component's element around its subcomponents. The BEGIN line of the component ends at `e`, its name
 // stands there from `v` on, and its other lines begin at `from`.
-use crate::passing::pass_component;
 use crate::properties::Walked;
 use crate::properties::put_properties_element;
 use edition::Edition;
@@ -11,9 +10,10 @@ use tags::put_end_tag;
 use tags::put_small_end;
 use tags::put_small_start;
 use tags::put_start_tag;
+use text_entries::cut_at_level;
 ghost use mathlib.Core.Path.{_≡_};
-ghost use mathlib.Core.List.{List, []};
-ghost use Prim.Native.Nat.{ℕ, _-_, _≤_};
+ghost use mathlib.Core.List.{[]};
+ghost use Prim.Native.Nat.{_-_, _≤_};
 ghost use lib.ListN.{length, take};
 ghost use Rattle.octets.specs.Ascii.{ascii};
 ghost use Rattle.octets.specs.Pick.{pick};
@@ -23,8 +23,8 @@ ghost use Rattle.read_text_line.specs.Ready.{Ready};
 ghost use Rattle.sink.specs.Sink.{Put};
 ghost use Rattle.calendar.specs.Levels.{shallow};
 ghost use Rattle.xml.specs.Escape.{startTag, endTag};
-ghost use Rattle.write_xml.specs.Entries.{entriesAt};
-ghost use Rattle.write_xml.specs.Places.{whole, PropertiesPut};
+ghost use Rattle.text_entries.specs.Entries.{entriesAt};
+ghost use Rattle.write_xml.specs.Places.{PropertiesPut};
 ghost use Rattle.write_xml.specs.Parts.{hasComponents, headXml, tailXml};
 
 // The component, which has no subcomponents if it is bare, has an element `components`.
@@ -60,29 +60,6 @@ fn put_components_end(out: &mut [u8], o: usize, there: bool) -> usize
     o
 }
 
-// What a walk over the properties came to, where the component stands `left` levels deep at most with those inside it: on the last level nothing stands inside it.
-fn cut_at_level(edition: Edition, mode: usize, s: &[u8], w: Walked, left: usize) -> Walked
-    requires { ⌜ Ready mode (now s) (w .inner) ⌝ }
-    ensures { λ r. ⌜
-        ((d e : List ℕ) (o : ℕ) (bs : List ℕ) (from : ℕ) →
-        PropertiesPut edition whole d e o bs mode (now (s .entry)) from w →
-        PropertiesPut edition (shallow (left - 1)) d e o bs mode (now (s .entry)) from r) ⌝ }
-{
-    if w.bare {
-        return w;
-    }
-    if left < 2 {
-        let next = pass_component(edition, mode, s, w.inner);
-        return Walked {
-            to: w.to,
-            inner: w.inner,
-            bare: true,
-            next,
-        };
-    }
-    w
-}
-
 // What stands before the subcomponents; `left`, the levels of the component and of those inside it.
 pub fn put_head(
     out: &mut [u8],
@@ -98,22 +75,18 @@ pub fn put_head(
     requires { ⌜ (e ≤ length (now s)) × Ready mode (now s) from ⌝ }
     ensures { λ r. ⌜
         PropertiesPut edition (shallow (left - 1)) (now (out .entry)) (now (out .exit)) o
-        (headXml (upper (rest mode (take e (now (s .entry))) v)) (r .bare)
+        (headXml (upper (rest mode (take e (now (s .entry))) v)) (r .ahead .bare)
         (entriesAt edition mode (now (s .entry)) from))
         mode (now (s .entry)) from r ⌝ }
 {
     let k = component_number(mode, &s[..e], v);
     let a = put_small_start(out, o, mode, &s[..e], v);
     let all = put_properties_element(out, a, edition, k, mode, s, from);
-    let b = cut_at_level(edition, mode, s, all, left);
+    let whole = all.ahead;
+    let b = cut_at_level(edition, mode, s, whole, left);
     let there = has_components(mode, &s[..e], v, b.bare);
-    let c = put_components_start(out, b.to, there);
-    Walked {
-        to: c,
-        inner: b.inner,
-        bare: b.bare,
-        next: b.next,
-    }
+    let c = put_components_start(out, all.to, there);
+    Walked { to: c, ahead: b }
 }
 
 // What stands behind them.

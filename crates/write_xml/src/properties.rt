@@ -1,28 +1,27 @@
 // The properties of a component. See specs/Walks.antt.
-use crate::entry::Kind;
-use crate::entry::entry_at;
-use crate::passing::pass_component;
 use edition::Edition;
 use markup::element;
 use tags::put_end_tag;
 use tags::put_start_tag;
+use text_entries::Ahead;
+use text_entries::Kind;
+use text_entries::entry_at;
+use text_entries::pass_component;
 use write_xml_property::put_property;
 ghost use Rattle.octets.specs.Ascii.{ascii};
 ghost use Rattle.read_text_line.specs.Ready.{Ready};
 ghost use Rattle.sink.specs.Sink.{Put};
 ghost use Rattle.xml.specs.Escape.{elementOf};
 ghost use Rattle.schema.specs.Numbers.{componentName};
-ghost use Rattle.write_xml.specs.Entries.{entriesAt};
+ghost use Rattle.text_entries.specs.Entries.{entriesAt};
+ghost use Rattle.text_entries.specs.Levels.{whole};
 ghost use Rattle.write_xml.specs.Walks.{ownXml};
-ghost use Rattle.write_xml.specs.Places.{whole, PropertiesPut, LeadingPut};
+ghost use Rattle.write_xml.specs.Places.{PropertiesPut, LeadingPut};
 
-// What a walk over a component's properties came to: the index in the sink; the cursor of the first subcomponent, or of what ends the component; whether there is
-// no subcomponent; and if there is none, the cursor behind the component's END.
+// What a walk over a component's properties came to: the index in the sink, and what stands ahead.
 pub struct Walked {
     pub to: usize,
-    pub inner: usize,
-    pub bare: bool,
-    pub next: usize,
+    pub ahead: Ahead,
 }
 
 // The properties of the component of the number `k` whose lines begin at `from`, up to its first subcomponent.
@@ -45,20 +44,20 @@ fn put_leading(
         let kind = f.kind;
         match kind {
             Kind::Begin => {
-                return Walked {
-                    to: p,
+                let ahead = Ahead {
                     inner: at,
                     bare: false,
                     next: at,
                 };
+                return Walked { to: p, ahead };
             }
             Kind::End => {
-                return Walked {
-                    to: p,
+                let ahead = Ahead {
                     inner: at,
                     bare: true,
                     next: f.next,
                 };
+                return Walked { to: p, ahead };
             }
             Kind::Property => {
                 let l = f.line;
@@ -70,12 +69,12 @@ fn put_leading(
             }
         }
     }
-    Walked {
-        to: p,
+    let ahead = Ahead {
         inner: at,
         bare: true,
         next: at,
-    }
+    };
+    Walked { to: p, ahead }
 }
 
 // Those from `from` on, between and behind its subcomponents too.
@@ -134,16 +133,12 @@ fn put_properties(
         (ownXml (componentName k) (entriesAt edition mode (now (s .entry)) from)) mode (now (s .entry)) from r ⌝ }
 {
     let a = put_leading(out, o, edition, k, mode, s, from);
-    if a.bare {
+    let ahead = a.ahead;
+    if ahead.bare {
         return a;
     }
-    let b = put_following(out, a.to, edition, k, mode, s, a.inner);
-    Walked {
-        to: b,
-        inner: a.inner,
-        bare: a.bare,
-        next: a.next,
-    }
+    let b = put_following(out, a.to, edition, k, mode, s, ahead.inner);
+    Walked { to: b, ahead }
 }
 
 // The same, as the element `properties`.
@@ -165,10 +160,6 @@ pub fn put_properties_element(
     let a = put_start_tag(out, o, &element::PROPERTIES);
     let b = put_properties(out, a, edition, k, mode, s, from);
     let c = put_end_tag(out, b.to, &element::PROPERTIES);
-    Walked {
-        to: c,
-        inner: b.inner,
-        bare: b.bare,
-        next: b.next,
-    }
+    let ahead = b.ahead;
+    Walked { to: c, ahead }
 }

@@ -1,7 +1,7 @@
 //! How fast the conversions are, and how their time grows with the input.
 //!
 //!     cargo run --release --offline --bin bench [PART OF A NAME]
-//!     valgrind --tool=callgrind --toggle-collect=mallettriton_to_xml target/release/bench --once to-xml "PART OF A NAME" 65535
+//!     valgrind --tool=callgrind --toggle-collect=mallettriton_to_xml target/release/bench --once to-xml "PART OF A NAME" 65535    (or to-jcal, to-text, jcal-to-text)
 //!
 //! The buffers are made once and not cleared between calls; every call is on the same input, with room enough. A time is processor time, the shortest of many runs, each of as many calls as
 //! take some milliseconds, and what is compared takes turns, so that other work on the machine counts little. Growth is how much longer a call takes on 64 kB than on 8 kB: 8 is linear.
@@ -9,7 +9,7 @@
 mod inputs;
 
 use inputs::Kind;
-use mallettriton::{Edition, to_text, to_text_into, to_xml_into, Answer, LONGEST};
+use mallettriton::{jcal_to_text, jcal_to_text_into, to_jcal_into, to_text, to_text_into, to_xml_into, Answer, Edition, LONGEST};
 use std::cell::RefCell;
 use std::hint::black_box;
 
@@ -63,16 +63,16 @@ impl Rooms {
         to_xml_into(input, &mut self.work, &mut self.out, Edition::Rfc5545)
     }
 
+    fn jcal_of(&mut self, input: &[u8]) -> Answer<'_> {
+        to_jcal_into(input, &mut self.work, &mut self.out, Edition::Rfc5545)
+    }
+
     fn text_of(&mut self, input: &[u8]) -> Answer<'_> {
         to_text_into(input, &mut self.out, Edition::Rfc5545)
     }
 
-    /// How long the XML of a text is.
-    fn xml_length(&mut self, text: &[u8]) -> usize {
-        match self.xml_of(text) {
-            Answer::Written(xml) => xml.len(),
-            other => panic!("{other:?}"),
-        }
+    fn text_of_jcal(&mut self, input: &[u8]) -> Answer<'_> {
+        jcal_to_text_into(input, &mut self.out, Edition::Rfc5545)
     }
 }
 
@@ -82,19 +82,30 @@ fn as_named(name: &str, answer: Answer<'_>) {
     assert!(!matches!(answer, Answer::Needs(_)) && refused == name.starts_with("refused"), "{name}: {answer:?}");
 }
 
-/// The XML of as long a text of the kind as gives at most `length` bytes.
-fn document_of(kind: &Kind, length: usize, rooms: &mut Rooms) -> Vec<u8> {
+/// A conversion.
+type Call = for<'a> fn(&'a mut Rooms, &[u8]) -> Answer<'a>;
+
+/// How long the result is.
+fn length_of(answer: Answer<'_>) -> usize {
+    match answer {
+        Answer::Written(result) => result.len(),
+        other => panic!("{other:?}"),
+    }
+}
+
+/// The result of as long a text of the kind as gives at most `length` bytes.
+fn document_of(kind: &Kind, of: Call, length: usize, rooms: &mut Rooms) -> Vec<u8> {
     let (mut fits, mut too_long) = (length / 32, length);
     while too_long - fits > 64 {
         let middle = (fits + too_long) / 2;
-        if rooms.xml_length(&kind.of_length(middle)) <= length {
+        if length_of(of(rooms, &kind.of_length(middle))) <= length {
             fits = middle;
         } else {
             too_long = middle;
         }
     }
-    let xml = rooms.xml_length(&kind.of_length(fits));
-    rooms.out[..xml].to_vec()
+    let written = length_of(of(rooms, &kind.of_length(fits)));
+    rooms.out[..written].to_vec()
 }
 
 /// libical on a text: it parses and prints it. None where it was not found, or finds errors in the text.
@@ -141,20 +152,21 @@ fn measure(name: &str, inputs: [Vec<u8>; 2], text: Option<Vec<u8>>, convert: imp
     println!("{name:<30}{:>8}{:>12.0}{:>10.1}{growth:>8.1}{ratio:>12}", long.len(), times[1] * 1e6, length / times[1] / 1e6);
 }
 
-fn measure_text(kind: &Kind, rooms: &mut Rooms) {
+/// Measures a conversion from text.
+fn measure_text(kind: &Kind, of: Call, rooms: &mut Rooms) {
     let inputs = [SHORT, LONG].map(|length| kind.of_length(length));
-    inputs.iter().for_each(|text| as_named(kind.name, rooms.xml_of(text)));
+    inputs.iter().for_each(|text| as_named(kind.name, of(rooms, text)));
     let text = (!kind.name.starts_with("refused")).then(|| inputs[1].clone());
     let convert = |text: &[u8], rooms: &mut Rooms| {
-        black_box(rooms.xml_of(text));
+        black_box(of(rooms, text));
     };
     measure(kind.name, inputs, text, convert, rooms);
 }
 
-fn measure_document(name: &str, inputs: [Vec<u8>; 2], text: Option<Vec<u8>>, rooms: &mut Rooms) {
-    inputs.iter().for_each(|xml| as_named(name, rooms.text_of(xml)));
-    let convert = |xml: &[u8], rooms: &mut Rooms| {
-        black_box(rooms.text_of(xml));
+fn measure_document(name: &str, of: Call, inputs: [Vec<u8>; 2], text: Option<Vec<u8>>, rooms: &mut Rooms) {
+    inputs.iter().for_each(|document| as_named(name, of(rooms, document)));
+    let convert = |document: &[u8], rooms: &mut Rooms| {
+        black_box(of(rooms, document));
     };
     measure(name, inputs, text, convert, rooms);
 }
@@ -162,18 +174,24 @@ fn measure_document(name: &str, inputs: [Vec<u8>; 2], text: Option<Vec<u8>>, roo
 /// A call on each of the chosen inputs of a length, for a profiler.
 fn once(way: &str, only: &str, length: usize, rooms: &mut Rooms) {
     let chosen = |kind: &&Kind| kind.name.contains(only);
-    if way == "to-xml" {
+    let texts: Option<Call> = match way {
+        "to-xml" => Some(Rooms::xml_of),
+        "to-jcal" => Some(Rooms::jcal_of),
+        _ => None,
+    };
+    if let Some(of) = texts {
         for kind in inputs::ROTAS.iter().chain(&inputs::WORST_TEXTS).filter(chosen) {
-            as_named(kind.name, rooms.xml_of(&kind.of_length(length)));
+            as_named(kind.name, of(rooms, &kind.of_length(length)));
         }
-    } else {
-        for kind in inputs::ROTAS.iter().filter(chosen) {
-            let xml = document_of(kind, length, rooms);
-            as_named(kind.name, rooms.text_of(&xml));
-        }
-        for kind in inputs::WORST_DOCUMENTS.iter().filter(chosen) {
-            as_named(kind.name, rooms.text_of(&kind.of_length(length)));
-        }
+        return;
+    }
+    let (to, of): (Call, Call) = if way == "to-text" { (Rooms::xml_of, Rooms::text_of) } else { (Rooms::jcal_of, Rooms::text_of_jcal) };
+    for kind in inputs::ROTAS.iter().filter(chosen) {
+        let document = document_of(kind, to, length, rooms);
+        as_named(kind.name, of(rooms, &document));
+    }
+    for kind in inputs::WORST_DOCUMENTS.iter().filter(|kind| way == "to-text" && chosen(kind)) {
+        as_named(kind.name, of(rooms, &kind.of_length(length)));
     }
 }
 
@@ -192,15 +210,25 @@ fn main() {
     }
     head("text to XML");
     for kind in inputs::ROTAS.iter().chain(&inputs::WORST_TEXTS).filter(chosen) {
-        measure_text(kind, &mut rooms);
+        measure_text(kind, Rooms::xml_of, &mut rooms);
+    }
+    head("text to jCal");
+    for kind in inputs::ROTAS.iter().chain(&inputs::WORST_TEXTS).filter(chosen) {
+        measure_text(kind, Rooms::jcal_of, &mut rooms);
     }
     head("XML to text");
     for kind in inputs::ROTAS.iter().filter(chosen) {
-        let documents = [SHORT, LONG].map(|length| document_of(kind, length, &mut rooms));
+        let documents = [SHORT, LONG].map(|length| document_of(kind, Rooms::xml_of, length, &mut rooms));
         let text = to_text(&documents[1], Edition::Rfc5545).ok();
-        measure_document(kind.name, documents, text, &mut rooms);
+        measure_document(kind.name, Rooms::text_of, documents, text, &mut rooms);
     }
     for kind in inputs::WORST_DOCUMENTS.iter().filter(chosen) {
-        measure_document(kind.name, [SHORT, LONG].map(|length| kind.of_length(length)), None, &mut rooms);
+        measure_document(kind.name, Rooms::text_of, [SHORT, LONG].map(|length| kind.of_length(length)), None, &mut rooms);
+    }
+    head("jCal to text");
+    for kind in inputs::ROTAS.iter().chain(&inputs::WORST_TEXTS).filter(|kind| chosen(kind) && !kind.name.starts_with("refused")) {
+        let documents = [SHORT, LONG].map(|length| document_of(kind, Rooms::jcal_of, length, &mut rooms));
+        let text = jcal_to_text(&documents[1], Edition::Rfc5545).ok();
+        measure_document(kind.name, Rooms::text_of_jcal, documents, text, &mut rooms);
     }
 }

@@ -4,7 +4,7 @@
 pub mod inputs;
 pub mod readings;
 
-use mallettriton::{Edition, to_text_into, to_xml_into, Answer};
+use mallettriton::{jcal_to_text_into, to_jcal_into, to_text_into, to_xml_into, Answer, Edition};
 
 /// What the bytes of a buffer are before a call.
 pub const FILL: u8 = 0xa5;
@@ -37,10 +37,26 @@ pub fn to_xml_in(input: &[u8], work_length: usize, out_length: usize) -> (Told, 
     (told, work)
 }
 
+/// The same of the way to jCal.
+pub fn to_jcal_in(input: &[u8], work_length: usize, out_length: usize) -> (Told, Vec<u8>) {
+    let (mut work, mut out) = (vec![FILL; work_length], vec![FILL; out_length]);
+    let told = Told::from(to_jcal_into(input, &mut work, &mut out, Edition::Rfc5545));
+    only_the_result(&told, &out);
+    (told, work)
+}
+
 /// The same of the way to text.
 pub fn to_text_in(input: &[u8], out_length: usize) -> Told {
     let mut out = vec![FILL; out_length];
     let told = Told::from(to_text_into(input, &mut out, Edition::Rfc5545));
+    only_the_result(&told, &out);
+    told
+}
+
+/// The same of the way from jCal to text.
+pub fn jcal_to_text_in(input: &[u8], out_length: usize) -> Told {
+    let mut out = vec![FILL; out_length];
+    let told = Told::from(jcal_to_text_into(input, &mut out, Edition::Rfc5545));
     only_the_result(&told, &out);
     told
 }

@@ -303,3 +303,68 @@ pub fn assert_folded(text: &[u8]) {
         assert!(!name.contains(|c: char| c.is_ascii_lowercase()), "{name}");
     }
 }
+
+/// A JSON text with no white space outside strings, and in strings no escapes but those of quote, backslash, LF and TAB; its value is an array.
+pub fn assert_canonical_json(json: &[u8]) {
+    assert_eq!(json.first(), Some(&b'['));
+    let end = json_value(json, 0);
+    assert_eq!(end, json.len(), "something behind the value");
+}
+
+/// Where the value at a place ends.
+fn json_value(json: &[u8], at: usize) -> usize {
+    match json[at] {
+        b'[' => json_items(json, at + 1, b']', json_value),
+        b'{' => json_items(json, at + 1, b'}', |json, at| {
+            let name = json_string(json, at);
+            assert_eq!(json[name], b':');
+            json_value(json, name + 1)
+        }),
+        b'"' => json_string(json, at),
+        _ => {
+            let length = json[at..].iter().position(|b| b",]}".contains(b)).expect("a value ends");
+            let word = std::str::from_utf8(&json[at..at + length]).unwrap();
+            assert!(matches!(word, "true" | "false") || is_canonical_number(word), "{word}");
+            at + length
+        }
+    }
+}
+
+/// Where items that are separated by commas end, behind the closing bracket.
+fn json_items(json: &[u8], at: usize, close: u8, item: impl Fn(&[u8], usize) -> usize) -> usize {
+    if json[at] == close {
+        return at + 1;
+    }
+    let mut end = item(json, at);
+    while json[end] == b',' {
+        end = item(json, end + 1);
+    }
+    assert_eq!(json[end], close);
+    end + 1
+}
+
+fn json_string(json: &[u8], at: usize) -> usize {
+    assert_eq!(json[at], b'"');
+    let mut at = at + 1;
+    loop {
+        match json[at] {
+            b'"' => return at + 1,
+            b'\\' => {
+                assert!(b"\"\\nt".contains(&json[at + 1]), "an escape that is not canonical at {at}");
+                at += 2;
+            }
+            byte => {
+                assert!(byte >= b' ' && byte != 0x7f, "a control in a string at {at}");
+                at += 1;
+            }
+        }
+    }
+}
+
+/// Digits with no needless zeros, and perhaps a sign and a fraction.
+fn is_canonical_number(word: &str) -> bool {
+    let digits = |s: &str| !s.is_empty() && s.bytes().all(|b| b.is_ascii_digit());
+    let bare = word.strip_prefix('-').unwrap_or(word);
+    let (whole, fraction) = bare.split_once('.').map_or((bare, None), |(whole, fraction)| (whole, Some(fraction)));
+    digits(whole) && (whole == "0" || !whole.starts_with('0')) && fraction.map_or(true, |f| digits(f) && !f.ends_with('0'))
+}

@@ -3,7 +3,7 @@
 use mathlib.Core.Path.{_≡_, refl}
 use Prim.Native.Nat.{ℕ}
 use native.Mathlib.Omega.{arith}
-use Rattle.calendar.specs.Refusal.{Refusal, LENGTH, WORK, CHARACTER, LINE, NAME, FRAME, PARAMETER, VALUE, COUNT, ROOM, XML, EDITION, numberOf, refusalAt, fine, refuse}
+use Rattle.calendar.specs.Refusal.{Refusal, LENGTH, WORK, CHARACTER, LINE, NAME, FRAME, PARAMETER, VALUE, COUNT, ROOM, XML, JSON, EDITION, numberOf, refusalAt, fine, refuse}
 
 pub refusal-back : (r : Refusal) → refusalAt (numberOf r) ≡ r
 unfolding refusalAt
@@ -18,6 +18,7 @@ refusal-back VALUE = refl
 refusal-back COUNT = refl
 refusal-back ROOM = refl
 refusal-back XML = refl
+refusal-back JSON = refl
 refusal-back EDITION = refl
 
 pub refused-not : {X : Type 0} (r : Refusal) (p : ℕ) → refuse r p ≡ fine → X

@@ -20,7 +20,7 @@ use lib.ListN.{length}
 use borrow.Author.Tests.{le-leb, lt-leb, ne-eqb}
 use Rattle.octets.specs.Pick.{pick}
 use Rattle.octets.specs.Append.{_⊕_}
-use Rattle.calendar.specs.Refusal.{Refusal, LENGTH, WORK, CHARACTER, LINE, NAME, FRAME, PARAMETER, VALUE, COUNT, ROOM, XML, EDITION, numberOf, refusalAt}
+use Rattle.calendar.specs.Refusal.{Refusal, LENGTH, WORK, CHARACTER, LINE, NAME, FRAME, PARAMETER, VALUE, COUNT, ROOM, XML, JSON, EDITION, numberOf, refusalAt}
 use Rattle.sink.specs.Sink.{Put, far, overwrite}
 use Rattle.sink.specs.laws.Sink.{overwrite-fits}
 use Rattle.calls.specs.Conversion.{result, fault, Outcome, written, refusal, isRoom, told, numbers, outcome, contents}
@@ -50,6 +50,7 @@ number-small VALUE = omega arith
 number-small COUNT = omega arith
 number-small ROOM = omega arith
 number-small XML = omega arith
+number-small JSON = omega arith
 number-small EDITION = omega arith
 
 -- a cast reads an enum's number as a signed one; a small number is the same
@@ -81,6 +82,7 @@ other n p h =
       ne-eqb n 2 (λ e. omega arith),
       ne-eqb n 3 (λ e. omega arith),
       ne-eqb n 11 (λ e. omega arith),
+      ne-eqb n 12 (λ e. omega arith),
       ne-eqb n 13 (λ e. omega arith),
     )
 

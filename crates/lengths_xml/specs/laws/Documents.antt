@@ -1,5 +1,6 @@
 -- The length of an unfolded text's document grows no faster than the text's, whether the text is accepted or not.
 --     xml-bound    `rate` bytes for each byte of the text, and 109 for the document around it;   xml-fits: an output that has them is long enough
+--     text-cost    what the lines of a text come to
 --     xml-short    of a text within the limit
 use mathlib.Core.Path.{_≡_, refl}
 use mathlib.Core.Bool.{Bool, true, false}
@@ -132,6 +133,10 @@ lines-cost ed [] = omega arith
 lines-cost ed (whole p s ∷ ls) = omega (arith, entry-cost ed s (contentLine s) refl, lines-cost ed ls)
 lines-cost ed (loose p ∷ ls) = omega (arith, lines-cost ed ls)
 
+-- whether they are written as XML or as another format that a line comes to no more in
+pub text-cost : (ed : Edition) (u : List ℕ) → costs (map (entryOf ed) (lines u)) ≤ rate * length u
+text-cost ed u = omega (arith, lines-cost ed (lines u), after-bytes u 0 0)
+
 -- ---- the document
 
 document-length : (c : Components) → length (writeDocument c) ≤ 109 + length (componentsXml c)
@@ -146,7 +151,7 @@ pub xml-bound : (ed : Edition) (u : List ℕ) → length (writeDocument (calenda
 unfolding calendarOf
 xml-bound ed u =
     let ls : List Line = lines u in
-    omega (arith, document-length (calendarOf ed ls), nested-length (map (entryOf ed) ls) levels, lines-cost ed ls, after-bytes u 0 0)
+    omega (arith, document-length (calendarOf ed ls), nested-length (map (entryOf ed) ls) levels, text-cost ed u)
 
 pub xml-fits : (ed : Edition) (u : List ℕ) (n : ℕ) → rate * length u + 109 ≤ n → length (writeDocument (calendarOf ed (lines u))) ≤ n
 xml-fits ed u n h = omega (arith, xml-bound ed u, h)

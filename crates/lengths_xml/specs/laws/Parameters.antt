@@ -2,6 +2,8 @@
 --     bytes                the bytes of the parameters of a line
 --     parameters-length    the parameters that are read
 --     wrapped-length       and the element round them
+--     quoted-length        the characters of a value, with its quotes or without
+--     own-bytes            the parameters but VALUE
 use mathlib.Core.Path.{_≡_, refl}
 use mathlib.Core.Bool.{Bool, true, false, not}
 use mathlib.Core.List.{List, [], _∷_, map}
@@ -48,7 +50,7 @@ in-word-short : (o : Option (List (List ℕ))) (t : ValueType) (s : List ℕ) (v
 in-word-short none t s v h = typed-short t s v h
 in-word-short (some ws) t s v h = word-short ws s v h
 
-quoted-length : (v : ParamValue) → length (v .chars) ≤ length (writeParamValue v)
+pub quoted-length : (v : ParamValue) → length (v .chars) ≤ length (writeParamValue v)
 unfolding writeParamValue pick
 quoted-length v = go (v .quoted)
   where
@@ -105,7 +107,7 @@ each-parameter (r ∷ rs) ps h =
     let written = length-both (writeParameter r) (joined (map writeParameter rs)) in
     rw (← (g .2)) (omega (arith, length-both (parameterXml (e .0)) (parametersXml (g .0)), written, parameter-length r (e .0) (e .1), each-parameter rs (g .0) (g .1)))
 
-own-bytes : (rs : List RawParameter) → bytes (ownParameters rs) ≤ bytes rs
+pub own-bytes : (rs : List RawParameter) → bytes (ownParameters rs) ≤ bytes rs
 unfolding ownParameters joined pick
 own-bytes [] = omega arith
 own-bytes (r ∷ rs) = go (isValueParameter r) (own-bytes rs)

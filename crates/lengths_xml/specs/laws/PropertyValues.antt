@@ -1,6 +1,7 @@
 -- The XML of a property's values, by the length of its text: a list has a value for each piece between commas.
 --     values-length    the values of a property
 --     word-short       a word of a closed set
+--     same-all         a list whose elements are spelled as they are
 use mathlib.Core.Path.{_≡_, refl, ap}
 use mathlib.Core.Bool.{Bool, true, false}
 use mathlib.Core.List.{List, [], _∷_, map}
@@ -55,7 +56,7 @@ unfolding valuesXml weight
 texts-length [] = omega arith
 texts-length (p ∷ ps) = omega (arith, length-both (valueXml (text p)) (valuesXml (map text ps)), kept-length p p (omega arith), texts-length ps)
 
-same-all : (l : List (List ℕ)) → map (λ (s : List ℕ). s) l ≡ l
+pub same-all : (l : List (List ℕ)) → map (λ (s : List ℕ). s) l ≡ l
 same-all [] = refl
 same-all (s ∷ l) = ap (λ (m : List (List ℕ)). s ∷ m) (same-all l)
 

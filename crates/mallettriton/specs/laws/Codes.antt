@@ -1,6 +1,6 @@
 -- Every value that a conversion answers is below 2 ^ 32, so that its number and its value can be told from the one number that C gets.
---     to-xml-small, to-text-small    the value of an outcome
---     code-back                      its number and its value from the one number
+--     to-xml-small, to-jcal-small, to-text-small, jcal-to-text-small    the value of an outcome
+--     code-back                                                         its number and its value from the one number
 use mathlib.Core.Path.{_≡_, refl, _∙_}
 use mathlib.Core.Bool.{Bool, true, false}
 use mathlib.Core.List.{List}
@@ -12,6 +12,7 @@ use lib.Dec.{leb}
 use lib.ListN.{length}
 use borrow.Author.Tests.{leb-true, lt-leb}
 use Rattle.octets.specs.Pick.{pick}
+use Rattle.calendar.specs.Calendar.{Calendar}
 use Rattle.calendar.specs.Refusal.{LENGTH, WORK, ROOM, EDITION, Verdict, fine, refuse, answer}
 use Rattle.folding.specs.Unfold.{unfolded, origin}
 use Rattle.folding.specs.laws.Unfold.{origin-inside, origin-past, length-unfolded}
@@ -25,15 +26,24 @@ use Rattle.xml.specs.Nodes.{documentNodes}
 use Rattle.xcal.specs.WriteXml.{writeDocument}
 use Rattle.xcal.specs.ComponentNodes.{readRoot}
 use Rattle.xcal.specs.ReadDocument.{documentVerdict, readDocument}
+use Rattle.json.specs.Tree.{valueOf}
+use Rattle.jcal.specs.WriteJcal.{writeJcal}
+use Rattle.jcal.specs.Components.{readCalendars, calendarsIn}
+use Rattle.jcal.specs.ReadJcal.{jcalVerdict, readJcal}
 use Rattle.lengths_xml.specs.laws.Documents.{xml-short}
+use Rattle.lengths_jcal.specs.laws.Streams.{jcal-short}
 use Rattle.lengths_text.specs.laws.Documents.{text-short}
+use Rattle.lengths_jcal_text.specs.laws.Streams.{jcal-text-short}
 use Rattle.places.specs.laws.Documents.{document-place}
+use Rattle.places.specs.laws.Streams.{jcal-place-small}
 use Rattle.calls.specs.Conversion.{result, fault, converted, Outcome, written, refusal, numbers, outcome}
 use Rattle.calls.specs.ToXml.{toXml, toXmlOutcome}
 use Rattle.calls.specs.ToText.{toText, toTextOutcome}
 use Rattle.calls.specs.Answered.{outcomeOf, codeOf}
 use Rattle.calls.specs.laws.Answered.{number-small}
 use Rattle.calls.specs.declared.Answer.{Answer}
+use Rattle.calls_jcal.specs.ToJcal.{toJcal, toJcalOutcome}
+use Rattle.calls_jcal.specs.JcalToText.{jcalToText, jcalToTextOutcome}
 
 -- a place among the lent bytes, or their end
 origin-within : (s : List ℕ) (w : ℕ) → origin s w ≤ length s
@@ -51,23 +61,26 @@ result-small bs n h = go (leb (length bs) n)
     go true = omega arith
     go false = omega arith
 
-kept-small : (ed : Edition) (s : List ℕ) (v : Verdict) (n : ℕ) → length s ≤ 65535 → numbers (outcome (converted writeDocument (answer (placed s v) (calendarOf ed (lines (unfolded s))))) n) .1 < 4294967296
-unfolding placed outcome
-kept-small ed s fine n h = result-small (writeDocument (calendarOf ed (lines (unfolded s)))) n (xml-short ed (unfolded s) (omega (arith, length-unfolded s)))
-kept-small ed s (refuse r p) n h = omega (arith, origin-within s p)
+-- ---- from text, by the writer of a format
 
-in-edition-small : (ed : Edition) (s w d : List ℕ) → numbers (outcome (toXml (some ed) s (length w)) (length d)) .1 < 4294967296
-unfolding toXml readCalendar textVerdict pick outcome
-in-edition-small ed s w d = go (leb (length s) 65535) (leb (length s) (length w)) refl
-  where
-    go : (a b : Bool) → leb (length s) 65535 ≡ a →
-        numbers (outcome (converted writeDocument (answer (pick a (pick b (placed s (keptVerdict ed (unfolded s))) (refuse WORK 0)) (refuse LENGTH 0)) (calendarOf ed (lines (unfolded s))))) (length d)) .1 < 4294967296
-    go true true e = kept-small ed s (keptVerdict ed (unfolded s)) (length d) (leb-true (length s) 65535 e)
-    go true false e = omega arith
-    go false b e = omega arith
+module _ (write : Calendar → List ℕ) (short : (ed : Edition) (u : List ℕ) → length u ≤ 65535 → length (write (calendarOf ed (lines u))) < 2 ^ 32) where
+  kept-small : (ed : Edition) (s : List ℕ) (v : Verdict) (n : ℕ) → length s ≤ 65535 → numbers (outcome (converted write (answer (placed s v) (calendarOf ed (lines (unfolded s))))) n) .1 < 4294967296
+  unfolding placed outcome
+  kept-small ed s fine n h = result-small (write (calendarOf ed (lines (unfolded s)))) n (short ed (unfolded s) (omega (arith, length-unfolded s)))
+  kept-small ed s (refuse r p) n h = omega (arith, origin-within s p)
 
-no-edition-small : (s w d : List ℕ) → numbers (outcome (toXml none s (length w)) (length d)) .1 < 4294967296
-unfolding toXml pick outcome
+  in-edition-small : (ed : Edition) (s w d : List ℕ) → numbers (outcome (converted write (readCalendar ed s (length w))) (length d)) .1 < 4294967296
+  unfolding readCalendar textVerdict pick outcome
+  in-edition-small ed s w d = go (leb (length s) 65535) (leb (length s) (length w)) refl
+    where
+      go : (a b : Bool) → leb (length s) 65535 ≡ a →
+          numbers (outcome (converted write (answer (pick a (pick b (placed s (keptVerdict ed (unfolded s))) (refuse WORK 0)) (refuse LENGTH 0)) (calendarOf ed (lines (unfolded s))))) (length d)) .1 < 4294967296
+      go true true e = kept-small ed s (keptVerdict ed (unfolded s)) (length d) (leb-true (length s) 65535 e)
+      go true false e = omega arith
+      go false b e = omega arith
+
+no-edition-small : (s w d : List ℕ) → numbers (outcome (pick (leb (length s) 65535) (pick (leb (length s) (length w)) (fault EDITION 0) (fault WORK 0)) (fault LENGTH 0)) (length d)) .1 < 4294967296
+unfolding pick outcome
 no-edition-small s w d = go (leb (length s) 65535) (leb (length s) (length w))
   where
     go : (a b : Bool) → numbers (outcome (pick a (pick b (fault EDITION 0) (fault WORK 0)) (fault LENGTH 0)) (length d)) .1 < 4294967296
@@ -76,11 +89,22 @@ no-edition-small s w d = go (leb (length s) 65535) (leb (length s) (length w))
     go false b = omega arith
 
 pub to-xml-small : (s w d : List ℕ) (edition : ℕ) → numbers (toXmlOutcome s w d edition) .1 < 4294967296
+unfolding toXml
 to-xml-small s w d edition = go (editionOf edition)
   where
     go : (o : Option Edition) → numbers (outcome (toXml o s (length w)) (length d)) .1 < 4294967296
-    go (some ed) = in-edition-small ed s w d
+    go (some ed) = in-edition-small writeDocument xml-short ed s w d
     go none = no-edition-small s w d
+
+pub to-jcal-small : (s w d : List ℕ) (edition : ℕ) → numbers (toJcalOutcome s w d edition) .1 < 4294967296
+unfolding toJcal
+to-jcal-small s w d edition = go (editionOf edition)
+  where
+    go : (o : Option Edition) → numbers (outcome (toJcal o s (length w)) (length d)) .1 < 4294967296
+    go (some ed) = in-edition-small writeJcal jcal-short ed s w d
+    go none = no-edition-small s w d
+
+-- ---- to text
 
 text-in-edition-small : (ed : Edition) (s d : List ℕ) → numbers (outcome (toText (some ed) s) (length d)) .1 < 4294967296
 unfolding toText readDocument documentVerdict pick outcome
@@ -94,8 +118,8 @@ text-in-edition-small ed s d = go (decLe (length s) 65535)
     go (yes h) = by-verdict (documentVerdict ed s) refl h
     go (no h) = rw (lt-leb (length s) 65535 (omega (arith, h))) (omega arith)
 
-text-no-edition-small : (s d : List ℕ) → numbers (outcome (toText none s) (length d)) .1 < 4294967296
-unfolding toText pick outcome
+text-no-edition-small : (s d : List ℕ) → numbers (outcome (pick (leb (length s) 65535) (fault EDITION 0) (fault LENGTH 0)) (length d)) .1 < 4294967296
+unfolding pick outcome
 text-no-edition-small s d = go (leb (length s) 65535)
   where
     go : (a : Bool) → numbers (outcome (pick a (fault EDITION 0) (fault LENGTH 0)) (length d)) .1 < 4294967296
@@ -103,11 +127,32 @@ text-no-edition-small s d = go (leb (length s) 65535)
     go false = omega arith
 
 pub to-text-small : (s d : List ℕ) (edition : ℕ) → numbers (toTextOutcome s d edition) .1 < 4294967296
+unfolding toText
 to-text-small s d edition = go (editionOf edition)
   where
     go : (o : Option Edition) → numbers (outcome (toText o s) (length d)) .1 < 4294967296
     go (some ed) = text-in-edition-small ed s d
     go none = text-no-edition-small s d
+
+-- ---- from jCal to text
+
+jcal-in-edition-small : (ed : Edition) (s d : List ℕ) → numbers (outcome (converted (writeCalendar ed) (readJcal ed s)) (length d)) .1 < 4294967296
+unfolding readJcal pick outcome
+jcal-in-edition-small ed s d = go (jcalVerdict ed s) refl
+  where
+    go : (v : Verdict) → jcalVerdict ed s ≡ v → numbers (outcome (converted (writeCalendar ed) (answer v (readCalendars (calendarsIn (valueOf s))))) (length d)) .1 < 4294967296
+    go fine e = result-small (writeCalendar ed (readCalendars (calendarsIn (valueOf s)))) (length d) (jcal-text-short ed s e)
+    go (refuse r p) e = omega (arith, jcal-place-small ed s e)
+
+pub jcal-to-text-small : (s d : List ℕ) (edition : ℕ) → numbers (jcalToTextOutcome s d edition) .1 < 4294967296
+unfolding jcalToText
+jcal-to-text-small s d edition = go (editionOf edition)
+  where
+    go : (o : Option Edition) → numbers (outcome (jcalToText o s) (length d)) .1 < 4294967296
+    go (some ed) = jcal-in-edition-small ed s d
+    go none = text-no-edition-small s d
+
+-- ---- the one number
 
 pub numbers-small : (o : Outcome) → numbers o .0 < 256
 numbers-small (written n) = omega arith

@@ -27,7 +27,7 @@ use Rattle.places.specs.laws.Values.{Judges, sequence-within, value-with
 
 -- ---- the document
 
-characters-within : (s : List ℕ) (o : Option ℕ) → firstBad s ≡ o → Within (length s) (characters o)
+pub characters-within : (s : List ℕ) (o : Option ℕ) → firstBad s ≡ o → Within (length s) (characters o)
 characters-within s none e = within-fine (length s)
 characters-within s (some p) e = within-refuse (length s) CHARACTER p (omega (arith, bad-inside s p e))
 

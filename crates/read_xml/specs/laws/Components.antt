@@ -46,10 +46,10 @@ use Rattle.read_xml_nodes.specs.declared.Judged.the-variants.{Fine, Refused}
 use Rattle.edition.specs.declared.Edition.{Edition}
 use Rattle.read_xml.specs.Children.{nameOf}
 use Rattle.read_xml.specs.laws.Turning.{name-inside}
-use Rattle.read_xml.specs.Counting.{Counted}
+use Rattle.tallies.specs.Counting.{Counted}
 use Rattle.read_xml.specs.Properties.{ListedAt}
 use Rattle.read_xml.specs.Components.{partName, come, methodInside, completeBy, EndAt, EndsAt, hasSubs, WhichIs, WhichAt, metOf, MetAt, HeadAt, BehindAt}
-use Rattle.read_xml.specs.declared.Kept.{Kept}
+use Rattle.tallies.specs.declared.Kept.{Kept}
 use Rattle.read_xml.specs.declared.Listed.{Listed}
 use Rattle.read_xml.specs.declared.Which.{Which}
 use Rattle.read_xml.specs.declared.Which.the-variants.{Properties, Components, Other}

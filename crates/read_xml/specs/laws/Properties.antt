@@ -56,9 +56,10 @@ use Rattle.read_xml.specs.Children.{nameOf, childWords, slotAt}
 use Rattle.read_xml.specs.laws.Children.{slots-place, slotted, slot-at, parameters-at}
 use Rattle.read_xml.specs.Turning.{Holder}
 use Rattle.read_xml.specs.laws.Turning.{name-inside, content-inside}
-use Rattle.read_xml.specs.Counting.{Counted, CountsOn}
+use Rattle.tallies.specs.Counting.{Counted, CountsOn}
+use Rattle.read_xml.specs.Counting.{WordAt}
 use Rattle.read_xml.specs.Properties.{LacksAt, OffAt, PropertyAt, ListedAt}
-use Rattle.read_xml.specs.declared.Kept.{Kept}
+use Rattle.tallies.specs.declared.Kept.{Kept}
 
 -- ---- the `parameters` of a property
 
@@ -268,14 +269,14 @@ module _ (ed : Edition) where
       list-text h = record { is = λ c a. verdict-on (node-literal n q) c a ∙ rw (← e, h) (sym (is-frame at)); counted = λ h. absurd (not-fine h) }
 
     module _ (q : r .kind ≡ Element) {row : Row} (o : row ≡ rowAt (placeOf (upper (nameOf s r)) propertyNames)) {j : Judged} (d : row ≡ rowAt (placeOf (upper (nameOf s r)) propertyNames) → PropertyAt ed k s at r j) where
-      pub list-good : {u : Kept} → j ≡ Fine → CountsOn (row .number) (nodesAt s (r .inside)) t u → Listing ed k s from (r .next) u
+      pub list-good : {word : ℕ} {u : Kept} → j ≡ Fine → WordAt (row .number) (nodesAt s (r .inside)) word → CountsOn (row .number) word t u → Listing ed k s from (r .next) u
       unfolding propertiesVerdict readProperties _otherwise_
-      list-good h m =
+      list-good h w m =
           let x : Property = propertyIn (nameOf s r) (nodesAt s (r .inside)) in
           let later : List Property = readProperties (nodesAt s (r .next)) in record {
             is = λ c a. verdict-on (node-element n q) c a ∙ rw (d o .is c a, h);
             seen = i .seen ⊕ (x ∷ []);
-            counted = m .is (i .seen) (nameOf s r) (number-of (upper (nameOf s r)) o) (i .counted);
+            counted = m .is (i .seen) x (w .is (nameOf s r) (number-of (upper (nameOf s r)) o)) (i .counted);
             agrees = read-on (node-element n q) ∙ sym (append-regroup (i .seen) (x ∷ []) later ∙ rw (append-cons x [] later, append-empty later));
           }
 

@@ -42,11 +42,11 @@ use Rattle.edition.specs.declared.Edition.{Edition}
 use Rattle.read_xml.specs.laws.Turning.{name-inside}
 use Rattle.read_xml.specs.Children.{nameOf}
 use Rattle.read_xml.specs.laws.Properties.{not-fine}
-use Rattle.read_xml.specs.Counting.{Counted}
+use Rattle.tallies.specs.Counting.{Counted}
 use Rattle.read_xml.specs.Components.{methodInside, EndsAt, PartFits, HeadAt, BehindAt}
 use Rattle.read_xml.specs.laws.Components.{complete-is}
 use Rattle.read_xml.specs.Subcomponents.{NumberIs, NumberedAt, ComponentAt, methodKept, SubAt, HeldIs, CompsAt}
-use Rattle.read_xml.specs.declared.Kept.{Kept}
+use Rattle.tallies.specs.declared.Kept.{Kept}
 use Rattle.read_xml.specs.declared.Begun.{Begun}
 use Rattle.read_xml.specs.declared.Part.the-variants.{Ends, Opens}
 use Rattle.read_xml.specs.declared.Numbered.{Numbered}

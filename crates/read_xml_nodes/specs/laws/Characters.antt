@@ -4,7 +4,7 @@ use mathlib.Core.Path.{_≡_}
 use mathlib.Core.List.{List}
 use Prim.Native.Nat.{ℕ, _*_}
 use Rattle.source.specs.Source.{rest}
-use Rattle.source.specs.laws.Stepping.{rest-place}
+use Rattle.source.specs.laws.Characters.{rest-place}
 use Rattle.xml.specs.Nodes.{charactersOf}
 use Rattle.xml.specs.NodesAt.{nodesAt, charsAt}
 

@@ -9,10 +9,12 @@ other-unit-spec = tie.close (tie.spec
     (λ c. search stepping)  -- returns
     (λ c κs. search stepping)  -- folded-unit-requires
     (λ c. search stepping)  -- returns-2
-    (λ c κs. rw (c .if3 .taken) over-plain)  -- caret-unit-requires
+    (λ c κs. search stepping)  -- quoted-unit-requires
     (λ c. search stepping)  -- returns-3
-    (λ c κs. rw (c .if4 .taken) over-folded)  -- caret-unit-requires-2
+    (λ c κs. rw (c .if4 .taken) over-plain)  -- caret-unit-requires
     (λ c. search stepping)  -- returns-4
-    (λ c κs. search stepping)  -- no-unit-requires
+    (λ c κs. rw (c .if5 .taken) over-folded)  -- caret-unit-requires-2
     (λ c. search stepping)  -- returns-5
+    (λ c κs. search stepping)  -- no-unit-requires
+    (λ c. search stepping)  -- returns-6
     )

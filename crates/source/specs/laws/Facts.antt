@@ -134,11 +134,11 @@ pub plain-end : (s : List ℕ) (c : ℕ) → length s ≤ c → c < 2 ^ 64 → R
 unfolding rest spell pick
 plain-end s c h f = record { is = drop-of-length-le s h; small = omega arith; moved = omega arith; inside = omega arith; plain = λ z b. absurd (b refl); reach = reach-here 0 s c }
 
-pub none-end : (m : ℕ) (s : List ℕ) (c : ℕ) → (m ≡ 0 → ⊥) → (m ≡ 1 → ⊥) → (m ≡ 2 → ⊥) → (m ≡ 4 → ⊥) → (m ≡ 5 → ⊥) → c < 2 ^ 64 →
+pub none-end : (m : ℕ) (s : List ℕ) (c : ℕ) → (m ≡ 0 → ⊥) → (m ≡ 1 → ⊥) → (m ≡ 2 → ⊥) → (m ≡ 3 → ⊥) → (m ≡ 4 → ⊥) → (m ≡ 5 → ⊥) → c < 2 ^ 64 →
     Reads m s c (record { u = 256; next = c })
 unfolding rest spell pick
-none-end m s c h g k d e f = record {
-  is = rw (ne-eqb m 0 h, ne-eqb m 1 g, ne-eqb m 2 k, ne-eqb m 4 d, ne-eqb m 5 e);
+none-end m s c h g k j d e f = record {
+  is = rw (ne-eqb m 0 h, ne-eqb m 1 g, ne-eqb m 2 k, ne-eqb m 3 j, ne-eqb m 4 d, ne-eqb m 5 e);
   small = omega arith;
   moved = omega arith;
   inside = omega arith;

@@ -1,25 +1,23 @@
 -- `text_to_xml::to_xml` meets its contract.
-use mathlib.Core.Path.{sym, ap, _∙_}
-use native.Mathlib.Omega.{arith}
+use mathlib.Core.Path.{sym, subst}
+use lib.Seq.{length-take-le}
 use borrow.Author.Needs.{needs}
-use Rattle.edition.specs.Edition.{known}
-use Rattle.text_to_xml.specs.laws.Steps.{kept-inside, kept-count, kept-limit, too-long, no-room, no-edition, unfolded-done}
+use Rattle.read_text_whole.specs.Whole.{Reads}
+use Rattle.text_to_xml.specs.laws.Steps.{whole-refused, whole-kept}
 use Rattle.text_to_xml.proofs.to_xml.Statement.{statement}
 use Rattle.text_to_xml.proofs.to_xml.Tie as tie
 
 pub to-xml-spec : {M : Type 1} → statement M
 to-xml-spec = tie.close (tie.spec
-    (λ c κs. search needs)  -- edition-of-requires
+    (λ c κs. search needs)  -- read-whole-requires
     (λ c. search needs)  -- enum-known-e
-    (λ c κs. search needs)  -- unfold-requires
-    (λ c. kept-inside (c .before .before .«unfold» .ensures) (c .before .before .before .before .before .before .before .before .if2 .taken))  -- slice-reshare-prefix-converted
-    (λ c. kept-count (c .before .before .before .«unfold» .ensures) (c .before .before .before .before .before .before .before .before .before .if2 .taken))  -- slice-aggregate-converted
-    (λ c κs. kept-limit (c .before .before .before .before .«unfold» .ensures) (c .before .before .before .before .before .before .before .before .before .before .if2 .taken) (omega (arith, c .before .before .before .before .before .before .before .before .before .before .before .if1 .taken)))  -- converted-requires
+    (λ c. subst (Reads _ _ _ _) (c .before .e .given .1) (c .before .before .before .before .before .read-whole .ensures .0) .inside)  -- slice-reshare-prefix-written
+    (λ c. sym (length-take-le _ _ (subst (Reads _ _ _ _) (c .before .before .e .given .1) (c .before .before .before .before .before .before .read-whole .ensures .0) .inside)))  -- slice-aggregate-written
+    (λ c κs. subst (Reads _ _ _ _) (c .before .before .before .e .given .1) (c .before .before .before .before .before .before .before .read-whole .ensures .0) .short)  -- written-requires
+    (λ c. search needs)  -- enum-known-a
     (λ c. search needs)  -- same-length
     (λ c. search needs)  -- same-length-2
-    (λ c. unfolded-done (c .before .before .before .before .before .before .before .before .before .before .before .before .before .before .before .before .before .before .args .input .now) (c .before .before .before .before .before .before .before .before .before .before .before .before .before .before .before .before .before .before .args .work .now) (c .before .before .before .before .before .before .before .before .before .before .before .before .before .before .before .before .before .before .args .out .now) (c .before .before .before .before .before .before .before .before .before .before .before .before .before .before .before .before .before .before .args .edition) (omega (arith, c .before .before .before .before .before .before .before .before .before .before .before .before .before .before .if1 .taken)) (c .before .before .before .before .before .before .before .before .before .before .before .before .before .if2 .taken) (sym (ap known (c .before .before .before .before .before .before .before .before .before .before .e .given .1)) ∙ c .before .before .before .before .before .before .before .before .before .before .before .before .edition-of .ensures) (c .before .before .before .before .before .before .before .«unfold» .ensures) (c .before .before .converted .ensures))  -- returns
-    (λ c. search needs)  -- enum-told
-    (λ c. no-edition (c .before .before .before .before .before .before .before .before .args .input .now) (c .before .before .before .before .before .before .before .before .args .work .now) (c .before .before .before .before .before .before .before .before .args .out .now) (c .before .before .before .before .before .before .before .before .args .edition) (omega (arith, c .before .before .before .before .if1 .taken)) (c .before .before .before .if2 .taken) (sym (ap known (c .enum-told .given .1)) ∙ c .before .before .edition-of .ensures))  -- returns-2
-    (λ c. no-room (c .before .before .before .before .before .args .input .now) (c .before .before .before .before .before .args .work .now) (c .before .before .before .before .before .args .out .now) (c .before .before .before .before .before .args .edition) (omega (arith, c .before .if1 .taken)) (c .if2 .left))  -- returns-3
-    (λ c. too-long (c .before .before .before .before .args .input .now) (c .before .before .before .before .args .work .now) (c .before .before .before .before .args .out .now) (c .before .before .before .before .args .edition) (omega (arith, c .if1 .left)))  -- returns-4
+    (λ c. whole-kept (c .before .before .before .before .before .before .before .before .before .before .before .before .before .before .before .args .input .now) (c .before .before .before .before .before .before .before .before .before .before .before .before .before .before .before .args .work .now) (c .before .before .before .before .before .before .before .before .before .before .before .before .before .before .before .args .out .now) (c .before .before .before .before .before .before .before .before .before .before .before .before .before .before .before .args .edition) (subst (Reads _ _ _ _) (c .before .before .before .before .before .before .e .given .1) (c .before .before .before .before .before .before .before .before .before .before .read-whole .ensures .0)) (c .before .before .before .before .before .before .before .before .before .before .read-whole .ensures .1) (c .before .before .written .ensures))  -- returns
+    (λ c. search needs)  -- same-length-3
+    (λ c. whole-refused (c .before .before .before .before .before .before .before .before .before .before .args .input .now) (c .before .before .before .before .before .before .before .before .before .before .args .work .now) (c .before .before .before .before .before .before .before .before .before .before .args .out .now) (c .before .before .before .before .before .before .before .before .before .before .args .edition) (subst (Reads _ _ _ _) (c .before .a .given .1) (c .before .before .before .before .before .read-whole .ensures .0)) (c .before .before .before .before .before .read-whole .ensures .1))  -- returns-2
     )

@@ -1,6 +1,6 @@
 -- Laws of what specs/Content.antt defines.
 --     parameters-put, values-put, line-put    from what was put
-use mathlib.Core.Path.{_≡_, refl, sym, ap, subst, _∙_}
+use mathlib.Core.Path.{_≡_, refl, sym, subst, _∙_}
 use mathlib.Core.Bool.{Bool, true, false}
 use mathlib.Core.List.{List, [], _∷_, map}
 use Prim.Native.Nat.{ℕ, _≤_}
@@ -10,40 +10,34 @@ use borrow.Author.Tests.{ne-eqb, ltb-false}
 use Rattle.octets.specs.Ascii.{ascii}
 use Rattle.octets.specs.Pick.{pick}
 use Rattle.octets.specs.Append.{_⊕_, joined}
-use Rattle.octets.specs.laws.Append.{append-empty, append-none}
 use Rattle.octets.specs.Class.{upper}
-use Rattle.octets.specs.Words.{isOneOf, joinedBy, eachAfter}
+use Rattle.octets.specs.Words.{isOneOf}
 use Rattle.octets.specs.Computing.{octets-compute}
-use Rattle.calendar.specs.Calendar.{ValueType, Value}
+use Rattle.calendar.specs.Calendar.{Value}
 use Rattle.sink.specs.Sink.{Put}
 use Rattle.sink.specs.laws.Sink.{_▷_}
 use Rattle.names.specs.Table.{placeOf}
 use Rattle.names.specs.laws.Table.{one-of-place}
 use Rattle.names.specs.laws.Places.{placed}
-use Rattle.schema.specs.Types.{typeName, typePlace, sameType}
-use Rattle.schema.specs.Properties.{propertyNames, defaultType}
+use Rattle.schema.specs.Properties.{propertyNames}
 use Rattle.schema.specs.Numbers.{typeAt, propertyName}
 use Rattle.schema.specs.Coded.{rowAt}
-use Rattle.schema.specs.laws.Columns.{number-place, default-place}
 use Rattle.schema.specs.declared.table.Row.{Row}
 use Rattle.schema.specs.Property as property
 use Rattle.values.specs.WriteValue.{writeValues, typeOfAll}
-use Rattle.read_text_line.specs.ContentLine.{RawParameter}
-use Rattle.read_text_line.specs.Write.{writeParamValue, writeParameter, writeContentLine}
+use Rattle.read_text_line.specs.Write.{writeParameter, writeContentLine}
 use Rattle.read_text_line.specs.Decoded.{encodedParameter}
-use Rattle.edition.specs.Edition.{encode}
-use Rattle.text.specs.laws.Carets.{type-encoded}
-use Rattle.text.specs.WriteText.{rawOf, valueParameter, withValue, contentLineOf}
+use Rattle.text.specs.WriteText.{rawOf, contentLineOf}
 use Rattle.xml.specs.Nodes.{Nodes}
 use Rattle.xcal.specs.ValueNodes.{readValueNodes}
 use Rattle.xcal.specs.ParameterNodes.{readParameterNodes}
 use Rattle.xcal.specs.PropertyNodes.{parametersIn}
 use Rattle.xml.specs.NodesAt.{nodesAt}
 use Rattle.edition.specs.declared.Edition.{Edition}
+use Rattle.write_text_pieces.specs.Typing.{valueAt}
+use Rattle.write_text_pieces.specs.laws.Typing.{value-at, number-of, default-of, with-value}
 use Rattle.write_text.specs.Parameters.{ParametersAt}
 use Rattle.write_text.specs.laws.Parameters.{geo-at, status-at}
-use Rattle.write_text.specs.Typing.{valueAt}
-use Rattle.write_text.specs.laws.Typing.{valueOf, value-at}
 use Rattle.write_text.specs.Content.{lineText, parametersText}
 
 -- of a property's name only its number matters to its values
@@ -67,28 +61,7 @@ module _ (s : List ℕ) (inside : ℕ) {p : ℕ} where
   unfolding _⊕_
   values-put {e = e} {f} {a = a} {r} u v w q = u ▷ subst (λ (vs : List Value). Put e f a r (writeValues vs)) (values-named w (nodesAt s inside) q) v
 
-module _ {row : Row} where
-  number-of : (w : List ℕ) → row ≡ rowAt (placeOf w propertyNames) → row .number ≡ placeOf w propertyNames
-  number-of w e = ap (λ (r : Row). r .number) e ∙ number-place w
-
-  default-of : (w : List ℕ) → row ≡ rowAt (placeOf w propertyNames) → row .default ≡ typePlace (defaultType w)
-  default-of w e = ap (λ (r : Row). r .default) e ∙ default-place w
-
 module _ (ed : Edition) where
-  -- ---- laws
-
-  value-written : (t : ValueType) → writeParameter (encodedParameter ed (valueParameter t)) ≡ ascii ";VALUE=" ⊕ typeName t
-  unfolding writeParameter writeParamValue joinedBy eachAfter pick _⊕_
-  value-written t = ap (λ (l : List ℕ). ascii ";VALUE=" ⊕ l) (append-none (encode ed (typeName t)) ∙ type-encoded ed t)
-
-  with-value : (w : List ℕ) (t : ValueType) (ps : List RawParameter) → joined (map writeParameter (map (encodedParameter ed) (withValue w t ps))) ≡ valueOf w t ⊕ joined (map writeParameter (map (encodedParameter ed) ps))
-  unfolding withValue pick joined
-  with-value w t ps = go (sameType t (defaultType w))
-    where
-      go : (b : Bool) → joined (map writeParameter (map (encodedParameter ed) (pick b ps (valueParameter t ∷ ps)))) ≡ pick b [] (ascii ";VALUE=" ⊕ typeName t) ⊕ joined (map writeParameter (map (encodedParameter ed) ps))
-      go true = sym (append-empty _)
-      go false = ap (λ (l : List ℕ). l ⊕ joined (map writeParameter (map (encodedParameter ed) ps))) (value-written t)
-
   module _ (s : List ℕ) (inside : ℕ) {row : Row} where
     pub parameters-put : {d e f : List ℕ} {o a r t q : ℕ} →
         (typeAt t ≡ typeOfAll (readValueNodes (propertyName (row .number)) (nodesAt s inside))) × (t ≤ 14) → ParametersAt (row .number) s inside q →
@@ -98,7 +71,7 @@ module _ (ed : Edition) where
     parameters-put {d} {f = f} {o} {r = r} {t} {q} y i u v w e =
         subst (Put d f o r)
         (rw (value-at w t (default-of w e) (y .1), y .0, values-named w (nodesAt s inside) (number-of w e), ← (i .is w (number-of w e)))
-        (sym (with-value w (typeOfAll (readValueNodes w (nodesAt s inside))) (map rawOf (readParameterNodes (parametersIn w (nodesAt s inside)))))))
+        (sym (with-value ed w (typeOfAll (readValueNodes w (nodesAt s inside))) (map rawOf (readParameterNodes (parametersIn w (nodesAt s inside)))))))
         (u ▷ v)
 
     pub line-put : {d e f g : List ℕ} {o a b r : ℕ} (m : List ℕ) → row ≡ rowAt (placeOf (upper m) propertyNames) → Put d e o a (upper m) →

@@ -29,11 +29,11 @@ use Rattle.read_xml_nodes.specs.laws.NodeFound.{node-none, node-element, node-l
 use Rattle.read_xml_nodes.specs.declared.Node.{Node}
 use Rattle.read_xml_nodes.specs.declared.NodeKind.the-variants.{None, Element, Literal, Referred}
 use Rattle.edition.specs.declared.Edition.{Edition}
+use Rattle.write_text_pieces.specs.Filled.{propertiesRoom, calendarRoom, PutBy}
 use Rattle.write_text.specs.Children.{InsideAt, nameIn}
 use Rattle.write_text.specs.Content.{lineText}
 use Rattle.write_text.specs.laws.Fitting.{line-fits}
-use Rattle.write_text.specs.Filled.{propertiesRoom, calendarRoom, headRoom, PutBy}
-use Rattle.write_text.specs.Walks.{headText}
+use Rattle.write_text.specs.Walks.{headText, headRoom}
 
 -- ---- a walk that writes
 

@@ -27,7 +27,7 @@ use Rattle.xml.specs.Nodes.{Nodes, charactersOf}
 use Rattle.xcal.specs.ValueNodes.{itemsOf, onePart, partsOf}
 use Rattle.xml.specs.NodesAt.{nodesAt}
 use Rattle.write_text_values.specs.laws.Children.{put-chars}
-use Rattle.write_text_values.specs.laws.Joining.{following, following-first, following-none, following-more}
+use Rattle.write_text_pieces.specs.laws.Joining.{following, following-first, following-none, following-more}
 use Rattle.write_text_values.specs.Rules.{partName, itemAt, itemsFrom, Within, ItemAt}
 use Rattle.write_text_values.specs.laws.Rules.{part-capitals}
 use Rattle.write_text_values.specs.PutRule.{itemText}

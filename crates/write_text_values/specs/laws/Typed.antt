@@ -41,9 +41,9 @@ use Rattle.read_xml_value.specs.ElementTypes.{TypeNamed, smallType}
 use Rattle.read_xml_nodes.specs.laws.Walks.{Skips}
 use Rattle.write_text_values.specs.laws.Walking.{Seeking, seek-start, seek-at, seek-past, seek-literal, seek-referred}
 use Rattle.write_text_values.specs.laws.Children.{put-chars}
-use Rattle.write_text_values.specs.Leaves.{valueText}
-use Rattle.write_text_values.specs.laws.Leaves.{value-or}
-use Rattle.write_text_values.specs.laws.Joining.{following, following-first, following-none, following-more}
+use Rattle.write_text_pieces.specs.Leaves.{valueText}
+use Rattle.write_text_pieces.specs.laws.Leaves.{value-or}
+use Rattle.write_text_pieces.specs.laws.Joining.{following, following-first, following-none, following-more}
 use Rattle.write_text_values.specs.Typed.{valuesFrom, Within, TypedAt}
 use Rattle.read_xml_value.specs.declared.Named.{Named}
 use Rattle.read_xml_value.specs.declared.Named.the-variants.{«Type» as Known, Bad}

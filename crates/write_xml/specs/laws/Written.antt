@@ -15,8 +15,8 @@ use Rattle.text.specs.Tree.{innerOf, calendarOf}
 use Rattle.xml.specs.Escape.{rootStart}
 use Rattle.xcal.specs.WriteXml.{componentsXml, declaration, rootEnd, writeDocument}
 use Rattle.edition.specs.declared.Edition.{Edition}
-use Rattle.write_xml.specs.Entries.{entriesAt}
-use Rattle.write_xml.specs.laws.Entries.{entries-start}
+use Rattle.text_entries.specs.Entries.{entriesAt}
+use Rattle.text_entries.specs.laws.Entries.{entries-start}
 use Rattle.write_xml.specs.Walks.{innerXml}
 
 regroup : (a b c x : List ℕ) → (a ⊕ b ⊕ c) ⊕ x ≡ a ⊕ b ⊕ c ⊕ x

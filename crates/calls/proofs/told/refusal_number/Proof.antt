@@ -21,7 +21,8 @@ is c =
     ⊎-elim (λ w. w .2 ∙ number-told (w .1 .given .1)) (
     ⊎-elim (λ w. w .2 ∙ number-told (w .1 .given .1)) (
     ⊎-elim (λ w. w .2 ∙ number-told (w .1 .given .1)) (
-    ⊎-elim (λ w. w .2 ∙ number-told (w .1 .given .1)) (λ w. w .2 ∙ number-told (w .1 .given .1))))))))))) (c .match .came)
+    ⊎-elim (λ w. w .2 ∙ number-told (w .1 .given .1)) (
+    ⊎-elim (λ w. w .2 ∙ number-told (w .1 .given .1)) (λ w. w .2 ∙ number-told (w .1 .given .1)))))))))))) (c .match .came)
 
 pub refusal-number-spec : {M : Type 1} → statement M
 refusal-number-spec = tie.close (tie.spec
@@ -36,6 +37,7 @@ refusal-number-spec = tie.close (tie.spec
     (λ c. search needs)  -- enum-told-9
     (λ c. search needs)  -- enum-told-10
     (λ c. search needs)  -- enum-told-11
+    (λ c. search needs)  -- enum-told-12
     (λ c. rw (is c) (cast-fits (c .before .args .r)))  -- cast-result
     (λ c. rw (is c) (cast-back (c .before .args .r)))  -- returns
     )

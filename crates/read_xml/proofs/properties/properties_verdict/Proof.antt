@@ -24,6 +24,7 @@ properties-verdict-spec = tie.close (tie.spec
     (λ c κs. search listing)  -- property-at-requires
     (λ c κs. search listing)  -- property-verdict-requires
     (λ c. search listing)  -- enum-told-3
+    (λ c κs. search listing)  -- word-of-requires
     (λ c κs. search listing)  -- count-requires
     (λ c. search listing)  -- loop-less
     (λ c. search listing)  -- loop-again

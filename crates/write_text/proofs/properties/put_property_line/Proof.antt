@@ -1,6 +1,6 @@
 -- `write_text::properties::put_property_line` meets its contract.
 use borrow.Author.Needs.{needs}
-use Rattle.write_text.specs.laws.Room.{room-within, room-cut, folded-put}
+use Rattle.write_text_pieces.specs.laws.Room.{room-within, room-cut, folded-put}
 use Rattle.write_text.proofs.properties.put_property_line.Statement.{statement}
 use Rattle.write_text.proofs.properties.put_property_line.Tie as tie
 

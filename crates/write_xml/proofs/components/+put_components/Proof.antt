@@ -4,14 +4,15 @@ use native.Mathlib.Omega.{arith}
 use lib.ListN.{length}
 use lib.Seq.{length-take-le}
 use borrow.Author.Needs.{needs}
-use Rattle.write_xml.specs.laws.Places.{level-left, ahead-ready}
+use Rattle.text_entries.specs.laws.Levels.{level-left}
+use Rattle.write_xml.specs.laws.Places.{ahead-ready}
 use Rattle.write_xml.proofs.Walking.{Walking, inner, inners, inner-at-bare, inner-at-component}
 use borrow.Fn.Kinds.{In}
 use borrow.Fn.PlainCycle.{Measures, is, falls, and}
 use Rattle.write_xml.proofs.components.put_components.Reads as put-components
 use Rattle.write_xml.proofs.components.put_components.Kinds as put-components-kinds
 use Rattle.write_xml.proofs.components.+put_components.Lts-put_components as put-components-lts
-use Rattle.write_xml.proofs.bound.bound_at.Reads as bound-at-reads
+use Rattle.text_entries.proofs.bound_at.Reads as bound-at-reads
 use Rattle.write_xml.proofs.parts.put_head.Reads as put-head-reads
 use Rattle.write_xml.proofs.parts.put_tail.Reads as put-tail-reads
 use Rattle.write_xml.proofs.components.+put_components.{statement}
@@ -61,13 +62,13 @@ pub +put-components-spec : {M : Type 1} → statement M
     (λ c. search (length-take-le, needs))  -- slice-aggregate-put-tail
     (λ c κs. search inners)  -- put-tail-requires
     (λ c. search inners)  -- loop-less
-    (λ c. inner-at-bare (c .before .before .before .before .before .before .before .before .before .before .before .before .before .before .before .loop .inv) (c .before .before .before .before .before .before .before .before .before .before .before .before .before .bound-at .ensures) (c .before .before .before .before .before .before .before .before .before .before .before .before .before .before .before .before .before .before .pre .1 .1) (c .before .before .before .before .before .before .before .before .before .before .before .enum-told .given .1) (c .before .before .before .before .before .before .before .before .put-head .ensures) (c .before .before .before .before .before .if1 .taken) (c .before .before .put-tail .ensures))  -- loop-again
-    (λ c. omega (arith, c .before .before .before .before .before .before .before .before .before .before .before .before .before .before .pre .1 .1))  -- sub-put-components
-    (λ c κs. (omega (arith, c .before .before .before .before .before .before .before .before .before .before .before .before .before .before .pre .0, c .before .before .before .before .before .before .before .before .before .before .before .before .before .before .pre .1 .1), (search (ahead-ready, inners), level-left (c .before .before .before .before .put-head .ensures) (c .before .if1 .left))))  -- put-components-requires
+    (λ c. inner-at-bare (c .before .before .before .before .before .before .before .before .before .before .before .before .before .before .before .before .loop .inv) (c .before .before .before .before .before .before .before .before .before .before .before .before .before .before .bound-at .ensures) (c .before .before .before .before .before .before .before .before .before .before .before .before .before .before .before .before .before .before .before .pre .1 .1) (c .before .before .before .before .before .before .before .before .before .before .before .before .enum-told .given .1) (c .before .before .before .before .before .before .before .before .before .put-head .ensures) (c .before .before .before .before .before .if1 .taken) (c .before .before .put-tail .ensures))  -- loop-again
+    (λ c. omega (arith, c .before .before .before .before .before .before .before .before .before .before .before .before .before .before .before .pre .1 .1))  -- sub-put-components
+    (λ c κs. (omega (arith, c .before .before .before .before .before .before .before .before .before .before .before .before .before .before .before .pre .0, c .before .before .before .before .before .before .before .before .before .before .before .before .before .before .before .pre .1 .1), (search (ahead-ready, inners), level-left (c .before .before .before .before .before .put-head .ensures .ahead) (c .before .if1 .left))))  -- put-components-requires
     (λ c. search (length-take-le, needs))  -- slice-aggregate-put-tail-2
     (λ c κs. search inners)  -- put-tail-requires-2
     (λ c. search inners)  -- loop-less-2
-    (λ c. inner-at-component (c .before .before .before .before .before .before .before .before .before .before .before .before .before .before .before .before .before .before .before .loop .inv) (c .before .before .before .before .before .before .before .before .before .before .before .before .before .before .before .before .before .bound-at .ensures) (c .before .before .before .before .before .before .before .before .before .before .before .before .before .before .before .before .before .before .before .before .before .before .pre .1 .1) (c .before .before .before .before .before .before .before .before .before .before .before .before .before .before .before .enum-told .given .1) (c .before .before .before .before .before .before .before .before .before .before .before .before .put-head .ensures) (c .before .before .before .before .before .before .before .put-components .ensures) (c .before .before .put-tail2 .ensures))  -- loop-again-2
+    (λ c. inner-at-component (c .before .before .before .before .before .before .before .before .before .before .before .before .before .before .before .before .before .before .before .before .loop .inv) (c .before .before .before .before .before .before .before .before .before .before .before .before .before .before .before .before .before .before .bound-at .ensures) (c .before .before .before .before .before .before .before .before .before .before .before .before .before .before .before .before .before .before .before .before .before .before .before .pre .1 .1) (c .before .before .before .before .before .before .before .before .before .before .before .before .before .before .before .before .enum-told .given .1) (c .before .before .before .before .before .before .before .before .before .before .before .before .before .put-head .ensures) (c .before .before .before .before .before .before .before .put-components .ensures) (c .before .before .put-tail2 .ensures))  -- loop-again-2
     (λ c. search inners)  -- enum-told-2
     (λ c. search inners)  -- same-length
     (λ c. search inners)  -- returns

@@ -18,5 +18,5 @@ put-head-spec = tie.close (tie.spec
     (λ c κs. search needs)  -- has-components-requires
     (λ c κs. search needs)  -- put-components-start-requires
     (λ c. search needs)  -- same-length
-    (λ c. head-put _ _ _ _ (c .before .before .before .before .before .before .before .before .before .before .before .before .before .before .before .before .component-number .ensures) (c .before .before .before .before .before .before .before .before .before .before .before .before .before .put-small-start .ensures) (c .before .before .before .before .before .before .cut-at-level .ensures _ _ _ _ _ (c .before .before .before .before .before .before .before .before .before .put-properties-element .ensures)) (c .before .before .before .before .has-components .ensures) (c .before .before .put-components-start .ensures))  -- returns
+    (λ c. head-put _ _ _ _ (c .before .before .before .before .before .before .before .before .before .before .before .before .before .before .before .before .before .component-number .ensures) (c .before .before .before .before .before .before .before .before .before .before .before .before .before .before .put-small-start .ensures) (c .before .before .before .before .before .before .before .before .before .before .put-properties-element .ensures) (c .before .before .before .before .before .before .cut-at-level .ensures _ (c .before .before .before .before .before .before .before .before .before .before .put-properties-element .ensures .ahead)) (c .before .before .before .before .has-components .ensures) (c .before .before .put-components-start .ensures))  -- returns
     )

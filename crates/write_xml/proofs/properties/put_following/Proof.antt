@@ -3,7 +3,7 @@ use Prim.Native.Nat.{_-_}
 use lib.ListN.{length}
 use lib.Seq.{length-take-le}
 use borrow.Author.Needs.{needs}
-use Rattle.write_xml.specs.laws.Entries.{property-inside}
+use Rattle.text_entries.specs.laws.Entries.{property-inside}
 use Rattle.write_xml.proofs.Walking.{Walking, own, owns}
 use Rattle.write_xml.proofs.properties.put_following.Statement.{statement}
 use Rattle.write_xml.proofs.properties.put_following.Tie as tie

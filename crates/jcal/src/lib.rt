@@ -1,0 +1,1 @@
+// jCal (RFC 7265): definitions, no code. See specs/.

@@ -1,0 +1,1 @@
+// How long the jCal of a text is: specifications only.

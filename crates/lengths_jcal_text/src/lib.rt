@@ -1,0 +1,1 @@
+// How long the iCalendar text of a jCal text is: specifications only.

@@ -1,0 +1,5 @@
+-- Laws. A text as it is lent.
+--     Steps    laws of the steps of the code
+--     Given    what the calls from text give, by the writer of a format
+pub mod Steps
+pub mod Given

@@ -1,0 +1,3 @@
+-- Laws of the loops.
+--     Past       the way past a component
+pub mod Past

@@ -1,0 +1,3 @@
+-- iCalendar text to canonical jCal.
+--     laws    what proofs of the steps need
+pub mod laws

@@ -1,0 +1,11 @@
+-- Laws. A property of iCalendar text written as its array of jCal.
+--     Geo       the array of GEO
+--     Pieces    lists, and the parts of a REQUEST-STATUS
+--     Placed    the values of a property, by numbers of its names
+--     Shown     what is written of the type and the values of a property, by numbers
+--     Property  the array of a content line's property
+pub mod Geo
+pub mod Pieces
+pub mod Placed
+pub mod Shown
+pub mod Property
