@@ -27,8 +27,8 @@ use Rattle.schema.specs.laws.Places.{word-known}
 use Rattle.xcal.specs.laws.ElementNames.{lower-upper, no-capital}
 use Rattle.jcal.specs.Property.{typeOf}
 use Rattle.read_json.specs.TreeAt.{stringAt}
+use Rattle.read_json.specs.Kinds.{isString}
 use Rattle.read_json.specs.declared.Head.{Head}
-use Rattle.read_jcal.specs.Kinds.{isString}
 use Rattle.read_jcal.specs.laws.Arrays.{as-string, no-string, string-inside}
 use Rattle.read_jcal.specs.Types.{TypeAt}
 use Rattle.read_jcal.specs.declared.Named.the-variants.{«Type» as Typed, Bad}
