@@ -10,6 +10,7 @@
 --     NumbersWritten    FLOAT and INTEGER are written as JSON numbers
 --     Writable          the JSON value of a valid calendar can be written
 --     JcalBack          a valid calendar is read back from its jCal
+--     TypeNames         the type of a word
 --     CheckedStrings, Textual   the strings of a text that passes the checks are text
 --     ValuesAccepted    values that are read are of the type asked for
 --     ParametersAccepted, PropertyAccepted, ComponentsAccepted    parameters, properties and components that are read are valid
@@ -26,6 +27,7 @@ pub mod Plain
 pub mod NumbersWritten
 pub mod Writable
 pub mod JcalBack
+pub mod TypeNames
 pub mod CheckedStrings
 pub mod Textual
 pub mod ValuesAccepted
