@@ -11,7 +11,7 @@
 --     Writable          the JSON value of a valid calendar can be written
 --     JcalBack          a valid calendar is read back from its jCal
 --     TypeNames         the type of a word
---     CheckedStrings, Textual   the strings of a text that passes the checks are text
+--     CheckedStrings, CheckedScalars, Textual   the strings of a text that passes the checks are text
 --     ValuesAccepted    values that are read are of the type asked for
 --     ParametersAccepted, PropertyAccepted, ComponentsAccepted    parameters, properties and components that are read are valid
 --     JcalAccepted      so is a calendar that is read from jCal
@@ -29,6 +29,7 @@ pub mod Writable
 pub mod JcalBack
 pub mod TypeNames
 pub mod CheckedStrings
+pub mod CheckedScalars
 pub mod Textual
 pub mod ValuesAccepted
 pub mod ParametersAccepted
