@@ -10,7 +10,8 @@
 --     NumbersWritten    FLOAT and INTEGER are written as JSON numbers
 --     Writable          the JSON value of a valid calendar can be written
 --     JcalBack          a valid calendar is read back from its jCal
---     CheckedStrings, Textual   the strings of a text that passes the checks are text
+--     TypeNames         the type of a word
+--     CheckedStrings, CheckedScalars, Textual   the strings of a text that passes the checks are text
 --     ValuesAccepted    values that are read are of the type asked for
 --     ParametersAccepted, PropertyAccepted, ComponentsAccepted    parameters, properties and components that are read are valid
 --     JcalAccepted      so is a calendar that is read from jCal
@@ -26,7 +27,9 @@ pub mod Plain
 pub mod NumbersWritten
 pub mod Writable
 pub mod JcalBack
+pub mod TypeNames
 pub mod CheckedStrings
+pub mod CheckedScalars
 pub mod Textual
 pub mod ValuesAccepted
 pub mod ParametersAccepted

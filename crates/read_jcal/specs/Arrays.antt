@@ -1,5 +1,5 @@
 -- The elements of an array, by what is found of them.
---     found        the element that was found
+--     found        the element that was found;   placeIn: its place; 0 where there is none
 --     Inside       it stands within the bytes
 --     ThreeAt      the contract of `first_three`: the first three elements, and the place behind them
 --     ThreeIn      they stand within the bytes
@@ -10,16 +10,17 @@ use mathlib.Core.List.{List}
 use mathlib.Core.Option.{Option, none, some}
 use Prim.Native.Nat.{ℕ, _≤_, _<_}
 use lib.ListN.{length}
+use Rattle.octets.specs.Pick.{pick}
 use Rattle.octets.specs.Reading.{andThen}
 use Rattle.calendar.specs.Calendar.{ValueType}
 use Rattle.json.specs.Tree.{Json, Member}
 use Rattle.json.specs.Kinds.{asString, asArray, asObject}
 use Rattle.jcal.specs.Property.{typeOf}
 use Rattle.read_json.specs.Heads.{valueBy, HeadAt, NextAt}
+use Rattle.read_json.specs.Kinds.{isThere, isString}
 use Rattle.read_json.specs.declared.Head.{Head}
 use Rattle.read_json.specs.declared.HeadKind.{HeadKind}
 use Rattle.read_json.specs.declared.HeadKind.the-variants.{None, String, Number, Literal, Array, Object}
-use Rattle.read_jcal.specs.Kinds.{isString}
 use Rattle.read_jcal.specs.declared.Three.{Three}
 
 abbrev pub foundBy : HeadKind → List ℕ → ℕ → ℕ → Option Json
@@ -32,6 +33,9 @@ foundBy Object s p n = some (valueBy Object s p n)
 
 abbrev pub found : List ℕ → Head → Option Json
 found s h = foundBy (h .kind) s (h .place) (h .next)
+
+abbrev pub placeIn : Head → ℕ
+placeIn h = pick (isThere (h .kind)) (h .place) 0
 
 pub record Inside (s : List ℕ) (h : Head) : Type 0 where
   pub next : h .next ≤ length s

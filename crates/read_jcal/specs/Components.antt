@@ -28,8 +28,8 @@ use Rattle.jcal.specs.Components.{componentName, propertyArrays, componentArray
 use Rattle.read_json.specs.TreeAt.{tokensAt, elementsAt, stringAt}
 use Rattle.tallies.specs.Counting.{Counted}
 use Rattle.tallies.specs.declared.Kept.{Kept}
+use Rattle.read_json.specs.Kinds.{isArray}
 use Rattle.read_jcal.specs.Judging.{judgedAs}
-use Rattle.read_jcal.specs.Kinds.{isArray}
 use Rattle.read_jcal.specs.Properties.{statedIn}
 use Rattle.read_jcal.specs.declared.Judged.{Judged}
 use Rattle.read_jcal.specs.declared.Three.{Three}

@@ -1,6 +1,5 @@
 -- The verdict on properties, components and calendars of a jCal text, by places in it.
 --     Judging         what is found, as a verdict
---     Kinds           the kinds of elements
 --     Arrays          the elements of an array
 --     Types           the type that an element names
 --     Counting        the word of an ACTION
@@ -9,7 +8,6 @@
 --     Subcomponents   a whole component, and several
 --     laws            laws of these, and what proofs need
 pub mod Judging
-pub mod Kinds
 pub mod Arrays
 pub mod Types
 pub mod Counting

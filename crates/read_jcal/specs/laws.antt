@@ -1,6 +1,5 @@
 -- Laws. The verdict on properties, components and calendars of a jCal text.
 --     Judging         the refusals by their numbers
---     Kinds           the kinds of elements
 --     Arrays          the elements of an array
 --     Types           the type that an element names
 --     BadNames        names that can't be carried
@@ -11,7 +10,6 @@
 --     Subcomponents   a whole component, and several
 --     Calendars       the calendars of a text
 pub mod Judging
-pub mod Kinds
 pub mod Arrays
 pub mod Types
 pub mod BadNames

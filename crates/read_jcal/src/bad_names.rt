@@ -1,12 +1,12 @@
 // Names that can't be carried. See crate jcal, specs/Property.antt.
 use crate::Three;
-use crate::kinds::is_object;
-use crate::kinds::is_string;
 use markup::element;
 use names::is_word;
 use read_jcal_parameters::is_bad_name;
 use read_jcal_parameters::names_bad;
 use read_json::Head;
+use read_json::kinds::is_object;
+use read_json::kinds::is_string;
 ghost use mathlib.Core.Path.{_≡_};
 ghost use mathlib.Core.List.{[]};
 ghost use Prim.Native.Nat.{_<_};
@@ -40,7 +40,8 @@ fn has_bad_property(s: &[u8], h: Head) -> bool
     requires { ⌜ Inside (now s) h ⌝ }
     ensures { λ r. ⌜ r ≡ passes isBadProperty (andThen (found (now (s .entry)) h) asString) ⌝ }
 {
-    let string = is_string(h);
+    let kind = h.kind;
+    let string = is_string(kind);
     if string {
         return is_bad_property(s, h.place);
     }
@@ -51,7 +52,8 @@ fn has_bad_property(s: &[u8], h: Head) -> bool
 fn has_bad_parameter(s: &[u8], h: Head) -> bool
     ensures { λ r. ⌜ r ≡ anyOne isBadParameter (readOr [] (andThen (found (now (s .entry)) h) asObject)) ⌝ }
 {
-    let object = is_object(h);
+    let kind = h.kind;
+    let object = is_object(kind);
     if object {
         return names_bad(s, h.next);
     }

@@ -1,12 +1,12 @@
 // The calendars of a text: a stream of them, or one alone. See crate jcal, specs/Components.antt.
 use crate::Judged;
 use crate::Outer;
-use crate::kinds::is_array;
 use crate::subcomponents::component_verdict;
 use crate::subcomponents::components_verdict;
 use edition::Edition;
 use read_json::Head;
 use read_json::element_at;
+use read_json::kinds::is_array;
 use schema::component;
 ghost use mathlib.Core.Path.{_≡_};
 ghost use mathlib.Core.Bool.{false};
@@ -21,10 +21,12 @@ ghost use Rattle.read_jcal.specs.Judging.{judgedAs};
 fn is_stream(s: &[u8], h: Head) -> bool
     ensures { λ r. ⌜ r ≡ isStream (valueOfHead (now (s .entry)) h) ⌝ }
 {
-    let array = is_array(h);
+    let kind = h.kind;
+    let array = is_array(kind);
     if array {
         let first = element_at(s, h.next);
-        return is_array(first);
+        let kind = first.kind;
+        return is_array(kind);
     }
     false
 }

@@ -7,14 +7,14 @@ use crate::Shape;
 use crate::Three;
 use crate::elements::first_three;
 use crate::elements::has_elements;
-use crate::kinds::is_array;
-use crate::kinds::is_string;
-use crate::kinds::place_of;
+use crate::elements::place_of;
 use crate::properties::properties_verdict;
 use edition::Edition;
 use read_jcal_parameters::is_bad_name;
 use read_json::Head;
 use read_json::container_end;
+use read_json::kinds::is_array;
+use read_json::kinds::is_string;
 use refusals::COUNT;
 use refusals::FRAME;
 use refusals::NAME;
@@ -51,9 +51,13 @@ fn may_begin_in(outer: Outer, n: usize) -> bool
 fn is_whole(s: &[u8], p: Three) -> bool
     ensures { λ r. ⌜ r ≡ isWhole (now (s .entry)) p ⌝ }
 {
-    let properties = is_array(p.second);
+    let second = p.second;
+    let kind = second.kind;
+    let properties = is_array(kind);
     if properties {
-        let components = is_array(p.third);
+        let third = p.third;
+        let kind = third.kind;
+        let components = is_array(kind);
         if components {
             let more = has_elements(s, p.next);
             if more {
@@ -99,7 +103,9 @@ fn shape_of(outer: Outer, left: usize, s: &[u8], inside: usize) -> Shape
     ensures { λ r. ⌜ ShapeAt outer left (now (s .entry)) inside r ⌝ }
 {
     let p = first_three(s, inside);
-    let string = is_string(p.first);
+    let first = p.first;
+    let kind = first.kind;
+    let string = is_string(kind);
     if string {
         let bad = is_bad_name(s, p.first.place);
         if bad {
@@ -164,7 +170,8 @@ fn array_begun(
 pub fn begun(edition: Edition, outer: Outer, left: usize, s: &[u8], h: Head) -> Begun
     ensures { λ r. ⌜ BegunAt edition outer left (now (s .entry)) (h .next) (valueOfHead (now (s .entry)) h) r ⌝ }
 {
-    let array = is_array(h);
+    let kind = h.kind;
+    let array = is_array(kind);
     if array {
         return array_begun(edition, outer, left, s, h.place, h.next);
     }

@@ -1,6 +1,6 @@
 // The word of an ACTION. See specs/Counting.antt.
-use crate::kinds::is_string;
 use read_json::element_at;
+use read_json::kinds::is_string;
 use schema::action;
 use schema::action_number;
 use schema::property;
@@ -26,7 +26,8 @@ fn first_word(s: &[u8], from: usize) -> usize
     ensures { λ r. ⌜ r ≡ wordIn (elementList (elementsAt (now (s .entry)) from)) ⌝ }
 {
     let h = element_at(s, from);
-    let string = is_string(h);
+    let kind = h.kind;
+    let string = is_string(kind);
     if string {
         return string_word(s, h.place);
     }

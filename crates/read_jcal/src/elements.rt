@@ -1,15 +1,16 @@
 // The elements of an array. See specs/Arrays.antt.
 use crate::Three;
-use crate::kinds::is_there;
+use read_json::Head;
 use read_json::element_at;
 use read_json::element_next;
+use read_json::kinds::is_there;
 ghost use mathlib.Core.Path.{_≡_};
 ghost use mathlib.Core.Bool.{not};
 ghost use Rattle.octets.specs.Words.{isEmpty};
 ghost use Rattle.json.specs.Tree.{elementList};
 ghost use Rattle.values.specs.Valid.{isAmount};
 ghost use Rattle.read_json.specs.TreeAt.{elementsAt};
-ghost use Rattle.read_jcal.specs.Arrays.{ThreeAt};
+ghost use Rattle.read_jcal.specs.Arrays.{placeIn, ThreeAt};
 
 // The first three elements from `inside` on.
 pub fn first_three(s: &[u8], inside: usize) -> Three
@@ -34,7 +35,8 @@ pub fn has_elements(s: &[u8], from: usize) -> bool
     ensures { λ r. ⌜ r ≡ not (isEmpty (elementList (elementsAt (now (s .entry)) from))) ⌝ }
 {
     let h = element_at(s, from);
-    is_there(h)
+    let kind = h.kind;
+    is_there(kind)
 }
 
 // As many values as a property has: one, or several where it is listed.
@@ -42,7 +44,8 @@ pub fn is_amount(listed: bool, s: &[u8], from: usize) -> bool
     ensures { λ r. ⌜ r ≡ isAmount listed (elementList (elementsAt (now (s .entry)) from)) ⌝ }
 {
     let h = element_at(s, from);
-    let there = is_there(h);
+    let kind = h.kind;
+    let there = is_there(kind);
     if there {
         if listed {
             return true;
@@ -55,4 +58,16 @@ pub fn is_amount(listed: bool, s: &[u8], from: usize) -> bool
         return true;
     }
     false
+}
+
+// The place of an element; 0 where there is none.
+pub fn place_of(h: Head) -> usize
+    ensures { λ r. ⌜ r ≡ placeIn h ⌝ }
+{
+    let kind = h.kind;
+    let there = is_there(kind);
+    if there {
+        return h.place;
+    }
+    0
 }

@@ -7,7 +7,6 @@ mod calendars;
 mod component;
 mod counting;
 mod elements;
-mod kinds;
 mod properties;
 mod property;
 mod subcomponents;

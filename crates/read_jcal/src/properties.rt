@@ -3,14 +3,14 @@ use crate::Entry;
 use crate::Judged;
 use crate::Listed;
 use crate::PropertyRead;
-use crate::kinds::is_array;
-use crate::kinds::is_there;
-use crate::kinds::place_of;
+use crate::elements::place_of;
 use crate::property::property_fault;
 use edition::Edition;
 use read_json::Head;
 use read_json::element_at;
 use read_json::element_next;
+use read_json::kinds::is_array;
+use read_json::kinds::is_there;
 use refusals::FRAME;
 use tallies::count;
 use tallies::none_counted;
@@ -34,7 +34,8 @@ fn array_entry(edition: Edition, k: usize, s: &[u8], place: usize, inside: usize
 fn entry_at(edition: Edition, k: usize, s: &[u8], h: Head) -> Entry
     ensures { λ r. ⌜ EntryAt edition k (valueOfHead (now (s .entry)) h) r ⌝ }
 {
-    let array = is_array(h);
+    let kind = h.kind;
+    let array = is_array(kind);
     if array {
         return array_entry(edition, k, s, h.place, h.next);
     }
@@ -51,7 +52,8 @@ pub fn properties_verdict(edition: Edition, k: usize, s: &[u8], inside: usize) -
     loop {
         let h = element_at(s, at);
         let next = element_next(s, h);
-        let there = is_there(h);
+        let kind = h.kind;
+        let there = is_there(kind);
         if there {
             let e = entry_at(edition, k, s, h);
             match e {

@@ -6,13 +6,13 @@ use crate::bad_names::has_bad_names;
 use crate::counting::word_of;
 use crate::elements::first_three;
 use crate::elements::is_amount;
-use crate::kinds::is_object;
-use crate::kinds::is_string;
 use crate::types::type_of;
 use edition::Edition;
 use read_jcal_parameters::parameters_good;
 use read_jcal_value::ValuesRead;
 use read_jcal_value::values_read;
+use read_json::kinds::is_object;
+use read_json::kinds::is_string;
 use refusals::FRAME;
 use refusals::NAME;
 use refusals::PARAMETER;
@@ -118,9 +118,13 @@ fn shape_fault(edition: Edition, k: usize, s: &[u8], p: Three) -> PropertyRead
     requires { ⌜ ThreeIn (now s) p ⌝ }
     ensures { λ r. ⌜ ShapedAt edition k (now (s .entry)) p r ⌝ }
 {
-    let string = is_string(p.first);
+    let first = p.first;
+    let kind = first.kind;
+    let string = is_string(kind);
     if string {
-        let object = is_object(p.second);
+        let second = p.second;
+        let kind = second.kind;
+        let object = is_object(kind);
         if object {
             return named_fault(edition, k, s, p);
         }

@@ -4,11 +4,11 @@ use crate::Outer;
 use crate::Part;
 use crate::component::begun;
 use crate::component::behind;
-use crate::kinds::is_there;
 use edition::Edition;
 use read_json::Head;
 use read_json::element_at;
 use read_json::element_next;
+use read_json::kinds::is_there;
 use schema::method_for;
 use tallies::Kept;
 ghost use mathlib.Core.Path.{_≡_};
@@ -69,7 +69,8 @@ pub fn components_verdict(
     loop {
         let h = element_at(s, at);
         let next = element_next(s, h);
-        let there = is_there(h);
+        let kind = h.kind;
+        let there = is_there(kind);
         if there {
             match component_verdict(edition, s, h, outer, left, method) {
                 Judged::Fine => {

@@ -1,9 +1,9 @@
 // The type that a property's array names. See specs/Types.antt.
 use crate::Named;
-use crate::kinds::is_string;
 use markup::table;
 use names::find_word;
 use read_json::Head;
+use read_json::kinds::is_string;
 use schema::value_type;
 ghost use mathlib.Core.Path.{_≡_};
 ghost use Prim.Native.Nat.{_<_};
@@ -27,7 +27,8 @@ pub fn type_of(s: &[u8], h: Head) -> Named
     requires { ⌜ Inside (now s) h ⌝ }
     ensures { λ r. ⌜ TypeAt (now (s .entry)) h r ⌝ }
 {
-    let string = is_string(h);
+    let kind = h.kind;
+    let string = is_string(kind);
     if string {
         let t = type_word(s, h.place);
         if t <= value_type::UNKNOWN {

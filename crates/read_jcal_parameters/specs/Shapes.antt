@@ -1,45 +1,13 @@
 -- The members of an object and the values of one, from a place on.
---     noneKind, stringKind, arrayKind    the kind of an element
 --     listAt s p         the elements of an array whose content, or the rest of it, begins at p
 --     givenAt s p        the values of the member whose value stands from p on: the elements of an array, or one value alone
 --     parametersAt s p   the members of an object whose content, or the rest of it, begins at p
-use mathlib.Core.Bool.{Bool, true, false}
 use mathlib.Core.List.{List}
 use Prim.Native.Nat.{ℕ}
 use Rattle.json.specs.Tree.{Json, Member, firstOf, elementList, memberList}
 use Rattle.json.specs.Kinds.{orAlone}
 use Rattle.read_json.specs.TreeAt.{elementsAt, membersAt, stringAt}
-use Rattle.read_json.specs.declared.HeadKind.{HeadKind}
-use Rattle.read_json.specs.declared.HeadKind.the-variants.{None, String, Number, Literal, Array, Object}
 use Rattle.read_json.specs.declared.MemberHead.{MemberHead}
-
--- ---- kinds
-
-abbrev pub noneKind : HeadKind → Bool
-noneKind None = true
-noneKind String = false
-noneKind Number = false
-noneKind Literal = false
-noneKind Array = false
-noneKind Object = false
-
-abbrev pub stringKind : HeadKind → Bool
-stringKind None = false
-stringKind String = true
-stringKind Number = false
-stringKind Literal = false
-stringKind Array = false
-stringKind Object = false
-
-abbrev pub arrayKind : HeadKind → Bool
-arrayKind None = false
-arrayKind String = false
-arrayKind Number = false
-arrayKind Literal = false
-arrayKind Array = true
-arrayKind Object = false
-
--- ---- from a place on
 
 unfoldable pub listAt : List ℕ → ℕ → List Json
 listAt s p = elementList (elementsAt s p)

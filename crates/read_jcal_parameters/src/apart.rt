@@ -1,5 +1,5 @@
 // No name stands twice. See specs/Apart.antt.
-use crate::kinds::cursor_of;
+use crate::cursor::cursor_of;
 use crate::order::compare;
 use crate::rounds::pass;
 use read_json::member_at;

@@ -1,9 +1,9 @@
 // ENCODING=BASE64. See specs/Encoded.antt.
-use crate::kinds::cursor_of;
-use crate::kinds::is_array;
-use crate::kinds::is_string;
+use crate::cursor::cursor_of;
 use names::is_word;
 use read_json::element_at;
+use read_json::kinds::is_array;
+use read_json::kinds::is_string;
 use read_json::member_at;
 use schema::parameter;
 use schema::parameter_number;

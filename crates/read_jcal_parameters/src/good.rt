@@ -1,7 +1,7 @@
 // The check of a property's parameters. See specs/Sound.antt.
 use crate::apart::are_apart;
 use crate::base64::has_encoding;
-use crate::kinds::cursor_of;
+use crate::cursor::cursor_of;
 use crate::several::are_good;
 use edition::Edition;
 use read_json::member_at;

@@ -2,9 +2,9 @@
 // specs/laws/.
 mod apart;
 mod base64;
+mod cursor;
 mod good;
 mod heap;
-mod kinds;
 mod naming;
 mod order;
 mod places;

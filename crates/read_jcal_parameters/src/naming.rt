@@ -1,5 +1,5 @@
 // Names in jCal: in small letters, and such as can be carried (refusal 5). See specs/Names.antt.
-use crate::kinds::cursor_of;
+use crate::cursor::cursor_of;
 use names::is_word;
 use octets::is_capital;
 use octets::is_name_char;

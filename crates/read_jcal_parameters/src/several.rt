@@ -1,8 +1,5 @@
 // The values of a parameter: a string, or an array of strings. See specs/Values.antt.
-use crate::kinds::cursor_of;
-use crate::kinds::is_array;
-use crate::kinds::is_none;
-use crate::kinds::is_string;
+use crate::cursor::cursor_of;
 use edition::Edition;
 use names::is_word;
 use octets::unit::END;
@@ -10,6 +7,9 @@ use octets::unit::LF;
 use octets::unit::QUOTE;
 use read_json::element_at;
 use read_json::element_next;
+use read_json::kinds::is_array;
+use read_json::kinds::is_none;
+use read_json::kinds::is_string;
 use schema::WordRead;
 use schema::is_listed_parameter;
 use schema::parameter_has_words;

@@ -1,7 +1,5 @@
 // The parameters of a property as text. See specs/Written.antt.
-use crate::kinds::cursor_of;
-use crate::kinds::is_array;
-use crate::kinds::is_string;
+use crate::cursor::cursor_of;
 use crate::several::are_good;
 use crate::several::has_byte;
 use edition::Edition;
@@ -9,6 +7,8 @@ use octets::unit::COLON;
 use octets::unit::COMMA;
 use octets::unit::SEMICOLON;
 use read_json::element_at;
+use read_json::kinds::is_array;
+use read_json::kinds::is_string;
 use read_json::member_at;
 use read_text_line::put_param_name;
 use read_text_line::put_param_value;

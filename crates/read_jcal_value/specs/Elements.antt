@@ -1,5 +1,4 @@
 -- The elements of an array, by the heads that code finds.
---     codeOf               the kind of an element as a number
 --     Stands               the bounds of an element
 --     stringOf, numberOf, literalOf, arrayOf, objectOf    what an element is, by its kind (crate json, specs/Kinds.antt)
 --     leafOf, FirstAt      a first element that is a number, or a string: the contract of `leaf_at`
@@ -13,22 +12,13 @@ use Rattle.json.specs.Tree.{Json, string, number, Member, elementList}
 use Rattle.json.specs.Kinds.{asString, asNumber, asLiteral, asArray, asObject}
 use Rattle.read_json.specs.TreeAt.{elementsAt, stringAt, wordAt}
 use Rattle.read_json.specs.Heads.{valueOfHead}
+use Rattle.read_json.specs.Kinds.{kindNumber}
 use Rattle.read_json.specs.declared.Head.{Head}
-use Rattle.read_json.specs.declared.HeadKind.{HeadKind}
-use Rattle.read_json.specs.declared.HeadKind.the-variants.{None, String, Number, Literal, Array, Object}
 use Rattle.read_jcal_value.specs.declared.elements.First.{First}
 use Rattle.read_jcal_value.specs.declared.elements.First.the-variants.{At, Other}
 
-abbrev pub codeOf : HeadKind → ℕ
-codeOf None = 0
-codeOf String = 1
-codeOf Number = 2
-codeOf Literal = 3
-codeOf Array = 4
-codeOf Object = 5
-
 pub record Stands (s : List ℕ) (h : Head) : Type 0 where
-  pub place : (codeOf (h .kind) ≡ 0 → ⊥) → h .place < h .next
+  pub place : (kindNumber (h .kind) ≡ 0 → ⊥) → h .place < h .next
   pub inside : h .next ≤ length s
 
 -- ---- what it is
@@ -50,9 +40,9 @@ objectOf s h = asObject (valueOfHead s h)
 
 -- ---- a first element that is a number, where the flag says so, or else a string
 
-abbrev pub leafCode : Bool → ℕ
-leafCode true = 2
-leafCode false = 1
+abbrev pub leafNumber : Bool → ℕ
+leafNumber true = 2
+leafNumber false = 1
 
 abbrev pub leafOf : Bool → List ℕ → ℕ → ℕ → Json
 leafOf true s p n = number p (wordAt s p n)

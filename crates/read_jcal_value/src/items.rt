@@ -1,15 +1,15 @@
 // The items of a part of a rule, by the part's number. See specs/Items.antt.
-use crate::elements::ARRAY;
-use crate::elements::NONE;
-use crate::elements::NUMBER;
-use crate::elements::STRING;
 use crate::elements::is_end;
-use crate::elements::kind_code;
 use markup::table;
 use names::find_word;
 use read_json::Head;
 use read_json::element_at;
 use read_json::element_next;
+use read_json::kinds::ARRAY;
+use read_json::kinds::NONE;
+use read_json::kinds::NUMBER;
+use read_json::kinds::STRING;
+use read_json::kinds::kind_number;
 use recur::item::ItemRead;
 use recur::item::read_item;
 use recur::part;
@@ -77,7 +77,7 @@ fn string_item(i: usize, s: &[u8], h: Head) -> bool
     ensures { λ r. ⌜ r ≡ isRead (andThen (stringOf (now (s .entry)) h) (readItem xcal (getD partNames i []))) ⌝ }
 {
     let kind = h.kind;
-    let k = kind_code(kind);
+    let k = kind_number(kind);
     if k == STRING {
         return is_string_item(i, s, h.place);
     }
@@ -90,7 +90,7 @@ fn number_item(i: usize, s: &[u8], h: Head) -> bool
     ensures { λ r. ⌜ r ≡ isRead (andThen (numberOf (now (s .entry)) h) (readItem xcal (getD partNames i []))) ⌝ }
 {
     let kind = h.kind;
-    let k = kind_code(kind);
+    let k = kind_number(kind);
     if k == NUMBER {
         return is_number_item(i, s, h.place, h.next);
     }
@@ -117,7 +117,7 @@ fn all_items(i: usize, s: &[u8], from: usize) -> bool
     loop {
         let h = element_at(s, c);
         let kind = h.kind;
-        let k = kind_code(kind);
+        let k = kind_number(kind);
         if k == NONE {
             return true;
         }
@@ -138,7 +138,7 @@ fn is_amount(i: usize, s: &[u8], from: usize) -> bool
 {
     let h = element_at(s, from);
     let kind = h.kind;
-    let k = kind_code(kind);
+    let k = kind_number(kind);
     if k == NONE {
         return false;
     }
@@ -167,7 +167,7 @@ pub fn is_part(i: usize, s: &[u8], at: usize) -> bool
 {
     let h = element_at(s, at);
     let kind = h.kind;
-    let k = kind_code(kind);
+    let k = kind_number(kind);
     if k == ARRAY {
         return are_items(i, s, h.next);
     }

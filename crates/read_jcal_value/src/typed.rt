@@ -1,10 +1,4 @@
 // A value of a type, by the type's number. See specs/Typed.antt.
-use crate::elements::ARRAY;
-use crate::elements::LITERAL;
-use crate::elements::NUMBER;
-use crate::elements::OBJECT;
-use crate::elements::STRING;
-use crate::elements::kind_code;
 use crate::leaves::is_binary;
 use crate::leaves::is_integer;
 use crate::leaves::is_string_of;
@@ -12,6 +6,12 @@ use crate::leaves::is_word_of;
 use crate::period::is_period;
 use crate::rule::is_rule;
 use read_json::Head;
+use read_json::kinds::ARRAY;
+use read_json::kinds::LITERAL;
+use read_json::kinds::NUMBER;
+use read_json::kinds::OBJECT;
+use read_json::kinds::STRING;
+use read_json::kinds::kind_number;
 use schema::value_type;
 ghost use mathlib.Core.Path.{_≡_};
 ghost use Rattle.octets.specs.Reading.{andThen, isRead};
@@ -27,7 +27,7 @@ fn binary_read(s: &[u8], h: Head) -> bool
     ensures { λ r. ⌜ r ≡ isRead (andThen (stringOf (now (s .entry)) h) (readValue ical BINARY)) ⌝ }
 {
     let kind = h.kind;
-    let k = kind_code(kind);
+    let k = kind_number(kind);
     if k == STRING {
         return is_binary(s, h.place);
     }
@@ -39,7 +39,7 @@ fn boolean_read(s: &[u8], h: Head) -> bool
     ensures { λ r. ⌜ r ≡ isRead (andThen (literalOf (now (s .entry)) h) (readValue xcal BOOLEAN)) ⌝ }
 {
     let kind = h.kind;
-    let k = kind_code(kind);
+    let k = kind_number(kind);
     if k == LITERAL {
         return is_word_of(value_type::BOOLEAN, s, h.place, h.next);
     }
@@ -51,7 +51,7 @@ fn float_read(s: &[u8], h: Head) -> bool
     ensures { λ r. ⌜ r ≡ isRead (andThen (numberOf (now (s .entry)) h) (readValue xcal FLOAT)) ⌝ }
 {
     let kind = h.kind;
-    let k = kind_code(kind);
+    let k = kind_number(kind);
     if k == NUMBER {
         return is_word_of(value_type::FLOAT, s, h.place, h.next);
     }
@@ -63,7 +63,7 @@ fn integer_read(s: &[u8], h: Head) -> bool
     ensures { λ r. ⌜ r ≡ isRead (andThen (numberOf (now (s .entry)) h) readInteger) ⌝ }
 {
     let kind = h.kind;
-    let k = kind_code(kind);
+    let k = kind_number(kind);
     if k == NUMBER {
         return is_integer(s, h.place, h.next);
     }
@@ -74,7 +74,7 @@ fn period_read(s: &[u8], h: Head) -> bool
     ensures { λ r. ⌜ r ≡ isRead (andThen (arrayOf (now (s .entry)) h) readPeriod) ⌝ }
 {
     let kind = h.kind;
-    let k = kind_code(kind);
+    let k = kind_number(kind);
     if k == ARRAY {
         return is_period(s, h.next);
     }
@@ -85,7 +85,7 @@ fn rule_read(s: &[u8], h: Head) -> bool
     ensures { λ r. ⌜ r ≡ isRead (andThen (objectOf (now (s .entry)) h) readRecur) ⌝ }
 {
     let kind = h.kind;
-    let k = kind_code(kind);
+    let k = kind_number(kind);
     if k == OBJECT {
         return is_rule(s, h.next);
     }
@@ -98,7 +98,7 @@ fn string_read(t: usize, s: &[u8], h: Head) -> bool
     ensures { λ r. ⌜ r ≡ isRead (andThen (stringOf (now (s .entry)) h) (readValue xcal (typeAt t))) ⌝ }
 {
     let kind = h.kind;
-    let k = kind_code(kind);
+    let k = kind_number(kind);
     if k == STRING {
         return is_string_of(t, s, h.place);
     }

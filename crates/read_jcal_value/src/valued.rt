@@ -1,14 +1,14 @@
 // The values of a property, by numbers. See specs/Values.antt.
-use crate::elements::ARRAY;
-use crate::elements::NONE;
-use crate::elements::STRING;
-use crate::elements::kind_code;
 use crate::own::is_geo;
 use crate::own::is_status;
 use crate::typed::typed_read;
 use read_json::Head;
 use read_json::element_at;
 use read_json::element_next;
+use read_json::kinds::ARRAY;
+use read_json::kinds::NONE;
+use read_json::kinds::STRING;
+use read_json::kinds::kind_number;
 use schema::Context;
 use schema::WordRead;
 use schema::has_words;
@@ -56,7 +56,7 @@ fn word_read(k: usize, p: usize, s: &[u8], h: Head) -> bool
     ensures { λ r. ⌜ r ≡ isRead (andThen (stringOf (now (s .entry)) h) (readWordIn (wordsAt k p))) ⌝ }
 {
     let kind = h.kind;
-    let code = kind_code(kind);
+    let code = kind_number(kind);
     if code == STRING {
         return is_word(k, p, s, h.place);
     }
@@ -67,7 +67,7 @@ fn geo_read(s: &[u8], h: Head) -> bool
     ensures { λ r. ⌜ r ≡ isRead (andThen (arrayOf (now (s .entry)) h) readGeo) ⌝ }
 {
     let kind = h.kind;
-    let k = kind_code(kind);
+    let k = kind_number(kind);
     if k == ARRAY {
         return is_geo(s, h.next);
     }
@@ -78,7 +78,7 @@ fn status_read(s: &[u8], h: Head) -> bool
     ensures { λ r. ⌜ r ≡ isRead (andThen (arrayOf (now (s .entry)) h) readStrings) ⌝ }
 {
     let kind = h.kind;
-    let k = kind_code(kind);
+    let k = kind_number(kind);
     if k == ARRAY {
         return is_status(s, h.next);
     }
@@ -123,7 +123,7 @@ fn all_read(context: Context, s: &[u8], from: usize) -> bool
     loop {
         let h = element_at(s, c);
         let kind = h.kind;
-        let k = kind_code(kind);
+        let k = kind_number(kind);
         if k == NONE {
             return true;
         }

@@ -2,6 +2,7 @@
 mod closing;
 mod elements;
 mod ends;
+pub mod kinds; // kinds.rt: the kind of an element
 mod members;
 mod pieces;
 

@@ -1,7 +1,9 @@
 // The elements of an array by places, whatever the bytes are. See specs/Elements.antt.
-use read_json::HeadKind;
 use read_json::element_at;
 use read_json::element_next;
+use read_json::kinds::is_array;
+use read_json::kinds::is_object;
+use read_json::kinds::is_string;
 ghost use mathlib.Core.Path.{_≡_};
 ghost use Prim.Native.Nat.{_≤_};
 ghost use lib.ListN.{length};
@@ -9,60 +11,7 @@ ghost use Rattle.source.specs.Source.{rest};
 ghost use Rattle.jcal.specs.Components.{streamIn};
 ghost use Rattle.json.specs.Tree.{firstOf};
 ghost use Rattle.read_json.specs.TreeAt.{elementsAt, membersAt};
-ghost use Rattle.write_text_jcal_values.specs.Elements.{isThere, isString, isArray, isObject, without, charactersIn, membersIn};
-
-// There is an element.
-pub fn is_there(kind: HeadKind) -> bool
-    ensures { λ r. ⌜ r ≡ isThere kind ⌝ }
-{
-    match kind {
-        HeadKind::None => false,
-        HeadKind::String => true,
-        HeadKind::Number => true,
-        HeadKind::Literal => true,
-        HeadKind::Array => true,
-        HeadKind::Object => true,
-    }
-}
-
-pub fn is_string(kind: HeadKind) -> bool
-    ensures { λ r. ⌜ r ≡ isString kind ⌝ }
-{
-    match kind {
-        HeadKind::None => false,
-        HeadKind::String => true,
-        HeadKind::Number => false,
-        HeadKind::Literal => false,
-        HeadKind::Array => false,
-        HeadKind::Object => false,
-    }
-}
-
-pub fn is_array(kind: HeadKind) -> bool
-    ensures { λ r. ⌜ r ≡ isArray kind ⌝ }
-{
-    match kind {
-        HeadKind::None => false,
-        HeadKind::String => false,
-        HeadKind::Number => false,
-        HeadKind::Literal => false,
-        HeadKind::Array => true,
-        HeadKind::Object => false,
-    }
-}
-
-fn is_object(kind: HeadKind) -> bool
-    ensures { λ r. ⌜ r ≡ isObject kind ⌝ }
-{
-    match kind {
-        HeadKind::None => false,
-        HeadKind::String => false,
-        HeadKind::Number => false,
-        HeadKind::Literal => false,
-        HeadKind::Array => false,
-        HeadKind::Object => true,
-    }
-}
+ghost use Rattle.write_text_jcal_values.specs.Elements.{without, charactersIn, membersIn};
 
 // The place from where on the elements behind the first `k` stand.
 pub fn skip(s: &[u8], from: usize, k: usize) -> usize

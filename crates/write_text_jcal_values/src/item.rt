@@ -1,10 +1,10 @@
 // The items of a part of a RECUR: an item alone, or an array of them. See specs/Rules.antt.
-use crate::elements::is_array;
-use crate::elements::is_string;
-use crate::elements::is_there;
 use read_json::Head;
 use read_json::element_at;
 use read_json::element_next;
+use read_json::kinds::is_array;
+use read_json::kinds::is_string;
+use read_json::kinds::is_there;
 use recur::written::put_item;
 use write_text_pieces::put_between;
 ghost use mathlib.Core.Path.{_≡_};

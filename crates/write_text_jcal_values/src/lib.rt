@@ -9,8 +9,6 @@ mod scalar;
 mod typed;
 
 pub use elements::array_at;
-pub use elements::is_array;
-pub use elements::is_there;
 pub use elements::object_at;
 pub use elements::skip;
 pub use elements::string_at;

@@ -1,10 +1,10 @@
 // GEO and REQUEST-STATUS, which have arrays of their own. See crate jcal, specs/Values.antt.
-use crate::elements::is_there;
 use crate::elements::skip;
 use numbers::float::put_float;
 use read_json::Head;
 use read_json::element_at;
 use read_json::element_next;
+use read_json::kinds::is_there;
 use sink::put_all;
 use texts::put_text_escaped;
 use write_text_pieces::put_between;

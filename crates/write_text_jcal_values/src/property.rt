@@ -1,11 +1,11 @@
 // The values of a property: all that stand behind its type. See specs/Property.antt.
-use crate::elements::is_there;
 use crate::own::put_geo;
 use crate::own::put_status;
 use crate::typed::put_typed;
 use read_json::Head;
 use read_json::element_at;
 use read_json::element_next;
+use read_json::kinds::is_there;
 use schema::Context;
 use schema::has_words;
 use schema::property;

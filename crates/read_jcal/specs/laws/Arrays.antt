@@ -23,13 +23,13 @@ use Rattle.json.specs.Tree.{Json, array, Elements, noElements, element, placeOf
 use Rattle.json.specs.Kinds.{asString, asArray, asObject, firstIn, nth}
 use Rattle.read_json.specs.TreeAt.{tokensAt, elementsAt, membersAt, stringAt}
 use Rattle.read_json.specs.Pieces.{Taken}
-use Rattle.read_json.specs.Heads.{valueBy, valueOfHead, behindBy, headBy, HeadTakes, HeadAt, NextAt}
+use Rattle.read_json.specs.Heads.{valueBy, valueOfHead, behindBy, headBy, HeadAt, NextAt}
+use Rattle.read_json.specs.Kinds.{isThere, isString, isArray, isObject}
+use Rattle.read_json.specs.laws.Kinds.{kind-string, kind-array, kind-object, string-there, there-by, none-by, taken-by}
 use Rattle.read_json.specs.declared.Head.{Head}
 use Rattle.read_json.specs.declared.HeadKind.{HeadKind}
 use Rattle.read_json.specs.declared.HeadKind.the-variants.{None, String, Number, Literal, Array, Object}
-use Rattle.read_jcal.specs.Kinds.{kindNumber, isThere, isString, isArray, isObject, placeIn}
-use Rattle.read_jcal.specs.laws.Kinds.{kind-string, kind-array, kind-object}
-use Rattle.read_jcal.specs.Arrays.{foundBy, found, Inside, ThreeAt, ThreeIn, nameFound, arrayFound, objectFound}
+use Rattle.read_jcal.specs.Arrays.{placeIn, foundBy, found, Inside, ThreeAt, ThreeIn, nameFound, arrayFound, objectFound}
 use Rattle.read_jcal.specs.declared.Three.{Three}
 
 -- ---- by kinds
@@ -53,35 +53,8 @@ module _ (s : List ℕ) (p n : ℕ) where
   others-by Array = refl
   others-by Object = refl
 
-  there-by : (k : HeadKind) → isThere k ≡ true → headBy k s p n ≡ element (valueBy k s p n) (behindBy k s n)
-  unfolding kindNumber
-  there-by None h = absurd (false≢true h)
-  there-by String h = refl
-  there-by Number h = refl
-  there-by Literal h = refl
-  there-by Array h = refl
-  there-by Object h = refl
-
-  none-by : (k : HeadKind) → isThere k ≡ false → headBy k s p n ≡ noElements
-  unfolding kindNumber
-  none-by None h = refl
-  none-by String h = absurd (false≢true (sym h))
-  none-by Number h = absurd (false≢true (sym h))
-  none-by Literal h = absurd (false≢true (sym h))
-  none-by Array h = absurd (false≢true (sym h))
-  none-by Object h = absurd (false≢true (sym h))
-
-  taken-by : (k : HeadKind) → isThere k ≡ true → (at : ℕ) → HeadTakes k s at p n → Taken s at p n
-  unfolding kindNumber
-  taken-by None h at t = absurd (false≢true h)
-  taken-by String h at t = t
-  taken-by Number h at t = t
-  taken-by Literal h at t = t
-  taken-by Array h at t = t
-  taken-by Object h at t = t
-
   no-string-by : (k : HeadKind) → isString k ≡ false → andThen (foundBy k s p n) asString ≡ none
-  unfolding kindNumber andThen
+  unfolding andThen
   no-string-by None h = refl
   no-string-by String h = absurd (false≢true (sym h))
   no-string-by Number h = refl
@@ -90,7 +63,7 @@ module _ (s : List ℕ) (p n : ℕ) where
   no-string-by Object h = refl
 
   no-array-by : (k : HeadKind) → isArray k ≡ false → andThen (foundBy k s p n) asArray ≡ none
-  unfolding kindNumber andThen
+  unfolding andThen
   no-array-by None h = refl
   no-array-by String h = refl
   no-array-by Number h = refl
@@ -99,7 +72,7 @@ module _ (s : List ℕ) (p n : ℕ) where
   no-array-by Object h = refl
 
   no-object-by : (k : HeadKind) → isObject k ≡ false → andThen (foundBy k s p n) asObject ≡ none
-  unfolding kindNumber andThen
+  unfolding andThen
   no-object-by None h = refl
   no-object-by String h = refl
   no-object-by Number h = refl
@@ -135,7 +108,6 @@ module _ (s : List ℕ) (h : Head) where
 
 module _ (s : List ℕ) (p n : ℕ) where
   other-by : (k : HeadKind) → isArray k ≡ false → asArray (valueBy k s p n) ≡ none
-  unfolding kindNumber
   other-by None h = refl
   other-by String h = refl
   other-by Number h = refl
@@ -144,7 +116,7 @@ module _ (s : List ℕ) (p n : ℕ) where
   other-by Object h = refl
 
   place-by : (k : HeadKind) → placeOf (valueBy k s p n) ≡ pick (isThere k) p 0
-  unfolding kindNumber pick
+  unfolding pick
   place-by None = refl
   place-by String = refl
   place-by Number = refl
@@ -153,7 +125,7 @@ module _ (s : List ℕ) (p n : ℕ) where
   place-by Object = refl
 
   read-by : (k : HeadKind) → isRead (andThen (foundBy k s p n) asArray) ≡ isArray k
-  unfolding kindNumber andThen isRead
+  unfolding andThen isRead
   read-by None = refl
   read-by String = refl
   read-by Number = refl
@@ -173,15 +145,6 @@ module _ (s : List ℕ) (h : Head) where
 
   pub array-read : isRead (arrayFound s h) ≡ isArray (h .kind)
   array-read = read-by s (h .place) (h .next) (h .kind)
-
--- a string and an array are elements
-pub string-there : (k : HeadKind) → isString k ≡ true → isThere k ≡ true
-unfolding kindNumber
-string-there k y = ap isThere (kind-string k y)
-
-pub array-there : (k : HeadKind) → isArray k ≡ true → isThere k ≡ true
-unfolding kindNumber
-array-there k y = ap isThere (kind-array k y)
 
 -- ---- the first element, and those behind it
 
@@ -218,7 +181,7 @@ module _ {s : List ℕ} {at : ℕ} {h : Head} (t : HeadAt s at h) where
 -- ---- whether there are any, and how many
 
 any-by : (s : List ℕ) (p n : ℕ) (k : HeadKind) → isThere k ≡ not (isEmpty (elementList (headBy k s p n)))
-unfolding kindNumber elementList
+unfolding elementList
 any-by s p n None = refl
 any-by s p n String = refl
 any-by s p n Number = refl

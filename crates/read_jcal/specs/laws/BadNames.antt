@@ -10,8 +10,8 @@ use Rattle.octets.specs.Reading.{readOr}
 use Rattle.json.specs.Tree.{memberList}
 use Rattle.jcal.specs.Property.{isBadProperty, isBadParameter, passes}
 use Rattle.read_json.specs.TreeAt.{membersAt, stringAt}
+use Rattle.read_json.specs.Kinds.{isString, isObject}
 use Rattle.read_json.specs.declared.Head.{Head}
-use Rattle.read_jcal.specs.Kinds.{isString, isObject}
 use Rattle.read_jcal.specs.Arrays.{Inside, ThreeIn, nameFound, objectFound}
 use Rattle.read_jcal.specs.laws.Arrays.{as-string, no-string, as-object, no-object, string-inside}
 use Rattle.read_jcal.specs.declared.Three.{Three}

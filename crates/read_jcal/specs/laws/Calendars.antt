@@ -19,12 +19,12 @@ use Rattle.json.specs.Kinds.{asArray}
 use Rattle.jcal.specs.Components.{componentsVerdict, streamIn, isStream, calendarsIn}
 use Rattle.read_json.specs.TreeAt.{tokensAt, elementsAt}
 use Rattle.read_json.specs.Heads.{valueBy, valueOfHead, headBy, HeadAt}
+use Rattle.read_json.specs.Kinds.{isArray}
 use Rattle.read_json.specs.declared.Head.{Head}
 use Rattle.read_json.specs.declared.HeadKind.{HeadKind}
 use Rattle.read_json.specs.declared.HeadKind.the-variants.{None, String, Number, Literal, Array, Object}
 use Rattle.read_jcal.specs.Judging.{judgedAs}
 use Rattle.read_jcal.specs.laws.Judging.{fine-after}
-use Rattle.read_jcal.specs.Kinds.{isArray}
 use Rattle.read_jcal.specs.laws.Arrays.{first-found, value-array, value-other, array-read, head-inside}
 use Rattle.read_jcal.specs.Components.{Names}
 use Rattle.read_jcal.specs.Subcomponents.{ComponentAt, CompsAt}

@@ -36,13 +36,14 @@ use Rattle.jcal.specs.Components.{componentName, propertyArrays, componentArray
 use Rattle.read_json.specs.TreeAt.{tokensAt, elementsAt, stringAt}
 use Rattle.read_json.specs.Closing.{EndedAt}
 use Rattle.read_json.specs.Heads.{valueOfHead}
+use Rattle.read_json.specs.Kinds.{isString, isArray}
+use Rattle.read_json.specs.laws.Kinds.{string-there, array-there}
 use Rattle.read_json.specs.declared.Ended.{Ended}
 use Rattle.read_json.specs.declared.Head.{Head}
 use Rattle.tallies.specs.declared.Kept.{Kept}
 use Rattle.read_jcal.specs.laws.Judging.{name-number, frame-number, count-number}
-use Rattle.read_jcal.specs.Kinds.{isString, isArray, placeIn}
-use Rattle.read_jcal.specs.Arrays.{ThreeAt, nameFound, arrayFound}
-use Rattle.read_jcal.specs.laws.Arrays.{as-string, no-string, as-array, value-array, value-other, value-place, array-read, string-there, array-there, three-first, three-second, three-third, three-others, three-elements, three-in}
+use Rattle.read_jcal.specs.Arrays.{placeIn, ThreeAt, nameFound, arrayFound}
+use Rattle.read_jcal.specs.laws.Arrays.{as-string, no-string, as-array, value-array, value-other, value-place, array-read, three-first, three-second, three-third, three-others, three-elements, three-in}
 use Rattle.read_jcal.specs.Properties.{statedIn, ListedAt}
 use Rattle.read_jcal.specs.laws.Properties.{first-in}
 use Rattle.read_jcal.specs.Components.{mayAt, Names, isWhole, WholeAt, ShapeFits, ShapeAt, NamedFits, NamedShape, openedAs, OpenedFits, OpenedAt, endOf, around, BehindAt, partOf, PartFits, BegunAt}

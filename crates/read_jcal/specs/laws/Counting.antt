@@ -27,8 +27,8 @@ use Rattle.json.specs.Kinds.{asString}
 use Rattle.jcal.specs.Values.{readOne, readValues}
 use Rattle.read_json.specs.TreeAt.{elementsAt, stringAt}
 use Rattle.read_json.specs.Heads.{HeadAt}
+use Rattle.read_json.specs.Kinds.{isString}
 use Rattle.read_json.specs.declared.Head.{Head}
-use Rattle.read_jcal.specs.Kinds.{isString}
 use Rattle.read_jcal.specs.Arrays.{found}
 use Rattle.read_jcal.specs.laws.Arrays.{first-found, as-string, no-string, head-in, string-inside}
 use Rattle.read_jcal.specs.Counting.{wordIn, WordAt}

@@ -42,6 +42,7 @@ use Rattle.jcal.specs.Property.{nameIn, parametersIn, typeOf, typeIn, isBadProp
 use Rattle.jcal.specs.Components.{at, propertiesVerdict}
 use Rattle.read_json.specs.TreeAt.{elementsAt, membersAt, stringAt}
 use Rattle.read_json.specs.Heads.{valueOfHead, HeadAt, NextAt}
+use Rattle.read_json.specs.Kinds.{isThere, isString, isArray, isObject}
 use Rattle.read_json.specs.declared.Head.{Head}
 use Rattle.read_jcal_value.specs.Values.{areRead}
 use Rattle.read_jcal_value.specs.declared.valued.ValuesRead.{ValuesRead}
@@ -49,8 +50,7 @@ use Rattle.read_jcal_value.specs.declared.valued.ValuesRead.the-variants.{Read,
 use Rattle.tallies.specs.Counting.{Counted, CountsOn}
 use Rattle.tallies.specs.declared.Kept.{Kept}
 use Rattle.read_jcal.specs.laws.Judging.{name-number, frame-number, parameter-number, value-number, not-fine}
-use Rattle.read_jcal.specs.Kinds.{isThere, isString, isArray, isObject, placeIn}
-use Rattle.read_jcal.specs.Arrays.{Inside, ThreeAt, ThreeIn, nameFound, objectFound, typeFound}
+use Rattle.read_jcal.specs.Arrays.{placeIn, Inside, ThreeAt, ThreeIn, nameFound, objectFound, typeFound}
 use Rattle.read_jcal.specs.laws.Arrays.{as-string, no-string, as-object, no-object, value-array, value-other, value-place, none-found, list-found, head-inside, next-less, three-first, three-second, three-third, three-others, three-in}
 use Rattle.read_jcal.specs.Types.{TypeAt}
 use Rattle.read_jcal.specs.Counting.{WordAt}

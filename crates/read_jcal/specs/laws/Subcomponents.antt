@@ -21,11 +21,11 @@ use Rattle.json.specs.Tree.{Json, Elements}
 use Rattle.jcal.specs.Components.{componentsVerdict}
 use Rattle.read_json.specs.TreeAt.{elementsAt}
 use Rattle.read_json.specs.Heads.{valueOfHead, HeadAt, NextAt}
+use Rattle.read_json.specs.Kinds.{isThere}
 use Rattle.read_json.specs.declared.Head.{Head}
 use Rattle.tallies.specs.Counting.{Counted}
 use Rattle.tallies.specs.declared.Kept.{Kept}
 use Rattle.read_jcal.specs.Judging.{judgedAs}
-use Rattle.read_jcal.specs.Kinds.{isThere}
 use Rattle.read_jcal.specs.laws.Arrays.{none-found, element-found, head-inside, next-less}
 use Rattle.read_jcal.specs.Components.{Names, around, BehindAt, PartFits, BegunAt}
 use Rattle.read_jcal.specs.Subcomponents.{ComponentAt, CompsAt}

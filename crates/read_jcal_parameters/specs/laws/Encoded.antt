@@ -29,9 +29,10 @@ use Rattle.jcal.specs.Parameters.{readWordIn, readCharacters, readParameter}
 use Rattle.read_json.specs.TreeAt.{stringAt}
 use Rattle.read_json.specs.Heads.{HeadAt}
 use Rattle.read_json.specs.MemberHeads.{MemberAt}
+use Rattle.read_json.specs.Kinds.{isNone, isString, isArray}
 use Rattle.read_json.specs.declared.Head.{Head}
 use Rattle.read_json.specs.declared.MemberHead.{MemberHead}
-use Rattle.read_jcal_parameters.specs.Shapes.{noneKind, stringKind, arrayKind, listAt, givenAt, parametersAt}
+use Rattle.read_jcal_parameters.specs.Shapes.{listAt, givenAt, parametersAt}
 use Rattle.read_jcal_parameters.specs.laws.Shapes.{Other, list-end, list-more, list-other, given-array, given-string, given-other, Walking, walking-start, walk-none, walk-some, member-inside, member-less}
 use Rattle.read_jcal_parameters.specs.Encoded.{firstIs, encodedBy, isEncoded}
 
@@ -42,29 +43,29 @@ unfolding firstIs readOr same
 other-first o = rw (o .is, o .kind)
 
 module _ {s : List ℕ} {at : ℕ} {h : Head} (t : HeadAt s at h) where
-  module _ {a : Bool} (e : a ≡ stringKind (h .kind)) where
+  module _ {a : Bool} (e : a ≡ isString (h .kind)) where
     pub first-string : {l : List ℕ} {b : Bool} → a ≡ true → l ≡ stringAt s (h .place) → b ≡ same l (ascii "BASE64") → b ≡ firstIs (ascii "BASE64") (listAt s at)
     unfolding firstIs readOr
     first-string q i f = f ∙ rw (list-more t e q, i)
 
     pub first-other : a ≡ false → false ≡ firstIs (ascii "BASE64") (listAt s at)
     unfolding firstIs
-    first-other q = go (noneKind (h .kind)) refl
+    first-other q = go (isNone (h .kind)) refl
       where
-        go : (b : Bool) → noneKind (h .kind) ≡ b → false ≡ firstIs (ascii "BASE64") (listAt s at)
+        go : (b : Bool) → isNone (h .kind) ≡ b → false ≡ firstIs (ascii "BASE64") (listAt s at)
         go true z = rw (list-end t (sym z) refl)
         go false z = other-first (list-other t e q (sym z) refl)
 
-  module _ {a : Bool} (e : a ≡ arrayKind (h .kind)) where
+  module _ {a : Bool} (e : a ≡ isArray (h .kind)) where
     pub base-array : {b : Bool} → a ≡ true → b ≡ firstIs (ascii "BASE64") (listAt s (h .next)) → b ≡ firstIs (ascii "BASE64") (givenAt s at)
     base-array q f = f ∙ rw (given-array t e q)
 
     -- a value alone is the first element too
     pub base-alone : {b : Bool} → a ≡ false → b ≡ firstIs (ascii "BASE64") (listAt s at) → b ≡ firstIs (ascii "BASE64") (givenAt s at)
     unfolding firstIs
-    base-alone q f = f ∙ go (stringKind (h .kind)) refl
+    base-alone q f = f ∙ go (isString (h .kind)) refl
       where
-        go : (x : Bool) → stringKind (h .kind) ≡ x → firstIs (ascii "BASE64") (listAt s at) ≡ firstIs (ascii "BASE64") (givenAt s at)
+        go : (x : Bool) → isString (h .kind) ≡ x → firstIs (ascii "BASE64") (listAt s at) ≡ firstIs (ascii "BASE64") (givenAt s at)
         go true z = rw (list-more t (sym z) refl, given-string t (sym z) refl)
         go false z = sym (first-other (sym z) refl) ∙ other-first (given-other t e q (sym z) refl)
 

@@ -18,37 +18,13 @@ use Rattle.read_json.specs.TreeAt.{elementsAt, membersAt, stringAt}
 use Rattle.read_json.specs.Pieces.{Taken}
 use Rattle.read_json.specs.Heads.{valueBy, behindBy, headBy, HeadTakes, HeadAt, NextAt}
 use Rattle.read_json.specs.MemberHeads.{memberBy, MemberTakes, MemberAt}
+use Rattle.read_json.specs.Kinds.{isNone, isString, isArray}
+use Rattle.read_json.specs.laws.Kinds.{kind-none, kind-string, kind-array}
 use Rattle.read_json.specs.declared.Head.{Head}
 use Rattle.read_json.specs.declared.HeadKind.{HeadKind}
 use Rattle.read_json.specs.declared.HeadKind.the-variants.{None, String, Number, Literal, Array, Object}
 use Rattle.read_json.specs.declared.MemberHead.{MemberHead}
-use Rattle.read_jcal_parameters.specs.Shapes.{noneKind, stringKind, arrayKind, listAt, givenAt, parametersAt, memberOf}
-
--- ---- kinds
-
-is-none : (k : HeadKind) → noneKind k ≡ true → k ≡ None
-is-none None h = refl
-is-none String h = absurd (false≢true h)
-is-none Number h = absurd (false≢true h)
-is-none Literal h = absurd (false≢true h)
-is-none Array h = absurd (false≢true h)
-is-none Object h = absurd (false≢true h)
-
-is-string : (k : HeadKind) → stringKind k ≡ true → k ≡ String
-is-string None h = absurd (false≢true h)
-is-string String h = refl
-is-string Number h = absurd (false≢true h)
-is-string Literal h = absurd (false≢true h)
-is-string Array h = absurd (false≢true h)
-is-string Object h = absurd (false≢true h)
-
-is-array : (k : HeadKind) → arrayKind k ≡ true → k ≡ Array
-is-array None h = absurd (false≢true h)
-is-array String h = absurd (false≢true h)
-is-array Number h = absurd (false≢true h)
-is-array Literal h = absurd (false≢true h)
-is-array Array h = refl
-is-array Object h = absurd (false≢true h)
+use Rattle.read_jcal_parameters.specs.Shapes.{listAt, givenAt, parametersAt, memberOf}
 
 -- ---- the elements of an array
 
@@ -66,15 +42,15 @@ module _ {s : List ℕ} {at : ℕ} {h : Head} (t : HeadAt s at h) where
   pub head-inside : h .next ≤ length s
   head-inside = t .inside
 
-  pub list-end : {b : Bool} → b ≡ noneKind (h .kind) → b ≡ true → listAt s at ≡ []
+  pub list-end : {b : Bool} → b ≡ isNone (h .kind) → b ≡ true → listAt s at ≡ []
   unfolding listAt elementList
-  list-end e q = ap elementList (by-kind None (is-none (h .kind) (sym e ∙ q)))
+  list-end e q = ap elementList (by-kind None (kind-none (h .kind) (sym e ∙ q)))
 
-  pub list-some : {b : Bool} → b ≡ noneKind (h .kind) → b ≡ false → (v : Json) × (vs : List Json) × (listAt s at ≡ v ∷ vs)
+  pub list-some : {b : Bool} → b ≡ isNone (h .kind) → b ≡ false → (v : Json) × (vs : List Json) × (listAt s at ≡ v ∷ vs)
   unfolding listAt elementList
   list-some e q = go (h .kind) refl (sym e ∙ q)
     where
-      go : (k : HeadKind) → h .kind ≡ k → noneKind k ≡ false → (v : Json) × (vs : List Json) × (elementList (elementsAt s at) ≡ v ∷ vs)
+      go : (k : HeadKind) → h .kind ≡ k → isNone k ≡ false → (v : Json) × (vs : List Json) × (elementList (elementsAt s at) ≡ v ∷ vs)
       go None z f = absurd (false≢true (sym f))
       go String z f = (_, _, ap elementList (by-kind String z))
       go Number z f = (_, _, ap elementList (by-kind Number z))
@@ -83,14 +59,14 @@ module _ {s : List ℕ} {at : ℕ} {h : Head} (t : HeadAt s at h) where
       go Object z f = (_, _, ap elementList (by-kind Object z))
 
   -- and those behind it
-  pub list-any : {b : Bool} {r : ℕ} → NextAt s h r → b ≡ noneKind (h .kind) → b ≡ false → (v : Json) × (listAt s at ≡ v ∷ listAt s r)
+  pub list-any : {b : Bool} {r : ℕ} → NextAt s h r → b ≡ isNone (h .kind) → b ≡ false → (v : Json) × (listAt s at ≡ v ∷ listAt s r)
   unfolding listAt elementList
   list-any {b} {r} n e q = go (h .kind) refl (sym e ∙ q)
     where
       on : (k : HeadKind) → h .kind ≡ k → behindBy k s (h .next) ≡ elementsAt s r
       on k z = sym (ap (λ (x : HeadKind). behindBy x s (h .next)) z) ∙ n .is
 
-      go : (k : HeadKind) → h .kind ≡ k → noneKind k ≡ false → (v : Json) × (elementList (elementsAt s at) ≡ v ∷ elementList (elementsAt s r))
+      go : (k : HeadKind) → h .kind ≡ k → isNone k ≡ false → (v : Json) × (elementList (elementsAt s at) ≡ v ∷ elementList (elementsAt s r))
       go None z f = absurd (false≢true (sym f))
       go String z f = (valueBy String s (h .place) (h .next), ap elementList (by-kind String z) ∙ ap (λ (es : Elements). valueBy String s (h .place) (h .next) ∷ elementList es) (on String z))
       go Number z f = (valueBy Number s (h .place) (h .next), ap elementList (by-kind Number z) ∙ ap (λ (es : Elements). valueBy Number s (h .place) (h .next) ∷ elementList es) (on Number z))
@@ -98,11 +74,11 @@ module _ {s : List ℕ} {at : ℕ} {h : Head} (t : HeadAt s at h) where
       go Array z f = (valueBy Array s (h .place) (h .next), ap elementList (by-kind Array z) ∙ ap (λ (es : Elements). valueBy Array s (h .place) (h .next) ∷ elementList es) (on Array z))
       go Object z f = (valueBy Object s (h .place) (h .next), ap elementList (by-kind Object z) ∙ ap (λ (es : Elements). valueBy Object s (h .place) (h .next) ∷ elementList es) (on Object z))
 
-  pub list-other : {b c : Bool} → b ≡ stringKind (h .kind) → b ≡ false → c ≡ noneKind (h .kind) → c ≡ false → Other (listAt s at)
+  pub list-other : {b c : Bool} → b ≡ isString (h .kind) → b ≡ false → c ≡ isNone (h .kind) → c ≡ false → Other (listAt s at)
   unfolding listAt elementList
   list-other e q f r = go (h .kind) refl (sym e ∙ q) (sym f ∙ r)
     where
-      go : (k : HeadKind) → h .kind ≡ k → stringKind k ≡ false → noneKind k ≡ false → Other (elementList (elementsAt s at))
+      go : (k : HeadKind) → h .kind ≡ k → isString k ≡ false → isNone k ≡ false → Other (elementList (elementsAt s at))
       go None z x y = absurd (false≢true (sym y))
       go String z x y = absurd (false≢true (sym x))
       go Number z x y = record { first = _; more = _; is = ap elementList (by-kind Number z); kind = refl }
@@ -110,9 +86,9 @@ module _ {s : List ℕ} {at : ℕ} {h : Head} (t : HeadAt s at h) where
       go Array z x y = record { first = _; more = _; is = ap elementList (by-kind Array z); kind = refl }
       go Object z x y = record { first = _; more = _; is = ap elementList (by-kind Object z); kind = refl }
 
-  module _ {b : Bool} (e : b ≡ stringKind (h .kind)) (q : b ≡ true) where
+  module _ {b : Bool} (e : b ≡ isString (h .kind)) (q : b ≡ true) where
     named : h .kind ≡ String
-    named = is-string (h .kind) (sym e ∙ q)
+    named = kind-string (h .kind) (sym e ∙ q)
 
     pub list-more : listAt s at ≡ string (h .place) (stringAt s (h .place)) ∷ listAt s (h .next)
     unfolding listAt elementList
@@ -133,18 +109,18 @@ module _ {s : List ℕ} {at : ℕ} {h : Head} (t : HeadAt s at h) where
 
   -- ---- the values of a member
 
-  pub given-array : {b : Bool} → b ≡ arrayKind (h .kind) → b ≡ true → givenAt s at ≡ listAt s (h .next)
+  pub given-array : {b : Bool} → b ≡ isArray (h .kind) → b ≡ true → givenAt s at ≡ listAt s (h .next)
   unfolding givenAt listAt readOr
-  given-array e q = ap (λ (es : Elements). orAlone (firstOf es)) (by-kind Array (is-array (h .kind) (sym e ∙ q)))
+  given-array e q = ap (λ (es : Elements). orAlone (firstOf es)) (by-kind Array (kind-array (h .kind) (sym e ∙ q)))
 
-  pub given-other : {b c : Bool} → b ≡ arrayKind (h .kind) → b ≡ false → c ≡ stringKind (h .kind) → c ≡ false → Other (givenAt s at)
+  pub given-other : {b c : Bool} → b ≡ isArray (h .kind) → b ≡ false → c ≡ isString (h .kind) → c ≡ false → Other (givenAt s at)
   unfolding givenAt readOr
   given-other e q f r = go (h .kind) refl (sym e ∙ q) (sym f ∙ r)
     where
       alone : (k : HeadKind) → h .kind ≡ k → orAlone (firstOf (elementsAt s at)) ≡ orAlone (firstOf (headBy k s (h .place) (h .next)))
       alone k z = ap (λ (es : Elements). orAlone (firstOf es)) (by-kind k z)
 
-      go : (k : HeadKind) → h .kind ≡ k → arrayKind k ≡ false → stringKind k ≡ false → Other (orAlone (firstOf (elementsAt s at)))
+      go : (k : HeadKind) → h .kind ≡ k → isArray k ≡ false → isString k ≡ false → Other (orAlone (firstOf (elementsAt s at)))
       go None z x y = record { first = _; more = _; is = alone None z; kind = refl }
       go String z x y = absurd (false≢true (sym y))
       go Number z x y = record { first = _; more = _; is = alone Number z; kind = refl }

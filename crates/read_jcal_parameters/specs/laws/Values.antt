@@ -36,8 +36,9 @@ use Rattle.json.specs.Tree.{Json, string}
 use Rattle.jcal.specs.Parameters.{readTruth, readWordIn, isPlain}
 use Rattle.read_json.specs.TreeAt.{stringAt}
 use Rattle.read_json.specs.Heads.{HeadAt, NextAt}
+use Rattle.read_json.specs.Kinds.{isNone, isString, isArray}
 use Rattle.read_json.specs.declared.Head.{Head}
-use Rattle.read_jcal_parameters.specs.Shapes.{noneKind, stringKind, arrayKind, listAt, givenAt}
+use Rattle.read_jcal_parameters.specs.Shapes.{listAt, givenAt}
 use Rattle.read_jcal_parameters.specs.laws.Shapes.{Other, list-end, list-some, list-any, list-other, list-more, string-inside, string-less, given-array, given-string, given-other}
 use Rattle.read_jcal_parameters.specs.Values.{rowAt, readTyped, isSpelled, goodString, goodValue, goodValues}
 
@@ -178,8 +179,8 @@ pub record Goods (ed : Edition) (q : ℕ) (s : List ℕ) (from at : ℕ) : Type 
 pub goods-start : (ed : Edition) (q : ℕ) (s : List ℕ) (from : ℕ) → Goods ed q s from from
 goods-start ed q s from = record { is = refl }
 
-module _ {ed : Edition} {q : ℕ} {s : List ℕ} {from at : ℕ} {h : Head} (w : Goods ed q s from at) (t : HeadAt s at h) {a : Bool} (e : a ≡ stringKind (h .kind)) where
-  pub goods-end : {b : Bool} → a ≡ false → b ≡ noneKind (h .kind) → b ≡ every (goodValue ed (rowAt q)) (listAt s from)
+module _ {ed : Edition} {q : ℕ} {s : List ℕ} {from at : ℕ} {h : Head} (w : Goods ed q s from at) (t : HeadAt s at h) {a : Bool} (e : a ≡ isString (h .kind)) where
+  pub goods-end : {b : Bool} → a ≡ false → b ≡ isNone (h .kind) → b ≡ every (goodValue ed (rowAt q)) (listAt s from)
   unfolding every
   goods-end {b} k f = sym (w .is ∙ go b refl)
     where
@@ -203,7 +204,7 @@ module _ {ed : Edition} {q : ℕ} {s : List ℕ} {from at : ℕ} {h : Head} (w :
 pub ruleset goods = (goods-start, goods-end, goods-more, goods-not, string-inside, string-less, needs)
 
 -- as many as the parameter takes
-module _ (q : ℕ) {s : List ℕ} {at : ℕ} {h : Head} (t : HeadAt s at h) {a : Bool} (e : a ≡ noneKind (h .kind)) where
+module _ (q : ℕ) {s : List ℕ} {at : ℕ} {h : Head} (t : HeadAt s at h) {a : Bool} (e : a ≡ isNone (h .kind)) where
   pub amount-none : a ≡ true → false ≡ isAmount (rowAt q .listed) (listAt s at)
   amount-none k = rw (list-end t e k)
 
@@ -212,7 +213,7 @@ module _ (q : ℕ) {s : List ℕ} {at : ℕ} {h : Head} (t : HeadAt s at h) {a :
     unfolding rowAt _or_
     amount-listed g = rw (list-some t e k .2, ← f, g)
 
-    pub amount-single : {r : ℕ} {u : Head} {c : Bool} → b ≡ false → NextAt s h r → HeadAt s r u → c ≡ noneKind (u .kind) → c ≡ isAmount (rowAt q .listed) (listAt s at)
+    pub amount-single : {r : ℕ} {u : Head} {c : Bool} → b ≡ false → NextAt s h r → HeadAt s r u → c ≡ isNone (u .kind) → c ≡ isAmount (rowAt q .listed) (listAt s at)
     unfolding rowAt _or_
     amount-single {r} {u} {c} g n v d = rw (list-any t n e k .1, ← f, g) (go c refl)
       where
@@ -221,7 +222,7 @@ module _ (q : ℕ) {s : List ℕ} {at : ℕ} {h : Head} (t : HeadAt s at h) {a :
         go false z = z ∙ rw (list-some v d z .2)
 
 -- a value alone, or an array of them
-module _ (ed : Edition) (q : ℕ) {s : List ℕ} {at : ℕ} {h : Head} (t : HeadAt s at h) {a : Bool} (e : a ≡ arrayKind (h .kind)) where
+module _ (ed : Edition) (q : ℕ) {s : List ℕ} {at : ℕ} {h : Head} (t : HeadAt s at h) {a : Bool} (e : a ≡ isArray (h .kind)) where
   module _ (k : a ≡ true) {b : Bool} (f : b ≡ every (goodValue ed (rowAt q)) (listAt s (h .next))) where
     pub values-not : b ≡ false → false ≡ goodValues ed (rowAt q) (givenAt s at)
     unfolding goodValues _and_
@@ -231,7 +232,7 @@ module _ (ed : Edition) (q : ℕ) {s : List ℕ} {at : ℕ} {h : Head} (t : Head
     unfolding goodValues _and_
     values-many g d = d ∙ rw (given-array t e k, ← f, g)
 
-  module _ (k : a ≡ false) {b : Bool} (f : b ≡ stringKind (h .kind)) where
+  module _ (k : a ≡ false) {b : Bool} (f : b ≡ isString (h .kind)) where
     pub values-alone : {l : List ℕ} {d : Bool} → b ≡ true → l ≡ stringAt s (h .place) → d ≡ goodString ed (rowAt q) l → d ≡ goodValues ed (rowAt q) (givenAt s at)
     unfolding goodValues every _and_ _or_
     values-alone {l} {d} g i z =

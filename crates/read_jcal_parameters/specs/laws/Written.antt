@@ -50,9 +50,10 @@ use Rattle.jcal.specs.Parameters.{readTruth, readWordIn, readCharacters, readPa
 use Rattle.read_json.specs.TreeAt.{membersAt, stringAt}
 use Rattle.read_json.specs.Heads.{HeadAt}
 use Rattle.read_json.specs.MemberHeads.{MemberAt}
+use Rattle.read_json.specs.Kinds.{isNone, isString, isArray}
 use Rattle.read_json.specs.declared.Head.{Head}
 use Rattle.read_json.specs.declared.MemberHead.{MemberHead}
-use Rattle.read_jcal_parameters.specs.Shapes.{noneKind, stringKind, arrayKind, listAt, givenAt, parametersAt}
+use Rattle.read_jcal_parameters.specs.Shapes.{listAt, givenAt, parametersAt}
 use Rattle.read_jcal_parameters.specs.laws.Shapes.{Other, list-end, list-more, list-other, given-array, given-string, given-other, members-none, members-some, Walking, walking-start, walk-none, walk-some, member-inside, member-less}
 use Rattle.read_jcal_parameters.specs.Values.{rowAt, readString, goodValues}
 use Rattle.read_jcal_parameters.specs.laws.Encoded.{parameterOf}
@@ -126,22 +127,22 @@ module _ (ed : Edition) (r : ParameterRow) where
   shown-none later = refl
 
   module _ (later : Bool) {d₀ : List ℕ} {at₀ : ℕ} {all d : List ℕ} {at : ℕ} {s : List ℕ} {c : ℕ} {h : Head}
-      (t : Emits d₀ at₀ all d at (listShown ed r later (listAt s c))) (u : HeadAt s c h) {a : Bool} (e : a ≡ stringKind (h .kind)) where
+      (t : Emits d₀ at₀ all d at (listShown ed r later (listAt s c))) (u : HeadAt s c h) {a : Bool} (e : a ≡ isString (h .kind)) where
     pub list-next : {f l : List ℕ} {m : ℕ} → a ≡ true → l ≡ stringAt s (h .place) → Put d f at m (itemShown ed r later l) → Emits d₀ at₀ all f m (listShown ed r true (listAt s (h .next)))
     list-next q i p = emits-more t _ (ap (listShown ed r later) (list-more u e q) ∙ shown-string later _ _ _ ∙ rw (← i)) p
 
     pub list-over : a ≡ false → Put d₀ d at₀ at all
-    list-over q = emits-done t (go (noneKind (h .kind)) refl)
+    list-over q = emits-done t (go (isNone (h .kind)) refl)
       where
-        go : (b : Bool) → noneKind (h .kind) ≡ b → listShown ed r later (listAt s c) ≡ []
+        go : (b : Bool) → isNone (h .kind) ≡ b → listShown ed r later (listAt s c) ≡ []
         go true z = rw (list-end u (sym z) refl) (shown-none later)
         go false z = shown-other later (list-other u e q (sym z) refl)
 
-  module _ {d : List ℕ} {o : ℕ} {s : List ℕ} {c : ℕ} {h : Head} (u : HeadAt s c h) {a : Bool} (e : a ≡ arrayKind (h .kind)) where
+  module _ {d : List ℕ} {o : ℕ} {s : List ℕ} {c : ℕ} {h : Head} (u : HeadAt s c h) {a : Bool} (e : a ≡ isArray (h .kind)) where
     pub given-list : {f : List ℕ} {n : ℕ} → a ≡ true → Put d f o n (listShown ed r false (listAt s (h .next))) → Put d f o n (listShown ed r false (givenAt s c))
     given-list q p = rw (given-array u e q) p
 
-    module _ (q : a ≡ false) {b : Bool} (i : b ≡ stringKind (h .kind)) where
+    module _ (q : a ≡ false) {b : Bool} (i : b ≡ isString (h .kind)) where
       pub given-alone : {f l : List ℕ} {n : ℕ} → b ≡ true → l ≡ stringAt s (h .place) → Put d f o n (plainShown ed r l) → Put d f o n (listShown ed r false (givenAt s c))
       unfolding itemShown pick
       given-alone {f} {l} {n} z y p = subst (Put d f o n) (sym (ap (listShown ed r false) (given-string u i z) ∙ shown-string false _ _ _ ∙ rw (shown-none true, ← y) (append-none _ ∙ append-empty (plainShown ed r l)))) p

@@ -40,8 +40,9 @@ use Rattle.json.specs.Kinds.{asString, asNumber}
 use Rattle.jcal.specs.Values.{itemText, readItem, readItems}
 use Rattle.read_json.specs.TreeAt.{elementsAt}
 use Rattle.read_json.specs.Heads.{valueOfHead, HeadAt, NextAt}
+use Rattle.read_json.specs.Kinds.{kindNumber}
 use Rattle.read_json.specs.declared.Head.{Head}
-use Rattle.read_jcal_value.specs.Elements.{codeOf, stringOf, numberOf}
+use Rattle.read_jcal_value.specs.Elements.{stringOf, numberOf}
 use Rattle.read_jcal_value.specs.laws.Elements.{array-by, list-over, list-more, first-value, stands-head}
 use Rattle.read_jcal_value.specs.Items.{numbered, isNumbered, itemIn, amounts, itemsIn, partIn, partPlace}
 
@@ -159,7 +160,7 @@ pub ruleset several = (items-bad, items-good, needs)
 
 -- ---- how many
 
-module _ (l : Bool) {s : List ℕ} {at : ℕ} {h : Head} (t : HeadAt s at h) {c : ℕ} (e : c ≡ codeOf (h .kind)) where
+module _ (l : Bool) {s : List ℕ} {at : ℕ} {h : Head} (t : HeadAt s at h) {c : ℕ} (e : c ≡ kindNumber (h .kind)) where
   pub amount-none : c ≡ 0 → false ≡ amounts l (elementList (elementsAt s at))
   amount-none z = rw (list-over t e z)
 
@@ -176,15 +177,15 @@ pub ruleset amounting = (amount-none, amount-any, amount-one, needs)
 
 -- ---- with an array or without
 
-module _ (i : ℕ) {s : List ℕ} {at : ℕ} {h : Head} (t : HeadAt s at h) {c : ℕ} (e : c ≡ codeOf (h .kind)) {r : Bool} where
+module _ (i : ℕ) {s : List ℕ} {at : ℕ} {h : Head} (t : HeadAt s at h) {c : ℕ} (e : c ≡ kindNumber (h .kind)) {r : Bool} where
   pub part-array : c ≡ 4 → r ≡ itemsIn i (elementList (elementsAt s (h .next))) → r ≡ partIn i (firstOf (elementsAt s at))
   unfolding partIn readOr pick
-  part-array q g = rw (first-value t, array-by s 0 (h .place) (h .next) (h .kind), ← e, q) g
+  part-array q g = rw (first-value t, array-by s (h .place) (h .next) (h .kind), ← e, q) g
 
   pub part-alone : (c ≡ 4 → ⊥) → r ≡ itemIn i (valueOfHead s h) → r ≡ partIn i (firstOf (elementsAt s at))
   unfolding partIn readOr pick every _and_
   part-alone q g =
-      rw (first-value t, array-by s 0 (h .place) (h .next) (h .kind), ← e, ne-eqb c 4 q)
+      rw (first-value t, array-by s (h .place) (h .next) (h .kind), ← e, ne-eqb c 4 q)
       (g ∙ sym (items-is i (valueOfHead s h ∷ []) ∙ one (isListed (partOf (getD partNames i []))) (itemIn i (valueOfHead s h))))
     where
       one : (l x : Bool) → ((x and true) and pick l true true) ≡ x

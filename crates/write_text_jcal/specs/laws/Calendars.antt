@@ -23,12 +23,13 @@ use Rattle.json.specs.Kinds.{asArray, nth}
 use Rattle.jcal.specs.Components.{componentName, readProperties, readComponents, readInside, readInner, readCalendars, streamIn, isStream, calendarsIn}
 use Rattle.read_json.specs.TreeAt.{tokensAt, elementsAt}
 use Rattle.read_json.specs.Heads.{valueBy, HeadAt}
+use Rattle.read_json.specs.Kinds.{isArray}
 use Rattle.read_json.specs.declared.Head.{Head}
 use Rattle.read_json.specs.declared.HeadKind.{HeadKind}
 use Rattle.read_json.specs.declared.HeadKind.the-variants.{None, String, Number, Literal, Array, Object}
 use Rattle.edition.specs.declared.Edition.{Edition}
 use Rattle.write_text_pieces.specs.Filled.{calendarRoom, PutBy}
-use Rattle.write_text_jcal_values.specs.Elements.{listAt, isArray, without}
+use Rattle.write_text_jcal_values.specs.Elements.{listAt, without}
 use Rattle.write_text_jcal_values.specs.laws.Elements.{head-first, nth-first}
 use Rattle.write_text_jcal.specs.Calendars.{isArrayFirst, calendarOf}
 use Rattle.lengths_jcal_text.specs.Fitting.{headFits, fits}

@@ -8,6 +8,7 @@ use mathlib.Core.List.{List, []}
 use mathlib.Core.Option.{Option, none, some}
 use Prim.Native.Nat.{ℕ, zero, suc, _≤_, _<_}
 use native.Mathlib.Omega.{arith}
+use lib.ListN.{length}
 use Rattle.octets.specs.Ascii.{ascii}
 use Rattle.octets.specs.Class.{upper}
 use Rattle.octets.specs.Reading.{andThen, isRead, readOr}
@@ -20,15 +21,13 @@ use Rattle.schema.specs.Components.{componentNames}
 use Rattle.schema.specs.Properties.{propertyNames}
 use Rattle.schema.specs.Numbers.{typeAt, typeWords}
 use Rattle.schema.specs.Coded.{rowAt}
-use Rattle.schema.specs.laws.Numbers.{type-words-are}
 use Rattle.schema.specs.declared.Context.{Context}
 use Rattle.schema.specs.declared.table.Row.{Row}
-use Rattle.xcal.specs.ValueNodes.{elementType}
-use Rattle.read_xml_value.specs.laws.ElementTypes.{type-there, type-nowhere}
 use Rattle.json.specs.Tree.{Elements, elementList, firstOf}
 use Rattle.json.specs.Kinds.{asString, nth}
 use Rattle.jcal.specs.Property.{nameIn, typeOf, propertyName, valueType}
 use Rattle.jcal.specs.Values.{readValues}
+use Rattle.jcal.specs.laws.TypeNames.{word-type, no-type, word-placed}
 use Rattle.read_jcal_value.specs.Values.{areRead}
 use Rattle.read_jcal_value.specs.declared.valued.ValuesRead.{ValuesRead}
 use Rattle.read_jcal_value.specs.declared.valued.ValuesRead.the-variants.{Read, Bad}
@@ -43,18 +42,14 @@ name-is es = ap (λ (o : Option (List ℕ)). readOr [] o) (nth-first asString re
 
 -- ---- the type
 
-no-type : typeOf [] ≡ none
+nameless : typeOf [] ≡ none
 unfolding octets-compute typeNamed
-no-type = refl
+nameless = refl
 
 type-by : (o : Option (List ℕ)) → readOr TEXT (andThen o typeOf) ≡ readOr TEXT (typeOf (readOr [] o))
 unfolding andThen readOr
-type-by none = sym (ap (λ (t : Option ValueType). readOr TEXT t) no-type)
+type-by none = sym (ap (λ (t : Option ValueType). readOr TEXT t) nameless)
 type-by (some l) = refl
-
-same-type : (l : List ℕ) → elementType l ≡ typeOf l
-unfolding elementType
-same-type l = refl
 
 type-is : (es : Elements) → valueType (elementList es) ≡ readOr TEXT (typeOf (charactersIn (without 2 es)))
 type-is es = ap (λ (o : Option (List ℕ)). readOr TEXT (andThen o typeOf)) (nth-first asString refl 2 es) ∙ type-by (asString (firstOf (without 2 es)))
@@ -62,22 +57,20 @@ type-is es = ap (λ (o : Option (List ℕ)). readOr TEXT (andThen o typeOf)) (nt
 module _ (s : List ℕ) (inside at c : ℕ) (i : elementsAt s at ≡ without 2 (elementsAt s inside)) (j : rest 3 s c ≡ charactersIn (elementsAt s at)) {t : ℕ}
     (e : t ≡ placeOf (rest 3 s c) (namesIn (ascii "binary\nboolean\ncal-address\ndate\ndate-time\nduration\nfloat\ninteger\nperiod\nrecur\ntext\ntime\nuri\nutc-offset\nunknown\n"))) where
   placed : t ≡ placeOf (rest 3 s c) typeWords
-  placed = e ∙ ap (placeOf (rest 3 s c)) type-words-are
+  placed = word-placed (rest 3 s c) e
 
   stated : valueType (listAt s inside) ≡ readOr TEXT (typeOf (rest 3 s c))
   stated = type-is (elementsAt s inside) ∙ ap (λ (l : List ℕ). readOr TEXT (typeOf l)) (sym (j ∙ ap (λ (es : Elements). charactersIn es) i))
 
   pub type-word : t ≤ 14 → (typeAt t ≡ valueType (listAt s inside)) × (t ≤ 14)
   unfolding readOr
-  type-word h =
-      let l : t < 15 = omega arith in
-      (sym (stated ∙ ap (λ (o : Option ValueType). readOr TEXT o) (sym (same-type (rest 3 s c)) ∙ type-there (rest 3 s c) placed l .is)), h)
+  type-word h = (sym (stated ∙ ap (λ (o : Option ValueType). readOr TEXT o) (word-type (rest 3 s c) placed h)), h)
 
   pub type-other : 14 < t → (typeAt 10 ≡ valueType (listAt s inside)) × (10 ≤ 14)
   unfolding readOr
   type-other h =
-      let l : 15 ≤ t = omega arith in
-      (sym (stated ∙ ap (λ (o : Option ValueType). readOr TEXT o) (sym (same-type (rest 3 s c)) ∙ type-nowhere (rest 3 s c) placed l .is)), omega arith)
+      let l : length typeWords ≤ placeOf (rest 3 s c) typeWords = rw (← placed) (omega arith) in
+      (sym (stated ∙ ap (λ (o : Option ValueType). readOr TEXT o) (no-type (rest 3 s c) l)), omega arith)
 
 -- ---- the context
 

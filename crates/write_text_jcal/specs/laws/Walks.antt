@@ -45,11 +45,12 @@ use Rattle.jcal.specs.Components.{componentName as jcalName}
 use Rattle.jcal.specs.Components.{propertyArrays, readProperties, readComponents, readInside, readInner, readArray, streamIn}
 use Rattle.read_json.specs.TreeAt.{elementsAt}
 use Rattle.read_json.specs.Heads.{valueOfHead, HeadAt, NextAt}
+use Rattle.read_json.specs.Kinds.{isThere}
 use Rattle.read_json.specs.declared.Head.{Head}
 use Rattle.edition.specs.declared.Edition.{Edition}
 use Rattle.write_text_pieces.specs.Filled.{propertiesRoom, calendarRoom, PutBy}
 use Rattle.write_text_pieces.specs.laws.Room.{room-within, room-cut, folded-put}
-use Rattle.write_text_jcal_values.specs.Elements.{listAt, isThere, without, charactersIn}
+use Rattle.write_text_jcal_values.specs.Elements.{listAt, without, charactersIn}
 use Rattle.write_text_jcal_values.specs.laws.Elements.{there-is, there-behind, none-is, head-first, nth-first}
 use Rattle.write_text_jcal.specs.laws.Context.{name-is}
 use Rattle.write_text_jcal.specs.Content.{lineText}

@@ -22,11 +22,13 @@ use Rattle.jcal.specs.Components.{streamIn}
 use Rattle.read_json.specs.TreeAt.{elementsAt, membersAt, stringAt}
 use Rattle.read_json.specs.laws.TreeAt.{elements-past, members-past}
 use Rattle.read_json.specs.Pieces.{Taken}
-use Rattle.read_json.specs.Heads.{valueBy, valueOfHead, behindBy, headBy, HeadTakes, HeadAt, NextAt}
+use Rattle.read_json.specs.Heads.{valueBy, valueOfHead, behindBy, headBy, HeadAt, NextAt}
+use Rattle.read_json.specs.Kinds.{isThere, isString, isArray, isObject}
+use Rattle.read_json.specs.laws.Kinds.{string-there, first-by, there-by, none-by, taken-by}
 use Rattle.read_json.specs.declared.Head.{Head}
 use Rattle.read_json.specs.declared.HeadKind.{HeadKind}
 use Rattle.read_json.specs.declared.HeadKind.the-variants.{None, String, Number, Literal, Array, Object}
-use Rattle.write_text_jcal_values.specs.Elements.{listAt, isThere, isString, isArray, isObject, without, charactersIn, membersIn}
+use Rattle.write_text_jcal_values.specs.Elements.{listAt, without, charactersIn, membersIn}
 
 -- ---- lists
 
@@ -60,46 +62,6 @@ behind-of Number s p n c = refl
 behind-of Literal s p n c = refl
 behind-of Array s p n c = refl
 behind-of Object s p n c = refl
-
-first-of : (k : HeadKind) (s : List ℕ) (p n : ℕ) → valueBy k s p n ≡ firstOf (headBy k s p n)
-first-of None s p n = refl
-first-of String s p n = refl
-first-of Number s p n = refl
-first-of Literal s p n = refl
-first-of Array s p n = refl
-first-of Object s p n = refl
-
-there-of : (k : HeadKind) (s : List ℕ) (p n : ℕ) → isThere k ≡ true → headBy k s p n ≡ element (valueBy k s p n) (behindBy k s n)
-there-of None s p n q = absurd (false≢true q)
-there-of String s p n q = refl
-there-of Number s p n q = refl
-there-of Literal s p n q = refl
-there-of Array s p n q = refl
-there-of Object s p n q = refl
-
-none-of : (k : HeadKind) (s : List ℕ) (p n : ℕ) → isThere k ≡ false → headBy k s p n ≡ noElements
-none-of None s p n q = refl
-none-of String s p n q = absurd (false≢true (sym q))
-none-of Number s p n q = absurd (false≢true (sym q))
-none-of Literal s p n q = absurd (false≢true (sym q))
-none-of Array s p n q = absurd (false≢true (sym q))
-none-of Object s p n q = absurd (false≢true (sym q))
-
-taken-of : (k : HeadKind) (s : List ℕ) (at p n : ℕ) → isThere k ≡ true → HeadTakes k s at p n → Taken s at p n
-taken-of None s at p n q t = absurd (false≢true q)
-taken-of String s at p n q t = t
-taken-of Number s at p n q t = t
-taken-of Literal s at p n q t = t
-taken-of Array s at p n q t = t
-taken-of Object s at p n q t = t
-
-string-there : (k : HeadKind) → isString k ≡ true → isThere k ≡ true
-string-there None q = q
-string-there String q = refl
-string-there Number q = refl
-string-there Literal q = refl
-string-there Array q = refl
-string-there Object q = refl
 
 string-of : (k : HeadKind) (s : List ℕ) (p n : ℕ) → isString k ≡ true → readOr [] (asString (valueBy k s p n)) ≡ stringAt s p
 unfolding readOr
@@ -170,24 +132,24 @@ pub record Strung (s : List ℕ) (h : Head) : Type 0 where
 
 module _ {s : List ℕ} {at : ℕ} {h : Head} (t : HeadAt s at h) where
   pub head-first : valueOfHead s h ≡ firstOf (elementsAt s at)
-  head-first = first-of (h .kind) s (h .place) (h .next) ∙ ap (λ (es : Elements). firstOf es) (sym (t .is))
+  head-first = sym (first-by s (h .place) (h .next) (h .kind)) ∙ ap (λ (es : Elements). firstOf es) (sym (t .is))
 
   head-without : {r : ℕ} → NextAt s h r → (c : ℕ) → without (suc c) (elementsAt s at) ≡ without c (elementsAt s r)
   head-without n c = ap (without (suc c)) (t .is) ∙ behind-of (h .kind) s (h .place) (h .next) c ∙ ap (without c) (n .is)
 
   module _ {b : Bool} (e : b ≡ isThere (h .kind)) where
     pub none-is : b ≡ false → elementsAt s at ≡ noElements
-    none-is q = t .is ∙ none-of (h .kind) s (h .place) (h .next) (sym e ∙ q)
+    none-is q = t .is ∙ none-by s (h .place) (h .next) (h .kind) (sym e ∙ q)
 
     taken : b ≡ true → Taken s at (h .place) (h .next)
-    taken q = taken-of (h .kind) s at (h .place) (h .next) (sym e ∙ q) (t .takes)
+    taken q = taken-by s (h .place) (h .next) (h .kind) (sym e ∙ q) at (t .takes)
 
     pub there-spans : b ≡ true → Spans s h
     there-spans q = let k = taken q in record { begins = k .some; inside = t .inside }
 
     module _ {r : ℕ} (n : NextAt s h r) where
       pub there-is : b ≡ true → elementsAt s at ≡ element (valueOfHead s h) (elementsAt s r)
-      there-is q = t .is ∙ there-of (h .kind) s (h .place) (h .next) (sym e ∙ q) ∙ ap (element (valueOfHead s h)) (n .is)
+      there-is q = t .is ∙ there-by s (h .place) (h .next) (h .kind) (sym e ∙ q) ∙ ap (element (valueOfHead s h)) (n .is)
 
       pub there-list : b ≡ true → listAt s at ≡ valueOfHead s h ∷ listAt s r
       unfolding elementList
@@ -198,12 +160,12 @@ module _ {s : List ℕ} {at : ℕ} {h : Head} (t : HeadAt s at h) where
 
   -- the elements and the list, whatever stands behind
   pub there-behind : {b : Bool} → b ≡ isThere (h .kind) → b ≡ true → (es : Elements) × (elementsAt s at ≡ element (valueOfHead s h) es)
-  there-behind e q = (behindBy (h .kind) s (h .next), t .is ∙ there-of (h .kind) s (h .place) (h .next) (sym e ∙ q))
+  there-behind e q = (behindBy (h .kind) s (h .next), t .is ∙ there-by s (h .place) (h .next) (h .kind) (sym e ∙ q))
 
   pub there-of-list : {b : Bool} → b ≡ isThere (h .kind) → b ≡ true → (l : List Json) × (listAt s at ≡ valueOfHead s h ∷ l)
   unfolding elementList
   there-of-list e q =
-      (elementList (behindBy (h .kind) s (h .next)), ap elementList (t .is ∙ there-of (h .kind) s (h .place) (h .next) (sym e ∙ q)))
+      (elementList (behindBy (h .kind) s (h .next)), ap elementList (t .is ∙ there-by s (h .place) (h .next) (h .kind) (sym e ∙ q)))
 
   pub none-list : {b : Bool} → b ≡ isThere (h .kind) → b ≡ false → listAt s at ≡ []
   unfolding elementList
@@ -211,7 +173,7 @@ module _ {s : List ℕ} {at : ℕ} {h : Head} (t : HeadAt s at h) where
 
   pub head-strung : Strung s h
   head-strung = record {
-    place = λ q. let k = taken-of (h .kind) s at (h .place) (h .next) (string-there (h .kind) q) (t .takes) in omega (arith, k .some, k .inside);
+    place = λ q. let k = taken-by s (h .place) (h .next) (h .kind) (string-there (h .kind) q) at (t .takes) in omega (arith, k .some, k .inside);
     inside = t .inside;
   }
 

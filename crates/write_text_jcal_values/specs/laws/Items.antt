@@ -21,10 +21,11 @@ use Rattle.jcal.specs.Values.{itemText}
 use Rattle.jcal.specs.Values.{readItem as readItemOf}
 use Rattle.read_json.specs.TreeAt.{elementsAt, stringAt, wordAt}
 use Rattle.read_json.specs.Heads.{valueBy, valueOfHead, HeadAt}
+use Rattle.read_json.specs.Kinds.{isString, isArray}
 use Rattle.read_json.specs.declared.Head.{Head}
 use Rattle.read_json.specs.declared.HeadKind.{HeadKind}
 use Rattle.read_json.specs.declared.HeadKind.the-variants.{None, String, Number, Literal, Array, Object}
-use Rattle.write_text_jcal_values.specs.Elements.{listAt, isString, isArray}
+use Rattle.write_text_jcal_values.specs.Elements.{listAt}
 use Rattle.write_text_jcal_values.specs.laws.Elements.{head-first}
 use Rattle.write_text_jcal_values.specs.laws.Joining.{same-some, each-first, each-none}
 use Rattle.write_text_jcal_values.specs.laws.Own.{put-some, string-chars}

@@ -15,9 +15,10 @@ use Rattle.sink.specs.Sink.{Put, Todo}
 use Rattle.sink.specs.laws.Sink.{todo-all, todo-step, todo-done}
 use Rattle.json.specs.Tree.{Json}
 use Rattle.read_json.specs.Heads.{valueOfHead, HeadAt, NextAt}
+use Rattle.read_json.specs.Kinds.{isThere}
 use Rattle.read_json.specs.declared.Head.{Head}
 use Rattle.write_text_pieces.specs.laws.Joining.{following, following-first, following-none, following-more}
-use Rattle.write_text_jcal_values.specs.Elements.{listAt, isThere}
+use Rattle.write_text_jcal_values.specs.Elements.{listAt}
 use Rattle.write_text_jcal_values.specs.laws.Elements.{there-list, none-list}
 
 pub same-some : {A : Type 0} {a b : A} → some a ≡ some b → a ≡ b

@@ -37,10 +37,11 @@ use Rattle.json.specs.Tree.{Json}
 use Rattle.json.specs.Kinds.{asString, asArray}
 use Rattle.jcal.specs.Values.{readTyped, readChosen, readGeo, readStatus, readOne, readValues}
 use Rattle.read_json.specs.Heads.{valueOfHead, HeadAt}
+use Rattle.read_json.specs.Kinds.{isThere}
 use Rattle.read_json.specs.declared.Head.{Head}
 use Rattle.read_json.specs.laws.Heads.{list-none}
 use Rattle.write_text_pieces.specs.laws.Typing.{number-of}
-use Rattle.write_text_jcal_values.specs.Elements.{listAt, isThere}
+use Rattle.write_text_jcal_values.specs.Elements.{listAt}
 use Rattle.write_text_jcal_values.specs.Property.{oneAt, writtenAt, statedAs, ReadAs}
 use Rattle.write_text_jcal_values.specs.laws.Elements.{there-of-list, none-list}
 use Rattle.write_text_jcal_values.specs.laws.Joining.{same-some, each-first, each-none, each-more}

@@ -13,7 +13,7 @@ use Rattle.read_jcal.proofs.subcomponents.components_verdict.Kinds as c
 use Rattle.read_jcal.proofs.subcomponents.+component_verdict+components_verdict.Lts-components_verdict as components-verdict-lts
 use Rattle.read_jcal.proofs.component.begun.Reads as begun-reads
 use Rattle.read_jcal.proofs.component.behind.Reads as behind-reads
-use Rattle.read_jcal.proofs.kinds.is_there.Reads as is-there-reads
+use Rattle.read_json.proofs.kinds.is_there.Reads as is-there-reads
 use Rattle.read_jcal.proofs.subcomponents.method_inside.Reads as method-inside-reads
 use Rattle.read_json.proofs.element_at.Reads as element-at-reads
 use Rattle.read_json.proofs.element_next.Reads as element-next-reads

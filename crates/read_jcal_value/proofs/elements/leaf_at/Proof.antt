@@ -6,8 +6,8 @@ use Rattle.read_jcal_value.proofs.elements.leaf_at.Tie as tie
 pub leaf-at-spec : {M : Type 1} → statement M
 leaf-at-spec = tie.close (tie.spec
     (λ c κs. search leafing)  -- element-at-requires
-    (λ c κs. search leafing)  -- kind-code-requires
-    (λ c κs. search leafing)  -- leaf-code-requires
+    (λ c κs. search leafing)  -- kind-number-requires
+    (λ c κs. search leafing)  -- leaf-number-requires
     (λ c. search leafing)  -- returns
     (λ c. search leafing)  -- returns-2
     )

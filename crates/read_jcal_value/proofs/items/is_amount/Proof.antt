@@ -6,7 +6,7 @@ use Rattle.read_jcal_value.proofs.items.is_amount.Tie as tie
 pub is-amount-spec : {M : Type 1} → statement M
 is-amount-spec = tie.close (tie.spec
     (λ c κs. search amounting)  -- element-at-requires
-    (λ c κs. search amounting)  -- kind-code-requires
+    (λ c κs. search amounting)  -- kind-number-requires
     (λ c. search amounting)  -- returns
     (λ c κs. search amounting)  -- element-next-requires
     (λ c κs. search amounting)  -- is-list-part-requires

@@ -19,7 +19,7 @@ use Rattle.write_text_jcal.proofs.components.components_inside.Reads as
 use Rattle.write_text_jcal.proofs.components.put_head.Reads as put-head-reads
 use Rattle.write_text_jcal.proofs.components.put_tail.Reads as put-tail-reads
 use Rattle.write_text_jcal_values.proofs.array_at.Reads as array-at-reads
-use Rattle.write_text_jcal_values.proofs.is_there.Reads as is-there-reads
+use Rattle.read_json.proofs.kinds.is_there.Reads as is-there-reads
 use Rattle.write_text_jcal.proofs.components.+put_components.{statement}
 use Rattle.write_text_jcal.proofs.components.+put_components.Tie.{close}
 
