@@ -5,6 +5,7 @@
 --     Readable     parameters that can be read, by their numbers
 --     Comparing    names compared
 --     Collecting   names collected by their cursors
+--     Sieve        names that have come, by a bit for each
 --     Walking      the walk over a line's parameters, by numbers
 --     laws         laws of these, and what proofs need
 pub mod Cutting
@@ -13,5 +14,6 @@ pub mod Stating
 pub mod Readable
 pub mod Comparing
 pub mod Collecting
+pub mod Sieve
 pub mod Walking
 pub mod laws

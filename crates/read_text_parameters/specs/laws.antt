@@ -7,6 +7,7 @@
 --     Comparing   names compared
 --     Collecting  names collected by their cursors
 --     Before      names that stand before others
+--     Sieve       names that have come, by a bit for each
 --     Judging     one parameter, each way that code goes
 --     Walking     the walk over a line's parameters, by numbers
 --     Named       the same, of a property by its name
@@ -18,6 +19,7 @@ pub mod Readable
 pub mod Comparing
 pub mod Collecting
 pub mod Before
+pub mod Sieve
 pub mod Judging
 pub mod Walking
 pub mod Named

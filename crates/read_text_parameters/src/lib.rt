@@ -5,6 +5,7 @@ mod cut;
 mod once;
 mod read;
 mod several;
+mod sieve;
 mod stated;
 mod typed;
 mod walk;

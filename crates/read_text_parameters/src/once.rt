@@ -1,4 +1,5 @@
 // Parameters that come again. See specs/Comparing.antt and specs/Collecting.antt.
+use crate::sieve::first_sifted;
 use distinct::Kept;
 use distinct::keep;
 use octets::smaller;
@@ -133,24 +134,31 @@ fn first_compared(mode: usize, s: &[u8], e: usize) -> usize
     }
 }
 
-// The same by the names collected, where there is room for all of them.
-fn first_kept(mode: usize, s: &[u8], e: usize, from: &mut [u16], to: &mut [u16]) -> usize
+// The same by the names collected, where there is room for all of them: of a line of 65,535 bytes there is. Where there is not, it calls itself with no try left:
+// what calls itself is never laid into the frame of its caller, and the frames of a text with its folds in place are to be small.
+fn first_sorted(mode: usize, s: &[u8], e: usize, tries: usize) -> usize
     requires { ⌜ cuts mode ≡ true ⌝ }
     ensures { λ r. ⌜ r ≡ firstAgain [] (namesOf (paramsAt mode (now (s .entry)) e)) ⌝ }
 {
-    let kept = collect(mode, s, e, from, to);
-    if kept.all {
-        return distinct::first_again(mode, s, from, to, kept.n);
+    if tries == 0 {
+        return first_compared(mode, s, e);
     }
-    first_compared(mode, s, e)
+    let mut from = [0u16; 21846];
+    let mut to = [0u16; 21846];
+    let kept = collect(mode, s, e, &mut from, &mut to);
+    if kept.all {
+        return distinct::first_again(mode, s, &from, &to, kept.n);
+    }
+    first_sorted(mode, s, e, tries - 1)
 }
 
-// The same: of a line of 65,535 bytes there is room for all.
+// The same: by sorting, which takes large arrays; in a text with its folds in place, which is read where memory is scarce, by a small sieve.
 pub fn first_again(mode: usize, s: &[u8], e: usize) -> usize
     requires { ⌜ cuts mode ≡ true ⌝ }
     ensures { λ r. ⌜ r ≡ firstAgain [] (namesOf (paramsAt mode (now (s .entry)) e)) ⌝ }
 {
-    let mut from = [0u16; 21846];
-    let mut to = [0u16; 21846];
-    first_kept(mode, s, e, &mut from, &mut to)
+    if mode == 0 {
+        return first_sorted(mode, s, e, 1);
+    }
+    first_sifted(mode, s, e)
 }
