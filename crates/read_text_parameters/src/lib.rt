@@ -2,11 +2,16 @@
 // A line is cut at its end by the caller. Definitions are in crate text (specs/Parameters), laws in specs/laws/.
 mod base64;
 mod cut;
+mod heap;
+mod named;
 mod once;
+mod order;
+mod places;
 mod read;
+mod rounds;
 mod several;
-mod sieve;
 mod stated;
+mod twice;
 mod typed;
 mod walk;
 
@@ -26,4 +31,11 @@ pub enum ParametersRead {
     Good(usize),
     Faulty(usize),
     Unencoded,
+}
+
+// The name of a parameter: whether one is there, its cursor, and the cursor behind the parameter.
+pub struct NameRead {
+    pub there: bool,
+    pub name: usize,
+    pub next: usize,
 }

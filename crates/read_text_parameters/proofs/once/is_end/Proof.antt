@@ -1,0 +1,13 @@
+-- `read_text_parameters::is_end` meets its contract. Assumes nothing.
+use borrow.Author.Needs.{needs}
+use Rattle.read_text_parameters.proofs.once.is_end.Statement.{statement}
+use Rattle.read_text_parameters.proofs.once.is_end.Tie as tie
+
+pub is-end-spec : {M : Type 1} → statement M
+is-end-spec = tie.close (tie.spec
+    (λ c κs. search needs)  -- next-param-requires
+    (λ c κs. search needs)  -- stands-before-requires
+    (λ c. search needs)  -- returns
+    (λ c. search needs)  -- returns-2
+    (λ c. search needs)  -- returns-3
+    )

@@ -1,0 +1,13 @@
+-- `read_text_parameters::judge` meets its contract. Assumes nothing.
+use borrow.Author.Needs.{needs}
+use Rattle.read_text_parameters.proofs.rounds.judge.Statement.{statement}
+use Rattle.read_text_parameters.proofs.rounds.judge.Tie as tie
+
+pub judge-spec : {M : Type 1} → statement M
+judge-spec = tie.close (tie.spec
+    (λ c κs. search needs)  -- rise-requires
+    (λ c. search needs)  -- returns
+    (λ c κs. search needs)  -- found-end-requires
+    (λ c κs. search needs)  -- absent-requires
+    (λ c. search needs)  -- returns-2
+    )

@@ -1,0 +1,28 @@
+-- `read_text_parameters::rise` meets its contract. Assumes nothing.
+use borrow.Author.Needs.{needs}
+use Rattle.read_text_parameters.proofs.rounds.rise.Statement.{statement}
+use Rattle.read_text_parameters.proofs.rounds.rise.Tie as tie
+
+abbrev Inv-loop : tie.InvT-loop
+Inv-loop mode s places n i₀ i = ?
+
+abbrev μ-loop : tie.MeasureT-loop
+μ-loop mode s places n i₀ i = ?
+
+pub rise-spec : {M : Type 1} → statement M
+rise-spec = tie.close (tie.spec
+    Inv-loop
+    μ-loop
+    (λ c. search needs)  -- loop-holds
+    (λ c. search needs)  -- add-loop
+    (λ c κs. search needs)  -- place-at-requires
+    (λ c. search needs)  -- add-place-at
+    (λ c κs. search needs)  -- place-at-requires-2
+    (λ c κs. search needs)  -- compare-names-requires
+    (λ c. search needs)  -- add-i
+    (λ c. search needs)  -- loop-less
+    (λ c. search needs)  -- loop-again
+    (λ c. search needs)  -- add-result
+    (λ c. search needs)  -- returns
+    (λ c. search needs)  -- returns-2
+    )

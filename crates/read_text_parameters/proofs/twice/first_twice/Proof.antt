@@ -1,0 +1,26 @@
+-- `read_text_parameters::first_twice` meets its contract. Assumes nothing.
+use borrow.Author.Needs.{needs}
+use Rattle.read_text_parameters.proofs.twice.first_twice.Statement.{statement}
+use Rattle.read_text_parameters.proofs.twice.first_twice.Tie as tie
+
+abbrev Inv-loop : tie.InvT-loop
+Inv-loop mode s places n i₀ least₀ i least = ?
+
+abbrev μ-loop : tie.MeasureT-loop
+μ-loop mode s places n i₀ least₀ i least = ?
+
+pub first-twice-spec : {M : Type 1} → statement M
+first-twice-spec = tie.close (tie.spec
+    Inv-loop
+    μ-loop
+    (λ c. search needs)  -- loop-holds
+    (λ c. search needs)  -- add-loop
+    (λ c κs. search needs)  -- place-at-requires
+    (λ c. search needs)  -- add-place-at
+    (λ c κs. search needs)  -- place-at-requires-2
+    (λ c κs. search needs)  -- again-at-requires
+    (λ c. search needs)  -- add-i
+    (λ c. search needs)  -- loop-less
+    (λ c. search needs)  -- loop-again
+    (λ c. search needs)  -- returns
+    )
