@@ -89,23 +89,23 @@ order-spelled a b r q h k = go (eqb a 256) refl (eqb b 256) refl
     go false e true f = let i = eqb-false a 256 e in let j = eqb-true b 256 f in rw (lt-ltb a b (omega (arith, i)))
     go false e false f = refl
 
-module _ {m : ℕ} {s : List ℕ} {c d : ℕ} {x y : Step} (p : Reads m s c x) (q : Reads m s d y) {a b : ℕ} (e : a ≡ nameUnit (x .u)) (f : b ≡ nameUnit (y .u)) where
-  by-units : order (nameAt m s c) (nameAt m s d) ≡ pick (ltb a b) 1 (pick (ltb b a) 2 (pick (eqb a 256) 0 (order (nameAt m s (x .next)) (nameAt m s (y .next)))))
-  by-units = rw (e, f, name-spell p, name-spell q) (order-spelled (nameUnit (x .u)) (nameUnit (y .u)) (nameAt m s (x .next)) (nameAt m s (y .next)) (unit-small (x .u)) (unit-small (y .u)))
+module _ {m : ℕ} {s : List ℕ} {c d : ℕ} {x y : Step} (p : Reads m s c x) (q : Reads m s d y) {a b : ℕ} (e : a ≡ nameUnit (x .u)) (f : b ≡ nameUnit (y .u)) {v : ℕ} (i : v ≡ order (nameAt m s c) (nameAt m s d)) where
+  by-units : v ≡ pick (ltb a b) 1 (pick (ltb b a) 2 (pick (eqb a 256) 0 (order (nameAt m s (x .next)) (nameAt m s (y .next)))))
+  by-units = i ∙ rw (e, f, name-spell p, name-spell q) (order-spelled (nameUnit (x .u)) (nameUnit (y .u)) (nameAt m s (x .next)) (nameAt m s (y .next)) (unit-small (x .u)) (unit-small (y .u)))
 
-  pub name-less : a < b → 1 ≡ order (nameAt m s c) (nameAt m s d)
+  pub name-less : a < b → 1 ≡ v
   unfolding pick
   name-less h = sym (by-units ∙ rw (lt-ltb a b h))
 
-  pub name-more : b ≤ a → b < a → 2 ≡ order (nameAt m s c) (nameAt m s d)
+  pub name-more : b ≤ a → b < a → 2 ≡ v
   unfolding pick
   name-more l h = sym (by-units ∙ rw (le-ltb a b l, lt-ltb b a h))
 
-  pub name-end : b ≤ a → a ≤ b → a ≡ 256 → 0 ≡ order (nameAt m s c) (nameAt m s d)
+  pub name-end : b ≤ a → a ≤ b → a ≡ 256 → 0 ≡ v
   unfolding pick
   name-end l k h = sym (by-units ∙ rw (le-ltb a b l, le-ltb b a k, eq-eqb a 256 h))
 
-  pub name-on : b ≤ a → a ≤ b → (a ≡ 256 → ⊥) → order (nameAt m s c) (nameAt m s d) ≡ order (nameAt m s (x .next)) (nameAt m s (y .next))
+  pub name-on : b ≤ a → a ≤ b → (a ≡ 256 → ⊥) → v ≡ order (nameAt m s (x .next)) (nameAt m s (y .next))
   unfolding pick
   name-on l k h = by-units ∙ rw (le-ltb a b l, le-ltb b a k, ne-eqb a 256 h)
 

@@ -8,7 +8,7 @@
 use mathlib.Core.Path.{_≡_, refl, sym, ap, _∙_}
 use mathlib.Core.Bool.{Bool, true, false, false≢true}
 use mathlib.Core.List.{List, [], _∷_}
-use Prim.Native.Nat.{ℕ, zero, suc, _+_, _-_, _≤_, _<_}
+use Prim.Native.Nat.{ℕ, zero, suc, _+_, _-_, _^_, _≤_, _<_}
 use native.Mathlib.Omega.{arith}
 use lib.Dec.{eqb, ltb}
 use lib.ListN.{length, getD, take}
@@ -160,6 +160,9 @@ module _ {m : ℕ} {s P : List ℕ} {n : ℕ} where
     fits = let i = f .fits in omega (arith, i);
   }
 
+  pub found-fits : {from left k c more : ℕ} → Found m s P n from left (record { count = k; next = c; left = more }) → 0 < more → left < 2 ^ 64 → k + 1 < 2 ^ 64
+  found-fits f l h = let i = f .fits in omega (arith, i)
+
 -- ---- a name between two that rise
 
 module _ (m : ℕ) (s P : List ℕ) {p q k : ℕ} where
@@ -236,6 +239,12 @@ passed-start m s e left = record { compared = record { before = []; names = refl
 pub passed-more : {m : ℕ} {s : List ℕ} {e k c left : ℕ} {r : Round} → Passed m s e k c left → Passes m s c left r → Passed m s e (k + r .count) (r .next) (r .left)
 passed-more {m} {s} {e} {k} p q = q .is e k p
 
+pub passed-fits : {m : ℕ} {s : List ℕ} {c left : ℕ} {r : Round} (k : ℕ) → Passes m s c left r → k + left ≤ 65536 → k + r .count + r .left ≤ 65536
+passed-fits k q l = let i = q .fits in omega (arith, i)
+
+pub passed-all : {m : ℕ} {s : List ℕ} {e k c left : ℕ} → Passed m s e k c left → Comparing m s e k c
+passed-all p = p .compared
+
 -- ---- the end
 
 module _ {m : ℕ} {s : List ℕ} {e k c : ℕ} {r : ParamRead} (y : cuts m ≡ true) (a : ParamOf nextParam m s c r) where
@@ -247,3 +256,6 @@ module _ {m : ℕ} {s : List ℕ} {e k c : ℕ} {r : ParamRead} (y : cuts m ≡ 
 
   pub ends-again : {b : Bool} → r .there ≡ true → r .ok ≡ true → b ≡ isOneOf (nameCut m s (r .name) (r .end)) (take k (namesOf (paramsAt m s e))) → EndsAt m s e k c b
   ends-again h j g = record { is = λ t i. compared-again y i a h j g t }
+
+pub ends-here : {m : ℕ} {s : List ℕ} {e k c : ℕ} {t : Bool} → EndsAt m s e k c t → t ≡ true → Comparing m s e k c → k ≡ firstAgain [] (namesOf (paramsAt m s e))
+ends-here x h i = x .is h i

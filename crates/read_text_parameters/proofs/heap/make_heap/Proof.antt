@@ -1,13 +1,15 @@
 -- `read_text_parameters::make_heap` meets its contract. Assumes nothing.
+use mathlib.Core.Path.{_≡_}
+use lib.ListN.{length}
 use borrow.Author.Needs.{needs}
 use Rattle.read_text_parameters.proofs.heap.make_heap.Statement.{statement}
 use Rattle.read_text_parameters.proofs.heap.make_heap.Tie as tie
 
 abbrev Inv-loop : tie.InvT-loop
-Inv-loop mode s places₀ n i₀ places i = ?
+Inv-loop mode s places₀ n i₀ places i = length places ≡ length places₀
 
 abbrev μ-loop : tie.MeasureT-loop
-μ-loop mode s places₀ n i₀ places i = ?
+μ-loop mode s places₀ n i₀ places i = i
 
 pub make-heap-spec : {M : Type 1} → statement M
 make-heap-spec = tie.close (tie.spec

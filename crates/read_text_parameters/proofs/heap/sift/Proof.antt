@@ -1,13 +1,16 @@
 -- `read_text_parameters::sift` meets its contract. Assumes nothing.
+use mathlib.Core.Path.{_≡_}
+use Prim.Native.Nat.{_-_}
+use lib.ListN.{length}
 use borrow.Author.Needs.{needs}
 use Rattle.read_text_parameters.proofs.heap.sift.Statement.{statement}
 use Rattle.read_text_parameters.proofs.heap.sift.Tie as tie
 
 abbrev Inv-loop : tie.InvT-loop
-Inv-loop mode s places₀ start n i₀ places i = ?
+Inv-loop mode s places₀ start n i₀ places i = length places ≡ length places₀
 
 abbrev μ-loop : tie.MeasureT-loop
-μ-loop mode s places₀ start n i₀ places i = ?
+μ-loop mode s places₀ start n i₀ places i = n - i
 
 pub sift-spec : {M : Type 1} → statement M
 sift-spec = tie.close (tie.spec

@@ -1,4 +1,5 @@
 -- `read_text_parameters::first_in_rounds`, which calls itself, meets its contract. Assumes nothing.
+use Rattle.read_text_parameters.specs.laws.Rounds.{ends-here}
 use borrow.Author.Needs.{needs}
 use Prim.Native.Nat.{ℕ, _<_}
 use borrow.Fn.Kinds.{In}
@@ -13,7 +14,7 @@ use Rattle.read_text_parameters.proofs.once.+first_in_rounds.{statement
 use Rattle.read_text_parameters.proofs.once.+first_in_rounds.Tie.{close}
 
 abbrev μ-first-in-rounds : Measures 1 first-in-rounds-kinds.ps ℕ
-μ-first-in-rounds κs a = ?
+μ-first-in-rounds κs a = a .1 .1 .1 .0
 
 abbrev first-in-rounds-at : ℕ → In 1 first-in-rounds-kinds.ps
 first-in-rounds-at t =
@@ -46,7 +47,7 @@ pub +first-in-rounds-spec : {M : Type 1} → statement M
     (λ c. search needs)  -- slice-aggregate-pass-all
     (λ c κs. search needs)  -- pass-all-requires
     (λ c κs. search needs)  -- is-end-requires
-    (λ c. search needs)  -- returns-2
+    (λ c. search (ends-here, needs))  -- returns-2
     (λ c. search needs)  -- sub-first-in-rounds
     (λ c κs. search needs)  -- first-in-rounds-requires
     (λ c. search needs)  -- returns-3

@@ -1,13 +1,14 @@
 -- `read_text_parameters::find` meets its contract. Assumes nothing.
+use Prim.Native.Nat.{_-_, _≤_}
 use borrow.Author.Needs.{needs}
 use Rattle.read_text_parameters.proofs.rounds.find.Statement.{statement}
 use Rattle.read_text_parameters.proofs.rounds.find.Tie as tie
 
 abbrev Inv-loop : tie.InvT-loop
-Inv-loop mode s places n p low₀ high₀ low high = ?
+Inv-loop mode s places n p low₀ high₀ low high = (low ≤ high) × (high ≤ n)
 
 abbrev μ-loop : tie.MeasureT-loop
-μ-loop mode s places n p low₀ high₀ low high = ?
+μ-loop mode s places n p low₀ high₀ low high = high - low
 
 pub find-spec : {M : Type 1} → statement M
 find-spec = tie.close (tie.spec

@@ -1,13 +1,14 @@
 -- `read_text_parameters::first_twice` meets its contract. Assumes nothing.
+use Prim.Native.Nat.{_-_, _^_, _<_}
 use borrow.Author.Needs.{needs}
 use Rattle.read_text_parameters.proofs.twice.first_twice.Statement.{statement}
 use Rattle.read_text_parameters.proofs.twice.first_twice.Tie as tie
 
 abbrev Inv-loop : tie.InvT-loop
-Inv-loop mode s places n i₀ least₀ i least = ?
+Inv-loop mode s places n i₀ least₀ i least = i < 2 ^ 64 - 1
 
 abbrev μ-loop : tie.MeasureT-loop
-μ-loop mode s places n i₀ least₀ i least = ?
+μ-loop mode s places n i₀ least₀ i least = n - i
 
 pub first-twice-spec : {M : Type 1} → statement M
 first-twice-spec = tie.close (tie.spec
