@@ -176,7 +176,7 @@ fn first_in_rounds(mode: usize, s: &[u8], e: usize, tries: usize) -> usize
     if tries == 0 {
         return first_compared(mode, s, e);
     }
-    let mut places = [0u16; 4096];
+    let mut places = [0u16; 2048];
     let r = pass_all(mode, s, e, &mut places);
     let end = is_end(mode, s, e, r.count, r.next);
     if end {

@@ -8,7 +8,7 @@ use octets::smaller;
 ghost use Prim.Native.Nat.{_+_, _≤_, _<_};
 
 // So many names are in a round.
-const ROOM: usize = 4096;
+const ROOM: usize = 2048;
 
 // Above every place.
 const NONE: usize = 65536;

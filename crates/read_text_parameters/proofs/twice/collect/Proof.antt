@@ -7,7 +7,7 @@ use Rattle.read_text_parameters.proofs.twice.collect.Statement.{stateme
 use Rattle.read_text_parameters.proofs.twice.collect.Tie as tie
 
 abbrev Inv-loop : tie.InvT-loop
-Inv-loop mode s from most places₀ n c₀ k₀ places c k = (length places ≡ length places₀) × (k ≤ n) × (n ≤ 4096)
+Inv-loop mode s from most places₀ n c₀ k₀ places c k = (length places ≡ length places₀) × (k ≤ n) × (n ≤ 2048)
 
 abbrev μ-loop : tie.MeasureT-loop
 μ-loop mode s from most places₀ n c₀ k₀ places c k = n - k
