@@ -12,7 +12,7 @@ use Rattle.octets.specs.Runs.{runOf}
 use Rattle.source.specs.Source.{rest}
 use Rattle.read_text_line.specs.Cursor.{paramsAt}
 use Rattle.read_text_parameters.specs.Comparing.{namesOf}
-use Rattle.read_text_parameters.specs.declared.NameRead.{NameRead}
+use Rattle.read_text_parameters.specs.declared.named.NameRead.{NameRead}
 
 abbrev pub nameUnit : ℕ → ℕ
 nameUnit u = pick (isNameChar u) (upperByte u) 256

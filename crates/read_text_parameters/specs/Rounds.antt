@@ -20,7 +20,7 @@ use Rattle.distinct.specs.Again.{firstAgain}
 use Rattle.read_text_line.specs.Cursor.{paramsAt}
 use Rattle.read_text_parameters.specs.Comparing.{namesOf, Comparing}
 use Rattle.read_text_parameters.specs.Naming.{nameAt, NameAt}
-use Rattle.read_text_parameters.specs.declared.NameRead.{NameRead}
+use Rattle.read_text_parameters.specs.declared.named.NameRead.{NameRead}
 use Rattle.read_text_parameters.specs.declared.rounds.Round.{Round}
 
 -- a name of the first k from a cursor on

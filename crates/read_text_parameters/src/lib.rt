@@ -32,10 +32,3 @@ pub enum ParametersRead {
     Faulty(usize),
     Unencoded,
 }
-
-// The name of a parameter: whether one is there, its cursor, and the cursor behind the parameter.
-pub struct NameRead {
-    pub there: bool,
-    pub name: usize,
-    pub next: usize,
-}

@@ -1,7 +1,13 @@
 // A parameter's name. See specs/Naming.antt.
-use crate::NameRead;
 use read_text_line::next_param;
 ghost use Rattle.read_text_parameters.specs.Naming.{NameAt};
+
+// The name of a parameter: whether one is there, its cursor, and the cursor behind the parameter.
+pub struct NameRead {
+    pub there: bool,
+    pub name: usize,
+    pub next: usize,
+}
 
 // The name of the parameter at the cursor `c`, if there is one, and the cursor behind the parameter.
 pub fn name_at(mode: usize, s: &[u8], c: usize) -> NameRead

@@ -1,6 +1,6 @@
-// Parameters that come again, found with little room: in rounds. As many names as there is room for are sorted by their places, and every later name is looked for
-// among them, up to the first that is found. The sort needs no proof: what it left is checked. See specs/Rounds.antt.
-use crate::NameRead;
+// Parameters that come again, found with little room, in rounds: as many names as there is room for are sorted by their places, and every later name is
+// looked for among them, up to the first that is found. The sort needs no proof: what it left is checked. See specs/Rounds.antt.
+use crate::named::NameRead;
 use crate::named::name_at;
 use crate::order::compare_names;
 use crate::places::place_at;

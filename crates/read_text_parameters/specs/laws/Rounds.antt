@@ -11,7 +11,7 @@ use mathlib.Core.List.{List, [], _∷_}
 use Prim.Native.Nat.{ℕ, zero, suc, _+_, _-_, _^_, _≤_, _<_}
 use native.Mathlib.Omega.{arith}
 use lib.Dec.{eqb, ltb}
-use lib.ListN.{length, getD, take}
+use lib.ListN.{getD, take}
 use borrow.Author.Tests.{eqb-true, eqb-false, ltb-true, ltb-false}
 use Rattle.octets.specs.Pick.{pick, _or_}
 use Rattle.octets.specs.laws.Pick.{or-left, or-right, or-cases}
@@ -31,7 +31,7 @@ use Rattle.read_text_parameters.specs.Comparing.{namesOf, onto, Comparin
 use Rattle.read_text_parameters.specs.Naming.{nameAt, NameAt}
 use Rattle.read_text_parameters.specs.Rounds.{isNext, Passed, nameOf, Standing, Stands, Held, Holding, Walked, Found, Behind, Before, Apart, Absent, Passes, EndsAt}
 use Rattle.read_text_parameters.specs.laws.Collecting.{compared-over, compared-fault, compared-again}
-use Rattle.read_text_parameters.specs.declared.NameRead.{NameRead}
+use Rattle.read_text_parameters.specs.declared.named.NameRead.{NameRead}
 use Rattle.read_text_parameters.specs.declared.rounds.Round.{Round}
 
 -- ---- names that rise
