@@ -101,7 +101,7 @@ uint64_t mallettriton_to_xml(const uint8_t *input, size_t input_length,
  *
  * For machines with little memory: it stands in an archive of its own, libmallettriton_folded.a, and needs 16 kB of stack. It takes half as long again as
  * mallettriton_to_xml, long folded texts take two and a half times as long. Its time grows with the input's length; only a line with thousands of
- * parameters takes longer: the worst that was found 1.3 s, where a rota of 64 kB takes 2 ms (docs/PERFORMANCE.md).
+ * parameters takes longer: the worst that was found 74 ms, where a rota of 64 kB takes 2 ms (docs/PERFORMANCE.md).
  */
 uint64_t mallettriton_to_xml_folded(const uint8_t *input, size_t input_length,
                                     uint8_t *out, size_t out_length, uint32_t edition);
