@@ -1,6 +1,7 @@
 /* Mallettriton for C: iCalendar text (RFC 5545) to xCal (RFC 6321) or jCal (RFC 7265) and back, on buffers that the caller lends.
  *
- * Link target/staticlib/libmallettriton.a, which `rt staticlib mallettriton` writes (x86-64 Linux). The library allocates nothing,
+ * Link target/staticlib/libmallettriton.a, which `rt staticlib mallettriton` writes (x86-64 Linux); for mallettriton_to_xml_folded
+ * libmallettriton_folded.a, which `rt staticlib mallettriton_folded` writes. The library allocates nothing,
  * keeps nothing between calls and makes no system call. docs/FORMAT.md says what is accepted and what is written.
  *
  * A buffer is a pointer and a length in bytes. What is proved holds if each pointer is to that many bytes which can be read (those of
@@ -17,8 +18,9 @@
 extern "C" {
 #endif
 
-/* The version of these declarations: it grows where a call changes or is added. 2: both calls take an edition. 3: jCal. */
-#define MALLETTRITON_VERSION 3
+/* The version of these declarations: it grows where a call changes or is added. 2: both calls take an edition. 3: jCal. 4: to XML
+ * with no work room. */
+#define MALLETTRITON_VERSION 4
 
 /* Editions of iCalendar text: RFC 5545 alone; with the carets of RFC 6868 in values of parameters. */
 #define MALLETTRITON_RFC_5545 0u
@@ -93,8 +95,19 @@ uint64_t mallettriton_to_xml(const uint8_t *input, size_t input_length,
                              uint8_t *work, size_t work_length,
                              uint8_t *out, size_t out_length, uint32_t edition);
 
-/* Converts the iCalendar text `input` to canonical jCal in `out`. Lent are the same buffers, the answers are the same but for the result, and the
- * call takes as much stack.
+/* Converts the iCalendar text `input` to canonical XML in `out`, with no work room: the text is read with its folds in place, and nothing of it is
+ * copied but into the output. The answers are those of mallettriton_to_xml with a work room that is long enough, places included, and so never WORK;
+ * the output is left as there.
+ *
+ * For machines with little memory: it stands in an archive of its own, libmallettriton_folded.a, and needs 16 kB of stack. It takes half as long again as
+ * mallettriton_to_xml, long folded texts take two and a half times as long. Its time grows with the input's length; only a line with thousands of
+ * parameters takes longer: the worst that was found 74 ms, where a rota of 64 kB takes 2 ms (docs/PERFORMANCE.md).
+ */
+uint64_t mallettriton_to_xml_folded(const uint8_t *input, size_t input_length,
+                                    uint8_t *out, size_t out_length, uint32_t edition);
+
+/* Converts the iCalendar text `input` to canonical jCal in `out`. Lent are the buffers of mallettriton_to_xml, the answers are the same but for the
+ * result, and the call takes as much stack.
  */
 uint64_t mallettriton_to_jcal(const uint8_t *input, size_t input_length,
                               uint8_t *work, size_t work_length,

@@ -3,7 +3,7 @@
 
     tools/pack-cases.py FILE.. > crates/cases/stdin
 
-A FILE has a case a line, or is a JSON list of cases: {"call": "to_xml", "to_text", "to_jcal" or "jcal_to_text", "in": [INPUT], "answer": ["ok", {"b64": RESULT}] or ["refused", N, P]},
+A FILE has a case a line, or is a JSON list of cases: {"call": "to_xml", "to_xml_folded", "to_text", "to_jcal" or "jcal_to_text", "in": [INPUT], "answer": ["ok", {"b64": RESULT}] or ["refused", N, P]},
 INPUT and RESULT in base64; or, as for the base, {"way": "to-xml" or "to-text", "in": INPUT, "answer": ["ok", RESULT] or ["refused", N, P]}; "edition" is 0 where it is not given. Added are, of each call, an empty input and inputs as long as the limit and one byte longer; and to text, documents
 with 32 and with 33 open elements, and jCal with as many open arrays. The form of what is written stands in the program's main.rt.
 """
@@ -12,7 +12,7 @@ import json
 import sys
 
 LIMIT = 65535
-CALLS = {"to_xml": 1, "to_text": 2, "to_jcal": 3, "jcal_to_text": 4}
+CALLS = {"to_xml": 1, "to_xml_folded": 1, "to_text": 2, "to_jcal": 3, "jcal_to_text": 4}  # both ways to XML run every case to XML
 ROOT = b'<icalendar xmlns="urn:ietf:params:xml:ns:icalendar-2.0">'
 TEXT = (b"BEGIN:VCALENDAR\r\nPRODID:%s\r\nVERSION:2.0\r\n", b"END:VCALENDAR\r\n")
 XML = (

@@ -1,9 +1,9 @@
-//! Finds libmallettriton.a, in the directory that MALLETTRITON_LIB_DIR names or in the repository's target/staticlib.
+//! Finds libmallettriton.a and libmallettriton_folded.a, in the directory that MALLETTRITON_LIB_DIR names or in the repository's target/staticlib.
 use std::env;
 use std::path::PathBuf;
 use std::process::exit;
 
-const ARCHIVE: &str = "libmallettriton.a";
+const LIBRARIES: [&str; 2] = ["mallettriton", "mallettriton_folded"];
 
 fn main() {
     println!("cargo:rerun-if-env-changed=MALLETTRITON_LIB_DIR");
@@ -11,17 +11,19 @@ fn main() {
         Some(named) => PathBuf::from(named),
         None => PathBuf::from(env::var_os("CARGO_MANIFEST_DIR").expect("cargo sets CARGO_MANIFEST_DIR")).join("../../target/staticlib"),
     };
-    let archive = directory.join(ARCHIVE);
-    println!("cargo:rerun-if-changed={}", archive.display());
-    if !archive.is_file() {
-        eprintln!("{} is not there.", archive.display());
-        eprintln!("In the root of the Mallettriton repository run");
-        eprintln!();
-        eprintln!("    rt staticlib mallettriton");
-        eprintln!();
-        eprintln!("which proves the library and writes target/staticlib/{ARCHIVE}; or let MALLETTRITON_LIB_DIR name the directory that has it.");
-        exit(1);
-    }
     println!("cargo:rustc-link-search=native={}", directory.display());
-    println!("cargo:rustc-link-lib=static=mallettriton");
+    for library in LIBRARIES {
+        let archive = directory.join(format!("lib{library}.a"));
+        println!("cargo:rerun-if-changed={}", archive.display());
+        if !archive.is_file() {
+            eprintln!("{} is not there.", archive.display());
+            eprintln!("In the root of the Mallettriton repository run");
+            eprintln!();
+            eprintln!("    rt staticlib {library}");
+            eprintln!();
+            eprintln!("which proves the library and writes target/staticlib/lib{library}.a; or let MALLETTRITON_LIB_DIR name the directory that has it.");
+            exit(1);
+        }
+        println!("cargo:rustc-link-lib=static={library}");
+    }
 }

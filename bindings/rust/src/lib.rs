@@ -17,7 +17,8 @@
 //! ```
 //!
 //! [`to_xml`], [`to_jcal`], [`to_text`] and [`jcal_to_text`] take a slice and give a `Vec`. [`to_xml_into`], [`to_jcal_into`], [`to_text_into`] and [`jcal_to_text_into`] work on
-//! buffers that the caller lends, allocate nothing, and tell the exact length that an output which is too short would need. `docs/FORMAT.md` of the repository says what is accepted and what is written.
+//! buffers that the caller lends, allocate nothing, and tell the exact length that an output which is too short would need. [`to_xml_folded`] and [`to_xml_folded_into`] answer what `to_xml`
+//! does, with no work room: they are slower, and need little stack. `docs/FORMAT.md` of the repository says what is accepted and what is written.
 //!
 //! # What is proved, and what is not
 //!
@@ -31,7 +32,7 @@
 //!
 //! # Stack and threads
 //!
-//! Allow [`to_text`] 1,200 kB of stack and [`jcal_to_text`] 400, most of that a room for one line, and the calls from text, to XML and to jCal, 250 kB, for names that are compared. A main thread and the threads of `std::thread`
+//! Allow [`to_text`] 1,200 kB of stack and [`jcal_to_text`] 400, most of that a room for one line, and the calls from text, to XML and to jCal, 250 kB, for names that are compared; [`to_xml_folded`] needs 16 kB. A main thread and the threads of `std::thread`
 //! (2 MB) have that. In a thread of a smaller stack the call overflows it, which under `std::thread` ends the process.
 //!
 //! The library keeps nothing between calls: any number of threads may call it at once.
@@ -164,6 +165,7 @@ pub enum Answer<'a> {
 
 extern "C" {
     fn mallettriton_to_xml(input: *const u8, input_length: usize, work: *mut u8, work_length: usize, out: *mut u8, out_length: usize, edition: u32) -> u64;
+    fn mallettriton_to_xml_folded(input: *const u8, input_length: usize, out: *mut u8, out_length: usize, edition: u32) -> u64;
     fn mallettriton_to_jcal(input: *const u8, input_length: usize, work: *mut u8, work_length: usize, out: *mut u8, out_length: usize, edition: u32) -> u64;
     fn mallettriton_to_text(input: *const u8, input_length: usize, out: *mut u8, out_length: usize, edition: u32) -> u64;
     fn mallettriton_jcal_to_text(input: *const u8, input_length: usize, out: *mut u8, out_length: usize, edition: u32) -> u64;
@@ -215,6 +217,21 @@ pub fn to_xml_into<'a>(input: &[u8], work: &mut [u8], out: &'a mut [u8], edition
     answer(code, out)
 }
 
+/// Converts the iCalendar text `input` to canonical XML, at the start of `out`, as [`to_xml_into`] does with a work room that is long enough; but none is lent, since the text is read with its
+/// folds in place. It never answers [`Number::Work`]. It is slower, and needs 16 kB of stack.
+///
+/// ```
+/// use mallettriton::{to_xml_folded_into, Answer, Edition};
+/// # let text = b"BEGIN:VCALENDAR\r\nPRODID:-//A//B//EN\r\nVERSION:2.0\r\nBEGIN:VTODO\r\nUID:1\r\nDTSTAMP:20240501T060000Z\r\nEND:VTODO\r\nEND:VCALENDAR\r\n";
+/// let mut out = [0; 1000];
+/// assert!(matches!(to_xml_folded_into(text, &mut out, Edition::Rfc5545), Answer::Written(_)));
+/// ```
+pub fn to_xml_folded_into<'a>(input: &[u8], out: &'a mut [u8], edition: Edition) -> Answer<'a> {
+    // SAFETY: as above.
+    let code = unsafe { mallettriton_to_xml_folded(input.as_ptr(), input.len(), out.as_mut_ptr(), out.len(), edition as u32) };
+    answer(code, out)
+}
+
 /// Converts the iCalendar text `input` to canonical jCal, at the start of `out`. Its buffers are those of [`to_xml_into`].
 pub fn to_jcal_into<'a>(input: &[u8], work: &mut [u8], out: &'a mut [u8], edition: Edition) -> Answer<'a> {
     // SAFETY: as above.
@@ -262,6 +279,14 @@ pub fn to_xml(input: &[u8], edition: Edition) -> Result<Vec<u8>, Refusal> {
     // too long an input is refused before either is used
     let length = if input.len() <= LONGEST { input.len() } else { 0 };
     in_a_vec(longest_xml(length), |out| to_xml_into(input, &mut vec![0; length], out, edition))
+}
+
+/// Converts the iCalendar text `input` to canonical XML, as [`to_xml`] does, with no work room.
+///
+/// It allocates an output of [`longest_xml`] bytes, and gives back what the result does not fill. To use a buffer over and over, call [`to_xml_folded_into`].
+pub fn to_xml_folded(input: &[u8], edition: Edition) -> Result<Vec<u8>, Refusal> {
+    let length = if input.len() <= LONGEST { input.len() } else { 0 };
+    in_a_vec(longest_xml(length), |out| to_xml_folded_into(input, out, edition))
 }
 
 /// Converts the iCalendar text `input` to canonical jCal.

@@ -3,7 +3,7 @@ mod common;
 
 use common::inputs::{calendar, damaged, unfolded_text, with_folds, Random, TEXT_TOKENS};
 use common::readings::{assert_canonical, bad_character, kept_of, reading, unfolded};
-use common::{ample, in_every_room, to_xml_in, Told, FILL};
+use common::{ample, in_every_room, to_xml_folded_in, to_xml_in, Told, FILL};
 use mallettriton::{to_xml, Edition, Number, Refusal, LONGEST};
 
 const SAMPLE: &[u8] = include_bytes!("../../../samples/rota.ics");
@@ -25,6 +25,8 @@ fn checked(input: &[u8]) -> Told {
     }
 
     in_every_room(&told, |length| to_xml_in(input, input.len(), length).0);
+    assert_eq!(to_xml_folded_in(input, ample(input)), told, "the same with the folds in place");
+    in_every_room(&told, |length| to_xml_folded_in(input, length));
     if !input.is_empty() {
         let (short, work) = to_xml_in(input, input.len() - 1, 1000);
         assert_eq!(short, Told::Refused(2, 0));

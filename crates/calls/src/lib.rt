@@ -4,6 +4,7 @@ mod told;
 
 use refusals::Refusal;
 pub use refusing::refused;
+pub use told::joined;
 pub use told::number_of;
 pub use told::value_of;
 

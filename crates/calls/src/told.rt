@@ -2,6 +2,7 @@
 use crate::Answer;
 use refusals::Refusal;
 ghost use mathlib.Core.Path.{_≡_};
+ghost use Prim.Native.Nat.{_+_, _*_, _<_};
 ghost use Rattle.calendar.specs.Refusal.{numberOf};
 ghost use Rattle.calls.specs.Conversion.{numbers};
 ghost use Rattle.calls.specs.Answered.{outcomeOf, refusalOf};
@@ -38,4 +39,12 @@ pub fn value_of(a: Answer) -> usize
         Answer::Needs(n) => n,
         Answer::Refused(_, p) => p,
     }
+}
+
+// Both as one number, for C.
+pub fn joined(n: u64, v: usize) -> u64
+    requires { ⌜ (n < 256) × (v < 4294967296) ⌝ }
+    ensures { λ r. ⌜ r ≡ n * 4294967296 + v ⌝ }
+{
+    n * 4294967296 + (v as u64)
 }

@@ -7,6 +7,7 @@ use crate::packed::Case;
 use crate::packed::JCAL_TO_TEXT;
 use crate::packed::TO_JCAL;
 use crate::packed::TO_XML;
+use crate::packed::TO_XML_FOLDED;
 use crate::packed::is_from_text;
 use calls::Answer;
 use calls::number_of;
@@ -15,11 +16,13 @@ use mallettriton::mallettriton_jcal_to_text;
 use mallettriton::mallettriton_to_jcal;
 use mallettriton::mallettriton_to_text;
 use mallettriton::mallettriton_to_xml;
+use mallettriton_folded::mallettriton_to_xml_folded;
 use std::num::wrapping_add_usize;
 use std::num::wrapping_sub_usize;
 use text_from_jcal::jcal_to_text;
 use text_to_jcal::to_jcal;
 use text_to_xml::to_xml;
+use text_to_xml::to_xml_folded;
 use xml_to_text::to_text;
 
 const WORK: u8 = 165;
@@ -163,6 +166,9 @@ fn answer(way: u8, edition: u32, input: &[u8], work: &mut [u8], out: &mut [u8]) 
     if way == TO_XML {
         return to_xml(input, work, out, edition);
     }
+    if way == TO_XML_FOLDED {
+        return to_xml_folded(input, out, edition);
+    }
     if way == TO_JCAL {
         return to_jcal(input, work, out, edition);
     }
@@ -176,6 +182,9 @@ fn answer(way: u8, edition: u32, input: &[u8], work: &mut [u8], out: &mut [u8]) 
 fn answer_for_c(way: u8, edition: u32, input: &[u8], work: &mut [u8], out: &mut [u8]) -> u64 {
     if way == TO_XML {
         return mallettriton_to_xml(input, work, out, edition);
+    }
+    if way == TO_XML_FOLDED {
+        return mallettriton_to_xml_folded(input, out, edition);
     }
     if way == TO_JCAL {
         return mallettriton_to_jcal(input, work, out, edition);
@@ -307,9 +316,30 @@ fn with_works(c: Case, input: &[u8], result: &[u8], work: &mut [u8], out: &mut [
     true
 }
 
+// The same case with the folds in place.
+fn folded(c: Case) -> Case {
+    Case {
+        way: TO_XML_FOLDED,
+        edition: c.edition,
+        number: c.number,
+        value: c.value,
+        input: c.input,
+        output: c.output,
+    }
+}
+
+// To XML: the same with the folds in place, and the work room, which is not lent, is as it was.
+fn with_folds(c: Case, input: &[u8], result: &[u8], work: &mut [u8], out: &mut [u8]) -> bool {
+    if c.way == TO_XML {
+        return with_outputs(folded(c), input, result, work, out);
+    }
+    true
+}
+
 // All of these. `work` is 8 bytes longer than the input and `out` 72 bytes longer than the result.
 pub fn agrees(c: Case, input: &[u8], result: &[u8], work: &mut [u8], out: &mut [u8]) -> bool {
     let outputs = with_outputs(c, input, result, work, out);
     let works = with_works(c, input, result, work, out);
-    outputs & works
+    let folds = with_folds(c, input, result, work, out);
+    outputs & works & folds
 }

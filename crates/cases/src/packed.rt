@@ -13,6 +13,9 @@ pub const TO_JCAL: u8 = 3;
 
 pub const JCAL_TO_TEXT: u8 = 4;
 
+// Text to XML with the folds in place: no case says so, each that goes to XML is run so too.
+pub const TO_XML_FOLDED: u8 = 5;
+
 // What a case says: its way, the edition, the answer with room enough, how long the input and the result are. After the last case the way is
 // none of these.
 pub struct Case {

@@ -1,5 +1,6 @@
 // The conversions for C: slices are a pointer and a length, and the answer is one number. See include/mallettriton.h.
 // The library for Rattle is in crates text_to_xml (`to_xml`), xml_to_text (`to_text`), text_to_jcal (`to_jcal`), text_from_jcal (`jcal_to_text`) and calls (`Answer`, `number_of`, `value_of`).
+use calls::joined;
 use calls::number_of;
 use calls::value_of;
 use text_from_jcal::jcal_to_text;
@@ -7,20 +8,11 @@ use text_to_jcal::to_jcal;
 use text_to_xml::to_xml;
 use xml_to_text::to_text;
 ghost use mathlib.Core.Path.{_≡_};
-ghost use Prim.Native.Nat.{_+_, _*_, _<_};
 ghost use Rattle.calls.specs.ToXml.{toXmlOutcome, toXmlOutput, toXmlWork};
 ghost use Rattle.calls.specs.ToText.{toTextOutcome, toTextOutput};
 ghost use Rattle.calls.specs.Answered.{codeOf};
 ghost use Rattle.calls_jcal.specs.ToJcal.{toJcalOutcome, toJcalOutput, toJcalWork};
 ghost use Rattle.calls_jcal.specs.JcalToText.{jcalToTextOutcome, jcalToTextOutput};
-
-// A number and a value as one number.
-fn joined(n: u64, v: usize) -> u64
-    requires { ⌜ (n < 256) × (v < 4294967296) ⌝ }
-    ensures { λ r. ⌜ r ≡ n * 4294967296 + v ⌝ }
-{
-    n * 4294967296 + (v as u64)
-}
 
 // `to_xml` for C: the answer's number times 2 ^ 32, and its value.
 #[no_mangle]

@@ -5,6 +5,8 @@
 --     Readable     parameters that can be read, by their numbers
 --     Comparing    names compared
 --     Collecting   names collected by their cursors
+--     Naming       the name that stands from a cursor on
+--     Rounds       names in rounds
 --     Walking      the walk over a line's parameters, by numbers
 --     laws         laws of these, and what proofs need
 pub mod Cutting
@@ -13,5 +15,7 @@ pub mod Stating
 pub mod Readable
 pub mod Comparing
 pub mod Collecting
+pub mod Naming
+pub mod Rounds
 pub mod Walking
 pub mod laws

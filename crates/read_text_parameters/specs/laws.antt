@@ -7,6 +7,8 @@
 --     Comparing   names compared
 --     Collecting  names collected by their cursors
 --     Before      names that stand before others
+--     Naming      the name that stands from a cursor on
+--     Rounds      names in rounds
 --     Judging     one parameter, each way that code goes
 --     Walking     the walk over a line's parameters, by numbers
 --     Named       the same, of a property by its name
@@ -18,6 +20,8 @@ pub mod Readable
 pub mod Comparing
 pub mod Collecting
 pub mod Before
+pub mod Naming
+pub mod Rounds
 pub mod Judging
 pub mod Walking
 pub mod Named

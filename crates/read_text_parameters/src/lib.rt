@@ -2,10 +2,16 @@
 // A line is cut at its end by the caller. Definitions are in crate text (specs/Parameters), laws in specs/laws/.
 mod base64;
 mod cut;
+mod heap;
+mod named;
 mod once;
+mod order;
+mod places;
 mod read;
+mod rounds;
 mod several;
 mod stated;
+mod twice;
 mod typed;
 mod walk;
 

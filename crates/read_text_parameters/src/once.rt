@@ -1,4 +1,5 @@
 // Parameters that come again. See specs/Comparing.antt and specs/Collecting.antt.
+use crate::rounds::pass_all;
 use distinct::Kept;
 use distinct::keep;
 use octets::smaller;
@@ -18,6 +19,7 @@ ghost use Rattle.read_text_line.specs.Cursor.{paramsAt};
 ghost use Rattle.read_text_parameters.specs.Cutting.{nameCut};
 ghost use Rattle.read_text_parameters.specs.Comparing.{namesOf};
 ghost use Rattle.read_text_parameters.specs.Collecting.{Collected};
+ghost use Rattle.read_text_parameters.specs.Rounds.{EndsAt};
 
 // The words from two cursors on are the same, in any case.
 fn are_same(mode: usize, s: &[u8], a: usize, t: &[u8], b: usize) -> bool
@@ -133,24 +135,63 @@ fn first_compared(mode: usize, s: &[u8], e: usize) -> usize
     }
 }
 
-// The same by the names collected, where there is room for all of them.
-fn first_kept(mode: usize, s: &[u8], e: usize, from: &mut [u16], to: &mut [u16]) -> usize
+// The same by the names collected, where there is room for all of them: of a line of 65,535 bytes there is. Where there is not, it calls itself with no try left:
+// what calls itself is never laid into the frame of its caller, and the frames of a text with its folds in place are to be small.
+fn first_sorted(mode: usize, s: &[u8], e: usize, tries: usize) -> usize
     requires { ⌜ cuts mode ≡ true ⌝ }
     ensures { λ r. ⌜ r ≡ firstAgain [] (namesOf (paramsAt mode (now (s .entry)) e)) ⌝ }
 {
-    let kept = collect(mode, s, e, from, to);
-    if kept.all {
-        return distinct::first_again(mode, s, from, to, kept.n);
+    if tries == 0 {
+        return first_compared(mode, s, e);
     }
-    first_compared(mode, s, e)
+    let mut from = [0u16; 21846];
+    let mut to = [0u16; 21846];
+    let kept = collect(mode, s, e, &mut from, &mut to);
+    if kept.all {
+        return distinct::first_again(mode, s, &from, &to, kept.n);
+    }
+    first_sorted(mode, s, e, tries - 1)
 }
 
-// The same: of a line of 65,535 bytes there is room for all.
+// No parameter is there at the cursor `c`, behind the first `k` from `e` on; or one that has the name of one of those.
+fn is_end(mode: usize, s: &[u8], e: usize, k: usize, c: usize) -> bool
+    requires { ⌜ cuts mode ≡ true ⌝ }
+    ensures { λ r. ⌜ EndsAt mode (now (s .entry)) e k c r ⌝ }
+{
+    let a = next_param(mode, s, c);
+    if a.there {
+        if a.ok {
+            return stands_before(mode, s, e, k, a.name, a.end);
+        }
+        return true;
+    }
+    true
+}
+
+// The same in rounds, with little room. That those end where none is there or one comes again is checked; else it calls itself with no try left.
+fn first_in_rounds(mode: usize, s: &[u8], e: usize, tries: usize) -> usize
+    requires { ⌜ cuts mode ≡ true ⌝ }
+    ensures { λ r. ⌜ r ≡ firstAgain [] (namesOf (paramsAt mode (now (s .entry)) e)) ⌝ }
+{
+    if tries == 0 {
+        return first_compared(mode, s, e);
+    }
+    let mut places = [0u16; 2048];
+    let r = pass_all(mode, s, e, &mut places);
+    let end = is_end(mode, s, e, r.count, r.next);
+    if end {
+        return r.count;
+    }
+    first_in_rounds(mode, s, e, tries - 1)
+}
+
+// The same: by sorting, which takes large arrays; in a text with its folds in place, which is read where memory is scarce, in rounds.
 pub fn first_again(mode: usize, s: &[u8], e: usize) -> usize
     requires { ⌜ cuts mode ≡ true ⌝ }
     ensures { λ r. ⌜ r ≡ firstAgain [] (namesOf (paramsAt mode (now (s .entry)) e)) ⌝ }
 {
-    let mut from = [0u16; 21846];
-    let mut to = [0u16; 21846];
-    first_kept(mode, s, e, &mut from, &mut to)
+    if mode == 0 {
+        return first_sorted(mode, s, e, 1);
+    }
+    first_in_rounds(mode, s, e, 1)
 }

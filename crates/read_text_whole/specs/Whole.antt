@@ -2,7 +2,8 @@
 --     wholeVerdict    LENGTH, WORK and EDITION in this order, then the verdict on the text in the edition
 --     Refuses         the answer tells of the refusal that a verdict gives
 --     Judges          the contract of the check of kept bytes
---     Reads           the contract of reading a text as it is lent
+--     Reads           the contract of reading a text as it is lent, unfolded into a work room
+--     ReadsFolded     the contract of reading it with its folds in place
 use mathlib.Core.Path.{_≡_}
 use mathlib.Core.List.{List}
 use mathlib.Core.Option.{Option, none, some}
@@ -31,10 +32,10 @@ pub record Refuses (v : Verdict) (a : Answer) : Type 0 where
   pub is : v ≡ refuse because place
   pub told : outcomeOf a ≡ refusal because place
 
--- the kept bytes u of s, in an edition; v has places among the kept bytes
-abbrev pub Judges : Edition → List ℕ → List ℕ → Verdict → Whole → Type 0
-Judges ed s u v (Kept e n) = (v ≡ fine) × (e ≡ ed) × (n ≡ length u)
-Judges ed s u v (Refused a) = Refuses (placed s v) a
+-- the text s in an edition; v has places among its kept bytes, which are read from size bytes
+abbrev pub Judges : Edition → List ℕ → ℕ → Verdict → Whole → Type 0
+Judges ed s size v (Kept e n) = (v ≡ fine) × (e ≡ ed) × (n ≡ size)
+Judges ed s size v (Refused a) = Refuses (placed s v) a
 
 -- the text s is fine, and the n bytes of it that are kept stand at the front of the work room w′, which was w
 pub record Keeps (s w w′ : List ℕ) (edition : ℕ) (ed : Edition) (n : ℕ) : Type 0 where
@@ -47,3 +48,14 @@ pub record Keeps (s w w′ : List ℕ) (edition : ℕ) (ed : Edition) (n : ℕ) 
 abbrev pub Reads : List ℕ → List ℕ → List ℕ → ℕ → Whole → Type 0
 Reads s w w′ edition (Kept ed n) = Keeps s w w′ edition ed n
 Reads s w w′ edition (Refused a) = Refuses (wholeVerdict (editionOf edition) s (length w)) a
+
+-- the text s is fine
+pub record KeepsFolded (s : List ℕ) (edition : ℕ) (ed : Edition) : Type 0 where
+  pub named : some ed ≡ editionOf edition
+  pub good : textVerdict ed s (length s) ≡ fine
+  pub short : length s ≤ limit
+
+-- where no work room is lent, WORK is never given
+abbrev pub ReadsFolded : List ℕ → ℕ → Whole → Type 0
+ReadsFolded s edition (Kept ed n) = KeepsFolded s edition ed
+ReadsFolded s edition (Refused a) = Refuses (wholeVerdict (editionOf edition) s (length s)) a

@@ -1,5 +1,6 @@
 -- The check as an automaton, a byte at a time, and that it finds what `firstBad` says.
 --     foundOf     what is answered
+--     start       where the check begins
 --     step        one byte more, at an index;   verdict: what is answered once there is none
 use mathlib.Core.Bool.{Bool, true, false}
 use mathlib.Core.Option.{Option, none, some}
@@ -18,6 +19,9 @@ foundOf Nothing = none
 -- n bytes are still to come, the next within lo and hi, in the sequence that began at index p
 abbrev pub reading : ℕ → ℕ → ℕ → Bool → Bool → ℕ → Reading
 reading n lo hi last ok p = record { need = n; low = lo; high = hi; last = last; ok = ok; start = p }
+
+abbrev pub start : Reading
+start = reading 0 0 0 false true 0
 
 abbrev pub lead : ℕ → ℕ → Reading
 lead i b = reading (more b) (low b) (high b) (eqb b 0xEF) (leb (more b) 3) i

@@ -8,7 +8,7 @@ pub use spell::spelled_length;
 ghost use mathlib.Core.Path.{_≡_};
 ghost use Rattle.octets.specs.Pick.{within};
 ghost use Rattle.utf8.specs.Utf8.{isAscii, more, low, high, highAfter, firstBad};
-ghost use Rattle.utf8.specs.Automaton.{lead, tail, step, verdict, foundOf};
+ghost use Rattle.utf8.specs.Automaton.{start, lead, tail, step, verdict, foundOf};
 
 // Where a sequence begins that is no character, if there is one.
 pub enum Found {
@@ -137,7 +137,8 @@ fn go_on(n: u8, last: bool, b: u8, start: usize) -> Reading
     }
 }
 
-fn read(st: Reading, i: usize, b: u8) -> Reading
+// One byte more, at the index `i`.
+pub fn read(st: Reading, i: usize, b: u8) -> Reading
     ensures { λ r. ⌜ r ≡ step st i b ⌝ }
 {
     if st.ok {
@@ -159,7 +160,8 @@ fn read(st: Reading, i: usize, b: u8) -> Reading
     st
 }
 
-fn end(st: Reading) -> Found
+// What is found once there is no byte more.
+pub fn end(st: Reading) -> Found
     ensures { λ r. ⌜ r ≡ verdict st ⌝ }
 {
     if st.ok {
@@ -171,18 +173,25 @@ fn end(st: Reading) -> Found
     Found::At(st.start)
 }
 
-// The index of the first byte of the first sequence that is no character that an input may hold.
-pub fn first_bad(s: &[u8]) -> Found
-    ensures { λ r. ⌜ foundOf r ≡ firstBad (now (s .entry)) ⌝ }
+// Where a check begins.
+pub fn at_start() -> Reading
+    ensures { λ r. ⌜ r ≡ start ⌝ }
 {
-    let mut st = Reading {
+    Reading {
         need: 0,
         low: 0,
         high: 0,
         last: false,
         ok: true,
         start: 0,
-    };
+    }
+}
+
+// The index of the first byte of the first sequence that is no character that an input may hold.
+pub fn first_bad(s: &[u8]) -> Found
+    ensures { λ r. ⌜ foundOf r ≡ firstBad (now (s .entry)) ⌝ }
+{
+    let mut st = at_start();
     let mut i = 0;
     while i < s.len() {
         st = read(st, i, s[i]);

@@ -1,7 +1,7 @@
 //! How fast the conversions are, and how their time grows with the input.
 //!
 //!     cargo run --release --offline --bin bench [PART OF A NAME]
-//!     valgrind --tool=callgrind --toggle-collect=mallettriton_to_xml target/release/bench --once to-xml "PART OF A NAME" 65535    (or to-jcal, to-text, jcal-to-text)
+//!     valgrind --tool=callgrind --toggle-collect=mallettriton_to_xml target/release/bench --once to-xml "PART OF A NAME" 65535    (or to-xml-folded, to-jcal, to-text, jcal-to-text)
 //!
 //! The buffers are made once and not cleared between calls; every call is on the same input, with room enough. A time is processor time, the shortest of many runs, each of as many calls as
 //! take some milliseconds, and what is compared takes turns, so that other work on the machine counts little. Growth is how much longer a call takes on 64 kB than on 8 kB: 8 is linear.
@@ -9,7 +9,7 @@
 mod inputs;
 
 use inputs::Kind;
-use mallettriton::{jcal_to_text, jcal_to_text_into, to_jcal_into, to_text, to_text_into, to_xml_into, Answer, Edition, LONGEST};
+use mallettriton::{jcal_to_text, jcal_to_text_into, to_jcal_into, to_text, to_text_into, to_xml_folded_into, to_xml_into, Answer, Edition, LONGEST};
 use std::cell::RefCell;
 use std::hint::black_box;
 
@@ -61,6 +61,10 @@ struct Rooms {
 impl Rooms {
     fn xml_of(&mut self, input: &[u8]) -> Answer<'_> {
         to_xml_into(input, &mut self.work, &mut self.out, Edition::Rfc5545)
+    }
+
+    fn xml_folded_of(&mut self, input: &[u8]) -> Answer<'_> {
+        to_xml_folded_into(input, &mut self.out, Edition::Rfc5545)
     }
 
     fn jcal_of(&mut self, input: &[u8]) -> Answer<'_> {
@@ -176,6 +180,7 @@ fn once(way: &str, only: &str, length: usize, rooms: &mut Rooms) {
     let chosen = |kind: &&Kind| kind.name.contains(only);
     let texts: Option<Call> = match way {
         "to-xml" => Some(Rooms::xml_of),
+        "to-xml-folded" => Some(Rooms::xml_folded_of),
         "to-jcal" => Some(Rooms::jcal_of),
         _ => None,
     };
@@ -211,6 +216,10 @@ fn main() {
     head("text to XML");
     for kind in inputs::ROTAS.iter().chain(&inputs::WORST_TEXTS).filter(chosen) {
         measure_text(kind, Rooms::xml_of, &mut rooms);
+    }
+    head("text to XML, folds in place");
+    for kind in inputs::ROTAS.iter().chain(&inputs::WORST_TEXTS).filter(chosen) {
+        measure_text(kind, Rooms::xml_folded_of, &mut rooms);
     }
     head("text to jCal");
     for kind in inputs::ROTAS.iter().chain(&inputs::WORST_TEXTS).filter(chosen) {

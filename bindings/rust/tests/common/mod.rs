@@ -4,7 +4,7 @@
 pub mod inputs;
 pub mod readings;
 
-use mallettriton::{jcal_to_text_into, to_jcal_into, to_text_into, to_xml_into, Answer, Edition};
+use mallettriton::{jcal_to_text_into, to_jcal_into, to_text_into, to_xml_folded_into, to_xml_into, Answer, Edition};
 
 /// What the bytes of a buffer are before a call.
 pub const FILL: u8 = 0xa5;
@@ -35,6 +35,14 @@ pub fn to_xml_in(input: &[u8], work_length: usize, out_length: usize) -> (Told, 
     let told = Told::from(to_xml_into(input, &mut work, &mut out, Edition::Rfc5545));
     only_the_result(&told, &out);
     (told, work)
+}
+
+/// The same with the folds in place, and no work room.
+pub fn to_xml_folded_in(input: &[u8], out_length: usize) -> Told {
+    let mut out = vec![FILL; out_length];
+    let told = Told::from(to_xml_folded_into(input, &mut out, Edition::Rfc5545));
+    only_the_result(&told, &out);
+    told
 }
 
 /// The same of the way to jCal.

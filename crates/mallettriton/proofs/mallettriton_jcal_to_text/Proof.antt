@@ -1,5 +1,6 @@
 -- `mallettriton::mallettriton_jcal_to_text` meets its contract.
-use Rattle.mallettriton.specs.laws.Codes.{code-of, code-fits, jcal-to-text-small}
+use Rattle.calls.specs.laws.Codes.{code-of, code-fits}
+use Rattle.mallettriton.specs.laws.Codes.{jcal-to-text-small}
 use borrow.Author.Needs.{needs}
 use Rattle.mallettriton.proofs.mallettriton_jcal_to_text.Statement.{statement}
 use Rattle.mallettriton.proofs.mallettriton_jcal_to_text.Tie as tie

@@ -1,6 +1,7 @@
 -- `mallettriton::mallettriton_to_jcal` meets its contract.
 use borrow.Author.Needs.{needs}
-use Rattle.mallettriton.specs.laws.Codes.{code-of, code-fits, to-jcal-small}
+use Rattle.calls.specs.laws.Codes.{code-of, code-fits}
+use Rattle.mallettriton.specs.laws.Codes.{to-jcal-small}
 use Rattle.mallettriton.proofs.mallettriton_to_jcal.Statement.{statement}
 use Rattle.mallettriton.proofs.mallettriton_to_jcal.Tie as tie
 

@@ -1,6 +1,7 @@
 -- `mallettriton::mallettriton_to_xml` meets its contract.
 use borrow.Author.Needs.{needs}
-use Rattle.mallettriton.specs.laws.Codes.{code-of, code-fits, to-xml-small}
+use Rattle.calls.specs.laws.Codes.{code-of, code-fits}
+use Rattle.text_to_xml.specs.laws.Small.{to-xml-small}
 use Rattle.mallettriton.proofs.mallettriton_to_xml.Statement.{statement}
 use Rattle.mallettriton.proofs.mallettriton_to_xml.Tie as tie
 

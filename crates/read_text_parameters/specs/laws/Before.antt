@@ -1,5 +1,4 @@
 -- Names that stand before others.
---     onto                 names, the last first, in front of others
 --     before-take          so many names from the front are those;   before-one: a name is one of them
 --     first-..             the first names of a list, compared one after another
 --     word-..              a value is one word, for code
@@ -24,11 +23,8 @@ use Rattle.read_text_line.specs.Values.{ValueAt}
 use Rattle.read_text_line.specs.declared.ParamAt.{ParamAt}
 use Rattle.text.specs.Parameters.{isWord}
 use Rattle.read_text_parameters.specs.Cutting.{nameCut}
+use Rattle.read_text_parameters.specs.Comparing.{onto}
 use Rattle.read_text_parameters.specs.laws.Cutting.{values-first, values-none}
-
-unfoldable pub onto : List (List ℕ) → List (List ℕ) → List (List ℕ)
-onto [] ns = ns
-onto (w ∷ before) ns = onto before (w ∷ ns)
 
 take-onto : (b ns : List (List ℕ)) (j : ℕ) → take (length b + j) (onto b ns) ≡ onto b (take j ns)
 unfolding onto

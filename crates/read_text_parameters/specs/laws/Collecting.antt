@@ -1,12 +1,12 @@
 -- Laws of what specs/Collecting.antt defines.
---     Comparing                 the first k names from the cursor e on are compared, none of them comes again;   compared-..: its laws
+--     compared-..               the first names are compared, none of them comes again
 --     Collecting s e f t k c    the names from the cursor e on are the k that are collected, and those from c on
 use mathlib.Core.Path.{_≡_, refl, sym, _∙_}
 use mathlib.Core.Bool.{Bool, true, false}
 use mathlib.Core.List.{List, [], _∷_}
-use Prim.Native.Nat.{ℕ, _+_, _≤_, _<_}
+use Prim.Native.Nat.{ℕ, _+_, _<_}
 use native.Mathlib.Omega.{arith}
-use lib.ListN.{length, take}
+use lib.ListN.{take}
 use Rattle.octets.specs.Pick.{pick}
 use Rattle.octets.specs.Words.{isOneOf}
 use Rattle.read_text_line.specs.ContentLine.{RawParameter, nextParam}
@@ -20,9 +20,9 @@ use Rattle.distinct.specs.Keeping.{Keeps}
 use Rattle.distinct.specs.Again.{firstAgain}
 use Rattle.distinct.specs.laws.Keeping.{keeps-more}
 use Rattle.read_text_parameters.specs.Cutting.{nameCut, paramCut}
-use Rattle.read_text_parameters.specs.laws.Before.{onto, before-one}
+use Rattle.read_text_parameters.specs.laws.Before.{before-one}
 use Rattle.read_text_parameters.specs.laws.Cutting.{params-step, params-over, params-fault}
-use Rattle.read_text_parameters.specs.Comparing.{namesOf}
+use Rattle.read_text_parameters.specs.Comparing.{namesOf, onto, Comparing}
 
 pub record Collecting (m : ℕ) (s : List ℕ) (e : ℕ) (f t : List ℕ) (k c : ℕ) : Type 0 where
   pub are : namesOf (paramsAt m s e) ≡ listed k (wordAt m s f t) (namesOf (paramsAt m s c))
@@ -44,13 +44,6 @@ module _ {m : ℕ} {s : List ℕ} {e : ℕ} {f t : List ℕ} {k c : ℕ} {r : Pa
   collect-fault h j = params-fault y (λ (rs : List RawParameter). listed k (wordAt m s f t) (namesOf rs)) (i .are) a h j
 
 -- ---- compared with all before them
-
-pub record Comparing (m : ℕ) (s : List ℕ) (e k c : ℕ) : Type 0 where
-  pub before : List (List ℕ)
-  pub names : namesOf (paramsAt m s e) ≡ onto before (namesOf (paramsAt m s c))
-  pub count : length before ≡ k
-  pub comes : firstAgain [] (namesOf (paramsAt m s e)) ≡ k + firstAgain before (namesOf (paramsAt m s c))
-  pub past : k ≤ c
 
 pub compared-start : (m : ℕ) (s : List ℕ) (e : ℕ) → Comparing m s e 0 e
 unfolding onto

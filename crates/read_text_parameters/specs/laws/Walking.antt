@@ -45,13 +45,13 @@ use Rattle.read_text_line.specs.laws.Params.{param-less}
 use Rattle.read_text_line.specs.declared.ParamRead.{ParamRead}
 use Rattle.read_text_parameters.specs.Cutting.{nameCut, paramRead}
 use Rattle.read_text_parameters.specs.laws.Cutting.{read-step, read-over, read-fault}
-use Rattle.read_text_parameters.specs.Comparing.{namesOf}
+use Rattle.read_text_parameters.specs.Comparing.{namesOf, onto}
 use Rattle.read_text_parameters.specs.Readable.{isReadBy}
 use Rattle.read_text_parameters.specs.laws.Readable.{parameter-read}
 use Rattle.read_text_parameters.specs.Stating.{numberRead, NumberOf, statedAt}
 use Rattle.read_text_parameters.specs.declared.TypeRead.{TypeRead}
 use Rattle.read_text_parameters.specs.declared.TypeRead.the-variants.{«Type» as Known, Bad}
-use Rattle.read_text_parameters.specs.laws.Before.{onto, before-one}
+use Rattle.read_text_parameters.specs.laws.Before.{before-one}
 use Rattle.read_text_parameters.specs.Walking.{numberOf, comesAgain, soughtBy, typeFor, fitsBy, isBinaryAt, fitsAt, behindAt, statedBy, Notes, endedBy, whereOf, faultAs, ParametersAt}
 use Rattle.read_text_parameters.specs.declared.walk.Noted.{Noted}
 use Rattle.read_text_parameters.specs.declared.ParametersRead.{ParametersRead}

@@ -13,6 +13,6 @@ judged-spec = tie.close (tie.spec
     (λ c κs. search needs)  -- place-of-requires
     (λ c. search needs)  -- enum-told
     (λ c κs. search needs)  -- lines-judged-requires
-    (λ c. kept-bad (c .before .before .before .before .before .before .before .args .edition) (c .before .before .before .before .before .before .before .args .input .now) (c .before .before .before .before .before .before .before .args .kept .now) (sym (c .before .before .before .before .first-bad .ensures) ∙ ap foundOf (c .before .before .p .given .1)) (c .place-of .ensures))  -- returns
-    (λ c. kept-good (c .before .before .before .before .before .before .args .edition) (c .before .before .before .before .before .before .args .input .now) (c .before .before .before .before .before .before .args .kept .now) (c .lines-judged .result) (sym (c .before .before .before .first-bad .ensures) ∙ ap foundOf (c .before .enum-told .given .1)) (c .lines-judged .ensures))  -- returns-2
+    (λ c. kept-bad (c .before .before .before .before .before .before .before .args .edition) (c .before .before .before .before .before .before .before .args .input .now) _ 0 (sym (c .before .before .before .before .first-bad .ensures) ∙ ap foundOf (c .before .before .p .given .1)) (c .place-of .ensures))  -- returns
+    (λ c. kept-good (c .before .before .before .before .before .before .args .edition) (c .before .before .before .before .before .before .args .input .now) _ _ (c .lines-judged .result) (sym (c .before .before .before .first-bad .ensures) ∙ ap foundOf (c .before .enum-told .given .1)) (c .lines-judged .ensures))  -- returns-2
     )

@@ -1,5 +1,5 @@
 -- `read_text_whole::read_whole` meets its contract.
-use mathlib.Core.Path.{sym, ap, _∙_}
+use mathlib.Core.Path.{refl, sym, ap, _∙_}
 use native.Mathlib.Omega.{arith}
 use borrow.Author.Needs.{needs}
 use Rattle.edition.specs.Edition.{known}
@@ -14,7 +14,7 @@ read-whole-spec = tie.close (tie.spec
     (λ c κs. search needs)  -- unfold-requires
     (λ c. kept-inside (c .before .before .«unfold» .ensures))  -- slice-reshare-prefix-judged
     (λ c. kept-count (c .before .before .before .«unfold» .ensures))  -- slice-aggregate-judged
-    (λ c κs. search needs)  -- judged-requires
+    (λ c κs. refl)  -- judged-requires
     (λ c. search needs)  -- same-length
     (λ c. unfolded-read (c .before .before .before .before .before .before .before .before .before .before .before .before .before .before .args .input .now) (c .before .before .before .before .before .before .before .before .before .before .before .before .before .before .args .work .now) (c .before .before .before .before .before .before .before .before .before .before .before .before .before .before .args .edition) (omega (arith, c .before .before .before .before .before .before .before .before .before .before .before .if1 .taken)) (c .before .before .before .before .before .before .before .before .before .before .if2 .taken) (c .judged .result) (sym (ap known (c .before .before .before .before .before .before .before .e .given .1)) ∙ c .before .before .before .before .before .before .before .before .before .edition-of .ensures) (c .before .before .before .before .«unfold» .ensures) (c .judged .ensures))  -- returns
     (λ c. search needs)  -- enum-told

@@ -1,7 +1,7 @@
 -- What the calls from text give, by the writer of a format, where the text was read as specs/Whole.antt says.
 --     given           what a call gives: `toXml` is given writeDocument
 --     refused-done    a text that is refused
---     kept-done       a text that is fine: what is written of its kept bytes
+--     kept-done       a text that is fine: what is written of its kept bytes;   folded-done: of the text with its folds in place
 use mathlib.Core.Bool.{Bool, true, false}
 use mathlib.Core.List.{List, []}
 use mathlib.Core.Option.{Option, none, some}
@@ -11,6 +11,7 @@ use lib.ListN.{length, take}
 use Rattle.octets.specs.Pick.{pick}
 use Rattle.calendar.specs.Calendar.{Calendar, noMore}
 use Rattle.calendar.specs.Refusal.{Refusal, LENGTH, WORK, EDITION, Verdict, fine, refuse, answer, limit}
+use Rattle.source.specs.Source.{rest}
 use Rattle.folding.specs.Unfold.{unfolded}
 use Rattle.folding.specs.Lines.{lines}
 use Rattle.edition.specs.Edition.{editionOf}
@@ -21,7 +22,7 @@ use Rattle.calls.specs.Conversion.{Converted, fault, converted}
 use Rattle.calls.specs.Answered.{Done}
 use Rattle.calls.specs.laws.Answered.{done-fault}
 use Rattle.calls.specs.declared.Answer.{Answer}
-use Rattle.read_text_whole.specs.Whole.{wholeVerdict, Refuses, Keeps}
+use Rattle.read_text_whole.specs.Whole.{wholeVerdict, Refuses, Keeps, KeepsFolded}
 
 -- a number that names no edition is refused after LENGTH and WORK
 abbrev pub given : (Calendar → List ℕ) → Option Edition → List ℕ → ℕ → Converted
@@ -50,3 +51,8 @@ module _ (write : Calendar → List ℕ) (s w d : List ℕ) where
       Done (converted write (answer fine (calendarOf ed (lines (take n w′))))) d e a → Done (given write (editionOf edition) s (length w)) d e a
   unfolding readCalendar
   kept-done k g = rw (← (k .named), k .good, ← (k .front)) g
+
+pub folded-done : (write : Calendar → List ℕ) {s d e : List ℕ} {edition : ℕ} {ed : Edition} {a : Answer} → KeepsFolded s edition ed →
+    Done (converted write (answer fine (calendarOf ed (lines (rest 2 s 0))))) d e a → Done (given write (editionOf edition) s (length s)) d e a
+unfolding readCalendar rest pick
+folded-done write k g = rw (← (k .named), k .good) g

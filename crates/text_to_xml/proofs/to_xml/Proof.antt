@@ -1,5 +1,5 @@
 -- `text_to_xml::to_xml` meets its contract.
-use mathlib.Core.Path.{sym, subst}
+use mathlib.Core.Path.{refl, sym, subst}
 use lib.Seq.{length-take-le}
 use borrow.Author.Needs.{needs}
 use Rattle.read_text_whole.specs.Whole.{Reads}
@@ -13,7 +13,7 @@ to-xml-spec = tie.close (tie.spec
     (λ c. search needs)  -- enum-known-e
     (λ c. subst (Reads _ _ _ _) (c .before .e .given .1) (c .before .before .before .before .before .read-whole .ensures .0) .inside)  -- slice-reshare-prefix-written
     (λ c. sym (length-take-le _ _ (subst (Reads _ _ _ _) (c .before .before .e .given .1) (c .before .before .before .before .before .before .read-whole .ensures .0) .inside)))  -- slice-aggregate-written
-    (λ c κs. subst (Reads _ _ _ _) (c .before .before .before .e .given .1) (c .before .before .before .before .before .before .before .read-whole .ensures .0) .short)  -- written-requires
+    (λ c κs. (refl, subst (Reads _ _ _ _) (c .before .before .before .e .given .1) (c .before .before .before .before .before .before .before .read-whole .ensures .0) .short))  -- written-requires
     (λ c. search needs)  -- enum-known-a
     (λ c. search needs)  -- same-length
     (λ c. search needs)  -- same-length-2

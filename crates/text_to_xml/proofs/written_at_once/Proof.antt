@@ -1,15 +1,13 @@
 -- `text_to_xml::written_at_once` meets its contract.
-use mathlib.Core.Path.{refl}
 use borrow.Author.Needs.{needs}
-use Rattle.lengths_xml.specs.laws.Documents.{xml-fits}
 use Rattle.calls.specs.laws.Answered.{done-at-once}
-use Rattle.text_to_xml.specs.laws.Steps.{put-kept, xml-counted}
+use Rattle.text_to_xml.specs.laws.Steps.{xml-counted, xml-roomy}
 use Rattle.text_to_xml.proofs.written_at_once.Statement.{statement}
 use Rattle.text_to_xml.proofs.written_at_once.Tie as tie
 
 pub written-at-once-spec : {M : Type 1} → statement M
 written-at-once-spec = tie.close (tie.spec
-    (λ c κs. refl)  -- put-document-requires
+    (λ c κs. search needs)  -- put-document-requires
     (λ c. search needs)  -- same-length
-    (λ c. done-at-once (xml-counted _ _ (c .before .before .before .before .before .before .pre .0)) (xml-fits _ _ _ (c .before .before .before .before .before .before .pre .1)) (put-kept _ (c .before .before .before .before .before .before .args .kept .now) (c .before .before .put-document .ensures)))  -- returns
+    (λ c. done-at-once (xml-counted _ _ _ (c .before .before .before .before .before .before .pre .0) (c .before .before .before .before .before .before .pre .1)) (xml-roomy _ _ _ (c .before .before .before .before .before .before .pre .0) (c .before .before .before .before .before .before .pre .2)) (c .before .before .put-document .ensures))  -- returns
     )

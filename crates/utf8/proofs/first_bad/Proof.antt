@@ -2,8 +2,8 @@
 use Prim.Native.Nat.{_-_}
 use lib.ListN.{length}
 use Rattle.octets.specs.laws.Scan.{FoldingI, scanning}
-use Rattle.utf8.specs.Automaton.{step}
-use Rattle.utf8.specs.laws.Automaton.{start, found}
+use Rattle.utf8.specs.Automaton.{start, step}
+use Rattle.utf8.specs.laws.Automaton.{found}
 use Rattle.utf8.proofs.first_bad.Statement.{statement}
 use Rattle.utf8.proofs.first_bad.Tie as tie
 
@@ -17,7 +17,8 @@ pub first-bad-spec : {M : Type 1} → statement M
 first-bad-spec = tie.close (tie.spec
     Inv-loop
     μ-loop
-    (λ c. search scanning)  -- loop-holds
+    (λ c κs. search scanning)  -- at-start-requires
+    (λ c. rw (c .at-start .ensures) (search scanning))  -- loop-holds
     (λ c. search scanning)  -- shared-slice-read-read
     (λ c κs. search scanning)  -- read-requires
     (λ c. search scanning)  -- add-i

@@ -12,14 +12,9 @@ use Rattle.octets.specs.Pick.{pick, within, _and_}
 use Rattle.octets.specs.Scan.{foldi}
 use Rattle.octets.specs.laws.Scan.{FoldingI, foldi-end}
 use Rattle.utf8.specs.Utf8.{more, low, high, highAfter, tails, badFrom, firstBad}
-use Rattle.utf8.specs.Automaton.{foundOf, reading, tail, step, verdict}
+use Rattle.utf8.specs.Automaton.{foundOf, reading, start, tail, step, verdict}
 use Rattle.utf8.specs.declared.Found.{Found}
 use Rattle.utf8.specs.declared.Reading.{Reading}
-
-abbrev pub start : Reading
-start = reading 0 0 0 false true 0
-
--- ---- laws
 
 suc-sub-one : (n : ℕ) → suc n - 1 ≡ n
 suc-sub-one n = omega arith

@@ -3,7 +3,8 @@ use Prim.Native.Nat.{_*_, _-_}
 use native.Mathlib.Omega.{arith}
 use lib.ListN.{length}
 use Rattle.read_text_line.specs.laws.Params.{param-less}
-use Rattle.read_text_parameters.specs.laws.Collecting.{Comparing, compared-start, compared-over, compared-fault, compared-less, compared-again, compared-more}
+use Rattle.read_text_parameters.specs.Comparing.{Comparing}
+use Rattle.read_text_parameters.specs.laws.Collecting.{compared-start, compared-over, compared-fault, compared-less, compared-again, compared-more}
 use borrow.Author.Needs.{needs}
 use Rattle.read_text_parameters.proofs.once.first_compared.Statement.{statement}
 use Rattle.read_text_parameters.proofs.once.first_compared.Tie as tie
