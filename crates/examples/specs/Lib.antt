@@ -8,6 +8,7 @@
 --     Refusals       each refusal, with its place
 --     Todos          to-dos that are due, and events without DTSTART
 --     Fleets         unrecognised components
+--     Joined         two rotas that are joined
 --     Buffers        whole calls, with the lent buffers afterwards
 pub mod Notation
 pub mod Readings
@@ -18,4 +19,5 @@ pub mod Worked
 pub mod Refusals
 pub mod Todos
 pub mod Fleets
+pub mod Joined
 pub mod Buffers

@@ -1,7 +1,13 @@
 -- Laws. Theorems over the answers of both conversions.
 --     Injective     documents of any length are of one calendar, alone and one after another
 --     Calls         what an accepted call states, and what it gives
+--     Balanced      lines that are not refused end each component that they begin
+--     Joined        texts that are joined, and the XML of their calendars
 --     Engines       work rooms that are long enough
+--     FoldedCalls   calls that are lent no work room, as calls that are lent one
 pub mod Injective
 pub mod Calls
+pub mod Balanced
+pub mod Joined
 pub mod Engines
+pub mod FoldedCalls

@@ -1,15 +1,17 @@
 -- What an accepted text states is a valid calendar, so that its canonical text is read back.
+--     Accepts            what acceptance says of a text's characters, its lines and its calendar, whatever the work room;   accepts, accepts-back
+--     text-tree          an accepted text states all the components of its lines
 --     accepted-valid     an accepted text states a valid calendar
 --     accepted-back      its canonical text states the same, where it is not over the limit
 use mathlib.Core.Path.{_≡_, refl, ap, _∙_}
 use mathlib.Core.Bool.{Bool, true, false, false≢true}
-use mathlib.Core.List.{List, [], _∷_}
+use mathlib.Core.List.{List, [], _∷_, map}
 use mathlib.Core.Option.{Option, none, some}
 use Prim.Native.Nat.{ℕ, zero, suc, _+_, _≤_}
 use native.Mathlib.Omega.{arith}
 use lib.Dec.{eqb, leb}
 use lib.ListN.{length}
-use borrow.Author.Tests.{eqb-true}
+use borrow.Author.Tests.{eqb-true, le-leb}
 use Rattle.octets.specs.Pick.{pick, _and_, _or_}
 use Rattle.octets.specs.laws.Pick.{and-yes, and-both}
 use Rattle.octets.specs.Append.{_⊕_}
@@ -25,12 +27,12 @@ use Rattle.folding.specs.Lines.{Line, whole, loose, longer, lineStep, linesAfte
 use Rattle.validity.specs.ValidCalendar.{isValid}
 use Rattle.edition.specs.declared.Edition.{Edition}
 use Rattle.text.specs.Nesting.{Open, Move, move, onward, nesting}
-use Rattle.text.specs.Tree.{calendarOf}
+use Rattle.text.specs.Tree.{entryOf, innerOf, calendarOf}
 use Rattle.text.specs.ReadText.{linesVerdict, keptVerdict, placed, textVerdict, readCalendar}
 use Rattle.text.specs.WriteText.{writeCalendar}
 use Rattle.text.specs.laws.Faults.{fault-not}
 use Rattle.text.specs.laws.AcceptedCharacters.{after-byte}
-use Rattle.text.specs.laws.AcceptedTree.{isGoodOne, tree-accepted, tree-some}
+use Rattle.text.specs.laws.AcceptedTree.{isGoodOne, tree-whole, tree-accepted, tree-some}
 use Rattle.text.specs.laws.TextBack.{text-back}
 
 -- ---- a text is its lines
@@ -120,11 +122,17 @@ both-fine (some p) w h = refused-not _ _ h
 module _ (ed : Edition) where
   -- ---- in an edition
 
-  nesting-whole : (ls : List Line) (e : ℕ) (st : List Open) → nesting ed e ls st ≡ fine → noneLoose ls ≡ true
+  pub nesting-whole : (ls : List Line) (e : ℕ) (st : List Open) → nesting ed e ls st ≡ fine → noneLoose ls ≡ true
   unfolding nesting noneLoose
   nesting-whole [] e st h = refl
   nesting-whole (loose p ∷ ls) e st h = refused-not _ _ h
   nesting-whole (whole p s ∷ ls) e st h = moved-whole (move ed s st) p s (nesting ed e ls) (noneLoose ls) (λ u k. nesting-whole ls e u k) h
+
+  -- a text that is accepted has lines
+  pub verdict-nesting : (ls : List Line) (e : ℕ) → linesVerdict ed e ls ≡ fine → nesting ed e ls [] ≡ fine
+  unfolding linesVerdict
+  verdict-nesting [] e h = refused-not _ _ h
+  verdict-nesting (l ∷ ls) e h = h
 
   lines-valid : (ls : List Line) (e : ℕ) → (noneLoose ls ≡ true → every isGoodOne ls ≡ true) → linesVerdict ed e ls ≡ fine → isValid ed (calendarOf ed ls) ≡ true
   unfolding linesVerdict isValid
@@ -133,13 +141,31 @@ module _ (ed : Edition) where
 
   -- ---- the text
 
-  pub accepted-valid : (s : List ℕ) (room : ℕ) (c : Components) → readCalendar ed s room ≡ accepted c → isValid ed c ≡ true
+  pub record Accepts (s : List ℕ) (c : Components) : Type 0 where
+    pub characters : firstBad (unfolded s) ≡ none
+    pub verdict : linesVerdict ed (length (unfolded s)) (lines (unfolded s)) ≡ fine
+    pub states : calendarOf ed (lines (unfolded s)) ≡ c
+
+  pub accepts : (s : List ℕ) (room : ℕ) (c : Components) → readCalendar ed s room ≡ accepted c → Accepts s c
   unfolding readCalendar textVerdict keptVerdict
-  accepted-valid s room c h =
+  accepts s room c h =
       let a = answered (textVerdict ed s room) (calendarOf ed (lines (unfolded s))) c h in
       let k = kept (leb (length s) limit) (leb (length s) room) s (keptVerdict ed (unfolded s)) (a .0) in
       let b = both-fine (firstBad (unfolded s)) (linesVerdict ed (length (unfolded s)) (lines (unfolded s))) k in
-      rw (a .1) at (lines-valid (lines (unfolded s)) (length (unfolded s)) (text-lines-good (unfolded s) (b .0)) (b .1))
+      record { characters = b .0; verdict = b .1; states = a .1 }
+
+  -- it states all the components of its lines
+  pub text-tree : (u : List ℕ) (e : ℕ) → firstBad u ≡ none → linesVerdict ed e (lines u) ≡ fine → calendarOf ed (lines u) ≡ innerOf (map (entryOf ed) (lines u)) 0
+  text-tree u e g h = let n = verdict-nesting (lines u) e h in tree-whole ed (lines u) e (text-lines-good u g (nesting-whole (lines u) e [] n)) n
+
+  pub accepts-back : (s : List ℕ) (room : ℕ) (c : Components) → Accepts s c → length s ≤ limit → length s ≤ room → readCalendar ed s room ≡ accepted c
+  unfolding readCalendar textVerdict keptVerdict placed pick _otherwise_
+  accepts-back s room c a l r = rw (le-leb _ _ l, le-leb _ _ r, a .characters, a .verdict, a .states)
+
+  pub accepted-valid : (s : List ℕ) (room : ℕ) (c : Components) → readCalendar ed s room ≡ accepted c → isValid ed c ≡ true
+  accepted-valid s room c h =
+      let a = accepts s room c h in
+      rw (a .states) at (lines-valid (lines (unfolded s)) (length (unfolded s)) (text-lines-good (unfolded s) (a .characters)) (a .verdict))
 
   pub accepted-back : (s : List ℕ) (room : ℕ) (c : Components) → readCalendar ed s room ≡ accepted c → (again : ℕ) → length (writeCalendar ed c) ≤ limit → length (writeCalendar ed c) ≤ again →
       readCalendar ed (writeCalendar ed c) again ≡ accepted c

@@ -1,6 +1,7 @@
 -- What lines state that are not refused is a valid calendar, also where a VTIMEZONE mixes properties and subcomponents.
 --     Frames st es d    what the entries that are left make of the open components st is valid, where the first of these is d further out
---     tree-accepted     what accepted lines state is valid;   tree-some: and not nothing
+--     tree-whole        accepted lines state all the components of their entries
+--     tree-accepted     what they state is valid;   tree-some: and not nothing
 use mathlib.Core.Path.{_≡_, refl, _∙_}
 use mathlib.Core.Bool.{Bool, true, false, not, false≢true}
 use mathlib.Core.List.{List, [], _∷_, map}
@@ -253,7 +254,7 @@ module _ (ed : Edition) where
 
   -- ---- all lines
 
-  moved-on : (m : Move) (p : ℕ) (s : List ℕ) (f : List Open → Verdict) → onward m p s f ≡ fine → (u : List Open) × (m ≡ on u) × (f u ≡ fine)
+  pub moved-on : (m : Move) (p : ℕ) (s : List ℕ) (f : List Open → Verdict) → onward m p s f ≡ fine → (u : List Open) × (m ≡ on u) × (f u ≡ fine)
   unfolding onward
   moved-on (on u) p s f h = (u, refl, h)
   moved-on (stop r) p s f h = fault-not r p s h
@@ -267,6 +268,10 @@ module _ (ed : Edition) where
       let a = every-both isGoodOne (whole p s) ls g in
       let m = moved-on (move ed s st) p s (nesting ed e ls) h in
       line-step s st (m .0) (map (entryOf ed) ls) (well-formed-good s (a .0)) (m .1) (all-frames ls e (m .0) (a .1) (m .2))
+
+  pub tree-whole : (ls : List Line) (e : ℕ) → every isGoodOne ls ≡ true → nesting ed e ls [] ≡ fine → calendarOf ed ls ≡ innerOf (map (entryOf ed) ls) 0
+  unfolding calendarOf
+  tree-whole ls e g h = valid-shallow ed (innerOf (map (entryOf ed) ls) 0) levels atTop false (all-frames ls e [] g h)
 
   pub tree-accepted : (ls : List Line) (e : ℕ) → every isGoodOne ls ≡ true → nesting ed e ls [] ≡ fine → areValid ed levels atTop false (calendarOf ed ls) ≡ true
   unfolding calendarOf
