@@ -9,6 +9,7 @@
 --     Todos          to-dos that are due, and events without DTSTART
 --     Fleets         unrecognised components
 --     Joined         two rotas that are joined
+--     Edited         the line of one property is another
 --     Buffers        whole calls, with the lent buffers afterwards
 pub mod Notation
 pub mod Readings
@@ -20,4 +21,5 @@ pub mod Refusals
 pub mod Todos
 pub mod Fleets
 pub mod Joined
+pub mod Edited
 pub mod Buffers

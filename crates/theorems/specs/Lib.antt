@@ -6,6 +6,8 @@
 --     BackAndThere  from XML to text, to XML, and to text again
 --     Joined        texts that are joined, and the insides of XML
 --     Joining       joined texts are converted as one
+--     OneLine       two texts whose content lines are the same but for one
+--     SmallEdit     a small edit stays small
 --     Engines       the two ways from text to XML
 --     laws          what their proofs need
 pub mod Calls
@@ -15,5 +17,7 @@ pub mod ThereAndBack
 pub mod BackAndThere
 pub mod Joined
 pub mod Joining
+pub mod OneLine
+pub mod SmallEdit
 pub mod Engines
 pub mod laws

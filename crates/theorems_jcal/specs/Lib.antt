@@ -6,6 +6,7 @@
 --     BothFormats   the jCal and the XML of a text
 --     Joined        texts that are joined, and the objects of jCal
 --     Joining       joined texts are converted as one
+--     SmallEdit     a small edit stays small
 --     Examples      worked examples, by computation
 --     laws          what their proofs need
 pub mod Calls
@@ -15,5 +16,6 @@ pub mod BackAndThere
 pub mod BothFormats
 pub mod Joined
 pub mod Joining
+pub mod SmallEdit
 pub mod Examples
 pub mod laws
