@@ -203,6 +203,12 @@ function show_place(first_line) {
     show(without_return(line[at_line]), at_column, 1)
 }
 
+# The line and the column of a byte of the input.
+function where(byte, k) {
+    for (k = NR; k > 1 && start[k] > byte; k--);
+    return "line " k ", column " (byte - start[k] + 1)
+}
+
 # ---- what the input is
 
 # The names of programs that read what the input looks like, if this one does not.
@@ -352,14 +358,15 @@ function text_fault(name, v, k, c) {
         if (c == "\\") {
             c = substr(v, ++k, 1)
             if (c == "" || index("\\;,nN", c) == 0) return "Behind a backslash stands " (c == "" ? "nothing" : quote(c)) "; a backslash by itself is written \\\\."
-        } else if (c == ";" && name != "REQUEST-STATUS") return "A semicolon in TEXT is written \\; here one stands without the backslash."
-        else if (c == "," && !listed[name]) return "A comma in TEXT is written \\, here one stands without the backslash."
+        } else if (c == ";" && name != "REQUEST-STATUS") return "In TEXT a semicolon is written with a backslash before it; here one has none."
+        else if (c == "," && !listed[name]) return "In TEXT a comma is written with a backslash before it; here one has none."
     }
     return ""
 }
 
 # What is wrong with a value of a type; "" where that can't be said.
 function value_fault(name, type, v, form, k) {
+    if (form != "text" && (type == "PERIOD" || type == "RECUR")) return ""
     if (type != "TEXT" && type != "UNKNOWN" && v == "") return "The value is empty."
     if (type != "TEXT" && type != "UNKNOWN" && v ~ /^ | $/) return "A blank stands before or behind the value."
     if (type == "DATE") return date_fault(v, form)
@@ -368,10 +375,11 @@ function value_fault(name, type, v, form, k) {
     if (type == "URI" || type == "CAL-ADDRESS") return uri_fault(type, v)
     if (type == "UTC-OFFSET") return offset_fault(v, form)
     if (type == "INTEGER") return integer_fault(v)
+    if (type == "FLOAT" && v !~ /^[+-]?[0-9]+(\.[0-9]+)?$/) return "A FLOAT is digits, perhaps with a sign, and with a point and digits."
     if (type == "RECUR" && form == "text") return rule_fault(v)
     if (type == "TEXT" && form == "text") return text_fault(name, v)
     if (type == "PERIOD" && form == "text" && v !~ /\//) return "A PERIOD is a start, a slash, and an end or a duration."
-    if (type == "BOOLEAN") return "A BOOLEAN is " (form == "text" ? "TRUE or FALSE." : "true or false.")
+    if (type == "BOOLEAN" && !is_word(form == "text" ? "TRUE FALSE" : "true false 1 0", form == "text" ? toupper(v) : v)) return "A BOOLEAN is " (form == "text" ? "TRUE or FALSE." : "true or false.")
     return ""
 }
 
@@ -402,12 +410,18 @@ function plural(n) {
     return n == 2 ? "twice" : n " times"
 }
 
+# In a text, the lines of the properties that were counted.
+function lines_of(id, p, n) {
+    return seen[id, p] == "" ? "" : n > 1 ? " (lines " seen[id, p] ")" : " (line " seen[id, p] ")"
+}
+
 # All that a COUNT can mean of the component; `who` says which one it is, `bare` whether it has no component in it, `method` whether the calendar has METHOD.
 function say_counts(component, id, who, bare, method, at, k, p, n, sign, u) {
     at = column[component]
     u = action[id]
     if (component == "VALARM") {
-        if (u == "") { tell(who " has no ACTION."); return }
+        if (!count[id, "ACTION"]) tell(who " has no ACTION.")
+        if (u !~ /^(AUDIO|DISPLAY|EMAIL)$/) return
         at = u == "AUDIO" ? 9 : u == "DISPLAY" ? 10 : 11
     }
     for (k = 1; k <= properties; k++) {
@@ -415,8 +429,8 @@ function say_counts(component, id, who, bare, method, at, k, p, n, sign, u) {
         n = count[id, p] + 0
         sign = substr(signs[p], at, 1)
         if (n == 0 && (sign == "1" || sign == "+" || p == "DTSTART" && component == "VEVENT" && !method)) tell(who " has no " p ".")
-        if (n > 1 && (sign == "1" || sign == "?")) tell(who " has " p " " plural(n) seen[id, p] ". It may have one.")
-        if (n > 0 && sign == ".") tell(who " has " p seen[id, p] ", which does not go with ACTION " u ".")
+        if (n > 1 && (sign == "1" || sign == "?")) tell(who " has " p " " plural(n) lines_of(id, p, n) ". It may have one.")
+        if (n > 0 && sign == ".") tell(who " has " p lines_of(id, p, n) ", which does not go with ACTION " u ".")
     }
     if (component == "VEVENT" && count[id, "DTEND"] && count[id, "DURATION"]) tell(who " has both DTEND and DURATION. It may have one of them.")
     if (component == "VTODO" && count[id, "DUE"] && count[id, "DURATION"]) tell(who " has both DUE and DURATION. It may have one of them.")
@@ -442,7 +456,7 @@ function unfold(i, s, cr, fold, open) {
         fold = cr && i < NR && line[i + 1] ~ /^[ \t]/
         open = fold || !cr
         if (cr) ended[contents] = !fold
-        else if (content[contents] ~ /\r$/ && fold == 0 && skipped[i]) open = 0
+        else if (skipped[i] && content[contents] ~ /\r$/) open = 0
         else if (i < NR || ends) {
             if (!bare[contents]) bare[contents] = i
             content[contents] = content[contents] "\n"
@@ -507,18 +521,17 @@ function walk(k, i) {
         } else if (the_name == "END") level--
         else {
             count[open_id[level], the_name]++
-            seen[open_id[level], the_name] = seen[open_id[level], the_name] (seen[open_id[level], the_name] == "" ? " (line " : ", ") first[i]
+            seen[open_id[level], the_name] = seen[open_id[level], the_name] (seen[open_id[level], the_name] == "" ? "" : ", ") first[i]
             if (the_name == "ACTION" && action[open_id[level]] == "") action[open_id[level]] = toupper(the_value)
         }
     }
-    for (i in seen) seen[i] = seen[i] ")"
 }
 
 function opened() {
     return open_name[level] ", begun in line " open_line[level] ","
 }
 
-function say_line(k, lone) {
+function say_line(k, lone, i) {
     if (mark() || sniff()) return
     if (bare[k]) {
         lone = 1
@@ -553,11 +566,11 @@ function say_frame(k, parent, c) {
     else if (filled[level] && parent != "VTIMEZONE") tell("In " parent " the properties stand before the components.")
 }
 
-# A URI without quotes in a parameter: its colon ends the parameters.
-function say_quotes(j) {
-    if (parameters && plain[parameters] && the_value ~ /^\/\// && first_of[parameters] ~ /^[A-Za-z][A-Za-z0-9+.-]*$/)
-        return "The value of " parameter[parameters] " ends at its first colon. With a colon, a semicolon or a comma it must stand between double quotes: " parameter[parameters] "=\"" first_of[parameters] "://...\"."
-    return ""
+# A parameter's value without quotes ends at a colon, and the value of the line begins there; only some values have a colon.
+function colon_fault(type) {
+    if (!parameters || !plain[parameters]) return ""
+    if (the_value !~ /^\/\// && (the_value !~ /:/ || the_value ~ /^[0-9T:+-]+Z?$/ || type ~ /^(TEXT|URI|CAL-ADDRESS|UNKNOWN)$/)) return ""
+    return "A parameter's value that has a colon stands between double quotes; without them " parameter[parameters] " is " quote(first_of[parameters]) ", and the line's value " quote(the_value) "."
 }
 
 function say_parameter(u, j, i, p, f) {
@@ -565,10 +578,12 @@ function say_parameter(u, j, i, p, f) {
     if (j > parameters) { tell(the_name " with BINARY needs ENCODING=BASE64."); return }
     p = parameter[j]
     for (i = 1; i < j && parameter[i] != p; i++);
-    f = j == parameters ? say_quotes() : ""
+    f = j == parameters ? colon_fault("URI") : ""
     if (the_name == "BEGIN" || the_name == "END") tell(the_name " takes no parameters.")
     else if (i < j) tell(p " comes a second time.")
-    else if (p == "VALUE") tell(amount[j] > 1 || !(toupper(first_of[j]) in is_type) ? "VALUE names no type: " quote(first_of[j]) "." : "VALUE may not stand here.")
+    else if (p == "VALUE") {
+        if (!(toupper(first_of[j]) in is_type)) tell("VALUE names no type: " quote(first_of[j]) ".")
+    }
     else if (the_name in signs && p in is_parameter && !index("," permitted[the_name] ",", "," p ",")) tell(p " is not permitted on " the_name ".")
     else if (f != "") tell(f)
     else if (p in is_quoted && plain[j]) tell("The value of " p " must stand between double quotes.")
@@ -578,10 +593,10 @@ function say_parameter(u, j, i, p, f) {
 }
 
 function say_value(j, type, f) {
-    f = say_quotes()
     type = the_name in types ? types[the_name] : "UNKNOWN"
     sub(/,.*/, "", type)
     for (j = 1; j <= parameters; j++) if (parameter[j] == "VALUE") type = toupper(first_of[j])
+    f = colon_fault(type)
     if (f == "" && the_name in types && !index("," types[the_name] ",", "," type ",")) f = the_name " has the type " listing_of(types[the_name]) ", not " type "."
     if (f == "") f = property_fault(the_name, open_name[level], type, the_value, "text")
     if (f != "") tell(f)
@@ -607,7 +622,7 @@ function say_text(k) {
     if (NUMBER == 6) say_frame(k)
     if (NUMBER == 7) say_parameter(ahead[at_line] + at_column - skipped[at_line])
     if (NUMBER == 8) say_value()
-    if (NUMBER == 9) say_counts(open_name[level], open_id[level], opened() (opened() ? "" : ""), !filled[level], count[open_id[1], "METHOD"])
+    if (NUMBER == 9) say_counts(open_name[level], open_id[level], opened(), !filled[level], count[open_id[1], "METHOD"])
 }
 
 # ---- xCal
@@ -617,7 +632,7 @@ function joined(i, s) {
     return s
 }
 
-# Reads the tags up to the place. An element in `components`, or in the root, is a component; one in a component's `properties` is a property.
+# Reads the tags up to the place.
 function say_xml(doc, n, part, i, at, tag, text, e, shut, c) {
     doc = joined()
     if (NUMBER == 11) { say_markup(doc); return }
@@ -642,30 +657,26 @@ function say_xml(doc, n, part, i, at, tag, text, e, shut, c) {
     path()
 }
 
+# Components and properties stand at even levels, whatever they are called.
 function open_element(tag, at, text, p) {
     p = open_name[level++]
     open_name[level] = tag
     open_id[level] = at
-    if (p == "components" || p == "icalendar") {
-        if (p == "components") filled[open_id[level - 2]] = 1
-        else calendar = at
-    }
-    if (p == "properties") {
-        count[open_id[level - 2], toupper(tag)]++
-        latest = tag
-    }
-    if (tag == "text" && latest == "action" && open_name[level - 1] == "action" && action[open_id[level - 3]] == "") action[open_id[level - 3]] = text
+    if (level == 2) calendar = at
+    if (level % 2 == 0 && p == "components") filled[open_id[level - 2]] = 1
+    if (level % 2 == 0 && p == "properties") count[open_id[level - 2], toupper(tag)]++
+    if (level % 2 && tag == "text" && p == "action" && action[open_id[level - 3]] == "") action[open_id[level - 3]] = text
 }
 
 function end_of_element(c) {
     c = toupper(open_name[level])
-    if (NUMBER == 9) say_counts(c, open_id[level], "The " open_name[level] " that begins at byte " open_id[level], !filled[open_id[level]], count[calendar, "METHOD"])
+    if (NUMBER == 9) say_counts(c, open_id[level], toupper(open_name[level]) ", begun in " where(open_id[level]) ",", !filled[open_id[level]], count[calendar, "METHOD"])
     else path()
 }
 
 # Where the place is: the components and the property round it.
 function path(k, s) {
-    for (k = 2; k <= level; k++) if (open_name[k] !~ /^(properties|components|parameters)$/) s = s (s == "" ? "" : ", in it ") open_name[k]
+    for (k = level; k > 1; k--) if (open_name[k] !~ /^(properties|components|parameters)$/) s = s (s == "" ? "" : " of ") open_name[k]
     if (s != "") tell("It stands in " s ".")
 }
 
@@ -674,6 +685,7 @@ function start_of_element(tag, text, p, t, f) {
     path()
     p = toupper(open_name[level])
     t = toupper(tag)
+    if (NUMBER == 7 && open_name[level] == "parameters" && t in is_parameter && toupper(open_name[level - 1]) in types && !index("," permitted[toupper(open_name[level - 1])] ",", "," t ",")) tell(tag " is not permitted on " open_name[level - 1] ".")
     if (NUMBER == 8 && open_name[level - 1] == "properties" && p in types && text !~ /&/) {
         if (t in is_type && !index("," types[p] ",", "," t ",")) f = open_name[level] " has the type " tolower(listing_of(types[p])) ", not " tag "."
         else if (t in is_type) f = property_fault(p, toupper(open_name[level - 2]), t, text, "xml")
@@ -730,9 +742,8 @@ function say_jcal(doc, i, c, s) {
             kind[++level] = c
             element[level] = 0
             open_id[level] = i
-            filled[i] = 0
             given[level, 0] = given[level, 2] = given[level, 3] = ""
-            if (c == "[" && element[level - 1] == 2 && kind[level - 1] == "[" && kind[level - 2] == "[") filled[open_id[level - 2]] = 1
+            if (element[level - 2] == 2 && kind[level - 1] == "[" && given[level - 2, 0] != "") filled[open_id[level - 2]] = 1
             if (i == PLACE + 1) wanted = level
         } else if (c == ",") element[level]++
         else if (c == "]" || c == "}") {
@@ -762,7 +773,7 @@ function end_of_component(c, k, m) {
     c = given[level, 0]
     if (c ~ /\\/ || vague[open_id[level]]) return
     for (k = level; k > 0; k--) if (given[k, 0] == "vcalendar") { m = count[open_id[k], "METHOD"]; break }
-    say_counts(toupper(c), open_id[level], "The " c " that begins at byte " (open_id[level] - 1), !has_inner[open_id[level]], m)
+    say_counts(toupper(c), open_id[level], toupper(c) ", begun in " where(open_id[level] - 1) ",", !filled[open_id[level]], m)
 }
 
 function say_array(p, t, f, k) {
