@@ -417,6 +417,7 @@ function lines_of(id, p, n) {
 
 # All that a COUNT can mean of the component; `who` says which one it is, `bare` whether it has no component in it, `method` whether the calendar has METHOD.
 function say_counts(component, id, who, bare, method, at, k, p, n, sign, u) {
+    if (!(component in column)) return
     at = column[component]
     u = action[id]
     if (component == "VALARM") {
