@@ -108,7 +108,9 @@ function schema(k, n, w) {
     words["RELATED"] = "START END"
     words["RELTYPE"] = "PARENT CHILD SIBLING"
     words["ROLE"] = "CHAIR REQ-PARTICIPANT OPT-PARTICIPANT NON-PARTICIPANT"
-    words["RSVP"] = "TRUE FALSE"
+    words["RSVP"] = "TRUE FALSE" # from here on none of the schema's sets
+    words["part of a rule"] = "FREQ UNTIL COUNT INTERVAL BYSECOND BYMINUTE BYHOUR BYDAY BYMONTHDAY BYYEARDAY BYWEEKNO BYMONTH BYSETPOS WKST"
+    words["FREQ"] = "SECONDLY MINUTELY HOURLY DAILY WEEKLY MONTHLY YEARLY"
 }
 
 # ---- words and lines for people
@@ -117,7 +119,7 @@ function tell(sentence) {
     print "    " sentence
 }
 
-function times(n, s, k) {
+function blanks(n, s, k) {
     for (k = 0; k < n; k++) s = s " "
     return s
 }
@@ -144,11 +146,20 @@ function letter(s, b, n, k, c, point) {
     }
     unit = n
     looks = substr(s, 1, n)
-    if (point < 160 || point >= 8203 && point <= 8207 || point >= 8232 && point <= 8238 || point >= 8294 && point <= 8297 || point == 65279 || point == 65534 || point == 65535) {
+    if (among(point, "128-159 8203-8207 8232-8238 8294-8297 65279-65279 65534-65535")) {
         looks = sprintf("<U+%04X>", point)
         wide = length(looks)
-    } else if (point >= 768 && point < 880 || point >= 8400 && point < 8448 || point >= 65024 && point < 65040) wide = 0
-    else if (point >= 4352 && point < 4448 || point >= 11904 && point < 42192 || point >= 44032 && point < 55204 || point >= 63744 && point < 64256 || point >= 65072 && point < 65136 || point >= 65280 && point < 65377 || point >= 127744 && point < 129792 || point >= 131072) wide = 2
+    } else if (among(point, "768-879 8400-8447 65024-65039")) wide = 0
+    else if (among(point, "4352-4447 11904-42191 44032-55203 63744-64255 65072-65135 65280-65376 127744-129791 131072-262143")) wide = 2
+}
+
+function among(x, ranges, n, range, k, end) {
+    n = split(ranges, range, " ")
+    for (k = 1; k <= n; k++) {
+        split(range[k], end, "-")
+        if (x >= end[1] + 0 && x <= end[2] + 0) return 1
+    }
+    return 0
 }
 
 # How s is shown; `columns` is what that takes.
@@ -173,6 +184,16 @@ function quote(s) {
     return "\"" visible(s) "\""
 }
 
+function quote_letter(s) {
+    letter(s)
+    return "\"" looks "\""
+}
+
+# A name as it is, anything else between quotes.
+function named(s) {
+    return s ~ /^[A-Za-z0-9-]+$/ ? s : quote(s)
+}
+
 # The line s, of a long one the part round its byte `at`; and under it a caret.
 function show(s, at, caret, from, to, front, back) {
     from = 1
@@ -186,7 +207,7 @@ function show(s, at, caret, from, to, front, back) {
     print "    " front visible(substr(s, from, at - from)) visible(substr(s, at, to - at + 1)) back
     nul = 0
     visible(substr(s, from, at - from))
-    if (caret) print "    " times(length(front) + columns) "^"
+    if (caret) print "    " blanks(length(front) + columns) "^"
 }
 
 function without_return(s) {
@@ -232,12 +253,15 @@ function mark() {
     return 1
 }
 
-function say_character(b) {
+function say_character() {
     if (BYTES ~ /^(0|1|7f)/) {
         tell("It is the control U+00" toupper(substr(BYTES, 1, 2)) ".")
         if (BYTES ~ /^00/ && SIZE > 3 && sniff()) return
     } else if (BYTES ~ /^efbfb[ef]/) tell("It is U+FFF" toupper(substr(BYTES, 6, 1)) ".")
-    else if (!sniff()) tell("The byte " toupper(substr(BYTES, 1, 2)) " is no letter of UTF-8 here. If the input is in another encoding, as Windows-1252, it must be changed to UTF-8 first.")
+    else if (!sniff()) {
+        tell("The byte " toupper(substr(BYTES, 1, 2)) " is no letter of UTF-8 here.")
+        tell("If the input is in another encoding, as Windows-1252, it must be changed to UTF-8 first.")
+    }
 }
 
 # ---- values: what is wrong with one of a type, spelled as in text or as in XML
@@ -292,9 +316,10 @@ function date_time_fault(v, form, s, due, f) {
         f = day_fault(v)
         return f == "" ? time_fault(substr(v, 9)) : f
     }
-    if (s == "99999999" || s == "9999-99-99") return "A DATE-TIME has a T and a time behind the day; a day alone has the type DATE" (form == "text" ? ": ;VALUE=DATE." : ".")
+    if (s == "99999999" || s == "9999-99-99")
+        return "A DATE-TIME has a T and a time behind the day; a day alone has the type DATE" (form == "text" ? ": ;VALUE=DATE." : ".")
     if (form == "text" && (s == "99999999999999" || s == "99999999999999Z")) return "The T between day and time is missing."
-    if (form == "text" && s ~ /^9999-99-99/ || form != "text" && s ~ /^99999999T?999999/) return "Here a DATE-TIME is written as " due "."
+    if (form == "text" ? s ~ /^9999-99-99/ : s ~ /^99999999T?999999/) return "Here a DATE-TIME is written as " due "."
     if (s ~ /^[9-]+T[9:]+[+-][9:]+$/) return "No offset may stand behind the time: Z says UTC, TZID names a time zone."
     if (s ~ /^[9-]+T99:?99Z?$/) return "The seconds are missing."
     if (s ~ /^[9-]+ [9:]+Z?$/) return "Between day and time stands a blank; it must be a T."
@@ -305,7 +330,7 @@ function duration_fault(v) {
     v = toupper(v)
     if (v !~ /^[+-]?P/) return "A DURATION begins with P, as PT1H or P1D."
     if (v ~ /Y/) return "A DURATION has weeks, or days, hours, minutes and seconds, but no years."
-    if (v ~ /^[+-]?P[0-9]+[HMS]/ || v ~ /^[+-]?P[0-9]+D[0-9]+[HMS]/) return "In a DURATION hours, minutes and seconds stand behind a T, as PT1H; there are no months."
+    if (v ~ /^[+-]?P([0-9]+D)?[0-9]+[HMS]/) return "In a DURATION hours, minutes and seconds stand behind a T, as PT1H; there are no months."
     if (v ~ /T[0-9]+H[0-9]+S$/) return "Between hours and seconds stand the minutes, as in PT1H0M5S."
     if (v ~ /T$/) return "Behind the T stands no time."
     if (v ~ /W./) return "Weeks stand alone, as P2W."
@@ -313,11 +338,12 @@ function duration_fault(v) {
 }
 
 function uri_fault(type, v, k, c) {
-    if (v !~ /^[A-Za-z][A-Za-z0-9+.-]*:/) return type == "CAL-ADDRESS" && v ~ /@/ ? "An address begins with mailto: before the name." : "A URI begins with a scheme and a colon, as https: or mailto:."
-    for (k = 1; (c = substr(v, k, 1)) != ""; k++) if (c !~ /[!-~]/ || index("\"<>\\^{|}`", c)) {
-        letter(substr(v, k))
-        return "A URI can't hold " (c == " " ? "a blank" : "\"" looks "\"") "."
+    if (v !~ /^[A-Za-z][A-Za-z0-9+.-]*:/) {
+        if (type == "CAL-ADDRESS" && v ~ /@/) return "An address is a URI: before a mailbox stands mailto:."
+        return "A URI begins with a scheme and a colon, as https: or mailto:."
     }
+    for (k = 1; (c = substr(v, k, 1)) != ""; k++)
+        if (c !~ /[!-~]/ || index("\"<>\\^{|}`", c)) return "A URI can't hold " (c == " " ? "a blank" : quote_letter(substr(v, k))) "."
     return ""
 }
 
@@ -343,9 +369,9 @@ function rule_fault(v, n, part, k, p, e, come) {
         e = index(part[k], "=")
         p = toupper(substr(part[k], 1, e - 1))
         if (!e) return "The part " quote(part[k]) " of the rule has no \"=\"."
-        if (index(" FREQ UNTIL COUNT INTERVAL BYSECOND BYMINUTE BYHOUR BYDAY BYMONTHDAY BYYEARDAY BYWEEKNO BYMONTH BYSETPOS WKST ", " " p " ") == 0) return "A rule has no part " quote(p) "."
+        if (!is_word(words["part of a rule"], p)) return "A rule has no part " quote(p) "."
         if (come[p]++) return "The part " p " comes a second time."
-        if (p == "FREQ" && index(" SECONDLY MINUTELY HOURLY DAILY WEEKLY MONTHLY YEARLY ", " " toupper(substr(part[k], e + 1)) " ") == 0) return "FREQ is SECONDLY, MINUTELY, HOURLY, DAILY, WEEKLY, MONTHLY or YEARLY."
+        if (p == "FREQ" && !is_word(words[p], toupper(substr(part[k], e + 1)))) return "FREQ is one of " listing(words[p]) "."
     }
     if (!come["FREQ"]) return "A rule has a FREQ."
     if (come["UNTIL"] && come["COUNT"]) return "A rule has UNTIL or COUNT, not both."
@@ -357,7 +383,8 @@ function text_fault(name, v, k, c) {
     for (k = 1; (c = substr(v, k, 1)) != ""; k++) {
         if (c == "\\") {
             c = substr(v, ++k, 1)
-            if (c == "" || index("\\;,nN", c) == 0) return "Behind a backslash stands " (c == "" ? "nothing" : quote(c)) "; a backslash by itself is written \\\\."
+            if (c == "") return "Behind the last backslash stands nothing; a backslash by itself is written \\\\."
+            if (!index("\\;,nN", c)) return "Behind a backslash stands " quote_letter(substr(v, k)) "; a backslash by itself is written \\\\."
         } else if (c == ";" && name != "REQUEST-STATUS") return "In TEXT a semicolon is written with a backslash before it; here one has none."
         else if (c == "," && !listed[name]) return "In TEXT a comma is written with a backslash before it; here one has none."
     }
@@ -379,7 +406,8 @@ function value_fault(name, type, v, form, k) {
     if (type == "RECUR" && form == "text") return rule_fault(v)
     if (type == "TEXT" && form == "text") return text_fault(name, v)
     if (type == "PERIOD" && form == "text" && v !~ /\//) return "A PERIOD is a start, a slash, and an end or a duration."
-    if (type == "BOOLEAN" && !is_word(form == "text" ? "TRUE FALSE" : "true false 1 0", form == "text" ? toupper(v) : v)) return "A BOOLEAN is " (form == "text" ? "TRUE or FALSE." : "true or false.")
+    if (type == "BOOLEAN" && form == "text" && !is_word("TRUE FALSE", toupper(v))) return "A BOOLEAN is TRUE or FALSE."
+    if (type == "BOOLEAN" && form != "text" && !is_word("true false 1 0", v)) return "A BOOLEAN is true or false."
     return ""
 }
 
@@ -392,11 +420,28 @@ function listing(set) {
     return set
 }
 
+function one_of(set) {
+    return " is " (set ~ / / ? "one of " : "") listing(set) "."
+}
+
+# Whether a property of the schema permits a type, a parameter.
+function permits(set, w) {
+    return index("," set ",", "," w ",") > 0
+}
+
+function type_fault(name, type, as) {
+    as = types[name]
+    gsub(/,/, " or ", as)
+    return name " has the type " as ", not " type "."
+}
+
 # What is wrong with the values of a property that stands in a component. VERSION of another edition is a usual slip.
 function property_fault(name, component, type, v, form, set, n, item, k, f) {
     set = name == "STATUS" ? words["STATUS of " component] : words[name]
-    if (name in signs && set != "" && !is_word(set, form == "text" ? toupper(v) : v))
-        return name (name == "STATUS" ? " of " component : "") " is " (set ~ / / ? "one of " : "") listing(set) (name == "VERSION" ? ": that is the version of iCalendar, here it is " quote(v) "." : ".")
+    if (name in signs && set != "" && !is_word(set, form == "text" ? toupper(v) : v)) {
+        if (name == "VERSION") return "VERSION is 2.0: that is the version of iCalendar, here it is " quote(v) "."
+        return name (name == "STATUS" ? " of " component : "") one_of(set)
+    }
     if (name == "GEO" && form == "text") return v ~ /;/ ? "" : "GEO is latitude;longitude, with a semicolon between them."
     if (type == "TEXT" || type == "RECUR" || !listed[name] || form != "text") return value_fault(name, type, v, form)
     n = split(v, item, ",")
@@ -429,21 +474,28 @@ function say_counts(component, id, who, bare, method, at, k, p, n, sign, u) {
         p = property[k]
         n = count[id, p] + 0
         sign = substr(signs[p], at, 1)
-        if (n == 0 && (sign == "1" || sign == "+" || p == "DTSTART" && component == "VEVENT" && !method)) tell(who " has no " p ".")
+        if (p == "DTSTART" && component == "VEVENT" && !method) sign = "1"
+        if (n == 0 && (sign == "1" || sign == "+")) tell(who " has no " p ".")
         if (n > 1 && (sign == "1" || sign == "?")) tell(who " has " p " " plural(n) lines_of(id, p, n) ". It may have one.")
         if (n > 0 && sign == ".") tell(who " has " p lines_of(id, p, n) ", which does not go with ACTION " u ".")
     }
-    if (component == "VEVENT" && count[id, "DTEND"] && count[id, "DURATION"]) tell(who " has both DTEND and DURATION. It may have one of them.")
-    if (component == "VTODO" && count[id, "DUE"] && count[id, "DURATION"]) tell(who " has both DUE and DURATION. It may have one of them.")
-    if (component == "VTODO" && count[id, "DURATION"] && !count[id, "DTSTART"]) tell(who " has DURATION without DTSTART.")
-    if (component == "VALARM" && count[id, "DURATION"] != count[id, "REPEAT"]) tell(who " has " (count[id, "DURATION"] ? "DURATION without REPEAT." : "REPEAT without DURATION."))
+    say_pairs(component, id, who)
     if (component == "VTIMEZONE" && bare) tell(who " has neither STANDARD nor DAYLIGHT.")
+}
+
+function say_pairs(component, id, who, duration) {
+    duration = count[id, "DURATION"]
+    if (component == "VEVENT" && duration && count[id, "DTEND"]) tell(who " has both DTEND and DURATION. It may have one of them.")
+    if (component == "VTODO" && duration && count[id, "DUE"]) tell(who " has both DUE and DURATION. It may have one of them.")
+    if (component == "VTODO" && duration && !count[id, "DTSTART"]) tell(who " has DURATION without DTSTART.")
+    if (component == "VALARM" && duration && !count[id, "REPEAT"]) tell(who " has DURATION without REPEAT.")
+    if (component == "VALARM" && !duration && count[id, "REPEAT"]) tell(who " has REPEAT without DURATION.")
 }
 
 # ---- iCalendar text
 
-# Takes the folds out: content[k] is the line k without them and its CR LF; first[k] its first line as it stands; content_of, ahead and skipped, of a line as it stands: whose it
-# is, what of that one comes before it, and whether its first byte is a fold's.
+# Takes the folds out: content[k] is the line k without them and its CR LF, first[k] its first line as it stands. Of a line as it stands, content_of says whose it
+# is, ahead what of that one comes before it, and skipped whether its first byte is a fold's.
 function unfold(i, s, cr, fold, open) {
     for (i = 1; i <= NR; i++) {
         s = line[i]
@@ -475,7 +527,7 @@ function parse(s, i, n, c, e) {
     parameters = 0
     n = begins_with_name(s)
     the_name = toupper(substr(s, 1, n))
-    if (!n) { grammar = "A line begins with a name; this one begins with " quote(substr(s, 1, 1)) "."; return }
+    if (!n) { grammar = "A line begins with a name; this one begins with " quote_letter(s) "."; return }
     for (i = n + 1; substr(s, i, 1) == ";";) {
         n = begins_with_name(substr(s, i + 1))
         if (!n) { grammar = "Behind a semicolon stands no parameter's name, but " quote(substr(s, i + 1)) "."; return }
@@ -501,16 +553,15 @@ function parse(s, i, n, c, e) {
         } while (substr(s, i, 1) == ",")
     }
     c = substr(s, i, 1)
-    value_at = i + 1
     the_value = substr(s, i + 1)
     if (c == ":") return
     if (c == "") grammar = "There is no colon before the value."
-    else if (parameters) grammar = "Behind a parameter's value stands " quote(c) "; there a comma, a semicolon or a colon is due."
-    else grammar = "A name has letters, digits and hyphens; behind " quote(substr(s, 1, i - 1)) " stands " quote(c) "."
+    else if (parameters) grammar = "Behind a parameter's value stands " quote_letter(substr(s, i)) "; there a comma, a semicolon or a colon is due."
+    else grammar = "A name has letters, digits and hyphens; behind " quote(substr(s, 1, i - 1)) " stands " quote_letter(substr(s, i)) "."
 }
 
 # Reads the lines before the line k: which components are open there, and what they have.
-function walk(k, i) {
+function walk(k, i, id) {
     for (i = 1; i < k; i++) {
         parse(content[i])
         if (the_name == "BEGIN") {
@@ -521,15 +572,15 @@ function walk(k, i) {
             filled[level] = 0
         } else if (the_name == "END") level--
         else {
-            count[open_id[level], the_name]++
-            seen[open_id[level], the_name] = seen[open_id[level], the_name] (seen[open_id[level], the_name] == "" ? "" : ", ") first[i]
-            if (the_name == "ACTION" && action[open_id[level]] == "") action[open_id[level]] = toupper(the_value)
+            id = open_id[level]
+            seen[id, the_name] = seen[id, the_name] (count[id, the_name]++ ? ", " : "") first[i]
+            if (the_name == "ACTION" && action[id] == "") action[id] = toupper(the_value)
         }
     }
 }
 
 function opened() {
-    return open_name[level] ", begun in line " open_line[level] ","
+    return named(open_name[level]) ", begun in line " open_line[level] ","
 }
 
 function say_line(k, lone, i) {
@@ -537,7 +588,8 @@ function say_line(k, lone, i) {
     if (bare[k]) {
         lone = 1
         for (i = 1; i <= NR; i++) if (line[i] ~ /\r$/) lone = 0
-        tell((lone ? "All lines end" : "Line " bare[k] " ends") " with LF alone. Lines of iCalendar text end with CR LF" (lone ? "; sed 's/$/\\r/' makes them so." : "."))
+        if (lone) tell("All lines end with LF alone. Lines of iCalendar text end with CR LF; sed 's/$/\\r/' makes them so.")
+        else tell("Line " bare[k] " ends with LF alone. Lines of iCalendar text end with CR LF.")
     } else if (content[k] ~ /\r/) tell("It holds a CR that no LF follows.")
     else if (!ended[k]) tell("The last line is not ended by CR LF.")
     else if (content[k] == "") tell("The line is empty.")
@@ -549,29 +601,32 @@ function say_line(k, lone, i) {
     }
 }
 
-function say_frame(k, parent, c) {
+function say_frame(parent, c) {
     if (sniff()) return
-    parent = open_name[level]
-    if (PLACE == SIZE) {
-        tell(SIZE == 0 ? "The input is empty." : level ? opened() " is still open: END:" parent " is missing." : "No calendar has come.")
-        return
-    }
-    c = toupper(the_value)
-    if (the_name == "END") tell(level ? "END:" parent " is due: " opened() " is open." : "Nothing is open that could end.")
+    parent = named(open_name[level])
+    c = named(toupper(the_value))
+    if (SIZE == 0) tell("The input is empty.")
+    else if (PLACE == SIZE) tell(level ? opened() " is still open: END:" parent " is missing." : "No calendar has come.")
+    else if (the_name == "END") tell(level ? "END:" parent " is due: " opened() " is open." : "Nothing is open that could end.")
     else if (!level) tell("No calendar is open. It begins with BEGIN:VCALENDAR.")
-    else if (the_name == "BEGIN") {
-        if (level > 8) tell("Components stand at most eight levels deep below VCALENDAR.")
-        else tell(c " may not stand in " parent (c == "VCALENDAR" || parent == c ? ": " opened() " is still open." : "."))
-    } else if (column[parent] && the_name in signs && (parent == "VALARM" ? substr(signs[the_name], 9) == "..." : substr(signs[the_name], column[parent], 1) == "."))
-        tell(the_name " may not stand in " parent (parent == "VTODO" && the_name == "DTEND" ? "; it has DUE instead." : "."))
+    else if (the_name == "BEGIN" && level > 8) tell("Components stand at most eight levels deep below VCALENDAR.")
+    else if (the_name == "BEGIN") tell(c " may not stand in " parent (c == "VCALENDAR" || parent == c ? ": " opened() " is still open." : "."))
+    else if (misplaced(the_name, parent)) tell(the_name " may not stand in " parent (parent == "VTODO" && the_name == "DTEND" ? "; it has DUE instead." : "."))
     else if (filled[level] && parent != "VTIMEZONE") tell("In " parent " the properties stand before the components.")
+}
+
+# A property of the schema that the component has not; of a VALARM, not with any ACTION.
+function misplaced(name, component) {
+    if (!(component in column) || !(name in signs)) return 0
+    return component == "VALARM" ? substr(signs[name], 9) == "..." : substr(signs[name], column[component], 1) == "."
 }
 
 # A parameter's value without quotes ends at a colon, and the value of the line begins there; only some values have a colon.
 function colon_fault(type) {
     if (!parameters || !plain[parameters]) return ""
     if (the_value !~ /^\/\// && (the_value !~ /:/ || the_value ~ /^[0-9T:+-]+Z?$/ || type ~ /^(TEXT|URI|CAL-ADDRESS|UNKNOWN)$/)) return ""
-    return "A parameter's value that has a colon stands between double quotes; without them " parameter[parameters] " is " quote(first_of[parameters]) ", and the line's value " quote(the_value) "."
+    return "A parameter's value that has a colon stands between double quotes; without them " \
+        parameter[parameters] " is " quote(first_of[parameters]) ", and the line's value " quote(the_value) "."
 }
 
 function say_parameter(u, j, i, p, f) {
@@ -584,12 +639,11 @@ function say_parameter(u, j, i, p, f) {
     else if (i < j) tell(p " comes a second time.")
     else if (p == "VALUE") {
         if (!(toupper(first_of[j]) in is_type)) tell("VALUE names no type: " quote(first_of[j]) ".")
-    }
-    else if (the_name in signs && p in is_parameter && !index("," permitted[the_name] ",", "," p ",")) tell(p " is not permitted on " the_name ".")
+    } else if (the_name in signs && p in is_parameter && !permits(permitted[the_name], p)) tell(p " is not permitted on " the_name ".")
     else if (f != "") tell(f)
     else if (p in is_quoted && plain[j]) tell("The value of " p " must stand between double quotes.")
     else if (p in is_parameter && amount[j] > 1 && !(p in is_listed)) tell(p " has one value; one with a comma stands between double quotes.")
-    else if (p in words && !is_word(words[p], toupper(first_of[j]))) tell(p " is " (words[p] ~ / / ? "one of " : "") listing(words[p]) ".")
+    else if (p in is_parameter && p in words && !is_word(words[p], toupper(first_of[j]))) tell(p one_of(words[p]))
     else if (p in is_quoted && (f = uri_fault(p == "ALTREP" || p == "DIR" ? "URI" : "CAL-ADDRESS", first_of[j])) != "") tell(f)
 }
 
@@ -598,20 +652,20 @@ function say_value(j, type, f) {
     sub(/,.*/, "", type)
     for (j = 1; j <= parameters; j++) if (parameter[j] == "VALUE") type = toupper(first_of[j])
     f = colon_fault(type)
-    if (f == "" && the_name in types && !index("," types[the_name] ",", "," type ",")) f = the_name " has the type " listing_of(types[the_name]) ", not " type "."
+    if (f == "" && the_name in types && !permits(types[the_name], type)) f = type_fault(the_name, type)
     if (f == "") f = property_fault(the_name, open_name[level], type, the_value, "text")
     if (f != "") tell(f)
 }
 
-function listing_of(set) {
-    gsub(/,/, " or ", set)
-    return set
+function off_name(n) {
+    return n ~ /^([0-9-]|XML)/
 }
 
-function say_name(i) {
-    if (the_name == "BEGIN") tell(quote(the_value) " can't be the name of a component.")
-    else if (the_name ~ /^([0-9-]|XML)/) tell("The name " quote(the_name) " begins with " (the_name ~ /^X/ ? "XML." : "\"" substr(the_name, 1, 1) "\"."))
-    else for (i = 1; i <= parameters; i++) if (parameter[i] ~ /^([0-9-]|XML)/) { tell("The parameter's name " quote(parameter[i]) " begins with " (parameter[i] ~ /^X/ ? "XML." : "\"" substr(parameter[i], 1, 1) "\".")); return }
+function say_name(i, n) {
+    if (the_name == "BEGIN") { tell(quote(the_value) " can't be the name of a component."); return }
+    n = the_name
+    for (i = 1; i <= parameters && !off_name(n); i++) n = parameter[i]
+    if (off_name(n)) tell("The name " quote(n) " begins with " (n ~ /^X/ ? "XML." : quote_letter(n) "."))
 }
 
 function say_text(k) {
@@ -620,7 +674,7 @@ function say_text(k) {
     walk(k)
     if (k <= contents) parse(content[k])
     if (NUMBER == 5) say_name()
-    if (NUMBER == 6) say_frame(k)
+    if (NUMBER == 6) say_frame()
     if (NUMBER == 7) say_parameter(ahead[at_line] + at_column - skipped[at_line])
     if (NUMBER == 8) say_value()
     if (NUMBER == 9) say_counts(open_name[level], open_id[level], opened(), !filled[level], count[open_id[1], "METHOD"])
@@ -634,12 +688,12 @@ function joined(i, s) {
 }
 
 # Reads the tags up to the place.
-function say_xml(doc, n, part, i, at, tag, text, e, shut, c) {
+function say_xml(doc, n, part, i, at, tag, text, e, shut) {
     doc = joined()
     if (NUMBER == 11) { say_markup(doc); return }
     n = split(doc, part, "<")
     at = length(part[1])
-    for (i = 2; i <= n && at < PLACE + 0 || i <= n && at == PLACE; i++) {
+    for (i = 2; i <= n && at <= PLACE; i++) {
         e = index(part[i], ">")
         tag = substr(part[i], 1, e - 1)
         text = substr(part[i], e + 1)
@@ -669,9 +723,10 @@ function open_element(tag, at, text, p) {
     if (level % 2 && tag == "text" && p == "action" && action[open_id[level - 3]] == "") action[open_id[level - 3]] = text
 }
 
-function end_of_element(c) {
+function end_of_element(c, id) {
     c = toupper(open_name[level])
-    if (NUMBER == 9) say_counts(c, open_id[level], toupper(open_name[level]) ", begun in " where(open_id[level]) ",", !filled[open_id[level]], count[calendar, "METHOD"])
+    id = open_id[level]
+    if (NUMBER == 9) say_counts(c, id, c ", begun in " where(id) ",", !filled[id], count[calendar, "METHOD"])
     else path()
 }
 
@@ -681,17 +736,22 @@ function path(k, s) {
     if (s != "") tell("It stands in " s ".")
 }
 
-function start_of_element(tag, text, p, t, f) {
+# The element of a parameter or a value.
+function start_of_element(tag, text, t, p) {
     level--
     path()
-    p = toupper(open_name[level])
     t = toupper(tag)
-    if (NUMBER == 7 && open_name[level] == "parameters" && t in is_parameter && toupper(open_name[level - 1]) in types && !index("," permitted[toupper(open_name[level - 1])] ",", "," t ",")) tell(tag " is not permitted on " open_name[level - 1] ".")
-    if (NUMBER == 8 && open_name[level - 1] == "properties" && p in types && text !~ /&/) {
-        if (t in is_type && !index("," types[p] ",", "," t ",")) f = open_name[level] " has the type " tolower(listing_of(types[p])) ", not " tag "."
-        else if (t in is_type) f = property_fault(p, toupper(open_name[level - 2]), t, text, "xml")
-        if (f != "") tell(f)
-    }
+    p = toupper(open_name[level - (open_name[level] == "parameters")])
+    if (!(p in types)) return
+    if (NUMBER == 7 && t in is_parameter && !permits(permitted[p], t)) tell(tag " is not permitted on " tolower(p) ".")
+    if (NUMBER != 8 || open_name[level] == "parameters" || !(t in is_type) || text ~ /&/) return
+    say_typed(p, toupper(open_name[level - 2]), t, text)
+}
+
+# A value of a property in a component.
+function say_typed(name, component, type, v, f) {
+    f = permits(types[name], type) ? property_fault(name, component, type, v, "xml") : tolower(type_fault(name, type))
+    if (f != "") tell(f)
 }
 
 function say_markup(doc, s) {
@@ -704,7 +764,8 @@ function say_markup(doc, s) {
     else if (s ~ /^<\?xml[ \t\r\n]/) tell("It is an XML declaration: version 1.0 and encoding utf-8 are read, at the input's start.")
     else if (s ~ /^<\?/) tell("It is a processing instruction.")
     else if (s ~ /^<\/?[A-Za-z0-9-]+:/) tell("Its name has a prefix.")
-    else if (s ~ /^<icalendar[ \t\r\n>]/ && substr(s, 1, index(s, ">")) !~ /"urn:ietf:params:xml:ns:icalendar-2\.0"|'urn:ietf:params:xml:ns:icalendar-2\.0'/) tell("The root must be <icalendar xmlns=\"urn:ietf:params:xml:ns:icalendar-2.0\">.")
+    else if (s ~ /^<icalendar[ \t\r\n>]/ && !index(substr(s, 1, index(s, ">")), "urn:ietf:params:xml:ns:icalendar-2.0"))
+        tell("The root must be <icalendar xmlns=\"urn:ietf:params:xml:ns:icalendar-2.0\">.")
     else if (s ~ /^&(amp|lt|gt|quot|apos);/ || s ~ /^&#/) return
     else if (s ~ /^&[A-Za-z][A-Za-z0-9]*;/) tell("XML has no entity " substr(s, 1, index(s, ";")) " of its own; write the letter itself.")
     else if (s ~ /^&/) tell("A bare & is written &amp;.")
@@ -714,7 +775,7 @@ function say_markup(doc, s) {
 function unclosed(doc, n, part, i, tag) {
     n = split(doc, part, "<")
     for (i = 2; i <= n; i++) {
-        if (index(part[i], ">") == 0) { tell("The tag <" quote(substr(part[i], 1, 20)) " is not closed by >."); return }
+        if (index(part[i], ">") == 0) { tell("The tag " quote("<" substr(part[i], 1, 20)) " is not closed by >."); return }
         tag = substr(part[i], 1, index(part[i], ">") - 1)
         if (tag ~ /^[?!]/ || tag ~ /\/$/) continue
         if (tag ~ /^\//) level--
@@ -729,7 +790,12 @@ function unclosed(doc, n, part, i, tag) {
 
 # ---- jCal
 
-# Reads the JSON up to the place. An array of an array that is the second element of a component is a property. Names with escapes are not taken apart.
+# What is open stands in an array, and that is the element n, counted from 0, of an array that begins with a name: a property with 1, a component with 2.
+function is_inner(n) {
+    return level > 2 && kind[level - 1] == "[" && element[level - 2] == n && given[level - 2, 0] != ""
+}
+
+# Reads the JSON up to the place, or the array that begins there. Names with escapes are not taken apart.
 function say_jcal(doc, i, c, s) {
     doc = joined()
     if (NUMBER == 12) { say_json(doc); return }
@@ -744,13 +810,13 @@ function say_jcal(doc, i, c, s) {
             element[level] = 0
             open_id[level] = i
             given[level, 0] = given[level, 2] = given[level, 3] = ""
-            if (element[level - 2] == 2 && kind[level - 1] == "[" && given[level - 2, 0] != "") filled[open_id[level - 2]] = 1
+            if (is_inner(2)) filled[open_id[level - 2]] = 1
             if (i == PLACE + 1) wanted = level
         } else if (c == ",") element[level]++
         else if (c == "]" || c == "}") {
             if (i == PLACE + 1 && NUMBER == 9) { end_of_component(); return }
             if (level == wanted) { say_array(); return }
-            if (level > 2 && kind[level] == "[" && element[level - 2] == 1 && kind[level - 1] == "[" && given[level - 2, 0] != "") count_property(open_id[level - 2])
+            if (is_inner(1)) count_property(open_id[level - 2])
             level--
         }
     }
@@ -769,24 +835,21 @@ function count_property(id, p) {
     if (p == "ACTION" && action[id] == "") action[id] = given[level, 3]
 }
 
-# A subcomponent's array is the third element's.
-function end_of_component(c, k, m) {
-    c = given[level, 0]
-    if (c ~ /\\/ || vague[open_id[level]]) return
-    for (k = level; k > 0; k--) if (given[k, 0] == "vcalendar") { m = count[open_id[k], "METHOD"]; break }
-    say_counts(toupper(c), open_id[level], toupper(c) ", begun in " where(open_id[level] - 1) ",", !filled[open_id[level]], m)
+function end_of_component(c, id, k) {
+    c = toupper(given[level, 0])
+    id = open_id[level]
+    for (k = level; k > 1 && given[k, 0] != "vcalendar"; k--);
+    if (c !~ /\\/ && !vague[id] && !vague[open_id[k]]) say_counts(c, id, c ", begun in " where(id - 1) ",", !filled[id], count[open_id[k], "METHOD"])
 }
 
-function say_array(p, t, f, k) {
+function say_array(p, t, k) {
     p = toupper(given[level, 0])
     t = toupper(given[level, 2])
     for (k = level - 1; k > 0 && (kind[k] != "[" || given[k, 0] == ""); k--);
     if (p == "" || p ~ /\\/) return
     tell("It is " quote(given[level, 0]) (k > 0 ? " of " quote(given[k, 0]) "." : "."))
-    if (NUMBER != 8 || !(p in types) || element[level] != 3 || given[level, 3] ~ /\\/) return
-    if (t in is_type && !index("," types[p] ",", "," t ",")) f = tolower(p) " has the type " tolower(listing_of(types[p])) ", not " tolower(t) "."
-    else if (t in is_type && given[level, 3] != "") f = property_fault(p, toupper(given[k, 0]), t, given[level, 3], "jcal")
-    if (f != "") tell(f)
+    if (NUMBER != 8 || !(p in types) || !(t in is_type) || element[level] != 3 || given[level, 3] ~ /\\/) return
+    if (given[level, 3] != "" || !permits(types[p], t)) say_typed(p, toupper(given[k, 0]), t, given[level, 3])
 }
 
 function say_json(doc, c, before) {
@@ -825,14 +888,12 @@ BEGIN {
 END {
     ends = NR > 0 && total == SIZE
     total += 0
+    whose = ENVIRON["PROGRAM"] ": " ENVIRON["LABEL"] ": "
     refusal = "refused, " NUMBER " " meaning[NUMBER]
-    if (NUMBER == 1 || NUMBER == 2 || NUMBER == 10 || NUMBER == 13) {
-        print ENVIRON["PROGRAM"] ": " ENVIRON["LABEL"] ": " refusal
-        exit
-    }
+    if (NUMBER == 1 || NUMBER == 2 || NUMBER == 10 || NUMBER == 13) { print whose refusal; exit }
     for (at_line = 1; at_line <= NR && start[at_line] + length(line[at_line]) < PLACE; at_line++);
     at_column = PLACE - (at_line > NR ? total : start[at_line]) + 1
-    print ENVIRON["PROGRAM"] ": " ENVIRON["LABEL"] ": line " at_line ", column " at_column " (in bytes)" (PLACE == SIZE ? ", the end of the input" : "") ": " refusal
+    print whose "line " at_line ", column " at_column " (in bytes)" (PLACE == SIZE ? ", the end of the input" : "") ": " refusal
     if (KIND == "text") unfold()
     show_place()
     if (NUMBER == 3) say_character()
