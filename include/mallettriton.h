@@ -1,8 +1,9 @@
 /* Mallettriton for C: iCalendar text (RFC 5545) to xCal (RFC 6321) or jCal (RFC 7265) and back, on buffers that the caller lends.
  *
- * Link target/staticlib/libmallettriton.a, which `rt staticlib mallettriton` writes (x86-64 Linux); for mallettriton_to_xml_folded
- * libmallettriton_folded.a, which `rt staticlib mallettriton_folded` writes. The library allocates nothing,
- * keeps nothing between calls and makes no system call. docs/FORMAT.md says what is accepted and what is written.
+ * Link libmallettriton.a (x86-64 Linux), for mallettriton_to_xml_folded libmallettriton_folded.a. An installed release has both, and
+ * `pkg-config --cflags --libs mallettriton` names them; in the repository `rt staticlib mallettriton` and `rt staticlib mallettriton_folded` write
+ * them to target/staticlib. The library allocates nothing, keeps nothing between calls and makes no system call. docs/FORMAT.md says what is
+ * accepted and what is written, examples/c/convert.c is a whole program.
  *
  * A buffer is a pointer and a length in bytes. What is proved holds if each pointer is to that many bytes which can be read (those of
  * the work room and the output written too) and whose contents are set, no pointer is null, not even of an empty buffer, and
@@ -76,7 +77,8 @@ enum mallettriton_number {
     MALLETTRITON_EDITION = 13   /* an edition other than 0 and 1                          value: 0                             */
 };
 
-/* An answer is one number: its number times 4294967296, and its value, which is below 4294967296. */
+/* An answer is one number: its number times 4294967296, and its value, which is below 4294967296. A caller that meets a number which is not above
+ * has a library of another version, and should say so and go no further. */
 #define MALLETTRITON_NUMBER(answer) ((unsigned)((uint64_t)(answer) >> 32))
 #define MALLETTRITON_VALUE_OF(answer) ((size_t)((uint64_t)(answer) & 0xffffffffu))
 
