@@ -121,7 +121,7 @@ install() {
     done < "$room/before"
     cat "$room/files" "$room/folders" > "$manifest"
     chmod 644 "$manifest"
-    say "installed @VERSION@ below $to. To remove it: sh $prefix/share/mallettriton/install.sh --uninstall --prefix $prefix"
+    say "installed @VERSION@ below $to. To remove it: sh '$prefix/share/mallettriton/install.sh' --uninstall --prefix '$prefix'"
 }
 
 uninstall() {
