@@ -1,0 +1,55 @@
+-- A log: the XML of accepted calls, of any editions, one after another.
+--     Logged              a call and the edition that it names;   isLogged: it is accepted;   xmlIn: what it gives;   logOf: the log of a list of such calls
+--     first-document      the first document of a log ends where the first call's XML ends, whatever follows
+--     log-splits          a log is split into exactly the calls' XML, in order, and nothing is left
+--     log-cut-splits      the same of a log that was cut off in its last document: the part of that is left
+-- Lent buffers may hold any bytes before a call.
+use mathlib.Core.Path.{_≡_, refl, sym, ap, _∙_}
+use mathlib.Core.Bool.{Bool, true, false}
+use mathlib.Core.List.{List, [], _∷_, map}
+use mathlib.Core.Option.{Option, none, some}
+use Prim.Native.Nat.{ℕ, _<_}
+use native.Mathlib.Omega.{arith}
+use lib.ListN.{length, take, drop, take-append-drop, length-take}
+use Rattle.octets.specs.Append.{_⊕_, joined}
+use Rattle.octets.specs.laws.Append.{append-is, append-none}
+use Rattle.octets.specs.Lists.{every}
+use Rattle.octets.specs.laws.Lists.{every-both}
+use Rattle.octets.specs.Many.{ok}
+use Rattle.edition.specs.declared.Edition.{Edition}
+use Rattle.documents.specs.Log.{documentEnd, documents}
+use Rattle.documents.specs.laws.Splitting.{AllWhole, documents-split, end-cut}
+use Rattle.theorems.specs.Calls.{Call, isAccepted, xmlOf}
+use Rattle.theorems.specs.laws.Calls.{given}
+use Rattle.theorems.specs.laws.Log.{document-end}
+
+pub record Logged : Type 0 where
+  pub edition : Edition
+  pub call : Call
+
+abbrev pub isLogged : Logged → Bool
+isLogged k = isAccepted (k .edition) (k .call)
+
+abbrev pub xmlIn : Logged → List ℕ
+xmlIn k = xmlOf (k .edition) (k .call)
+
+abbrev pub logOf : List Logged → List ℕ
+logOf ks = joined (map xmlIn ks)
+
+pub first-document : (k : Logged) (more : List ℕ) → isLogged k ≡ true → documentEnd (xmlIn k ⊕ more) ≡ some (length (xmlIn k))
+first-document k more h = let g = given (k .edition) (k .call) h in rw (g .xml) (document-end (k .edition) (g .calendar) more (g .valid))
+
+all-whole : (ks : List Logged) → every isLogged ks ≡ true → AllWhole (map xmlIn ks)
+all-whole [] h = tt
+all-whole (k ∷ ks) h = let q = every-both isLogged k ks h in (λ more. first-document k more (q .0), all-whole ks (q .1))
+
+pub log-splits : (ks : List Logged) → every isLogged ks ≡ true → documents (logOf ks) ≡ ok (map xmlIn ks) []
+unfolding documentEnd
+log-splits ks h = ap documents (sym (append-none (logOf ks))) ∙ documents-split (map xmlIn ks) [] (all-whole ks h) refl
+
+pub log-cut-splits : (ks : List Logged) (k : Logged) (n : ℕ) → every isLogged ks ≡ true → isLogged k ≡ true → n < length (xmlIn k) →
+    documents (logOf ks ⊕ take n (xmlIn k)) ≡ ok (map xmlIn ks) (take n (xmlIn k))
+log-cut-splits ks k n h j l =
+    let e : documentEnd (take n (xmlIn k) ⊕ drop n (xmlIn k)) ≡ some (length (xmlIn k)) =
+        ap documentEnd (append-is (take n (xmlIn k)) (drop n (xmlIn k)) ∙ take-append-drop n (xmlIn k) ∙ sym (append-none (xmlIn k))) ∙ first-document k [] j in
+    documents-split (map xmlIn ks) (take n (xmlIn k)) (all-whole ks h) (end-cut (take n (xmlIn k)) (drop n (xmlIn k)) (length (xmlIn k)) e (omega (arith, length-take n (xmlIn k), l)))
