@@ -1,4 +1,8 @@
 // A log, that is the XML of calls one after another: where its first document ends. See specs/Log.antt.
+mod pieces;
+
+pub use pieces::Searched;
+pub use pieces::search_piece;
 use xml::starts_at;
 ghost use mathlib.Core.Path.{_≡_};
 ghost use Rattle.octets.specs.Reading.{readOr};

@@ -45,7 +45,7 @@ dataInFront (charData s next) may = may and dataInFront next may
 abbrev pub Passed : List ℕ → List ℕ → Type 0
 Passed a r = documentEnd (a ⊕ r) ≡ ahead (length a) (documentEnd r)
 
-passed-none : (r : List ℕ) → Passed [] r
+pub passed-none : (r : List ℕ) → Passed [] r
 passed-none r = ap documentEnd (append-empty r) ∙ sym (ahead-none (documentEnd r))
 
 passed-both : (a b r : List ℕ) → Passed a (b ⊕ r) → Passed b r → Passed (a ⊕ b) r
@@ -53,13 +53,13 @@ passed-both a b r p q =
     ap documentEnd (append-regroup a b r) ∙ p ∙ ap (ahead (length a)) q ∙ ahead-twice (length a) (length b) (documentEnd r)
     ∙ ap (λ (n : ℕ). ahead n (documentEnd r)) (sym (length-both a b))
 
-passed-byte : (b : ℕ) (a r : List ℕ) → starts documentClose (b ∷ (a ⊕ r)) ≡ false → Passed a r → Passed (b ∷ a) r
+pub passed-byte : (b : ℕ) (a r : List ℕ) → starts documentClose (b ∷ (a ⊕ r)) ≡ false → Passed a r → Passed (b ∷ a) r
 passed-byte b a r h p =
     ap documentEnd (append-cons b a r) ∙ end-later b (a ⊕ r) h ∙ ap (ahead 1) p ∙ ahead-twice 1 (length a) (documentEnd r)
     ∙ ap (λ (n : ℕ). ahead n (documentEnd r)) (omega arith)
 
 -- no document's end begins with another byte than `<`
-no-close : (b : ℕ) (s : List ℕ) → eqb 60 b ≡ false → starts documentClose (b ∷ s) ≡ false
+pub no-close : (b : ℕ) (s : List ℕ) → eqb 60 b ≡ false → starts documentClose (b ∷ s) ≡ false
 unfolding starts
 no-close b s h = and-no-left (eqb 60 b) _ h
 
