@@ -20,8 +20,8 @@ extern "C" {
 #endif
 
 /* The version of these declarations: it grows where a call changes or is added. 2: both calls take an edition. 3: jCal. 4: to XML
- * with no work room. */
-#define MALLETTRITON_VERSION 4
+ * with no work room. 5: the end of a log's first document. */
+#define MALLETTRITON_VERSION 5
 
 /* Editions of iCalendar text: RFC 5545 alone; with the carets of RFC 6868 in values of parameters. */
 #define MALLETTRITON_RFC_5545 0u
@@ -134,6 +134,20 @@ uint64_t mallettriton_to_text(const uint8_t *input, size_t input_length,
  */
 uint64_t mallettriton_jcal_to_text(const uint8_t *input, size_t input_length,
                                    uint8_t *out, size_t out_length, uint32_t edition);
+
+/* Finds the end of the first document of a log, that is of the XML that calls to XML wrote, one after another: how many bytes the document has. It is 0 where
+ * no document ends in the bytes that are lent, as in an empty log, or where the last document was cut off. So
+ *
+ *     while ((n = mallettriton_document_end(log, length)) != 0) { ...; log += n; length -= n; }
+ *
+ * meets exactly the documents of a log, in order, and leaves 0 bytes of it, or the part of a document that was cut off; that is proved for whatever texts were
+ * accepted, in any editions. On other bytes the answer is the place behind the first `</icalendar>` that a line feed follows.
+ *
+ *   log, log_length   the log; it is not changed. It may have any length
+ *
+ * It reads each byte twice at most, and takes next to no stack.
+ */
+size_t mallettriton_document_end(const uint8_t *log, size_t log_length);
 
 #ifdef __cplusplus
 }

@@ -18,7 +18,7 @@
 //!
 //! [`to_xml`], [`to_jcal`], [`to_text`] and [`jcal_to_text`] take a slice and give a `Vec`. [`to_xml_into`], [`to_jcal_into`], [`to_text_into`] and [`jcal_to_text_into`] work on
 //! buffers that the caller lends, allocate nothing, and tell the exact length that an output which is too short would need. [`to_xml_folded`] and [`to_xml_folded_into`] answer what `to_xml`
-//! does, with no work room: they are slower, and need little stack. `docs/FORMAT.md` of the repository says what is accepted and what is written.
+//! does, with no work room: they are slower, and need little stack. [`documents`] splits a log of XML into its documents. `docs/FORMAT.md` of the repository says what is accepted and what is written.
 //!
 //! # What is proved, and what is not
 //!
@@ -38,6 +38,9 @@
 //! The library keeps nothing between calls: any number of threads may call it at once.
 #![deny(missing_docs)]
 
+mod log;
+
+pub use log::{document_end, documents, Documents, Left};
 use std::error::Error;
 use std::fmt;
 
