@@ -3,12 +3,15 @@
 --     documentClose       what a document ends with
 --     documentEnd log     how many bytes there are to the end of the first document: up to the first documentClose, and with it; none where it does not occur
 --     documents log       the documents, first to last, and the bytes that are left behind them
+--     Whole d             d is a document whatever follows it;   AllWhole: each of a list
+use mathlib.Core.Path.{_≡_}
 use mathlib.Core.List.{List, [], _∷_}
 use mathlib.Core.Option.{Option, none, some}
 use Prim.Native.Nat.{ℕ, _+_}
 use lib.ListN.{length, take, drop}
 use Rattle.octets.specs.Ascii.{ascii}
 use Rattle.octets.specs.Pick.{pick}
+use Rattle.octets.specs.Append.{_⊕_}
 use Rattle.octets.specs.Words.{starts}
 use Rattle.octets.specs.Many.{One, got, All, many}
 use Rattle.octets.specs.Many as items
@@ -43,3 +46,11 @@ firstDocument s = cutBy (documentEnd s) s
 
 unfoldable pub documents : List ℕ → All (List ℕ)
 documents log = many firstDocument log
+
+-- whatever follows it, a document ends where it ends
+abbrev pub Whole : List ℕ → Type 0
+Whole d = (more : List ℕ) → documentEnd (d ⊕ more) ≡ some (length d)
+
+abbrev pub AllWhole : List (List ℕ) → Type 0
+AllWhole [] = Unit {0}
+AllWhole (d ∷ ds) = Whole d × AllWhole ds

@@ -5,16 +5,15 @@ use documents::Searched;
 use documents::search_piece;
 use libc::STDIN_FILENO;
 use libc::STDOUT_FILENO;
-ghost use Prim.Native.Nat.{_+_, _*_, _^_, _≤_, _<_};
+ghost use Prim.Native.Nat.{_^_, _≤_, _<_};
 ghost use lib.ListN.{length};
+ghost use Rattle.documents.specs.Pieces.{Kept, KeptSome};
 
-// The bytes of a piece, and how many pieces are read at most.
-const PIECE: u64 = 65536;
-
+// How many pieces of 65,536 bytes are read at most.
 const PIECES: u64 = 70368744177664;
 
-// How far the log is searched: whether there was more of it; how many bytes of a document's end have come (crate documents, specs/Pieces.antt); where the
-// document begins in which the search stands; where the search stands.
+// How far the log is searched: whether there was more of it; how many bytes of a document's end have come; where the document begins in which the search
+// stands; where the search stands. (`Reached` of crate documents, specs/Pieces.antt)
 struct Search {
     more: bool,
     come: usize,
@@ -33,7 +32,7 @@ fn say(from: u64, to: u64, end: &[u8]) {
 // A piece searched: a line for each document that ends in it.
 fn search_ends(s: &[u8], come: usize, start: u64, at: u64) -> Search
     requires { ⌜ (come < 13) × (length (now s) ≤ 65536) × (at ≤ 2 ^ 62) ⌝ }
-    ensures { λ r. ⌜ (r .come < 13) × (r .at ≤ at + 65536) ⌝ }
+    ensures { λ r. ⌜ Kept (now (s .entry)) come start at (r .come) (r .start) (r .at) ⌝ }
 {
     let mut i = 0;
     let mut k = come;
@@ -48,17 +47,27 @@ fn search_ends(s: &[u8], come: usize, start: u64, at: u64) -> Search
                 from = to;
             }
             Searched::Open(j) => {
-                return Search { more: true, come: j, start: from, at: at + s.len() as u64 };
+                return Search {
+                    more: true,
+                    come: j,
+                    start: from,
+                    at: at + s.len() as u64,
+                };
             }
         }
     }
-    Search { more: 0 < s.len(), come: k, start: from, at: at + s.len() as u64 }
+    Search {
+        more: 0 < s.len(),
+        come: k,
+        start: from,
+        at: at + s.len() as u64,
+    }
 }
 
-// One piece more.
+// One piece more, whichever bytes it has.
 fn search_more(come: usize, start: u64, at: u64) -> Search
     requires { ⌜ (come < 13) × (at ≤ 2 ^ 62) ⌝ }
-    ensures { λ r. ⌜ (r .come < 13) × (r .at ≤ at + 65536) ⌝ }
+    ensures { λ r. ⌜ KeptSome come start at (r .come) (r .start) (r .at) ⌝ }
 {
     let mut piece = io::large_buffer();
     let n = io::read_full(STDIN_FILENO, &mut piece);

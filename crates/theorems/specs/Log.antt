@@ -17,8 +17,8 @@ use Rattle.octets.specs.Lists.{every}
 use Rattle.octets.specs.laws.Lists.{every-both}
 use Rattle.octets.specs.Many.{ok}
 use Rattle.edition.specs.declared.Edition.{Edition}
-use Rattle.documents.specs.Log.{documentEnd, documents}
-use Rattle.documents.specs.laws.Splitting.{AllWhole, documents-split, end-cut}
+use Rattle.documents.specs.Log.{documentEnd, documents, AllWhole}
+use Rattle.documents.specs.laws.Splitting.{documents-split, end-cut}
 use Rattle.theorems.specs.Calls.{Call, isAccepted, xmlOf}
 use Rattle.theorems.specs.laws.Calls.{given}
 use Rattle.theorems.specs.laws.Log.{document-end}
@@ -51,5 +51,5 @@ pub log-cut-splits : (ks : List Logged) (k : Logged) (n : ℕ) → every isLogge
     documents (logOf ks ⊕ take n (xmlIn k)) ≡ ok (map xmlIn ks) (take n (xmlIn k))
 log-cut-splits ks k n h j l =
     let e : documentEnd (take n (xmlIn k) ⊕ drop n (xmlIn k)) ≡ some (length (xmlIn k)) =
-        ap documentEnd (append-is (take n (xmlIn k)) (drop n (xmlIn k)) ∙ take-append-drop n (xmlIn k) ∙ sym (append-none (xmlIn k))) ∙ first-document k [] j in
+    ap documentEnd (append-is (take n (xmlIn k)) (drop n (xmlIn k)) ∙ take-append-drop n (xmlIn k) ∙ sym (append-none (xmlIn k))) ∙ first-document k [] j in
     documents-split (map xmlIn ks) (take n (xmlIn k)) (all-whole ks h) (end-cut (take n (xmlIn k)) (drop n (xmlIn k)) (length (xmlIn k)) e (omega (arith, length-take n (xmlIn k), l)))

@@ -3,28 +3,30 @@
 --     Searching            the invariant of the loop over a piece;   searching: its start, its turn, its ends
 use mathlib.Core.Path.{_≡_, refl, sym, ap, _∙_}
 use mathlib.Core.Bool.{Bool, true, false, false≢true}
-use mathlib.Core.List.{List, [], _∷_}
+use mathlib.Core.List.{List, [], _∷_, _++_, append-nil, append-assoc}
 use mathlib.Core.Option.{Option, none, some}
 use Prim.Native.Nat.{ℕ, zero, suc, _+_, _-_, _≤_, _<_}
 use native.Mathlib.Nat.{add-zero}
 use native.Mathlib.Omega.{arith}
 use lib.Dec.{eqb}
-use lib.ListN.{length, getD, take, drop, length-take, drop-of-length-le, take-append-drop}
+use lib.ListN.{length, getD, take, drop, length-take, length-drop, drop-of-length-le, take-append-drop}
+use lib.Seq.{take-length}
 use borrow.Author.Needs.{needs}
 use borrow.Author.Tests.{eq-eqb, eqb-true}
 use Rattle.octets.specs.Ascii.{ascii}
 use Rattle.octets.specs.Pick.{pick, _and_, _or_}
 use Rattle.octets.specs.laws.Pick.{pick-either, eqb-swap}
-use Rattle.octets.specs.Append.{_⊕_}
-use Rattle.octets.specs.laws.Append.{append-is, append-empty, append-none, append-cons, append-regroup}
+use Rattle.octets.specs.Append.{_⊕_, joined}
+use Rattle.octets.specs.laws.Append.{append-is, append-empty, append-none, append-cons, append-regroup, length-both}
 use Rattle.octets.specs.laws.Scan.{drop-next}
 use Rattle.octets.specs.Words.{starts, holds}
 use Rattle.octets.specs.laws.Words.{holds-split}
 use Rattle.octets.specs.Computing.{octets-compute}
-use Rattle.documents.specs.Log.{documentClose, ahead, documentEnd}
-use Rattle.documents.specs.Pieces.{further, Ended, Opened}
-use Rattle.documents.specs.laws.Log.{ahead-none, ahead-twice, end-here, end-later}
+use Rattle.documents.specs.Log.{documentClose, ahead, documentEnd, documents, Whole, AllWhole}
+use Rattle.documents.specs.Pieces.{further, Ended, Opened, Reached, Kept}
+use Rattle.documents.specs.laws.Log.{ahead-none, ahead-twice, end-later, end-inside}
 use Rattle.documents.specs.laws.Passed.{Passed, passed-none, passed-byte, no-close, plain-passed}
+use Rattle.documents.specs.laws.Splitting.{documents-split, end-longer, end-shorter}
 
 -- ---- the front of documentClose
 
@@ -88,11 +90,11 @@ turn-same j b h e = record {
   before = 0;
   counts = omega arith;
   left = λ r.
-    ap (λ (x : ℕ). documentEnd (take j documentClose ⊕ (x ∷ r))) e
-    ∙ ap (λ (l : List ℕ). documentEnd (take j documentClose ⊕ l)) (sym (append-cons (getD documentClose j 0) [] r ∙ ap (λ (l : List ℕ). getD documentClose j 0 ∷ l) (append-empty r)))
-    ∙ ap documentEnd (sym (append-regroup (take j documentClose) (getD documentClose j 0 ∷ []) r))
-    ∙ ap (λ (l : List ℕ). documentEnd (l ⊕ r)) (sym (front-more documentClose j h))
-    ∙ sym (ahead-none _);
+      ap (λ (x : ℕ). documentEnd (take j documentClose ⊕ (x ∷ r))) e
+      ∙ ap (λ (l : List ℕ). documentEnd (take j documentClose ⊕ l)) (sym (append-cons (getD documentClose j 0) [] r ∙ ap (λ (l : List ℕ). getD documentClose j 0 ∷ l) (append-empty r)))
+      ∙ ap documentEnd (sym (append-regroup (take j documentClose) (getD documentClose j 0 ∷ []) r))
+      ∙ ap (λ (l : List ℕ). documentEnd (l ⊕ r)) (sym (front-more documentClose j h))
+      ∙ sym (ahead-none _);
 }
 
 front-length : (j : ℕ) → j < 13 → length (take j documentClose) ≡ j
@@ -153,11 +155,11 @@ module _ (k : ℕ) (s : List ℕ) where
         before = t .before + u .before;
         counts = rw e (omega (arith, t .counts, u .counts));
         left = λ more.
-          t .left more
-          ∙ ap (λ (x : List ℕ). ahead (t .before) (documentEnd (take j documentClose ⊕ x))) (piece-next i h more)
-          ∙ ap (ahead (t .before)) (u .left (drop (i + 1) s ⊕ more))
-          ∙ ahead-twice (t .before) (u .before) _
-          ∙ rw e;
+            t .left more
+            ∙ ap (λ (x : List ℕ). ahead (t .before) (documentEnd (take j documentClose ⊕ x))) (piece-next i h more)
+            ∙ ap (ahead (t .before)) (u .left (drop (i + 1) s ⊕ more))
+            ∙ ahead-twice (t .before) (u .before) _
+            ∙ rw e;
       }
     where
       ne-lt : (a b : ℕ) → (a ≡ b → ⊥) → a ≤ b → a < b
@@ -171,11 +173,11 @@ module _ (k : ℕ) (s : List ℕ) where
         inside = omega arith;
         some-bytes = omega arith;
         end =
-          ap (λ (x : List ℕ). documentEnd (take k documentClose ⊕ x)) (sym (append-none s))
-          ∙ t .left []
-          ∙ ap (λ (x : List ℕ). ahead (t .before) (documentEnd (take j documentClose ⊕ x))) (piece-next i h [])
-          ∙ ap (ahead (t .before)) (u .1)
-          ∙ ap some (omega (arith, t .counts, u .0));
+            ap (λ (x : List ℕ). documentEnd (take k documentClose ⊕ x)) (sym (append-none s))
+            ∙ t .left []
+            ∙ ap (λ (x : List ℕ). ahead (t .before) (documentEnd (take j documentClose ⊕ x))) (piece-next i h [])
+            ∙ ap (ahead (t .before)) (u .1)
+            ∙ ap some (omega (arith, t .counts, u .0));
       }
 
   pub searching-over : (i j : ℕ) → Searching k s i j → length s ≤ i → Opened k s j
@@ -187,3 +189,153 @@ module _ (k : ℕ) (s : List ℕ) where
   }
 
 pub ruleset searching = (searching-start, searching-more, searching-end, searching-over, needs)
+
+-- ---- piece by piece
+
+joined-last : (ds : List (List ℕ)) (d : List ℕ) → joined (ds ⊕ (d ∷ [])) ≡ joined ds ⊕ d
+unfolding joined _⊕_
+joined-last [] d = append-nil d
+joined-last (x ∷ ds) d = ap (λ (l : List ℕ). x ++ l) (joined-last ds d) ∙ sym (append-assoc x (joined ds) d)
+
+whole-last : (ds : List (List ℕ)) (d : List ℕ) → AllWhole ds → Whole d → AllWhole (ds ⊕ (d ∷ []))
+unfolding _⊕_
+whole-last [] d a w = (w, tt)
+whole-last (x ∷ ds) d a w = (a .0, whole-last ds d (a .1) w)
+
+take-empty : (n : ℕ) → take {A = ℕ} n [] ≡ []
+take-empty zero = refl
+take-empty (suc n) = refl
+
+take-more : (i n : ℕ) (s : List ℕ) → take (i + n) s ≡ take i s ⊕ take n (drop i s)
+unfolding _⊕_
+take-more zero n s = let q : 0 + n ≡ n = omega arith in rw q
+take-more (suc i) n [] = rw (take-empty (suc i + n), take-empty n)
+take-more (suc i) n (x ∷ s) = let q : suc i + n ≡ suc (i + n) = omega arith in rw q (ap (λ (l : List ℕ). x ∷ l) (take-more i n s))
+
+-- part of documentClose ends no document
+front-open : (j : ℕ) → j < 13 → documentEnd (take j documentClose) ≡ none
+front-open j h = go (documentEnd (take j documentClose)) refl
+  where
+    go : (o : Option ℕ) → documentEnd (take j documentClose) ≡ o → o ≡ none
+    go none e = refl
+    go (some n) e = let k = end-inside (take j documentClose) n e in absurd (omega (arith, k .0, k .1, front-length j h))
+
+pub reached-none : Reached [] 0 0 0
+unfolding joined _⊕_ documentEnd
+reached-none = record {
+  whole = [];
+  left = [];
+  split = documents-split [] [] tt refl;
+  parts = refl;
+  each = tt;
+  begins = refl;
+  long = refl;
+  small = omega arith;
+  before = 0;
+  counts = refl;
+  next = λ more. sym (ahead-none (documentEnd more));
+}
+
+module _ {l : List ℕ} {k from at : ℕ} (t : Reached l k from at) where
+  -- a piece in which no document ends
+  pub reached-open : (s : List ℕ) (j : ℕ) → Opened k s j → Reached (l ⊕ s) j from (at + length s)
+  unfolding ahead
+  reached-open s j o =
+      let e : documentEnd (t .left ⊕ s) ≡ none =
+      t .next s
+      ∙ ap (ahead (t .before)) (ap (λ (x : List ℕ). documentEnd (take k documentClose ⊕ x)) (sym (append-none s)) ∙ o .left [] ∙ ap (ahead (o .before)) (ap documentEnd (append-none (take j documentClose)) ∙ front-open j (o .small))) in
+      let p : joined (t .whole) ⊕ (t .left ⊕ s) ≡ l ⊕ s = sym (append-regroup (joined (t .whole)) (t .left) s) ∙ ap (λ (x : List ℕ). x ⊕ s) (t .parts) in
+      record {
+        whole = t .whole;
+        left = t .left ⊕ s;
+        split = ap documents (sym p) ∙ documents-split (t .whole) (t .left ⊕ s) (t .each) e;
+        parts = p;
+        each = t .each;
+        begins = t .begins;
+        long = omega (arith, t .long, length-both l s);
+        small = o .small;
+        before = t .before + o .before;
+        counts = omega (arith, t .counts, o .counts, length-both (t .left) s);
+        next = λ more.
+            ap documentEnd (append-regroup (t .left) s more) ∙ t .next (s ⊕ more) ∙ ap (ahead (t .before)) (o .left more)
+            ∙ ahead-twice (t .before) (o .before) (documentEnd (take j documentClose ⊕ more));
+      }
+
+  -- a document's end
+  end-whole : (s : List ℕ) (n : ℕ) → Ended k s n → Whole (t .left ⊕ take n s)
+  unfolding ahead
+  end-whole s n o more =
+      let z : length (take n s) ≡ n = omega (arith, length-take n s, o .inside) in
+      let g : documentEnd ((take k documentClose ⊕ take n s) ⊕ drop n s) ≡ some (k + n) =
+      ap documentEnd (append-regroup (take k documentClose) (take n s) (drop n s) ∙ ap (λ (x : List ℕ). take k documentClose ⊕ x) (append-is (take n s) (drop n s) ∙ take-append-drop n s)) ∙ o .end in
+      let m = end-shorter (take k documentClose ⊕ take n s) (drop n s) (k + n) g (omega (arith, length-both (take k documentClose) (take n s), z, front-length k (t .small))) in
+      ap documentEnd (append-regroup (t .left) (take n s) more)
+      ∙ t .next (take n s ⊕ more)
+      ∙ ap (ahead (t .before)) (ap documentEnd (sym (append-regroup (take k documentClose) (take n s) more)) ∙ end-longer (take k documentClose ⊕ take n s) more (k + n) m)
+      ∙ ap some (omega (arith, t .counts, length-both (t .left) (take n s), z))
+
+  pub reached-end : (s : List ℕ) (n : ℕ) → Ended k s n → Reached (l ⊕ take n s) 0 (at + n) (at + n)
+  unfolding documentEnd
+  reached-end s n o =
+      let w = whole-last (t .whole) (t .left ⊕ take n s) (t .each) (end-whole s n o) in
+      let u : joined (t .whole ⊕ ((t .left ⊕ take n s) ∷ [])) ≡ l ⊕ take n s =
+      joined-last (t .whole) (t .left ⊕ take n s) ∙ sym (append-regroup (joined (t .whole)) (t .left) (take n s)) ∙ ap (λ (x : List ℕ). x ⊕ take n s) (t .parts) in
+      let p = append-none (joined (t .whole ⊕ ((t .left ⊕ take n s) ∷ []))) ∙ u in
+      let q : at + n ≡ length (l ⊕ take n s) = omega (arith, t .long, length-both l (take n s), length-take n s, o .inside) in
+      record {
+        whole = t .whole ⊕ ((t .left ⊕ take n s) ∷ []);
+        left = [];
+        split = ap documents (sym p) ∙ documents-split (t .whole ⊕ ((t .left ⊕ take n s) ∷ [])) [] w refl;
+        parts = p;
+        each = w;
+        begins = q ∙ ap length (sym u);
+        long = q;
+        small = omega arith;
+        before = 0;
+        counts = refl;
+        next = λ more. sym (ahead-none (documentEnd ([] ⊕ more)));
+      }
+
+-- ---- the ends in a piece, one after another
+
+-- i bytes of the piece s are searched
+pub record Going (s : List ℕ) (come start at i k from : ℕ) : Type 0 where
+  pub inside : i ≤ length s
+  pub small : k < 13
+  pub reached : (l : List ℕ) → Reached l come start at → Reached (l ⊕ take i s) k from (at + i)
+
+module _ (s : List ℕ) (come start at : ℕ) where
+  pub going-start : come < 13 → Going s come start at 0 come start
+  going-start h = record {
+    inside = omega arith;
+    small = h;
+    reached = λ l t. let q : at + 0 ≡ at = omega arith in rw (q, append-none l) t;
+  }
+
+  module _ (i k from : ℕ) where
+    pub going-end : Going s come start at i k from → (n : ℕ) → Ended k (drop i s) n → Going s come start at (i + n) 0 (at + (i + n))
+    going-end g n o = record {
+      inside = omega (arith, o .inside, length-drop i s, g .inside);
+      small = omega arith;
+      reached = λ l t.
+          let q : at + i + n ≡ at + (i + n) = omega arith in
+          let e : (l ⊕ take i s) ⊕ take n (drop i s) ≡ l ⊕ take (i + n) s = append-regroup l (take i s) (take n (drop i s)) ∙ ap (λ (x : List ℕ). l ⊕ x) (sym (take-more i n s)) in
+          rw (e, q) at (reached-end (g .reached l t) (drop i s) n o);
+    }
+
+    pub going-open : Going s come start at i k from → (j : ℕ) → Opened k (drop i s) j → Kept s come start at j from (at + length s)
+    going-open g j o = record {
+      small = o .small;
+      long = refl;
+      reached = λ l t.
+          let q : at + i + length (drop i s) ≡ at + length s = omega (arith, length-drop i s, g .inside) in
+          let e : (l ⊕ take i s) ⊕ drop i s ≡ l ⊕ s = append-regroup l (take i s) (drop i s) ∙ ap (λ (x : List ℕ). l ⊕ x) (append-is (take i s) (drop i s) ∙ take-append-drop i s) in
+          rw (e, q) at (reached-open (g .reached l t) (drop i s) j o);
+    }
+
+    pub going-over : Going s come start at i k from → length s ≤ i → Kept s come start at k from (at + length s)
+    going-over g h = record {
+      small = g .small;
+      long = refl;
+      reached = λ l t. let q : i ≡ length s = omega (arith, g .inside) in rw (q, take-length s) at (g .reached l t);
+    }

@@ -1,5 +1,4 @@
 -- Documents joined are split again.
---     Whole d             whatever follows the document d, it is the first document
 --     documents-split     such documents joined, and bytes in which no document ends, are split into them and those bytes
 --     documents-joined    a log is its documents and the bytes left
 --     end-cut             a document that was cut off has no end
@@ -20,17 +19,10 @@ use Rattle.octets.specs.Words.{starts}
 use Rattle.octets.specs.laws.Words.{starts-length}
 use Rattle.octets.specs.Many.{All, ok, no, cons, manyBy, manyIn, many}
 use Rattle.octets.specs.laws.Many.{many-got, many-none}
-use Rattle.documents.specs.Log.{documentClose, ahead, documentEnd, cutBy, firstDocument, documents}
+use Rattle.documents.specs.Log.{documentClose, ahead, documentEnd, cutBy, firstDocument, documents, Whole, AllWhole}
 use Rattle.documents.specs.laws.Log.{some-same, none-is-some, end-here, end-later, end-inside}
 
 -- ---- documents one after another
-
-abbrev pub Whole : List ℕ → Type 0
-Whole d = (more : List ℕ) → documentEnd (d ⊕ more) ≡ some (length d)
-
-abbrev pub AllWhole : List (List ℕ) → Type 0
-AllWhole [] = Unit {0}
-AllWhole (d ∷ ds) = Whole d × AllWhole ds
 
 take-front : (a b : List ℕ) → take (length a) (a ⊕ b) ≡ a
 unfolding _⊕_
@@ -54,7 +46,7 @@ documents-split (d ∷ ds) more a e =
     let l = length-both d (joined ds ⊕ more) in
     ap documents (append-regroup d (joined ds) more)
     ∙ many-got firstDocument (d ⊕ joined ds ⊕ more) d (joined ds ⊕ more) (
-      ap (λ (o : Option ℕ). cutBy o (d ⊕ joined ds ⊕ more)) (a .0 (joined ds ⊕ more)) ∙ rw (take-front d (joined ds ⊕ more), drop-front d (joined ds ⊕ more))
+    ap (λ (o : Option ℕ). cutBy o (d ⊕ joined ds ⊕ more)) (a .0 (joined ds ⊕ more)) ∙ rw (take-front d (joined ds ⊕ more), drop-front d (joined ds ⊕ more))
     ) (omega (arith, w, l))
     ∙ rw (documents-split ds more (a .1) e)
 
@@ -79,6 +71,21 @@ end-longer (x ∷ a) b n e = go (starts documentClose (x ∷ a)) refl (documentE
     go false h (some m) q e ih =
         let l = end-inside a m q in
         end-later x (a ⊕ b) (starts-settled documentClose (x ∷ a) b (omega (arith, l .0, l .1)) ∙ h) ∙ ap (ahead 1) (ih m q) ∙ e
+
+-- and does not hang on what follows
+pub end-shorter : (a b : List ℕ) (n : ℕ) → documentEnd (a ⊕ b) ≡ some n → n ≤ length a → documentEnd a ≡ some n
+unfolding documentEnd ahead pick _⊕_
+end-shorter [] b n e l = let k = end-inside b n e in absurd (omega (arith, k .0, l))
+end-shorter (x ∷ a) b n e l = go (starts documentClose (x ∷ (a ⊕ b))) refl (documentEnd (a ⊕ b)) refl e (end-shorter a b)
+  where
+    go : (t : Bool) → starts documentClose (x ∷ (a ⊕ b)) ≡ t → (o : Option ℕ) → documentEnd (a ⊕ b) ≡ o → pick t (some 13) (ahead 1 o) ≡ some n →
+        ((m : ℕ) → documentEnd (a ⊕ b) ≡ some m → m ≤ length a → documentEnd a ≡ some m) → documentEnd (x ∷ a) ≡ some n
+    go true h o q e ih = let k = some-same 13 n e in end-here x a (sym (starts-settled documentClose (x ∷ a) b (omega (arith, k, l))) ∙ h) ∙ e
+    go false h none q e ih = none-is-some n e
+    go false h (some m) q e ih =
+        let k = some-same (1 + m) n e in
+        let i = end-inside (a ⊕ b) m q in
+        end-later x a (sym (starts-settled documentClose (x ∷ a) b (omega (arith, k, i .0, l))) ∙ h) ∙ ap (ahead 1) (ih m q (omega (arith, k, l))) ∙ e
 
 -- less than a document has no end
 pub end-cut : (a b : List ℕ) (n : ℕ) → documentEnd (a ⊕ b) ≡ some n → length a < n → documentEnd a ≡ none

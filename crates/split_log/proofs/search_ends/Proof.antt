@@ -5,12 +5,14 @@ use Prim.Native.Nat.{ℕ, _+_, _-_, _≤_, _<_}
 use native.Mathlib.Omega.{arith}
 use lib.ListN.{length, take, drop, length-take, length-drop}
 use borrow.Author.Needs.{needs}
+use Rattle.octets.specs.laws.Scan.{part-rest}
 use Rattle.documents.specs.Pieces.{Scanned, Ended}
+use Rattle.documents.specs.laws.Pieces.{Going, going-start, going-end, going-open, going-over}
 use Rattle.split_log.proofs.search_ends.Statement.{statement}
 use Rattle.split_log.proofs.search_ends.Tie as tie
 
 abbrev Inv-loop : tie.InvT-loop
-Inv-loop s come start at i₀ k₀ from₀ t11 i k from = (i ≤ length s) × (k < 13)
+Inv-loop s come start at i₀ k₀ from₀ t11 i k from = Going s come start at i k from
 
 abbrev μ-loop : tie.MeasureT-loop
 μ-loop s come start at i₀ k₀ from₀ t11 i k from = length s - i
@@ -23,7 +25,7 @@ pub search-ends-spec : {M : Type 1} → statement M
 search-ends-spec = tie.close (tie.spec
     Inv-loop
     μ-loop
-    (λ c. search needs)  -- loop-holds
+    (λ c. search (going-start, needs))  -- loop-holds
     (λ c. search needs)  -- sub-search-piece
     (λ c. search needs)  -- part-search-piece-start
     (λ c. search needs)  -- part-search-piece-end
@@ -34,10 +36,10 @@ search-ends-spec = tie.close (tie.spec
     (λ c. search needs)  -- slice-aggregate-say
     (λ c κs. search needs)  -- say-requires
     (λ c. let e = subst (Scanned _ _) (c .before .before .before .n .given .1) (c .before .before .before .before .before .search-piece .ensures) in let l = ended-part (c .before .before .before .before .before .before .before .before .before .before .args .s .now) (c .before .before .before .before .before .before .before .before .loop .i) (omega arith) e in omega (arith, l .0, l .1))  -- loop-less
-    (λ c. let e = subst (Scanned _ _) (c .before .before .before .n .given .1) (c .before .before .before .before .before .search-piece .ensures) in let l = ended-part (c .before .before .before .before .before .before .before .before .before .before .args .s .now) (c .before .before .before .before .before .before .before .before .loop .i) (omega arith) e in (l .1, omega arith))  -- loop-again
+    (λ c. let e = subst (Scanned _ _) (c .before .before .before .n .given .1) (c .before .before .before .before .before .search-piece .ensures) in going-end _ _ _ _ _ _ _ (c .before .before .before .before .before .before .before .before .loop .inv) _ (rw (part-rest (c .before .before .before .before .before .before .before .before .before .before .args .s .now) (c .before .before .before .before .before .before .before .before .loop .i)) at e))  -- loop-again
     (λ c. search needs)  -- enum-known-j
     (λ c. search needs)  -- add-t24
-    (λ c. let e = subst (Scanned _ _) (c .before .j .given .1) (c .before .before .before .search-piece .ensures) in (e .small, omega arith))  -- returns
+    (λ c. let e = subst (Scanned _ _) (c .before .j .given .1) (c .before .before .before .search-piece .ensures) in going-open _ _ _ _ _ _ _ (c .before .before .before .before .before .before .loop .inv) _ (rw (part-rest (c .before .before .before .before .before .before .before .before .args .s .now) (c .before .before .before .before .before .before .loop .i)) at e))  -- returns
     (λ c. search needs)  -- add-t29
-    (λ c. search needs)  -- returns-2
+    (λ c. search (going-over, needs))  -- returns-2
     )
