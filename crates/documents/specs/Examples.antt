@@ -1,7 +1,7 @@
 -- Logs that are split, by computation.
 use mathlib.Core.Path.{_≡_, refl}
-use mathlib.Core.List.{List, [], _∷_}
-use mathlib.Core.Option.{none, some}
+use mathlib.Core.List.{[], _∷_}
+use mathlib.Core.Option.{none}
 use Rattle.octets.specs.Ascii.{ascii}
 use Rattle.octets.specs.Many.{ok}
 use Rattle.octets.specs.Computing.{octets-compute}

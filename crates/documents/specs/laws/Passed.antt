@@ -7,19 +7,17 @@
 use mathlib.Core.Path.{_≡_, refl, sym, ap, _∙_}
 use mathlib.Core.Bool.{Bool, true, false, false≢true}
 use mathlib.Core.List.{List, [], _∷_}
-use mathlib.Core.Option.{Option, none, some}
-use Prim.Native.Nat.{ℕ, zero, suc, _+_}
+use mathlib.Core.Option.{some}
+use Prim.Native.Nat.{ℕ, zero, suc}
 use native.Mathlib.Omega.{arith}
 use lib.Dec.{eqb}
 use lib.ListN.{length}
 use borrow.Author.Tests.{eqb-true}
 use Rattle.octets.specs.Ascii.{ascii}
-use Rattle.octets.specs.Pick.{pick, _and_, _or_}
-use Rattle.octets.specs.laws.Pick.{and-both, and-yes, and-no-left, eqb-apart, eqb-swap, pick-case}
+use Rattle.octets.specs.Pick.{_and_, _or_}
+use Rattle.octets.specs.laws.Pick.{and-both, and-no-left, eqb-apart, eqb-swap, pick-case}
 use Rattle.octets.specs.Append.{_⊕_}
 use Rattle.octets.specs.laws.Append.{append-empty, append-cons, append-regroup, length-both}
-use Rattle.octets.specs.Scan.{allOf}
-use Rattle.octets.specs.laws.Scan.{all-split}
 use Rattle.octets.specs.Class.{isAlpha, isNameChar}
 use Rattle.octets.specs.Words.{starts, holds}
 use Rattle.octets.specs.laws.Words.{holds-split, holds-neither, all-without}
@@ -28,7 +26,7 @@ use Rattle.xml.specs.Escape.{escapedByte, escaped, declarationLine, rootStart, 
 use Rattle.xml.specs.Reads.{isName}
 use Rattle.xml.specs.Content.{Content, nothing, child, charData, written, isWritable}
 use Rattle.documents.specs.Log.{documentClose, ahead, documentEnd}
-use Rattle.documents.specs.laws.Log.{ahead-none, ahead-twice, end-here, end-later}
+use Rattle.documents.specs.laws.Log.{ahead-none, ahead-twice, end-later}
 
 unfoldable pub opensTag : List ℕ → Bool
 opensTag [] = false

@@ -1,12 +1,13 @@
 -- Laws of what specs/Pieces.antt defines.
 --     turn-on, turn-end    a byte more
 --     Searching            the invariant of the loop over a piece;   searching: its start, its turn, its ends
+--     reached-none, reached-open, reached-end    what a program keeps, from piece to piece and from end to end
+--     Going                the invariant of the loop over the ends in a piece;   going-start, going-end, going-open, going-over: its start, its turn, its ends
 use mathlib.Core.Path.{_≡_, refl, sym, ap, _∙_}
-use mathlib.Core.Bool.{Bool, true, false, false≢true}
+use mathlib.Core.Bool.{Bool, true, false}
 use mathlib.Core.List.{List, [], _∷_, _++_, append-nil, append-assoc}
 use mathlib.Core.Option.{Option, none, some}
 use Prim.Native.Nat.{ℕ, zero, suc, _+_, _-_, _≤_, _<_}
-use native.Mathlib.Nat.{add-zero}
 use native.Mathlib.Omega.{arith}
 use lib.Dec.{eqb}
 use lib.ListN.{length, getD, take, drop, length-take, length-drop, drop-of-length-le, take-append-drop}

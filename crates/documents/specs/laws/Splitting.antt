@@ -1,9 +1,9 @@
 -- Documents joined are split again.
 --     documents-split     such documents joined, and bytes in which no document ends, are split into them and those bytes
---     documents-joined    a log is its documents and the bytes left
---     end-cut             a document that was cut off has no end
+--     end-longer, end-shorter    an end does not hang on what follows it;   end-cut: what was cut off has none
+--     documents-parts     on any bytes: they are their documents and what is left, in which none ends
 use mathlib.Core.Path.{_≡_, refl, sym, ap, _∙_}
-use mathlib.Core.Bool.{Bool, true, false, false≢true}
+use mathlib.Core.Bool.{Bool, true, false}
 use mathlib.Core.List.{List, [], _∷_}
 use mathlib.Core.Option.{Option, none, some}
 use Prim.Native.Nat.{ℕ, zero, suc, _+_, _≤_, _<_}
@@ -12,7 +12,6 @@ use lib.Dec.{eqb}
 use lib.ListN.{length, take, drop, length-drop, take-append-drop}
 use borrow.Author.Tests.{lt-ltb}
 use Rattle.octets.specs.Pick.{pick, _and_}
-use Rattle.octets.specs.laws.Pick.{and-both, and-yes}
 use Rattle.octets.specs.Append.{_⊕_, joined}
 use Rattle.octets.specs.laws.Append.{append-is, append-empty, append-regroup, length-both}
 use Rattle.octets.specs.Words.{starts}

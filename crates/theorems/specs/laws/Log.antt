@@ -1,21 +1,21 @@
 -- The document of a valid calendar, in front of anything.
 --     calendar-in-front    in what is written of a calendar no character data follows an end tag
 --     document-end         it ends where it ends, whatever follows
-use mathlib.Core.Path.{_≡_, refl, sym, ap, _∙_}
+use mathlib.Core.Path.{_≡_, refl}
 use mathlib.Core.Bool.{Bool, true, false, false≢true}
 use mathlib.Core.List.{List, [], _∷_}
 use mathlib.Core.Option.{Option, none, some}
 use Prim.Native.Nat.{ℕ}
 use lib.ListN.{length}
 use Rattle.octets.specs.Ascii.{ascii}
-use Rattle.octets.specs.Pick.{pick, _and_}
-use Rattle.octets.specs.laws.Pick.{pick-either, and-both, and-yes}
+use Rattle.octets.specs.Pick.{_and_}
+use Rattle.octets.specs.laws.Pick.{pick-either, and-yes}
 use Rattle.octets.specs.Append.{_⊕_}
 use Rattle.octets.specs.Class.{lower}
 use Rattle.calendar.specs.Calendar.{RuleItem, RulePart, Value, binary, boolean, calAddress, date, dateTime, duration, float, integer, periodExplicit, periodStart, recur, text, time, uri, utcOffset, unknown, geo, requestStatus, Parameter, Property, Components, noMore, component, Calendar}
 use Rattle.validity.specs.ValidCalendar.{isValid}
 use Rattle.validity.specs.laws.ValidCalendar.{valid-parts}
-use Rattle.xml.specs.Content.{Content, nothing, child, charData, written}
+use Rattle.xml.specs.Content.{Content, nothing, child, charData}
 use Rattle.xcal.specs.WriteXml.{isNoMore, writeDocument}
 use Rattle.xcal.specs.laws.Contents.{leafBefore, itemsBefore, partsBefore, dataBefore, inside, valueBefore, valuesBefore, parametersBefore, parametersPart, propertyInside, propertiesBefore, componentsPart, componentInside, calendarContent}
 use Rattle.xcal.specs.laws.WrittenContents.{document-written}
