@@ -84,3 +84,14 @@ def to_text(xml, edition=RFC_5545):
 def jcal_to_text(jcal, edition=RFC_5545):
     """Canonical iCalendar text of a jCal text."""
     return _convert("jcal_to_text", jcal, edition, 6, 0)
+
+
+def documents(log):
+    """The documents of a log, the XML of many texts one after another, and what is left behind them."""
+    log, call, found, at = bytes(log), _LIBRARY.mallettriton_document_end, [], 0
+    room = ctypes.create_string_buffer(log, len(log))
+    call.restype = ctypes.c_size_t
+    while end := call(ctypes.byref(room, at), ctypes.c_size_t(len(log) - at)):
+        found.append(log[at : at + end])
+        at += end
+    return found, log[at:]

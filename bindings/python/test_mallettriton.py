@@ -38,6 +38,13 @@ class Samples(unittest.TestCase):
                 self.assertEqual(mallettriton.to_text(xml), text)
                 self.assertEqual(mallettriton.jcal_to_text(jcal), text)
 
+    def test_a_log(self):
+        documents = [sample.with_suffix(".xml").read_bytes() for sample in SAMPLES]
+        log = b"".join(documents)
+        self.assertEqual(mallettriton.documents(log), (documents, b""))
+        self.assertEqual(mallettriton.documents(log[:-1]), (documents[:-1], documents[-1][:-1]))
+        self.assertEqual(mallettriton.documents(b""), ([], b""))
+
     def test_what_is_like_bytes(self):
         text = SAMPLES[0].with_suffix(".ics").read_bytes()
         self.assertEqual(mallettriton.to_xml(bytearray(text)), mallettriton.to_xml(text))
