@@ -1,40 +1,25 @@
--- A log: the XML of accepted calls, of any editions, one after another.
---     Logged              a call and the edition that it names;   isLogged: it is accepted;   xmlIn: what it gives;   logOf: the log of a list of such calls
+-- A log is split into what was written to it.
 --     first-document      the first document of a log ends where the first call's XML ends, whatever follows
 --     log-splits          a log is split into exactly the calls' XML, in order, and nothing is left
 --     log-cut-splits      the same of a log that was cut off in its last document: the part of that is left
 -- Lent buffers may hold any bytes before a call.
 use mathlib.Core.Path.{_≡_, refl, sym, ap, _∙_}
-use mathlib.Core.Bool.{Bool, true}
+use mathlib.Core.Bool.{true}
 use mathlib.Core.List.{List, [], _∷_, map}
 use mathlib.Core.Option.{some}
 use Prim.Native.Nat.{ℕ, _<_}
 use native.Mathlib.Omega.{arith}
 use lib.ListN.{length, take, drop, take-append-drop, length-take}
-use Rattle.octets.specs.Append.{_⊕_, joined}
+use Rattle.octets.specs.Append.{_⊕_}
 use Rattle.octets.specs.laws.Append.{append-is, append-none}
 use Rattle.octets.specs.Lists.{every}
 use Rattle.octets.specs.laws.Lists.{every-both}
 use Rattle.octets.specs.Many.{ok}
-use Rattle.edition.specs.declared.Edition.{Edition}
 use Rattle.documents.specs.Log.{documentEnd, documents, AllWhole}
 use Rattle.documents.specs.laws.Splitting.{documents-split, end-cut}
-use Rattle.theorems.specs.Calls.{Call, isAccepted, xmlOf}
+use Rattle.theorems.specs.Logs.{Logged, isLogged, xmlIn, logOf}
 use Rattle.theorems.specs.laws.Calls.{given}
 use Rattle.theorems.specs.laws.Log.{document-end}
-
-pub record Logged : Type 0 where
-  pub edition : Edition
-  pub call : Call
-
-abbrev pub isLogged : Logged → Bool
-isLogged k = isAccepted (k .edition) (k .call)
-
-abbrev pub xmlIn : Logged → List ℕ
-xmlIn k = xmlOf (k .edition) (k .call)
-
-abbrev pub logOf : List Logged → List ℕ
-logOf ks = joined (map xmlIn ks)
 
 pub first-document : (k : Logged) (more : List ℕ) → isLogged k ≡ true → documentEnd (xmlIn k ⊕ more) ≡ some (length (xmlIn k))
 first-document k more h = let g = given (k .edition) (k .call) h in rw (g .xml) (document-end (k .edition) (g .calendar) more (g .valid))
