@@ -1,8 +1,9 @@
 /* Mallettriton for C: iCalendar text (RFC 5545) to xCal (RFC 6321) or jCal (RFC 7265) and back, on buffers that the caller lends.
  *
- * Link target/staticlib/libmallettriton.a, which `rt staticlib mallettriton` writes (x86-64 Linux); for mallettriton_to_xml_folded
- * libmallettriton_folded.a, which `rt staticlib mallettriton_folded` writes. The library allocates nothing,
- * keeps nothing between calls and makes no system call. docs/FORMAT.md says what is accepted and what is written.
+ * Link libmallettriton.a (x86-64 Linux), for mallettriton_to_xml_folded libmallettriton_folded.a. An installed release has both, and
+ * `pkg-config --cflags --libs mallettriton` names them; in the repository `rt staticlib mallettriton` and `rt staticlib mallettriton_folded` write
+ * them to target/staticlib. The library allocates nothing, keeps nothing between calls and makes no system call. docs/FORMAT.md says what is
+ * accepted and what is written, examples/c/convert.c is a whole program.
  *
  * A buffer is a pointer and a length in bytes. What is proved holds if each pointer is to that many bytes which can be read (those of
  * the work room and the output written too) and whose contents are set, no pointer is null, not even of an empty buffer, and
@@ -19,8 +20,8 @@ extern "C" {
 #endif
 
 /* The version of these declarations: it grows where a call changes or is added. 2: both calls take an edition. 3: jCal. 4: to XML
- * with no work room. */
-#define MALLETTRITON_VERSION 4
+ * with no work room. 5: the end of a log's first document. */
+#define MALLETTRITON_VERSION 5
 
 /* Editions of iCalendar text: RFC 5545 alone; with the carets of RFC 6868 in values of parameters. */
 #define MALLETTRITON_RFC_5545 0u
@@ -76,7 +77,8 @@ enum mallettriton_number {
     MALLETTRITON_EDITION = 13   /* an edition other than 0 and 1                          value: 0                             */
 };
 
-/* An answer is one number: its number times 4294967296, and its value, which is below 4294967296. */
+/* An answer is one number: its number times 4294967296, and its value, which is below 4294967296. A caller that meets a number which is not above
+ * has a library of another version, and should say so and go no further. */
 #define MALLETTRITON_NUMBER(answer) ((unsigned)((uint64_t)(answer) >> 32))
 #define MALLETTRITON_VALUE_OF(answer) ((size_t)((uint64_t)(answer) & 0xffffffffu))
 
@@ -132,6 +134,20 @@ uint64_t mallettriton_to_text(const uint8_t *input, size_t input_length,
  */
 uint64_t mallettriton_jcal_to_text(const uint8_t *input, size_t input_length,
                                    uint8_t *out, size_t out_length, uint32_t edition);
+
+/* Finds the end of the first document of a log, that is of the XML that calls to XML wrote, one after another: how many bytes the document has. It is 0 where
+ * no document ends in the bytes that are lent, as in an empty log, or where the last document was cut off. So
+ *
+ *     while ((n = mallettriton_document_end(log, length)) != 0) { ...; log += n; length -= n; }
+ *
+ * meets exactly the documents of a log, in order, and leaves 0 bytes of it, or the part of a document that was cut off; that is proved for whatever texts were
+ * accepted, in any editions. On other bytes the answer is the place behind the first `</icalendar>` that a line feed follows.
+ *
+ *   log, log_length   the log; it is not changed. It may have any length
+ *
+ * It reads each byte twice at most, and takes next to no stack.
+ */
+size_t mallettriton_document_end(const uint8_t *log, size_t log_length);
 
 #ifdef __cplusplus
 }

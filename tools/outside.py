@@ -1,5 +1,5 @@
 #!/usr/bin/env python3
-"""Outside judges of the project's XML and jCal. tools/check-outside installs them and calls this.
+"""Outside judges of the project's XML and jCal. tools/check-outside says which are missing, and calls this.
 
     tools/outside.py
 

@@ -1,4 +1,4 @@
-//! Finds libmallettriton.a and libmallettriton_folded.a, in the directory that MALLETTRITON_LIB_DIR names or in the repository's target/staticlib.
+//! Finds libmallettriton.a and libmallettriton_folded.a: in the directory that MALLETTRITON_LIB_DIR names; else in target/staticlib of the repository, or in lib of an unpacked release.
 use std::env;
 use std::path::PathBuf;
 use std::process::exit;
@@ -9,7 +9,15 @@ fn main() {
     println!("cargo:rerun-if-env-changed=MALLETTRITON_LIB_DIR");
     let directory = match env::var_os("MALLETTRITON_LIB_DIR") {
         Some(named) => PathBuf::from(named),
-        None => PathBuf::from(env::var_os("CARGO_MANIFEST_DIR").expect("cargo sets CARGO_MANIFEST_DIR")).join("../../target/staticlib"),
+        None => {
+            let top = PathBuf::from(env::var_os("CARGO_MANIFEST_DIR").expect("cargo sets CARGO_MANIFEST_DIR")).join("../..");
+            let released = top.join("lib");
+            if released.is_dir() {
+                released
+            } else {
+                top.join("target/staticlib")
+            }
+        }
     };
     println!("cargo:rustc-link-search=native={}", directory.display());
     for library in LIBRARIES {

@@ -18,7 +18,7 @@
 //!
 //! [`to_xml`], [`to_jcal`], [`to_text`] and [`jcal_to_text`] take a slice and give a `Vec`. [`to_xml_into`], [`to_jcal_into`], [`to_text_into`] and [`jcal_to_text_into`] work on
 //! buffers that the caller lends, allocate nothing, and tell the exact length that an output which is too short would need. [`to_xml_folded`] and [`to_xml_folded_into`] answer what `to_xml`
-//! does, with no work room: they are slower, and need little stack. `docs/FORMAT.md` of the repository says what is accepted and what is written.
+//! does, with no work room: they are slower, and need little stack. [`documents`] splits a log of XML into its documents. `docs/FORMAT.md` of the repository says what is accepted and what is written.
 //!
 //! # What is proved, and what is not
 //!
@@ -38,6 +38,9 @@
 //! The library keeps nothing between calls: any number of threads may call it at once.
 #![deny(missing_docs)]
 
+mod log;
+
+pub use log::{document_end, documents, Documents, Left};
 use std::error::Error;
 use std::fmt;
 
@@ -45,6 +48,11 @@ use std::fmt;
 pub const LONGEST: usize = 65_535;
 
 /// How long the XML of a text of `length` bytes can be. An output of this length always has room, and the call is then faster: it does not measure the result before it writes it.
+///
+/// ```
+/// const ROOM: usize = mallettriton::longest_xml(mallettriton::LONGEST);
+/// assert_eq!(ROOM, 1_245_274);
+/// ```
 pub const fn longest_xml(length: usize) -> usize {
     19 * length + 109
 }
@@ -100,6 +108,8 @@ pub enum Number {
     Json = 12,
     /// An edition that there is not. No call of this crate is refused so.
     Edition = 13,
+    /// An answer that this crate does not know: the archive is of another version. The calls that take their buffers from the caller tell it whole, as [`Answer::Unknown`].
+    Unknown = 255,
 }
 
 impl fmt::Display for Number {
@@ -117,6 +127,7 @@ impl fmt::Display for Number {
             Number::Xml => "outside the XML that is read",
             Number::Json => "outside the JSON that is read",
             Number::Edition => "an edition that there is not",
+            Number::Unknown => "an answer that is not known, by an archive of another version",
         })
     }
 }
@@ -133,7 +144,10 @@ pub struct Refusal {
 
 impl fmt::Display for Refusal {
     fn fmt(&self, f: &mut fmt::Formatter<'_>) -> fmt::Result {
-        write!(f, "refused {} at byte {}: {}", self.number as u8, self.place, self.number)
+        match self.number {
+            Number::Unknown => self.number.fmt(f),
+            number => write!(f, "refused {} at byte {}: {}", number as u8, self.place, number),
+        }
     }
 }
 
@@ -161,6 +175,13 @@ pub enum Answer<'a> {
     Needs(usize),
     /// The input is refused. The output is as it was.
     Refused(Refusal),
+    /// An answer that this crate does not know, as the library gave it: the archive is of another version, and nothing can be said of the buffers.
+    Unknown {
+        /// Its number.
+        number: u32,
+        /// Its value.
+        value: usize,
+    },
 }
 
 extern "C" {
@@ -174,8 +195,9 @@ extern "C" {
 /// Takes an answer of the library apart: its number times 2 ^ 32, and its value.
 fn answer(code: u64, out: &[u8]) -> Answer<'_> {
     let value = (code & 0xffff_ffff) as usize;
+    let unknown = Answer::Unknown { number: (code >> 32) as u32, value };
     let number = match code >> 32 {
-        0 => return Answer::Written(&out[..value]),
+        0 => return out.get(..value).map_or(unknown, Answer::Written),
         1 => Number::Length,
         2 => Number::Work,
         3 => Number::Character,
@@ -189,7 +211,7 @@ fn answer(code: u64, out: &[u8]) -> Answer<'_> {
         11 => Number::Xml,
         12 => Number::Json,
         13 => Number::Edition,
-        other => panic!("libmallettriton.a answered the number {other}, which this crate does not know: they are of different versions"),
+        _ => return unknown,
     };
     Answer::Refused(Refusal { number, place: value })
 }
@@ -233,6 +255,18 @@ pub fn to_xml_folded_into<'a>(input: &[u8], out: &'a mut [u8], edition: Edition)
 }
 
 /// Converts the iCalendar text `input` to canonical jCal, at the start of `out`. Its buffers are those of [`to_xml_into`].
+///
+/// An output that is too short is left as it was, and the answer is the length that is needed:
+///
+/// ```
+/// use mallettriton::{to_jcal_into, Answer, Edition, LONGEST};
+/// # let text = b"BEGIN:VCALENDAR\r\nPRODID:-//A//B//EN\r\nVERSION:2.0\r\nBEGIN:VTODO\r\nUID:1\r\nDTSTAMP:20240501T060000Z\r\nEND:VTODO\r\nEND:VCALENDAR\r\n";
+/// let mut work = vec![0; LONGEST];
+/// let Answer::Needs(length) = to_jcal_into(text, &mut work, &mut [], Edition::Rfc5545) else { panic!("not accepted") };
+/// let mut out = vec![0; length];
+/// let Answer::Written(jcal) = to_jcal_into(text, &mut work, &mut out, Edition::Rfc5545) else { panic!("{length} bytes are enough") };
+/// assert_eq!(jcal.len(), length);
+/// ```
 pub fn to_jcal_into<'a>(input: &[u8], work: &mut [u8], out: &'a mut [u8], edition: Edition) -> Answer<'a> {
     // SAFETY: as above.
     let code = unsafe { mallettriton_to_jcal(input.as_ptr(), input.len(), work.as_mut_ptr(), work.len(), out.as_mut_ptr(), out.len(), edition as u32) };
@@ -242,6 +276,15 @@ pub fn to_jcal_into<'a>(input: &[u8], work: &mut [u8], out: &'a mut [u8], editio
 /// Converts the xCal document `input` to canonical iCalendar text, at the start of `out`.
 ///
 /// Allow it 1,200 kB of stack.
+///
+/// ```
+/// use mallettriton::{longest_text, to_text_into, Answer, Edition};
+/// let xml = b"<icalendar xmlns='urn:ietf:params:xml:ns:icalendar-2.0'><vcalendar><properties><prodid><text>A</text></prodid>\
+///     <version><text>2.0</text></version></properties><components/></vcalendar></icalendar>";
+/// let mut out = vec![0; longest_text(xml.len())];
+/// let text = b"BEGIN:VCALENDAR\r\nPRODID:A\r\nVERSION:2.0\r\nEND:VCALENDAR\r\n";
+/// assert_eq!(to_text_into(xml, &mut out, Edition::Rfc5545), Answer::Written(text));
+/// ```
 pub fn to_text_into<'a>(input: &[u8], out: &'a mut [u8], edition: Edition) -> Answer<'a> {
     // SAFETY: as above.
     let code = unsafe { mallettriton_to_text(input.as_ptr(), input.len(), out.as_mut_ptr(), out.len(), edition as u32) };
@@ -251,6 +294,16 @@ pub fn to_text_into<'a>(input: &[u8], out: &'a mut [u8], edition: Edition) -> An
 /// Converts the jCal text `input` to canonical iCalendar text, at the start of `out`.
 ///
 /// Allow it 400 kB of stack.
+///
+/// ```
+/// use mallettriton::{jcal_to_text_into, Answer, Edition, Number, Refusal};
+/// let jcal = br#"["vcalendar", [["prodid", {}, "text", "A"], ["version", {}, "text", "2.0"]], []]"#;
+/// let mut out = [0; 100];
+/// let text = b"BEGIN:VCALENDAR\r\nPRODID:A\r\nVERSION:2.0\r\nEND:VCALENDAR\r\n";
+/// assert_eq!(jcal_to_text_into(jcal, &mut out, Edition::Rfc5545), Answer::Written(text));
+/// let cut_short = jcal_to_text_into(&jcal[..40], &mut out, Edition::Rfc5545);
+/// assert_eq!(cut_short, Answer::Refused(Refusal { number: Number::Json, place: 40 }));
+/// ```
 pub fn jcal_to_text_into<'a>(input: &[u8], out: &'a mut [u8], edition: Edition) -> Answer<'a> {
     // SAFETY: as above.
     let code = unsafe { mallettriton_jcal_to_text(input.as_ptr(), input.len(), out.as_mut_ptr(), out.len(), edition as u32) };
@@ -267,14 +320,25 @@ fn in_a_vec(length: usize, convert: impl Fn(&mut [u8]) -> Answer<'_>) -> Result<
             out.shrink_to_fit();
             Ok(out)
         }
-        Answer::Needs(needed) => panic!("libmallettriton.a needs {needed} bytes where {length} are proved to be enough: it is of another version"),
         Answer::Refused(refusal) => Err(refusal),
+        // that it needs no more than this length is proved
+        Answer::Needs(value) | Answer::Unknown { value, .. } => Err(Refusal { number: Number::Unknown, place: value }),
     }
 }
 
 /// Converts the iCalendar text `input` to canonical XML.
 ///
 /// It allocates the work room and an output of [`longest_xml`] bytes, and gives back what the result does not fill. To use buffers over and over, call [`to_xml_into`].
+///
+/// ```
+/// use mallettriton::{line_and_column, to_xml, Edition};
+/// # let text = b"BEGIN:VCALENDAR\r\nPRODID:-//A//B//EN\r\nVERSION:2.0\r\nBEGIN:VTODO\r\nUID:1\r\nDTSTAMP:20240501T060000Z\r\nEND:VTODO\r\nEND:VCALENDAR\r\n";
+/// assert!(to_xml(text, Edition::Rfc5545).is_ok());
+/// let bad = b"BEGIN:VCALENDAR\r\nPRODID:a\r\nVERSION:2.0\r\nCALSCALE:JULIAN,\r\nEND:VCALENDAR\r\n";
+/// let refusal = to_xml(bad, Edition::Rfc5545).unwrap_err();
+/// assert_eq!(refusal.to_string(), "refused 8 at byte 49: a value that is not of a permitted type");
+/// assert_eq!(line_and_column(bad, refusal.place), (4, 10));
+/// ```
 pub fn to_xml(input: &[u8], edition: Edition) -> Result<Vec<u8>, Refusal> {
     // too long an input is refused before either is used
     let length = if input.len() <= LONGEST { input.len() } else { 0 };
@@ -284,6 +348,12 @@ pub fn to_xml(input: &[u8], edition: Edition) -> Result<Vec<u8>, Refusal> {
 /// Converts the iCalendar text `input` to canonical XML, as [`to_xml`] does, with no work room.
 ///
 /// It allocates an output of [`longest_xml`] bytes, and gives back what the result does not fill. To use a buffer over and over, call [`to_xml_folded_into`].
+///
+/// ```
+/// use mallettriton::{to_xml, to_xml_folded, Edition};
+/// # let text = b"BEGIN:VCALENDAR\r\nPRODID:-//A//B//EN\r\nVERSION:2.0\r\nBEGIN:VTODO\r\nUID:1\r\nDTSTAMP:20240501T060000Z\r\nEND:VTODO\r\nEND:VCALENDAR\r\n";
+/// assert_eq!(to_xml_folded(text, Edition::Rfc5545), to_xml(text, Edition::Rfc5545));
+/// ```
 pub fn to_xml_folded(input: &[u8], edition: Edition) -> Result<Vec<u8>, Refusal> {
     let length = if input.len() <= LONGEST { input.len() } else { 0 };
     in_a_vec(longest_xml(length), |out| to_xml_folded_into(input, out, edition))
@@ -292,6 +362,13 @@ pub fn to_xml_folded(input: &[u8], edition: Edition) -> Result<Vec<u8>, Refusal>
 /// Converts the iCalendar text `input` to canonical jCal.
 ///
 /// It allocates the work room and an output of [`longest_jcal`] bytes, and gives back what the result does not fill. To use buffers over and over, call [`to_jcal_into`].
+///
+/// ```
+/// use mallettriton::{to_jcal, Edition};
+/// let text = b"BEGIN:VCALENDAR\r\nPRODID:A\r\nVERSION:2.0\r\nEND:VCALENDAR\r\n";
+/// assert_eq!(to_jcal(text, Edition::Rfc5545)?, br#"["vcalendar",[["prodid",{},"text","A"],["version",{},"text","2.0"]],[]]"#);
+/// # Ok::<(), mallettriton::Refusal>(())
+/// ```
 pub fn to_jcal(input: &[u8], edition: Edition) -> Result<Vec<u8>, Refusal> {
     let length = if input.len() <= LONGEST { input.len() } else { 0 };
     in_a_vec(longest_jcal(length), |out| to_jcal_into(input, &mut vec![0; length], out, edition))
@@ -300,6 +377,17 @@ pub fn to_jcal(input: &[u8], edition: Edition) -> Result<Vec<u8>, Refusal> {
 /// Converts the xCal document `input` to canonical iCalendar text.
 ///
 /// It allocates an output of [`longest_text`] bytes, and gives back what the result does not fill. Allow it 1,200 kB of stack. To use a buffer over and over, call [`to_text_into`].
+///
+/// The edition is that of the text which is written:
+///
+/// ```
+/// use mallettriton::{to_text, to_xml, Edition, Number};
+/// let text = b"BEGIN:VCALENDAR\r\nPRODID;X-BY=Anna ^'Gale^' Brandt:A\r\nVERSION:2.0\r\nEND:VCALENDAR\r\n";
+/// let xml = to_xml(text, Edition::Rfc6868)?;
+/// assert_eq!(to_text(&xml, Edition::Rfc6868)?, text);
+/// assert_eq!(to_text(&xml, Edition::Rfc5545).unwrap_err().number, Number::Parameter);
+/// # Ok::<(), mallettriton::Refusal>(())
+/// ```
 pub fn to_text(input: &[u8], edition: Edition) -> Result<Vec<u8>, Refusal> {
     let length = if input.len() <= LONGEST { input.len() } else { 0 };
     in_a_vec(longest_text(length), |out| to_text_into(input, out, edition))
@@ -308,7 +396,51 @@ pub fn to_text(input: &[u8], edition: Edition) -> Result<Vec<u8>, Refusal> {
 /// Converts the jCal text `input` to canonical iCalendar text.
 ///
 /// It allocates an output of [`longest_text`] bytes, and gives back what the result does not fill. Allow it 400 kB of stack. To use a buffer over and over, call [`jcal_to_text_into`].
+///
+/// ```
+/// use mallettriton::{jcal_to_text, to_jcal, Edition};
+/// # let text = b"BEGIN:VCALENDAR\r\nPRODID:-//A//B//EN\r\nVERSION:2.0\r\nBEGIN:VTODO\r\nUID:1\r\nDTSTAMP:20240501T060000Z\r\nEND:VTODO\r\nEND:VCALENDAR\r\n";
+/// let jcal = to_jcal(text, Edition::Rfc5545)?;
+/// assert_eq!(jcal_to_text(&jcal, Edition::Rfc5545)?, text);
+/// # Ok::<(), mallettriton::Refusal>(())
+/// ```
 pub fn jcal_to_text(input: &[u8], edition: Edition) -> Result<Vec<u8>, Refusal> {
     let length = if input.len() <= LONGEST { input.len() } else { 0 };
     in_a_vec(longest_text(length), |out| jcal_to_text_into(input, out, edition))
+}
+
+/// The examples of README.md run with those of the documentation.
+#[cfg(doctest)]
+#[doc = include_str!("../README.md")]
+struct Readme;
+
+#[cfg(test)]
+mod tests {
+    use super::*;
+
+    #[test]
+    fn every_answer_is_taken_and_none_panics() {
+        let out = [7; 3];
+        assert_eq!(answer(3, &out), Answer::Written(&out));
+        assert_eq!(answer(4, &out), Answer::Unknown { number: 0, value: 4 });
+        assert_eq!(answer(10 << 32 | 5, &out), Answer::Needs(5));
+        for number in 1..=13u64 {
+            match answer(number << 32 | 5, &out) {
+                Answer::Refused(Refusal { number: told, place: 5 }) => assert_eq!(told as u64, number),
+                other => assert_eq!((number, other), (10, Answer::Needs(5))),
+            }
+        }
+        for number in [14, 15, 16, 255, 256, u32::MAX] {
+            assert_eq!(answer(u64::from(number) << 32 | 5, &out), Answer::Unknown { number, value: 5 });
+        }
+    }
+
+    #[test]
+    fn an_answer_of_another_version_is_an_error() {
+        let unknown = Refusal { number: Number::Unknown, place: 5 };
+        for code in [99 << 32 | 5, 10 << 32 | 5, 5] {
+            assert_eq!(in_a_vec(3, |out| answer(code, out)), Err(unknown));
+        }
+        assert_eq!(unknown.to_string(), "an answer that is not known, by an archive of another version");
+    }
 }

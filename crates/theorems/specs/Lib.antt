@@ -9,6 +9,8 @@
 --     OneLine       two texts whose content lines are the same but for one
 --     SmallEdit     a small edit stays small
 --     Engines       the two ways from text to XML
+--     Logs          logs: the XML of calls, one after another
+--     Log           the XML of calls one after another, split again
 --     laws          what their proofs need
 pub mod Calls
 pub mod FoldedCalls
@@ -20,4 +22,6 @@ pub mod Joining
 pub mod OneLine
 pub mod SmallEdit
 pub mod Engines
+pub mod Logs
+pub mod Log
 pub mod laws

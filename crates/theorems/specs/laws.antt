@@ -8,6 +8,7 @@
 --     Edited        texts whose content lines are the same but for one, and their calendars
 --     Engines       work rooms that are long enough
 --     FoldedCalls   calls that are lent no work room, as calls that are lent one
+--     Log           where a document ends, whatever follows it
 pub mod Injective
 pub mod Calls
 pub mod Balanced
@@ -17,3 +18,4 @@ pub mod Split
 pub mod Edited
 pub mod Engines
 pub mod FoldedCalls
+pub mod Log
