@@ -101,8 +101,8 @@ uint64_t mallettriton_to_xml(const uint8_t *input, size_t input_length,
  * copied but into the output. The answers are those of mallettriton_to_xml with a work room that is long enough, places included, and so never WORK;
  * the output is left as there.
  *
- * For machines with little memory: it stands in an archive of its own, libmallettriton_folded.a, and needs 16 kB of stack. It takes half as long again as
- * mallettriton_to_xml, long folded texts take two and a half times as long. Its time grows with the input's length; only a line with thousands of
+ * For machines with little memory: it stands in an archive of its own, libmallettriton_folded.a, and needs 16 kB of stack. It takes 1.8 times as long
+ * as mallettriton_to_xml, on long folded texts 2.5 times. Its time grows with the input's length; only a line with thousands of
  * parameters takes longer: the worst that was found 74 ms, where a rota of 64 kB takes 2 ms (docs/PERFORMANCE.md).
  */
 uint64_t mallettriton_to_xml_folded(const uint8_t *input, size_t input_length,
