@@ -1,4 +1,6 @@
 // Bits of a number, by shift and mask. A mask is a set of small numbers, one bit for each.
+#![tactic(auto)]
+
 ghost use Rattle.std.specs.Prelude.{◌≡◌, true, cond, ℕ, ◌<◌, eqb};
 ghost use Rattle.bits.specs.Masks.{has, low_bits, high_bits};
 

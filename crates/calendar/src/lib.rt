@@ -1,1 +1,2 @@
 // The calendar that a text or a document states, and the refusals. Definitions are in specs/.
+#![tactic(auto)]

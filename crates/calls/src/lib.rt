@@ -1,4 +1,6 @@
 // What a conversion answers. What each call answers, and what it leaves in the lent buffers, is defined in specs/.
+#![tactic(auto)]
+
 mod refusing;
 mod told;
 
@@ -8,7 +10,7 @@ pub use told::{joined, number_of, value_of};
 
 // What a call answers: the bytes written; the length that the output would need; or a refusal and its place.
 // Their numbers and values are `outcome_of` of specs/Answered.antt and `told`, `numbers` of specs/Conversion.antt.
-#[derive(Drop)]
+#[derive(Clone, Copy)]
 pub enum Answer {
     Written(usize),
     Needs(usize),

@@ -85,7 +85,7 @@ fn is_unfolded(input: &[u8], work: &[u8]) -> bool {
 }
 
 // A call that is tried: its way, its edition, how many bytes of work room and output are lent, and the number and value of its answer.
-#[derive(Drop)]
+#[derive(Clone, Copy)]
 struct Trial {
     way: u8,
     edition: u32,

@@ -5,6 +5,8 @@
 // the highest first. The value of number 0 is the result's length; a refusal has an empty result. Input and result are each four
 // lengths, of a front, of a middle, of the middle when it is repeated, of a back, and then the bytes of front, middle and back. So an
 // input of 65,535 bytes is a short case as well.
+#![tactic(auto)]
+
 mod bytes;
 mod checks;
 mod packed;
@@ -15,14 +17,14 @@ use packed::{Case, JCAL_TO_TEXT, TO_JCAL, TO_TEXT, TO_XML, is_case, next_case};
 use std::num::{wrapping_add_u64, wrapping_add_usize};
 
 // How many cases of a way agree and differ.
-#[derive(Drop)]
+#[derive(Clone, Copy)]
 struct Tally {
     agreed: u64,
     differing: u64,
 }
 
 // How many cases there were, and the tally of each way.
-#[derive(Drop)]
+#[derive(Clone, Copy)]
 struct Tallies {
     cases: u64,
     xml: Tally,

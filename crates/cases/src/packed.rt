@@ -17,7 +17,7 @@ pub const TO_XML_FOLDED: u8 = 5;
 
 // What a case says: its way, the edition, the answer with room enough, how long the input and the result are. After the last case the way is
 // none of these.
-#[derive(Drop)]
+#[derive(Clone, Copy)]
 pub struct Case {
     pub way: u8,
     pub edition: u32,

@@ -1,4 +1,6 @@
 // The characters of a text through a cursor, whatever encoding it stands in: the first that is none, and how many bytes are left. Laws are in specs/laws/.
+#![tactic(auto)]
+
 ghost use Rattle.std.specs.Prelude.{◌≡◌, length};
 ghost use Rattle.source.specs.Source.{rest};
 ghost use Rattle.utf8.specs.Utf8.{first_bad};

@@ -1,5 +1,7 @@
 // Words cut out of lent bytes, whether no two of them are the same: about n log n comparisons for n words.
 // The words are sorted by their numbers, which needs no proof: what the sort left is checked. See specs/.
+#![tactic(auto)]
+
 mod again;
 mod compare;
 mod cuts;
@@ -21,7 +23,7 @@ use order::{are_alike, is_order, put_ranks, rise};
 use pairs::are_all_apart;
 
 // Words that a caller collected by their cuts: how many, and whether those are all.
-#[derive(Drop)]
+#[derive(Clone, Copy)]
 pub struct Kept {
     pub n: usize,
     pub all: bool,

@@ -1,4 +1,6 @@
 // A log, that is the XML of calls one after another: where its first document ends. See specs/Log.antt.
+#![tactic(auto)]
+
 mod pieces;
 
 ghost use Rattle.std.specs.Prelude.{◌≡◌};
@@ -12,7 +14,7 @@ use xml::starts_at;
 const CLOSE: [u8; 13] = *b"</icalendar>\n";
 
 // Behind the first document of a log; or no document ends there.
-#[derive(Drop)]
+#[derive(Clone, Copy)]
 pub enum End {
     At(usize),
     Absent,

@@ -1,4 +1,6 @@
 // The editions of iCalendar text: RFC 5545 alone, and with the carets of RFC 6868 in values of parameters. See specs/Edition.antt.
+#![tactic(auto)]
+
 mod letters;
 
 ghost use Rattle.std.specs.Prelude.{◌≡◌};
@@ -7,7 +9,7 @@ ghost use Rattle.edition.specs.Edition.{edition_of, known};
 pub use letters::{is_letter, meant, put_encoded_byte};
 
 // An edition, each with its number.
-#[derive(Drop)]
+#[derive(Clone, Copy)]
 pub enum Edition {
     Rfc5545 = 0,
     Rfc6868 = 1,
@@ -27,7 +29,7 @@ impl Edition {
 }
 
 // The edition that a number names, or none.
-#[derive(Drop)]
+#[derive(Clone, Copy)]
 pub enum EditionRead {
     Known(Edition),
     Unknown,

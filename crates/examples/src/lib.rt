@@ -1,1 +1,2 @@
 // Worked examples of both conversions, computed by the definitions. They are in specs/.
+#![tactic(auto)]

@@ -7,6 +7,8 @@
 //
 // specs/Month.antt defines the same rule. Crate times, specs/MonthRule.antt, shows that in every month DATE accepts exactly the days
 // from 1 to the length that is given here.
+#![tactic(auto)]
+
 ghost use Rattle.std.specs.Prelude.{◌≡◌};
 ghost use Rattle.octets.specs.Pick.{within};
 ghost use Rattle.gregorian.specs.Month.{is_leap_year, has_thirty_days, days_in_month, is_day};

@@ -13,7 +13,6 @@
 --     Notation         how the examples write JSON down
 --     Examples         calendars written and read, and each kind of fault
 --     RfcExamples      the examples of RFC 7265
---     laws             laws of these
 pub mod Integer
 pub mod Values
 pub mod Parameters
@@ -25,4 +24,3 @@ pub mod Computing
 pub mod Notation
 pub mod Examples
 pub mod RfcExamples
-pub mod laws

@@ -1,1 +1,2 @@
 // jCal (RFC 7265): definitions, no code. See specs/.
+#![tactic(auto)]

@@ -3,9 +3,7 @@
 --     Faults     what is told of the place of a fault
 --     Computing  opens all definitions, for examples that compute
 --     Examples   a derivation, its spelling
---     laws       the check accepts exactly these texts, and tells the first byte at which none can go on
 pub mod Grammar
 pub mod Faults
 pub mod Computing
 pub mod Examples
-pub mod laws

@@ -1,4 +1,5 @@
 // The check of a JSON text, RFC 8259, in one pass: see specs/Check.antt. The characters of its strings: see specs/CharAt.antt.
+#![tactic(auto)]
 
 mod bytes;
 mod characters;
@@ -17,21 +18,21 @@ use strings::in_string;
 use structure::{between_tokens, in_literal};
 
 // The character at a place in a string: a byte, END where none stands there, 257 and its code point where an escape of digits does; and the place after it.
-#[derive(Drop)]
+#[derive(Clone, Copy)]
 pub struct CharRead {
     pub u: usize,
     pub next: usize,
 }
 
 // What is found: no fault, or its place.
-#[derive(Drop)]
+#[derive(Clone, Copy)]
 pub enum Checked {
     Fine,
     At(usize),
 }
 
 // The innermost array or object that is open.
-#[derive(Drop)]
+#[derive(Clone, Copy)]
 pub enum Around {
     Nothing,
     Array,
@@ -39,7 +40,7 @@ pub enum Around {
 }
 
 // Between tokens: what may come.
-#[derive(Drop)]
+#[derive(Clone, Copy)]
 pub enum Expect {
     Value,
     ValueOrEnd,
@@ -50,7 +51,7 @@ pub enum Expect {
 }
 
 // In a number: what was read last.
-#[derive(Drop)]
+#[derive(Clone, Copy)]
 pub enum Number {
     Minus,
     Zero,
@@ -63,7 +64,7 @@ pub enum Number {
 }
 
 // In a string: between its characters, or in an escape that began at the first number.
-#[derive(Drop)]
+#[derive(Clone, Copy)]
 pub enum Inside {
     Chars,
     Escape(usize),
@@ -73,7 +74,7 @@ pub enum Inside {
     Low(usize, u8, u32),
 }
 
-#[derive(Drop)]
+#[derive(Clone, Copy)]
 pub enum State {
     Expects(Expect),
     InLiteral(u64),
@@ -82,7 +83,7 @@ pub enum State {
 }
 
 // What a byte does.
-#[derive(Drop)]
+#[derive(Clone, Copy)]
 pub enum Move {
     To(State),
     OpenArray,

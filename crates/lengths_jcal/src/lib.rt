@@ -1,1 +1,2 @@
 // How long the jCal of a text is: specifications only.
+#![tactic(auto)]

@@ -1,1 +1,2 @@
 // How long the iCalendar text of a jCal text is: specifications only.
+#![tactic(auto)]

@@ -1,1 +1,2 @@
 // How long the text of a document is: specifications only.
+#![tactic(auto)]

@@ -1,1 +1,2 @@
 // How long the XML of a text is: specifications only.
+#![tactic(auto)]

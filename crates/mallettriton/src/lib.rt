@@ -1,5 +1,7 @@
 // The conversions for C: slices are a pointer and a length, and the answer is one number. See include/mallettriton.h.
 // The library for Rattle is in crates text_to_xml (`to_xml`), xml_to_text (`to_text`), text_to_jcal (`to_jcal`), text_from_jcal (`jcal_to_text`), calls (`Answer`, `number_of`, `value_of`) and documents (`document_end`).
+#![tactic(auto)]
+
 ghost use Rattle.std.specs.Prelude.{◌≡◌};
 ghost use Rattle.octets.specs.Reading.{read_or};
 ghost use Rattle.calls.specs.ToXml.{to_xml_outcome, to_xml_output, to_xml_work};

@@ -1,5 +1,7 @@
 // The conversion for C that needs little memory: text to XML with no work room. See include/mallettriton.h. The library for Rattle is in crate text_to_xml (`to_xml_folded`).
 // It is an archive of its own, so that the compiler knows in all of either archive how a text is read, with its folds or without: both are faster and smaller so.
+#![tactic(auto)]
+
 ghost use Rattle.std.specs.Prelude.{◌≡◌};
 ghost use Rattle.calls.specs.ToXmlFolded.{to_xml_folded_outcome, to_xml_folded_output};
 ghost use Rattle.calls.specs.Answered.{code_of};

@@ -1,5 +1,7 @@
 // Names and words over a cursor (crate source): compared and written in a given case, looked up in a table.
 // The source is cut at the word's end by the caller: the word is all that stands from the cursor on.
+#![tactic(auto)]
+
 pub mod packed;
 mod plain;
 
@@ -21,7 +23,7 @@ use sink::put;
 use source::unit;
 
 // The case in which a word is compared or written.
-#[derive(Drop)]
+#[derive(Clone, Copy)]
 pub enum Case {
     Kept,
     Capital,
@@ -29,7 +31,7 @@ pub enum Case {
 }
 
 // After a byte of a table's name: the cursor in the word, and whether the two are the same so far.
-#[derive(Drop)]
+#[derive(Clone, Copy)]
 pub struct Matched {
     pub at: usize,
     pub ok: bool,

@@ -23,7 +23,7 @@ const FULL: u64 = 0x100_0000_0000_0000;
 const NONE: u64 = 0x8000_0000_0000_0000;
 
 // The number of a name in two halves; the low one has the last eight digits.
-#[derive(Drop)]
+#[derive(Clone, Copy)]
 pub struct Packed {
     pub high: u64,
     pub low: u64,

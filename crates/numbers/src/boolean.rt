@@ -9,7 +9,7 @@ ghost use Rattle.numbers.specs.ReadBoolean.{truth_of};
 use names::{is_word, is_word_any_case};
 use sink::put_all;
 
-#[derive(Drop)]
+#[derive(Clone, Copy)]
 pub enum BooleanRead {
     Truth(bool),
     Bad,

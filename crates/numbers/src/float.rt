@@ -18,14 +18,14 @@ use octets::unit::{END, NINE, POINT, ZERO};
 use sink::put;
 
 // A number: whether it is negative, the cursor of the first digit that counts, and the cursor of the digits after the point.
-#[derive(Drop)]
+#[derive(Clone, Copy)]
 pub enum FloatRead {
     Good(bool, usize, usize),
     Bad,
 }
 
 // Digits, and digits after a point if there is one: whether they stand there, and the cursor of those after the point.
-#[derive(Drop)]
+#[derive(Clone, Copy)]
 struct Shape {
     ok: bool,
     after: usize,

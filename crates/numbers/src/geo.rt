@@ -11,14 +11,14 @@ use octets::unit::{END, SEMICOLON};
 use source::unit;
 
 // The cursor of the longitude.
-#[derive(Drop)]
+#[derive(Clone, Copy)]
 pub enum GeoRead {
     At(usize),
     Bad,
 }
 
 // Whether a separator was found, and the cursor after it.
-#[derive(Drop)]
+#[derive(Clone, Copy)]
 struct Mark {
     ok: bool,
     next: usize,

@@ -13,7 +13,7 @@ use sink::put;
 use source::unit;
 
 // A number: whether it is negative, and its magnitude.
-#[derive(Drop)]
+#[derive(Clone, Copy)]
 pub enum IntegerRead {
     Value(bool, u32),
     Bad,

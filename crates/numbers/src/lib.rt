@@ -6,6 +6,8 @@
 //     float     FLOAT
 //     geo       GEO in text
 // Definitions and their laws are in specs/.
+#![tactic(auto)]
+
 pub mod boolean;
 pub mod float;
 pub mod geo;

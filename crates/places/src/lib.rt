@@ -1,1 +1,2 @@
 // Where a document or a jCal text is refused: specifications only.
+#![tactic(auto)]

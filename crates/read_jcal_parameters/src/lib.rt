@@ -1,5 +1,7 @@
 // The parameters of a property, out of jCal (RFC 7265, section 3.5): the check of them, and their text. Definitions are in crates jcal and text, laws in
 // specs/laws/.
+#![tactic(auto)]
+
 mod apart;
 mod base64;
 mod cursor;

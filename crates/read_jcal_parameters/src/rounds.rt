@@ -12,7 +12,7 @@ use octets::smaller;
 use read_json::member_at;
 
 // A round: whether its names are all different and none comes again, and the place behind them; else a place where one that comes again may stand.
-#[derive(Drop)]
+#[derive(Clone, Copy)]
 pub struct Round {
     pub passed: bool,
     pub place: usize,

@@ -9,7 +9,7 @@ use read_json::element_at;
 use read_json::kinds::{NUMBER, STRING, is_none, kind_number};
 
 // A first element of the kind that was asked for, by its place and the place behind it; or another one, or none.
-#[derive(Drop)]
+#[derive(Clone, Copy)]
 pub enum First {
     At(usize, usize),
     Other,

@@ -1,4 +1,6 @@
 // The values of a property in a jCal text, read. Definitions are in crate jcal (specs/Values, specs/Integer), see also specs/.
+#![tactic(auto)]
+
 mod elements;
 mod items;
 mod leaves;

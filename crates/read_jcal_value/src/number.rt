@@ -21,7 +21,7 @@ const POWERS: [usize; 10] = [
 ];
 
 // An exponent: whether it has a minus, and what its digits are worth.
-#[derive(Drop)]
+#[derive(Clone, Copy)]
 pub struct Exponent {
     pub down: bool,
     pub worth: usize,

@@ -22,7 +22,7 @@ use read_json::{Head, element_at, element_next};
 use schema::{Context, WordRead, has_words, permits_type, property, read_word_of};
 
 // The values are there, or not.
-#[derive(Drop)]
+#[derive(Clone, Copy)]
 pub enum ValuesRead {
     Read,
     Bad,

@@ -1,4 +1,6 @@
 // A JSON text by places: its tokens, the elements of an array, the members of an object, whatever the bytes are. Definitions are in crate json_text (specs/Tree), see also specs/.
+#![tactic(auto)]
+
 mod closing;
 mod elements;
 mod ends;
@@ -11,7 +13,7 @@ pub use elements::{element_at, element_next};
 pub use members::member_at;
 
 // A token: none, where the text ends; a bracket that opens an array or object, or closes one; a name, a string, a number, a literal.
-#[derive(Drop)]
+#[derive(Clone, Copy)]
 pub enum PieceKind {
     None,
     Array,
@@ -24,7 +26,7 @@ pub enum PieceKind {
 }
 
 // Its place, and the place behind it.
-#[derive(Drop)]
+#[derive(Clone, Copy)]
 pub struct Piece {
     pub kind: PieceKind,
     pub place: usize,
@@ -32,14 +34,14 @@ pub struct Piece {
 }
 
 // The end of an array or object: the place of the bracket that closes it, and the place behind that.
-#[derive(Drop)]
+#[derive(Clone, Copy)]
 pub struct Ended {
     pub place: usize,
     pub next: usize,
 }
 
 // Nothing more in the array; or an element, by its kind.
-#[derive(Drop)]
+#[derive(Clone, Copy)]
 pub enum HeadKind {
     None,
     String,
@@ -50,7 +52,7 @@ pub enum HeadKind {
 }
 
 // An element: its place, and the place behind it; of an array or object, the place behind the bracket that opens it.
-#[derive(Drop)]
+#[derive(Clone, Copy)]
 pub struct Head {
     pub kind: HeadKind,
     pub place: usize,
@@ -58,7 +60,7 @@ pub struct Head {
 }
 
 // A member, if there is one: the place of its name, and the place behind that, from where on its value stands.
-#[derive(Drop)]
+#[derive(Clone, Copy)]
 pub struct MemberHead {
     pub there: bool,
     pub name: usize,

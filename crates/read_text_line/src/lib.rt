@@ -1,4 +1,5 @@
 // Content lines, RFC 5545, section 3.1, read through a cursor: the source is cut at the line's end by the caller. Definitions and laws are in specs/.
+#![tactic(auto)]
 
 mod carried;
 mod encoded;
@@ -17,7 +18,7 @@ pub use value::{next_value, param_value};
 pub use written::{put_param_name, put_param_value};
 
 // The classes of characters of a line: of an unquoted value of a parameter, of a quoted one, of the line's value.
-#[derive(Drop)]
+#[derive(Clone, Copy)]
 pub enum Chars {
     Safe,
     Quoted,
@@ -26,7 +27,7 @@ pub enum Chars {
 
 // A value of a parameter: whether one is there, whether it is against no rule, whether it stands between quotes, the cursors of its characters and of
 // their end, and the cursor behind it.
-#[derive(Drop)]
+#[derive(Clone, Copy)]
 pub struct ParamAt {
     pub there: bool,
     pub ok: bool,
@@ -37,7 +38,7 @@ pub struct ParamAt {
 }
 
 // A parameter: whether one is there, whether it is against no rule, the cursors of its name and of the name's end, of its first value, and the cursor behind it.
-#[derive(Drop)]
+#[derive(Clone, Copy)]
 pub struct ParamRead {
     pub there: bool,
     pub ok: bool,
@@ -48,14 +49,14 @@ pub struct ParamRead {
 }
 
 // All that there are: whether they are against no rule, and the cursor behind them.
-#[derive(Drop)]
+#[derive(Clone, Copy)]
 pub struct AllRead {
     pub ok: bool,
     pub next: usize,
 }
 
 // A content line by cursors: its name, its parameters, which begin at the name's end, and its value.
-#[derive(Drop)]
+#[derive(Clone, Copy)]
 pub struct LineCursors {
     pub name: usize,
     pub parameters: usize,
@@ -63,14 +64,14 @@ pub struct LineCursors {
 }
 
 // A content line, or a line that is against the grammar.
-#[derive(Drop)]
+#[derive(Clone, Copy)]
 pub enum LineRead {
     Line(LineCursors),
     Bad,
 }
 
 // Where a line ends: the cursor of its CRLF, and the one behind it; or no CRLF follows it.
-#[derive(Drop)]
+#[derive(Clone, Copy)]
 pub enum Ending {
     Whole(usize, usize),
     Loose,

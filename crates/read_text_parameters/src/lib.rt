@@ -1,5 +1,7 @@
 // The parameters of a property's line: the type that they state, or the leftmost faulty one.
 // A line is cut at its end by the caller. Definitions are in crate text (specs/Parameters), laws in specs/laws/.
+#![tactic(auto)]
+
 mod base64;
 mod cut;
 mod heap;
@@ -21,14 +23,14 @@ pub use stated::stated_type;
 pub use walk::read_parameters;
 
 // The type that a line states, by its number; or VALUE that names none.
-#[derive(Drop)]
+#[derive(Clone, Copy)]
 pub enum TypeRead {
     Type(usize),
     Bad,
 }
 
 // The parameters are good, and state the type of this number; or the parameter of this number is the leftmost faulty one; or BINARY has no ENCODING.
-#[derive(Drop)]
+#[derive(Clone, Copy)]
 pub enum ParametersRead {
     Good(usize),
     Faulty(usize),

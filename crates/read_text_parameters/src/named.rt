@@ -4,7 +4,7 @@ ghost use Rattle.read_text_parameters.specs.Naming.{NameAt};
 use read_text_line::next_param;
 
 // The name of a parameter: whether one is there, its cursor, and the cursor behind the parameter.
-#[derive(Drop)]
+#[derive(Clone, Copy)]
 pub struct NameRead {
     pub there: bool,
     pub name: usize,

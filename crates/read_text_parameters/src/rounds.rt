@@ -13,7 +13,7 @@ use crate::places::place_at;
 use crate::twice::put_round;
 
 // A round: how many names it passed, the cursor behind them, and how many of those behind it are none of them.
-#[derive(Drop)]
+#[derive(Clone, Copy)]
 pub struct Round {
     pub count: usize,
     pub next: usize,

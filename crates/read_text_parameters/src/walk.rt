@@ -30,7 +30,7 @@ const FEW: usize = 16;
 
 // What a walk has noted: how many parameters there were; which of those that have a number; the place of the first that comes again, once it is sought;
 // the type that VALUE named, or the property's default.
-#[derive(Drop)]
+#[derive(Clone, Copy)]
 pub struct Noted {
     pub count: usize,
     pub seen: u32,

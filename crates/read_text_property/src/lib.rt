@@ -1,4 +1,6 @@
 // The values of a property line, and all faults of the line. Definitions are in text; the laws of the code in specs/laws/.
+#![tactic(auto)]
+
 mod fault;
 mod list;
 mod own;
@@ -7,14 +9,14 @@ pub use fault::property_fault;
 pub use own::read_values;
 
 // The values are good, of the type of this number; or not.
-#[derive(Drop)]
+#[derive(Clone, Copy)]
 pub enum ValuesRead {
     Good(usize),
     Bad,
 }
 
 // What is wrong with a property's line: a parameter, by its number; ENCODING, which is missing; the value; or nothing.
-#[derive(Drop)]
+#[derive(Clone, Copy)]
 pub enum LineFault {
     Parameter(usize),
     Encoding,

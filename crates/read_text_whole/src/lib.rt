@@ -1,4 +1,6 @@
 // A text as it is lent: unfolded into the work room and checked there, or checked with its folds in place (folded.rt). What the calls from text share. See specs/Whole.antt.
+#![tactic(auto)]
+
 mod folded;
 
 ghost use Rattle.std.specs.Prelude.{◌≡◌, true, ◌≤◌, length};
@@ -19,7 +21,7 @@ use refusals::Refusal;
 use utf8::Found;
 
 // What comes of a text: its edition, and how many bytes are to be read, of the work room or of the text with its folds; or the answer that refuses it.
-#[derive(Drop)]
+#[derive(Clone, Copy)]
 pub enum Whole {
     Kept(Edition, usize),
     Refused(Answer),

@@ -9,7 +9,7 @@ use crate::plain::is_plain;
 use octets::wide;
 
 // Its place, and its name from the second place to the third; or there is none.
-#[derive(Drop)]
+#[derive(Clone, Copy)]
 pub enum FirstElement {
     At(usize, usize, usize),
     NoElement,

@@ -1,4 +1,6 @@
 // The content of an element, node by node, and what all readers of elements ask of it. Definitions are in crates xml and xcal, laws in specs/laws/.
+#![tactic(auto)]
+
 mod closing;
 mod content;
 mod ending;
@@ -15,7 +17,7 @@ pub use readers::{has_capital, has_element, inner_element, unexpected};
 pub use root::root_node;
 
 // Nothing more in the element; or an element, a literal byte, a referred character.
-#[derive(Drop)]
+#[derive(Clone, Copy)]
 pub enum NodeKind {
     None,
     Element,
@@ -25,7 +27,7 @@ pub enum NodeKind {
 
 // A node: of an element the name, from `name` to `name_end`, where its content begins, and the place of its end tag;
 // of a character the byte or the code point, `unit`; and the place of the next node.
-#[derive(Drop)]
+#[derive(Clone, Copy)]
 pub struct Node {
     pub kind: NodeKind,
     pub name: usize,
@@ -38,7 +40,7 @@ pub struct Node {
 
 // The head of a node: what is known of it before an element's end tag is sought. `next` is the place behind its tag or character, and `opens` says that
 // an element's content begins there.
-#[derive(Drop)]
+#[derive(Clone, Copy)]
 pub struct Head {
     pub kind: NodeKind,
     pub name: usize,
@@ -50,14 +52,14 @@ pub struct Head {
 }
 
 // The place of an element's end tag, and that of what follows it.
-#[derive(Drop)]
+#[derive(Clone, Copy)]
 pub struct Ended {
     pub place: usize,
     pub next: usize,
 }
 
 // An element: the place of its start tag, its name, from `name` to `name_end`, where its content begins, and the place of its end tag.
-#[derive(Drop)]
+#[derive(Clone, Copy)]
 pub struct Element {
     pub place: usize,
     pub name: usize,
@@ -67,7 +69,7 @@ pub struct Element {
 }
 
 // What a reader of elements finds: nothing wrong, or the number of a refusal and its place.
-#[derive(Drop)]
+#[derive(Clone, Copy)]
 pub enum Judged {
     Fine,
     Refused(u8, usize),

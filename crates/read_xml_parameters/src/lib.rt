@@ -1,5 +1,7 @@
 // The elements of a property's parameters, out of XML (RFC 6321, section 3.5): the verdict on them, and their text. Definitions are in crates xcal and text,
 // laws in specs/laws/.
+#![tactic(auto)]
+
 mod children;
 mod fresh;
 mod leaf;
@@ -13,7 +15,7 @@ pub use written::put_parameters;
 
 // An element of a content: whether there is one, the place of its start tag, its name, from `name` to `name_end`, where its content begins, the place of its
 // end tag, and the place of what follows it.
-#[derive(Drop)]
+#[derive(Clone, Copy)]
 pub struct Child {
     pub there: bool,
     pub place: usize,

@@ -1,4 +1,5 @@
 // XML tokens, the prolog and the XML profile, by places in the input. Definitions are in crate xml, laws in specs/laws/.
+#![tactic(auto)]
 
 mod formed;
 mod pieces;
@@ -11,7 +12,7 @@ pub use tag::root_at;
 pub use token::token_at;
 
 // The kinds of tokens. A fault is what is no token, and the end of the input.
-#[derive(Drop)]
+#[derive(Clone, Copy)]
 pub enum TokenKind {
     Start,
     Empty,
@@ -23,7 +24,7 @@ pub enum TokenKind {
 
 // A token: the places of a tag's name and of the name's end; the byte of a character, the code point of a reference, the place of a tag; and the place
 // behind the token.
-#[derive(Drop)]
+#[derive(Clone, Copy)]
 pub struct TokenAt {
     pub kind: TokenKind,
     pub name: usize,
@@ -33,7 +34,7 @@ pub struct TokenAt {
 }
 
 // Whether a document is within the XML profile, or the place of its first fault.
-#[derive(Drop)]
+#[derive(Clone, Copy)]
 pub enum Xml {
     Fine,
     Refused(usize),

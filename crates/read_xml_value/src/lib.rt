@@ -1,4 +1,6 @@
 // The verdict on the elements of a property's value. Definitions are in crate xcal (specs/ValueNodes), laws in specs/laws/.
+#![tactic(auto)]
+
 mod leaves;
 mod parts;
 mod turns;
@@ -9,7 +11,7 @@ pub use types::{element_type, type_of_nodes};
 pub use value::value_verdict;
 
 // The type that an element's name names, by its number; or a name that names none.
-#[derive(Drop)]
+#[derive(Clone, Copy)]
 pub enum Named {
     Type(usize),
     Bad,

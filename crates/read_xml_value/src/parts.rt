@@ -20,7 +20,7 @@ use refusals::FRAME;
 use schema::value_type;
 
 // The slot after a child, or that it has no place.
-#[derive(Drop)]
+#[derive(Clone, Copy)]
 pub enum After {
     Slot(usize),
     Nowhere,

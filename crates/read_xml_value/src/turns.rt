@@ -19,14 +19,14 @@ use read_xml_nodes::{Element, Judged, NodeKind, next_node, unexpected};
 use refusals::FRAME;
 
 // A child with a place that is fine, and the slot after it; or the refusal.
-#[derive(Drop)]
+#[derive(Clone, Copy)]
 pub enum Tried {
     Good(usize),
     Stops(Judged),
 }
 
 // Where the next turn begins: the place, the slot, and the two flags; or the verdict.
-#[derive(Drop)]
+#[derive(Clone, Copy)]
 pub enum Next {
     Goes(usize, usize, bool, bool),
     Ends(Judged),

@@ -12,7 +12,7 @@ use crate::part;
 use crate::word::{is_enddate, is_frequency, is_weekday, is_weekdaynum};
 
 // There is an item, of the part at this place; or none.
-#[derive(Drop)]
+#[derive(Clone, Copy)]
 pub enum ItemRead {
     Good(usize),
     Bad,

@@ -1,4 +1,6 @@
 // RECUR: recurrence rules, their parts and items, read and written. Definitions and their laws are in specs/.
+#![tactic(auto)]
+
 pub mod item;
 mod number;
 pub mod part;

@@ -20,14 +20,14 @@ use octets::unit::{COMMA, END, EQUALS, SEMICOLON};
 use source::unit;
 
 // Whether there is a rule.
-#[derive(Drop)]
+#[derive(Clone, Copy)]
 pub enum RuleRead {
     Rule,
     Bad,
 }
 
 // Whether there is a rule, and where each of the 14 parts stands: the cursor at its piece and one more; 0 where there is none.
-#[derive(Drop)]
+#[derive(Clone, Copy)]
 pub struct RuleParts {
     pub good: bool,
     pub begins: [usize; 14],

@@ -1,7 +1,8 @@
 // The refusals by name, for code. Crate calendar, specs/Refusal.antt, defines them and their numbers; docs/FORMAT.md says when each is given.
+#![tactic(auto)]
 
 // The refusals that have a place, each with its number. ROOM is none of them: it has the length that is needed (calls::Answer::Needs).
-#[derive(Drop)]
+#[derive(Clone, Copy)]
 pub enum Refusal {
     Length = 1,
     Work = 2,

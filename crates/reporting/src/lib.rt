@@ -1,4 +1,6 @@
 // What a conversion answered, on standard output, for the programs. What is printed is defined in specs/Line.antt.
+#![tactic(auto)]
+
 mod line;
 
 use calls::Answer;

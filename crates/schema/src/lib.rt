@@ -2,6 +2,8 @@
 // A name is its number, its place in the list of names of specs/; a number equal to the list's length is an unrecognised one.
 // In code the numbers have names: component, parameter, property, value_type, action.
 // Definitions are in specs/, the tables of the code are theirs by computation.
+#![tactic(auto)]
+
 pub mod action;
 mod columns;
 pub mod component;
@@ -26,7 +28,7 @@ pub use words::{
 };
 
 // Where a value stands: its component and type by their numbers, its property by its row.
-#[derive(Drop)]
+#[derive(Clone, Copy)]
 pub struct Context {
     pub component: usize,
     pub row: Row,
@@ -34,7 +36,7 @@ pub struct Context {
 }
 
 // A word of a closed set, at this place in it; or none.
-#[derive(Drop)]
+#[derive(Clone, Copy)]
 pub enum WordRead {
     At(usize),
     NoWord,

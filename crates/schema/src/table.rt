@@ -13,7 +13,7 @@ use names::packed::pack;
 
 // A property: the first bytes of its name, and its name (names::pack); the permitted parameters, types and components; the lists in which it stands at least once, at most once, any number of times;
 // the type of its values where no VALUE is given; whether it takes a list of values.
-#[derive(Drop)]
+#[derive(Clone, Copy)]
 pub struct Entry {
     pub key: u64,
     pub high: u64,
@@ -30,7 +30,7 @@ pub struct Entry {
 
 // What the table says of a property, fetched once for a line and passed on: its number, property::KNOWN for an unrecognised one; the type of its values where no VALUE is given, whether it takes a list of values,
 // the permitted types, parameters and components.
-#[derive(Drop)]
+#[derive(Clone, Copy)]
 pub struct Row {
     pub number: usize,
     pub default: usize,

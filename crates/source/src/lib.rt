@@ -1,4 +1,6 @@
 // A cursor over lent bytes in a given encoding: a value is read character by character, whatever encoding it stands in. See specs/Source.antt.
+#![tactic(auto)]
+
 mod carets;
 mod characters;
 mod points;
@@ -16,7 +18,7 @@ use octets::wide;
 pub use quoted::quoted_unit;
 
 // A character's next byte, or END at the value's end; and the cursor after it.
-#[derive(Drop)]
+#[derive(Clone, Copy)]
 pub struct Step {
     pub u: usize,
     pub next: usize,

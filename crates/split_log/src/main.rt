@@ -1,6 +1,8 @@
 // Standard input, a log, that is the XML of calls one after another, as a line `FROM TO` for each of its documents on standard output: its first byte, and the
 // byte behind its last, counted from 0. Bytes that are left behind the last document have a line `FROM TO left`. The log is read in pieces and may have any
 // length: the limit, 2 ^ 62 bytes, is only so that every count has room.
+#![tactic(auto)]
+
 ghost use Rattle.std.specs.Prelude.{◌^◌, ◌≤◌, ◌<◌, length};
 ghost use Rattle.documents.specs.Pieces.{Kept, KeptSome};
 
@@ -12,7 +14,7 @@ const PIECES: u64 = 70368744177664;
 
 // How far the log is searched: whether there was more of it; how many bytes of a document's end have come; where the document begins in which the search
 // stands; where the search stands. (`Reached` of crate documents, specs/Pieces.antt)
-#[derive(Drop)]
+#[derive(Clone, Copy)]
 struct Search {
     more: bool,
     come: usize,

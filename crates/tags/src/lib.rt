@@ -1,4 +1,6 @@
 // Writing XML: character data with its entities, and tags. The definitions are in crate xml, specs/Escape.antt.
+#![tactic(auto)]
+
 ghost use Rattle.std.specs.Prelude.{◌≡◌};
 ghost use Rattle.octets.specs.Class.{lower};
 ghost use Rattle.sink.specs.Sink.{Put};

@@ -1,11 +1,13 @@
 // What is kept of the properties of a component while they are read. See specs/Counting.antt.
+#![tactic(auto)]
+
 ghost use Rattle.std.specs.Prelude.{◌≡◌, []};
 ghost use Rattle.tallies.specs.Counting.{Counted, is_first, CountsOn};
 
 use schema::{action, bump, property};
 
 // How often each known property has come, and the number of the word of the first ACTION.
-#[derive(Drop)]
+#[derive(Clone, Copy)]
 pub struct Kept {
     pub counts: [u8; 46],
     pub action: usize,

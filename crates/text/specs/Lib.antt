@@ -10,7 +10,6 @@
 --     WriteText           the canonical text of a calendar
 --     Computing           opens all of these, for examples that compute
 --     Examples            places of faults, by computation
---     laws                laws of these, and what proofs need
 pub mod Parameters
 pub mod Values
 pub mod Faults
@@ -22,4 +21,3 @@ pub mod ReadText
 pub mod WriteText
 pub mod Computing
 pub mod Examples
-pub mod laws

@@ -10,7 +10,7 @@ use names::is_word_any_case;
 use read_text_line::{Ending, LineCursors, LineRead, line_at, line_end};
 
 // The beginning of a component, the end of one, a property, or none of these.
-#[derive(Drop)]
+#[derive(Clone, Copy)]
 pub enum Kind {
     Begin,
     End,
@@ -19,7 +19,7 @@ pub enum Kind {
 }
 
 // A line: what it is, its cursors, that of its end, and that of the next line.
-#[derive(Drop)]
+#[derive(Clone, Copy)]
 pub struct Found {
     pub kind: Kind,
     pub line: LineCursors,

@@ -1,4 +1,6 @@
 // The lines of a text one by one: what each is, and the way past a component. Definitions and laws are in specs/.
+#![tactic(auto)]
+
 mod bound;
 mod entry;
 mod levels;

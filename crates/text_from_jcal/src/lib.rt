@@ -1,4 +1,6 @@
 // jCal to canonical iCalendar text. See crate calls_jcal, specs/JcalToText.antt.
+#![tactic(auto)]
+
 ghost use Rattle.std.specs.Prelude.{◌≡◌, true, false, ◌*◌, ◌≤◌, length};
 ghost use Rattle.calendar.specs.Levels.{levels};
 ghost use Rattle.calendar.specs.Refusal.{characters, fine, answer, ◌otherwise◌};

@@ -1,4 +1,6 @@
 // iCalendar text to canonical jCal. See crate calls_jcal, specs/ToJcal.antt.
+#![tactic(auto)]
+
 ghost use Rattle.std.specs.Prelude.{◌≡◌, ◌+◌, ◌*◌, ◌≤◌, length};
 ghost use Rattle.calendar.specs.Refusal.{fine, answer};
 ghost use Rattle.folding.specs.Lines.{lines};

@@ -1,4 +1,6 @@
 // iCalendar text to canonical XML: unfolded into a work room first, or read with its folds in place (folded.rt). See crate calls, specs/ToXml.antt.
+#![tactic(auto)]
+
 mod folded;
 
 ghost use Rattle.std.specs.Prelude.{◌≡◌, true, ◌+◌, ◌*◌, ◌≤◌, length};

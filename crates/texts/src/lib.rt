@@ -1,4 +1,5 @@
 // TEXT and lists of it, URI, BINARY and unknown values, read through a cursor and written. Definitions and laws are in specs/.
+#![tactic(auto)]
 
 mod binary;
 mod chars;
@@ -23,14 +24,14 @@ pub use uri::read_uri;
 pub use written::{put_text_escaped, put_text_xml};
 
 // Whether a value that is kept by its characters is of the type.
-#[derive(Drop)]
+#[derive(Clone, Copy)]
 pub enum Kept {
     Good,
     Bad,
 }
 
 // A REQUEST-STATUS: the cursor of the first semicolon, the cursor behind it, and that of the second one or of the end; or none.
-#[derive(Drop)]
+#[derive(Clone, Copy)]
 pub enum Status {
     Parts(usize, usize, usize),
     NoStatus,

@@ -1,1 +1,2 @@
 // Theorems over the answers of both conversions, over whole calls and lists of calls: specifications only.
+#![tactic(auto)]

@@ -1,1 +1,2 @@
 // Theorems over the answers of the calls of jCal, over whole calls: specifications only.
+#![tactic(auto)]

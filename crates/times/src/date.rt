@@ -14,7 +14,7 @@ use crate::written::put_day;
 use gregorian::is_day;
 
 // A day by year, month and day of the month.
-#[derive(Drop)]
+#[derive(Clone, Copy)]
 pub enum DateRead {
     Day(u16, u8, u8),
     NoDate,

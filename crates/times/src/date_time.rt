@@ -18,7 +18,7 @@ use crate::written::{put_clock, put_day};
 use sink::put;
 
 // Year, month and day, hour, minute and second, and whether it is UTC.
-#[derive(Drop)]
+#[derive(Clone, Copy)]
 pub enum DateTimeRead {
     Moment(u16, u8, u8, u8, u8, u8, bool),
     NoDateTime,

@@ -20,7 +20,7 @@ use octets::unit::{
 use sink::put;
 
 // Digits at a cursor: whether there are any, the character after them, and the cursor after that.
-#[derive(Drop)]
+#[derive(Clone, Copy)]
 pub struct Run {
     pub any: bool,
     pub u: usize,
@@ -28,7 +28,7 @@ pub struct Run {
 }
 
 // Whether it is negative, and the cursor after the sign.
-#[derive(Drop)]
+#[derive(Clone, Copy)]
 pub enum DurationRead {
     Span(bool, usize),
     NoDuration,

@@ -10,7 +10,7 @@ use crate::letters::letter;
 use octets::unit::{HYPHEN, NINE, PLUS, ZERO};
 
 // Whether all of a pattern was passed, the number of its digits, and the cursor after it.
-#[derive(Drop)]
+#[derive(Clone, Copy)]
 pub struct Walk {
     pub ok: bool,
     pub n: usize,

@@ -1,4 +1,6 @@
 // Dates and times: readers and writers of DATE, TIME, DATE-TIME, DURATION, UTC-OFFSET and PERIOD. See specs/Lib.antt.
+#![tactic(auto)]
+
 pub mod date;
 pub mod date_time;
 pub mod duration;

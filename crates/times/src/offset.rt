@@ -18,7 +18,7 @@ use sink::put;
 use source::unit;
 
 // Whether it is negative, hour, minute and second, and whether the second was given.
-#[derive(Drop)]
+#[derive(Clone, Copy)]
 pub enum OffsetRead {
     Shift(bool, u8, u8, u8, bool),
     NoOffset,

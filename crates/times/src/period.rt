@@ -21,7 +21,7 @@ use crate::letters::letter;
 use octets::unit::{SLASH, UPPER_Z};
 
 // Whether a slash stands after the start's digits, the kind of the zone before it, and the cursor after it.
-#[derive(Drop)]
+#[derive(Clone, Copy)]
 pub struct Cut {
     pub ok: bool,
     pub k: usize,
@@ -29,7 +29,7 @@ pub struct Cut {
 }
 
 // The number of the start's digits and the kind of its zone, whether an end and not a duration follows the slash, and the cursor after it.
-#[derive(Drop)]
+#[derive(Clone, Copy)]
 pub enum PeriodRead {
     Between(usize, usize, bool, usize),
     NoPeriod,

@@ -15,7 +15,7 @@ use crate::written::put_clock;
 use octets::unit::{END, UPPER_Z};
 
 // Hour, minute and second, and whether it is UTC.
-#[derive(Drop)]
+#[derive(Clone, Copy)]
 pub enum TimeRead {
     Clock(u8, u8, u8, bool),
     NoTime,

@@ -1,5 +1,7 @@
 // Standard input, an xCal document, as canonical iCalendar text on standard output; or one line `refused N at P`, of a
 // result that has no room `refused 10 needs L`. One byte more than the limit is read, so that a longer input is refused.
+#![tactic(auto)]
+
 use edition::Edition;
 use libc::STDIN_FILENO;
 use reporting::say_answer;

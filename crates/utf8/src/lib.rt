@@ -1,5 +1,7 @@
 // The characters that an input may hold, in UTF-8 by RFC 3629: see specs/Utf8.antt. The check is an
 // automaton that takes a byte at a time: see specs/Automaton.antt.
+#![tactic(auto)]
+
 mod spell;
 
 ghost use Rattle.std.specs.Prelude.{◌≡◌};
@@ -10,7 +12,7 @@ ghost use Rattle.utf8.specs.Automaton.{start, lead, tail, step, verdict, found_o
 pub use spell::{is_character, spelled_byte, spelled_length};
 
 // Where a sequence begins that is no character, if there is one.
-#[derive(Drop)]
+#[derive(Clone, Copy)]
 pub enum Found {
     At(usize),
     Nothing,
@@ -18,7 +20,7 @@ pub enum Found {
 
 // Where a check stands: the sequence that began at `start` wants `need` bytes more, the next of them
 // from `low` to `high`. `last`: that byte follows the lead byte EF. Once `ok` is false nothing changes.
-#[derive(Drop)]
+#[derive(Clone, Copy)]
 pub struct Reading {
     pub need: u8,
     pub low: u8,

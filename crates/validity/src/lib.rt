@@ -1,1 +1,2 @@
 // A valid calendar, whichever format states it. Definitions are in specs/.
+#![tactic(auto)]

@@ -9,7 +9,7 @@ use edition::Edition;
 use text_entries::{Kind, bound_at, pass_component};
 
 // The next component: whether there is one, and the cursor behind its BEGIN.
-#[derive(Drop)]
+#[derive(Clone, Copy)]
 pub struct Begun {
     pub there: bool,
     pub next: usize,

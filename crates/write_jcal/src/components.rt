@@ -20,7 +20,7 @@ use text_entries::{Kind, bound_at, cut_at_level};
 use write_json::{put_separator, put_small_quoted};
 
 // How far a walk has come: the index in the sink, and the cursor in the text, behind the END that ended it or at the text's end.
-#[derive(Drop)]
+#[derive(Clone, Copy)]
 pub struct Reached {
     pub to: usize,
     pub next: usize,

@@ -1,4 +1,6 @@
 // The canonical jCal of a text: its components and their properties. Definitions and laws are in specs/.
+#![tactic(auto)]
+
 mod alone;
 mod components;
 mod properties;

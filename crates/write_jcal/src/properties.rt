@@ -21,7 +21,7 @@ use write_jcal_property::put_property;
 use write_json::put_separator;
 
 // What a walk over the properties before the first subcomponent came to: the index in the sink, whether one was written, and what stands ahead.
-#[derive(Drop)]
+#[derive(Clone, Copy)]
 pub struct Led {
     pub to: usize,
     pub started: bool,
@@ -29,7 +29,7 @@ pub struct Led {
 }
 
 // What a walk over a component's properties came to: the index in the sink, and what stands ahead.
-#[derive(Drop)]
+#[derive(Clone, Copy)]
 pub struct Walked {
     pub to: usize,
     pub ahead: Ahead,

@@ -1,4 +1,6 @@
 // The members of a line's parameters in jCal (RFC 7265, section 3.5). Definitions and laws are in specs/.
+#![tactic(auto)]
+
 mod line;
 mod parameter;
 mod value;

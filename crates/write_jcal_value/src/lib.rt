@@ -1,4 +1,6 @@
 // A value of iCalendar text, written as JSON (RFC 7265, section 3.6). Definitions and their laws are in specs/.
+#![tactic(auto)]
+
 mod characters;
 mod label;
 mod period;

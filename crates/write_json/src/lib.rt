@@ -1,4 +1,6 @@
 // Writing JSON: strings with their escapes, and the separator of values. The definitions are in crate json_text, specs/Write.antt.
+#![tactic(auto)]
+
 ghost use Rattle.std.specs.Prelude.{◌≡◌};
 ghost use Rattle.octets.specs.Class.{upper, lower};
 ghost use Rattle.sink.specs.Sink.{Put};

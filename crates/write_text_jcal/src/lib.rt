@@ -1,4 +1,6 @@
 // The canonical text of a jCal text's components: the arrays of properties as content lines, folded. Definitions are in crates text and jcal, laws in specs/laws/.
+#![tactic(auto)]
+
 mod calendars;
 mod components;
 mod content;

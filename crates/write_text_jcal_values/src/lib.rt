@@ -1,4 +1,6 @@
 // A property's values from its jCal array, written as iCalendar text; the elements of an array by places. Definitions are in crates jcal (specs/Values) and values (specs/WriteValue), laws in specs/laws/.
+#![tactic(auto)]
+
 mod elements;
 mod item;
 mod own;

@@ -5,7 +5,7 @@ use names::is_word;
 use read_xml_nodes::{NodeKind, node_end, node_head};
 
 // Where the content of a child begins; or there is none.
-#[derive(Drop)]
+#[derive(Clone, Copy)]
 pub enum Child {
     Found(usize),
     Missing,

@@ -1,4 +1,6 @@
 // A property's values from its XML elements, written as iCalendar text. Definitions are in crates xcal (specs/ValueNodes) and values (specs/WriteValue), laws in specs/laws/.
+#![tactic(auto)]
+
 mod child;
 mod own;
 mod period;

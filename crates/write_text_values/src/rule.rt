@@ -27,7 +27,7 @@ use sink::put_all;
 use write_text_pieces::put_between;
 
 // An item's element: where its content begins, the place of the next node, and its name; or there is none.
-#[derive(Drop)]
+#[derive(Clone, Copy)]
 pub enum ItemFound {
     Item(usize, usize, usize, usize),
     Last,

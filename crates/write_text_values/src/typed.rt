@@ -19,7 +19,7 @@ use values::{ValueRead, read_value};
 use write_text_pieces::{put_between, put_leaf};
 
 // A value's element: the number of its type, where its content begins, whether its tag opens it, and the place behind the tag; or there is none.
-#[derive(Drop)]
+#[derive(Clone, Copy)]
 pub enum TypedFound {
     Value(usize, usize, bool, usize),
     Last,

@@ -8,7 +8,7 @@ use edition::Edition;
 use text_entries::{Kind, bound_at};
 
 // How far a walk has come: the index in the sink, and the cursor in the text, behind the END that ended it or at the text's end.
-#[derive(Drop)]
+#[derive(Clone, Copy)]
 pub struct Reached {
     pub to: usize,
     pub next: usize,

@@ -16,7 +16,7 @@ use text_entries::{Ahead, Kind, entry_at, pass_component};
 use write_xml_property::put_property;
 
 // What a walk over a component's properties came to: the index in the sink, and what stands ahead.
-#[derive(Drop)]
+#[derive(Clone, Copy)]
 pub struct Walked {
     pub to: usize,
     pub ahead: Ahead,

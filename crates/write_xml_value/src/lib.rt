@@ -1,4 +1,6 @@
 // A value of iCalendar text, written as its XML element. Definitions and their laws are in specs/.
+#![tactic(auto)]
+
 mod period;
 mod rule;
 mod tag;

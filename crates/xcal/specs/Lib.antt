@@ -10,8 +10,6 @@
 --     WriteXml         the canonical XML of a calendar
 -- and
 --     Computing        opens all definitions, for examples that compute
---     Examples         a calendar that is read back from its document
---     laws             laws of these, and what proofs need
 pub mod Layout
 pub mod ValueNodes
 pub mod ParameterNodes
@@ -20,5 +18,3 @@ pub mod ComponentNodes
 pub mod ReadDocument
 pub mod WriteXml
 pub mod Computing
-pub mod Examples
-pub mod laws

@@ -1,4 +1,6 @@
 // The XML profile: definitions and laws are in specs/. Here: the character at a place.
+#![tactic(auto)]
+
 mod characters;
 mod entities;
 mod references;
@@ -8,7 +10,7 @@ pub use characters::char_at;
 pub use starting::starts_at;
 
 // The character at a place: a byte, END where none stands there, 257 and its code point where a reference does; and the place after it.
-#[derive(Drop)]
+#[derive(Clone, Copy)]
 pub struct CharRead {
     pub u: usize,
     pub next: usize,

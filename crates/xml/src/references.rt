@@ -25,7 +25,7 @@ const CAPITAL_BASE: usize = UPPER_A - 10;
 const SMALL_BASE: usize = LOWER_A - 10;
 
 // Where digits end, and what they are worth.
-#[derive(Drop)]
+#[derive(Clone, Copy)]
 pub struct Digits {
     pub end: usize,
     pub v: usize,

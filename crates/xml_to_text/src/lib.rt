@@ -1,4 +1,6 @@
 // xCal to canonical iCalendar text. See specs/ToText.antt.
+#![tactic(auto)]
+
 ghost use Rattle.std.specs.Prelude.{◌≡◌, ◌*◌, ◌≤◌, length};
 ghost use Rattle.calendar.specs.Refusal.{characters, fine, answer, ◌otherwise◌};
 ghost use Rattle.utf8.specs.Utf8.{first_bad};

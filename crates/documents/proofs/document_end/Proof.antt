@@ -4,7 +4,7 @@ use native.Mathlib.Omega.{arith}
 use lib.ListN.{length}
 use borrow.Author.Rules.{rules}
 use Rattle.octets.specs.laws.Pick.{flag_yes}
-use Rattle.documents.specs.laws.Log.{Ending, ending, close_inside}
+use Rattle.documents.proofs.laws.Log.{Ending, ending, close_inside}
 use Rattle.documents.proofs.document_end.Statement.{statement}
 use Rattle.documents.proofs.document_end.Tie as tie
 

@@ -25,7 +25,7 @@ use Rattle.xml.specs.Escape.{escaped_byte, escaped as entities}
 use Rattle.xcal.specs.WriteXml.{text_element, items_xml, parts_xml}
 use Rattle.json_text.specs.Write.{escaped, quoted}
 use Rattle.jcal.specs.WriteJcal.{one_or_array, item_json, part_json}
-use Rattle.jcal.specs.laws.Plain.{is_plain, plain_escaped, item_plain}
+use Rattle.jcal.proofs.laws.Plain.{is_plain, plain_escaped, item_plain}
 use Rattle.lengths_xml.specs.laws.Elements.{rate, element_length}
 use Rattle.lengths_xml.specs.laws.Pieces.{weight}
 use Rattle.lengths_xml.specs.laws.Rules as elements

@@ -32,16 +32,16 @@ use Rattle.values.specs.WriteValue.{write_value, write_values, type_of_all}
 use Rattle.read_text_line.specs.ContentLine.{RawParameter}
 use Rattle.read_text_line.specs.Write.{write_param_value, write_parameter}
 use Rattle.read_text_line.specs.Decoded.{encoded_parameter, encoded_line, write_line}
-use Rattle.text.specs.laws.Carets.{type_encoded}
+use Rattle.text.proofs.laws.Carets.{type_encoded}
 use Rattle.text.specs.WriteText.{raw_of, value_parameter, with_value, content_line_of, property_line, property_lines}
-use Rattle.xcal.specs.laws.Accepted.{both_fine}
+use Rattle.xcal.proofs.laws.Accepted.{both_fine}
 use Rattle.json_text.specs.Tree.{Json, Member, place_of}
 use Rattle.json_text.specs.Kinds.{as_string, as_array, as_object, nth}
 use Rattle.jcal.specs.Parameters.{read_parameters}
 use Rattle.jcal.specs.Values.{read_values}
 use Rattle.jcal.specs.Property.{name_in, parameters_in, type_in, type_of, values_in, property_name, member_list, value_type_of, names_bad, is_shaped, property_fault, property_of}
 use Rattle.jcal.specs.Components.{at, property_verdict, properties_verdict}
-use Rattle.jcal.specs.laws.PropertyAccepted.{past_fault}
+use Rattle.jcal.proofs.laws.PropertyAccepted.{past_fault}
 use Rattle.lengths_xml.specs.laws.Pieces.{weight, joined_within}
 use Rattle.lengths_xml.specs.laws.Values.{type_length}
 use Rattle.lengths_xml.specs.laws.Parameters.{bytes}

@@ -31,8 +31,8 @@ use Rattle.json_text.specs.declared.State.TheVariants.{Expects, InLiteral, InNum
 use Rattle.json_text.specs.declared.Move.TheVariants.{To, OpenArray, OpenObject, Close}
 use Rattle.json_text.specs.declared.Checked.{Checked}
 use Rattle.json_text.specs.declared.Checked.TheVariants.{Fine}
-use Rattle.jcal.specs.laws.CheckedStrings.{not_fine, Goes, goes, choose, bad_not, to_state}
-use Rattle.jcal.specs.laws.CheckedScalars.{apart, no_scalar, scalar_no_space, letters, number_run, literal_run, scalar_by, opened}
+use Rattle.jcal.proofs.laws.CheckedStrings.{not_fine, Goes, goes, choose, bad_not, to_state}
+use Rattle.jcal.proofs.laws.CheckedScalars.{apart, no_scalar, scalar_no_space, letters, number_run, literal_run, scalar_by, opened}
 use Rattle.lengths_jcal_text.specs.laws.Sizes.{size}
 use Rattle.lengths_jcal_text.specs.laws.Tokens.{valued, valued_weaker, value_size}
 use Rattle.lengths_jcal_text.specs.laws.Strings.{Ends, string_ends}

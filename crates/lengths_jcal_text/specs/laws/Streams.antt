@@ -30,7 +30,7 @@ use Rattle.edition.specs.declared.Edition.{Edition}
 use Rattle.validity.specs.ValidCalendar.{at_top}
 use Rattle.text.specs.WriteText.{content_line_of, property_lines, begin_line, end_line, write_calendar}
 use Rattle.read_text_line.specs.Decoded.{write_line}
-use Rattle.xcal.specs.laws.Accepted.{both_fine, test_fine}
+use Rattle.xcal.proofs.laws.Accepted.{both_fine, test_fine}
 use Rattle.json_text.specs.Bytes.{most_open}
 use Rattle.json_text.specs.Check.{verdict}
 use Rattle.json_text.specs.Tree.{Json, string, number, literal, array, object, Elements, no_elements, element, element_list, value_of}
@@ -40,7 +40,7 @@ use Rattle.json_text.specs.declared.Checked.TheVariants.{Fine, At}
 use Rattle.jcal.specs.Property.{name_in, is_bad_name, passes, property_of}
 use Rattle.jcal.specs.Components.{at, properties_verdict, component_name, property_arrays, component_arrays, read_properties, is_component, component_fault, method_inside, is_complete, components_verdict, component_verdict, inner_verdict, array_verdict, read_components, read_inside, read_inner, read_array, read_calendars, stream_in, is_stream, calendars_in}
 use Rattle.jcal.specs.ReadJcal.{json, jcal_verdict}
-use Rattle.jcal.specs.laws.PropertyAccepted.{past_fault, last_fault}
+use Rattle.jcal.proofs.laws.PropertyAccepted.{past_fault, last_fault}
 use Rattle.lengths_jcal_text.specs.Fitting.{line_fits, head_fits, fits}
 use Rattle.lengths_jcal_text.specs.laws.Sizes.{size, size_some, sizes, total, elements_total, as_array_lem, array_size, size_in, split_size}
 use Rattle.lengths_jcal_text.specs.laws.Names.{checked_size}

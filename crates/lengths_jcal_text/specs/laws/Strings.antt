@@ -29,7 +29,7 @@ use Rattle.json_text.specs.declared.Move.{Move}
 use Rattle.json_text.specs.declared.Move.TheVariants.{To, Bad}
 use Rattle.json_text.specs.declared.Checked.{Checked}
 use Rattle.json_text.specs.declared.Checked.TheVariants.{Fine, At}
-use Rattle.jcal.specs.laws.CheckedStrings.{not_fine, Goes, goes, choose, bad_not, to_state}
+use Rattle.jcal.proofs.laws.CheckedStrings.{not_fine, Goes, goes, choose, bad_not, to_state}
 
 -- what is expected behind a string, a member's name or a value
 abbrev pub follower : Bool → Expect

@@ -19,7 +19,7 @@ use Rattle.values.specs.WriteValue.{write_values, type_of_all}
 use Rattle.read_text_line.specs.ContentLine.{RawParameter}
 use Rattle.read_text_line.specs.Write.{write_param_value, write_parameter}
 use Rattle.read_text_line.specs.Decoded.{encoded_parameter, encoded_line, write_line}
-use Rattle.text.specs.laws.Carets.{type_encoded}
+use Rattle.text.proofs.laws.Carets.{type_encoded}
 use Rattle.text.specs.WriteText.{raw_of, value_parameter, with_value, content_line_of}
 use Rattle.xml.specs.Nodes.{Nodes}
 use Rattle.xcal.specs.ValueNodes.{read_value_nodes}

@@ -29,7 +29,7 @@ use Rattle.json_text.specs.Kinds.{as_array, nth, first_in}
 use Rattle.json_text.specs.declared.Checked.{Checked}
 use Rattle.json_text.specs.declared.Checked.TheVariants.{Fine, At}
 use Rattle.json_grammar.specs.Faults.{Stops, by_byte, by_escape, by_end}
-use Rattle.json_grammar.specs.laws.Places.{place_stops}
+use Rattle.json_grammar.proofs.laws.Places.{place_stops}
 use Rattle.validity.specs.ValidCalendar.{at_top}
 use Rattle.jcal.specs.Property.{property_fault}
 use Rattle.jcal.specs.Components.{at, property_verdict, properties_verdict, component_name, property_arrays, component_fault, method_inside, is_complete, components_verdict, component_verdict, inner_verdict, array_verdict, stream_in, is_stream, calendars_in}

@@ -6,7 +6,7 @@ use Rattle.std.proofs.Common.{sym, ◌∙◌, arith, rules}
 use Rattle.octets.specs.Reading.{and_then}
 use Rattle.names.specs.Table.{place_of}
 use Rattle.schema.specs.Numbers.{type_words}
-use Rattle.jcal.specs.laws.TypeNames.{word_type, no_type, word_placed}
+use Rattle.jcal.proofs.laws.TypeNames.{word_type, no_type, word_placed}
 use Rattle.read_json.specs.TreeAt.{string_at}
 use Rattle.read_json.specs.Kinds.{is_string}
 use Rattle.read_json.specs.declared.Head.{Head}

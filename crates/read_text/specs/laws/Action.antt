@@ -25,7 +25,7 @@ use Rattle.read_text_line.specs.ContentLine.{ContentLine}
 use Rattle.text.specs.Parameters.{stated_type}
 use Rattle.text.specs.Values.{read_values, read_own, one_value}
 use Rattle.text.specs.Faults.{parameters_fault}
-use Rattle.text.specs.laws.AcceptedProperty.{both_pass}
+use Rattle.text.proofs.laws.AcceptedProperty.{both_pass}
 use Rattle.text.specs.Statement.{fault_as, property_fault, property_of}
 
 -- the values of an ACTION

@@ -30,7 +30,7 @@ use Rattle.read_text_line.specs.Decoded.{decoded_parameter, decoded_line}
 use Rattle.read_text_line.specs.Line.{line_from}
 use Rattle.read_text_line.specs.declared.LineCursors.{LineCursors}
 use Rattle.text.specs.Faults.{line_start, parameter_name, value_start, Fault}
-use Rattle.text.specs.laws.Faults.{fault_within}
+use Rattle.text.proofs.laws.Faults.{fault_within}
 use Rattle.text.specs.Statement.{property_fault, property_of}
 use Rattle.text.specs.Nesting.{may_hold}
 use Rattle.text.specs.LineKind.{open_as, held_by, property_kind}

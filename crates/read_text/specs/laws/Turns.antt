@@ -15,7 +15,7 @@ use Rattle.read_text_line.specs.laws.Ready.{ready_end, line_end_inside, line_nex
 use Rattle.text.specs.Faults.{fault, line_start, offset}
 use Rattle.text.specs.Nesting.{Open, onward, move, nesting}
 use Rattle.text.specs.LineKind.{faulty, line_kind, step}
-use Rattle.text.specs.laws.LineKind.{move_is}
+use Rattle.text.proofs.laws.LineKind.{move_is}
 use Rattle.edition.specs.declared.Edition.{Edition}
 use Rattle.read_text.specs.Places.{OffsetAt, PlaceAt}
 use Rattle.read_text.specs.laws.Places.{place_in_text}

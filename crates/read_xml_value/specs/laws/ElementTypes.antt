@@ -34,7 +34,7 @@ use Rattle.schema.specs.laws.Sets.{geo_place, request_status_place}
 use Rattle.schema.specs.Property as property
 use Rattle.schema.specs.declared.table.Row.{Row}
 use Rattle.xml.specs.Nodes.{Nodes}
-use Rattle.xcal.specs.laws.ElementNames.{lower-upper, no_capital}
+use Rattle.xcal.proofs.laws.ElementNames.{lower-upper, no_capital}
 use Rattle.xcal.specs.ValueNodes.{element_type, first_type, type_of_nodes}
 use Rattle.xml.specs.NodesAt.{nodes_at}
 use Rattle.read_xml_nodes.specs.HeadFound.{HeadAt, NodeEnded}

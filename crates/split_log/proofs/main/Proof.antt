@@ -5,7 +5,7 @@ use native.Mathlib.Omega.{arith}
 use borrow.Author.Rules.{rules}
 use Rattle.octets.specs.Append.{◌⊕◌}
 use Rattle.documents.specs.Pieces.{Reached}
-use Rattle.documents.specs.laws.Pieces.{reached_none}
+use Rattle.documents.proofs.laws.Pieces.{reached_none}
 use Rattle.split_log.proofs.main.Statement.{statement}
 use Rattle.split_log.proofs.main.Tie as tie
 

@@ -7,7 +7,7 @@ use lib.ListN.{length, take, drop, length-take, length-drop}
 use borrow.Author.Rules.{rules}
 use Rattle.octets.specs.laws.Scan.{part_rest}
 use Rattle.documents.specs.Pieces.{Scanned, Ended}
-use Rattle.documents.specs.laws.Pieces.{Going, going_start, going_end, going_open, going_over}
+use Rattle.documents.proofs.laws.Pieces.{Going, going_start, going_end, going_open, going_over}
 use Rattle.split_log.proofs.search_ends.Statement.{statement}
 use Rattle.split_log.proofs.search_ends.Tie as tie
 

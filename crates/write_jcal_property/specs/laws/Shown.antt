@@ -39,7 +39,7 @@ use Rattle.values.specs.ReadValue.{read_value}
 use Rattle.values.specs.WriteValue.{value_characters}
 use Rattle.values.specs.Valid.{is_amount, are_values_of}
 use Rattle.text.specs.Values.{one_value, read_listed, read_chosen, read_values}
-use Rattle.text.specs.laws.AcceptedValues.{values_accepted}
+use Rattle.text.proofs.laws.AcceptedValues.{values_accepted}
 use Rattle.json_text.specs.Bytes.{value_separator}
 use Rattle.json_text.specs.Write.{quoted}
 use Rattle.jcal.specs.WriteJcal.{value_json}

@@ -39,7 +39,7 @@ use Rattle.values.specs.laws.ReadBack.{made}
 use Rattle.values.specs.laws.Bare.{date_bare, time_bare, date_time_bare, duration_bare, offset_bare, integer_bare, float_bare, boolean_bare, binary_bare}
 use Rattle.xml.specs.Escape.{escaped as entities}
 use Rattle.json_text.specs.Write.{escaped}
-use Rattle.jcal.specs.laws.Plain.{date_plain, time_plain, date_time_plain, duration_plain, offset_plain, integer_plain, float_plain, boolean_plain, binary_plain, uri_plain}
+use Rattle.jcal.proofs.laws.Plain.{date_plain, time_plain, date_time_plain, duration_plain, offset_plain, integer_plain, float_plain, boolean_plain, binary_plain, uri_plain}
 
 -- ---- what is read and kept as it stands
 

@@ -25,7 +25,7 @@ use Rattle.times.specs.declared.period.PeriodRead.TheVariants.{Between, NoPeriod
 use Rattle.values.specs.ReadValue.{read_value}
 use Rattle.json_text.specs.Write.{quoted, array_of}
 use Rattle.jcal.specs.WriteJcal.{value_json}
-use Rattle.jcal.specs.laws.Plain.{date_time_plain, duration_plain}
+use Rattle.jcal.proofs.laws.Plain.{date_time_plain, duration_plain}
 use Rattle.write_json.specs.laws.Separated.{array_pair}
 use Rattle.write_jcal_value.specs.PutPeriod.{period_json}
 

@@ -44,7 +44,7 @@ use Rattle.values.specs.declared.ValueRead.{ValueRead}
 use Rattle.values.specs.declared.ValueRead.TheVariants as value
 use Rattle.json_text.specs.Write.{escaped, object_of}
 use Rattle.jcal.specs.WriteJcal.{value_json}
-use Rattle.jcal.specs.laws.Plain.{boolean_plain, float_plain, integer_plain}
+use Rattle.jcal.proofs.laws.Plain.{boolean_plain, float_plain, integer_plain}
 use Rattle.write_jcal_value.specs.Rules.{plain_json, named_shown}
 use Rattle.write_jcal_value.specs.Scalars.{stands_bare}
 use Rattle.write_jcal_value.specs.laws.Rules.{rule_json}

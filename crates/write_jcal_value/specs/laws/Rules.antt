@@ -24,7 +24,7 @@ use Rattle.recur.specs.Rule.{rule_part, is_equals, items_of, read_part, name_of,
 use Rattle.recur.specs.Pieces.{piece_name}
 use Rattle.json_text.specs.Write.{escaped}
 use Rattle.jcal.specs.WriteJcal.{item_json, part_json}
-use Rattle.jcal.specs.laws.Plain.{item_plain}
+use Rattle.jcal.proofs.laws.Plain.{item_plain}
 use Rattle.write_jcal_value.specs.laws.Each.{each_written}
 use Rattle.write_jcal_value.specs.Rules.{is_numbers, has_numbers, plain_json, item_shown, items_shown, piece_shown, with_member, named_shown}
 

@@ -20,7 +20,7 @@ use Rattle.text.specs.WriteText.{property_lines, begin_line, end_line, write_cal
 use Rattle.xml.specs.Nodes.{Nodes, no_nodes, element, literal, referred}
 use Rattle.xcal.specs.PropertyNodes.{read_properties}
 use Rattle.xcal.specs.ComponentNodes.{inside_of, read_components}
-use Rattle.xcal.specs.laws.ComponentsAccepted.{inner_components}
+use Rattle.xcal.proofs.laws.ComponentsAccepted.{inner_components}
 use Rattle.xml.specs.NodesAt.{nodes_at}
 use Rattle.read_xml_nodes.specs.NodeFound.{NodeAt}
 use Rattle.read_xml_nodes.specs.laws.NodeFound.{node_none, node_element, node_literal, node_referred, element_less, literal_less, referred_less}

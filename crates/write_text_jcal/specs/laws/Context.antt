@@ -25,7 +25,7 @@ use Rattle.json_text.specs.Tree.{Elements, element_list, first_of}
 use Rattle.json_text.specs.Kinds.{as_string, nth}
 use Rattle.jcal.specs.Property.{name_in, type_of, property_name, value_type_of}
 use Rattle.jcal.specs.Values.{read_values}
-use Rattle.jcal.specs.laws.TypeNames.{word_type, no_type, word_placed}
+use Rattle.jcal.proofs.laws.TypeNames.{word_type, no_type, word_placed}
 use Rattle.read_jcal_value.specs.Values.{are_read}
 use Rattle.read_jcal_value.specs.declared.valued.ValuesRead.{ValuesRead}
 use Rattle.read_jcal_value.specs.declared.valued.ValuesRead.TheVariants.{Read, Bad}

@@ -30,7 +30,7 @@ use Rattle.read_text_line.specs.Write.{write_param_value, write_parameter}
 use Rattle.read_text_line.specs.Decoded.{encoded_parameter}
 use Rattle.edition.specs.Edition.{encode}
 use Rattle.edition.specs.declared.Edition.{Edition}
-use Rattle.text.specs.laws.Carets.{type_encoded}
+use Rattle.text.proofs.laws.Carets.{type_encoded}
 use Rattle.text.specs.WriteText.{value_parameter, with_value}
 use Rattle.write_text_pieces.specs.Typing.{value_at}
 

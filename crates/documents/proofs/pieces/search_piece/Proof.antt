@@ -2,7 +2,7 @@
 use Prim.Native.Nat.{◌-◌}
 use lib.ListN.{length}
 use borrow.Author.Rules.{rules}
-use Rattle.documents.specs.laws.Pieces.{Searching, searching}
+use Rattle.documents.proofs.laws.Pieces.{Searching, searching}
 use Rattle.documents.proofs.pieces.search_piece.Statement.{statement}
 use Rattle.documents.proofs.pieces.search_piece.Tie as tie
 
