@@ -2,7 +2,8 @@
 ghost use Rattle.std.specs.Prelude.{◌≡◌, List, [], ℕ, suc, ◌≤◌, eqb, ltb, length, take};
 ghost use Rattle.octets.specs.Pick.{pick, ◌and◌, ◌or◌};
 ghost use Rattle.octets.specs.Class.{is_space};
-ghost use Rattle.calendar.specs.Refusal.{FRAME, fine, refuse};
+ghost use Rattle.calendar.specs.Refusal.{fine, refuse};
+ghost use Rattle.calendar.specs.Refusal as spec;
 ghost use Rattle.source.specs.Source.{rest};
 ghost use Rattle.names.specs.Table.{place_of};
 ghost use Rattle.schema.specs.Numbers.{type_at, type_words};
@@ -222,7 +223,7 @@ fn has_two(p: usize) -> bool
 
 // At the end tag at `e`, by the slots that are filled.
 fn at_end(p: usize, first: bool, second: bool, e: usize) -> Judged
-    ensures { judged_as result ≡ pick (is_short (flags_at p first second)) (refuse FRAME e) fine }
+    ensures { judged_as result ≡ pick (is_short (flags_at p first second)) (refuse spec.FRAME e) fine }
 {
     if first {
         let two = has_two(p);

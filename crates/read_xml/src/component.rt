@@ -3,7 +3,8 @@ ghost use Rattle.std.specs.Prelude.{◌≡◌, ◌≤◌, length, take};
 ghost use Rattle.octets.specs.Pick.{pick};
 ghost use Rattle.octets.specs.Words.{same};
 ghost use Rattle.source.specs.Source.{rest};
-ghost use Rattle.calendar.specs.Refusal.{COUNT, fine, refuse};
+ghost use Rattle.calendar.specs.Refusal.{fine, refuse};
+ghost use Rattle.calendar.specs.Refusal as spec;
 ghost use Rattle.read_xml_nodes.specs.Judging.{judged_as};
 ghost use Rattle.read_xml.specs.Children.{name_of};
 ghost use Rattle.read_xml.specs.Components.{part_name, complete_by, EndAt, EndsAt, has_subs, WhichAt, MetAt, HeadAt, BehindAt};
@@ -22,7 +23,7 @@ use tallies::{Kept, none_counted};
 // At the end tag of the component of the number `k`, whose children are all there: its tallies are compared, and it holds a component or not.
 // `method`, here and below: whether the calendar round the component has METHOD.
 fn end_counts(k: usize, kept: Kept, inner: bool, method: bool, e: usize) -> Judged
-    ensures { pick (complete_by k kept inner method) fine (refuse COUNT e) ≡ judged_as result }
+    ensures { pick (complete_by k kept inner method) fine (refuse spec.COUNT e) ≡ judged_as result }
 {
     let counts = kept.counts;
     let complete = complete_counts(k, counts, kept.action, inner, method);

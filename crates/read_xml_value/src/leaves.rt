@@ -3,7 +3,8 @@ ghost use Rattle.std.specs.Prelude.{◌≡◌, [], ◌≤◌, ◌*◌, length, g
 ghost use Rattle.octets.specs.Pick.{pick};
 ghost use Rattle.octets.specs.Reading.{is_read};
 ghost use Rattle.calendar.specs.Calendar.{xcal};
-ghost use Rattle.calendar.specs.Refusal.{VALUE, fine, refuse};
+ghost use Rattle.calendar.specs.Refusal.{fine, refuse};
+ghost use Rattle.calendar.specs.Refusal as spec;
 ghost use Rattle.source.specs.Source.{rest};
 ghost use Rattle.schema.specs.Numbers.{type_at};
 ghost use Rattle.schema.specs.Sets.{is_word_of, words_at};
@@ -36,7 +37,7 @@ pub fn leaf(chars: Judged, s: &[u8], inside: usize) -> Judged
 fn value_chars(t: usize, s: &[u8], place: usize, inside: usize) -> Judged
     requires { (length s.now ≤ 65535) × (inside ≤ length s.now) }
     ensures { judged_as result
-        ≡ pick (is_read (read_value xcal (type_at t) (rest 1 s.now (2 * inside)))) fine (refuse VALUE place) }
+        ≡ pick (is_read (read_value xcal (type_at t) (rest 1 s.now (2 * inside)))) fine (refuse spec.VALUE place) }
 {
     let ValueRead::Good(v) = read_value(true, t, 1, s, 2 * inside) else {
         return Judged::Refused(VALUE, place);
@@ -57,7 +58,7 @@ pub fn leaf_value(t: usize, s: &[u8], place: usize, inside: usize) -> Judged
 fn word_chars(k: usize, p: usize, s: &[u8], place: usize, inside: usize) -> Judged
     requires { (length s.now ≤ 65535) × (inside ≤ length s.now) }
     ensures { judged_as result
-        ≡ pick (is_word_of (words_at k p) (rest 1 s.now (2 * inside))) fine (refuse VALUE place) }
+        ≡ pick (is_word_of (words_at k p) (rest 1 s.now (2 * inside))) fine (refuse spec.VALUE place) }
 {
     let WordRead::At(i) = read_word_of(k, p, true, 1, s, 2 * inside) else {
         return Judged::Refused(VALUE, place);
@@ -78,7 +79,7 @@ fn item_chars(i: usize, s: &[u8], place: usize, inside: usize) -> Judged
     requires { (length s.now ≤ 65535) × (inside ≤ length s.now) }
     ensures { judged_as result
         ≡ pick (is_read (read_item xcal (get_or part_names i []) (rest 1 s.now (2 * inside)))) fine
-        (refuse VALUE place) }
+        (refuse spec.VALUE place) }
 {
     let ItemRead::Good(n) = read_item(i, true, 1, s, 2 * inside) else {
         return Judged::Refused(VALUE, place);

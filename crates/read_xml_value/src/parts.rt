@@ -1,7 +1,8 @@
 // The children of PERIOD and RECUR, by the numbers of their names. `rule` is true for RECUR. See specs/Parts.antt.
 ghost use Rattle.std.specs.Prelude.{◌≡◌, ◌≤◌, eqb, length, take};
 ghost use Rattle.octets.specs.Pick.{pick, ◌or◌};
-ghost use Rattle.calendar.specs.Refusal.{FRAME, fine, refuse};
+ghost use Rattle.calendar.specs.Refusal.{fine, refuse};
+ghost use Rattle.calendar.specs.Refusal as spec;
 ghost use Rattle.source.specs.Source.{rest};
 ghost use Rattle.names.specs.Table.{place_of};
 ghost use Rattle.xml.specs.NodesAt.{nodes_at};
@@ -143,7 +144,7 @@ pub fn fills_second(i: usize, second: bool) -> bool
 
 // At the end tag at `e`, by the slots that are filled.
 pub fn at_end(rule: bool, first: bool, second: bool, e: usize) -> Judged
-    ensures { judged_as result ≡ pick (is_short (flags_of rule first second)) (refuse FRAME e) fine }
+    ensures { judged_as result ≡ pick (is_short (flags_of rule first second)) (refuse spec.FRAME e) fine }
 {
     if first {
         if rule {

@@ -1,7 +1,8 @@
 // An element of a property's value. See crate xcal, specs/ValueNodes.antt.
 ghost use Rattle.std.specs.Prelude.{◌≡◌, List, ℕ, ◌≤◌, eqb, length};
 ghost use Rattle.octets.specs.Pick.{pick, ◌and◌};
-ghost use Rattle.calendar.specs.Refusal.{VALUE, refuse};
+ghost use Rattle.calendar.specs.Refusal.{refuse};
+ghost use Rattle.calendar.specs.Refusal as spec;
 ghost use Rattle.names.specs.Table.{place_of};
 ghost use Rattle.schema.specs.Components.{component_names};
 ghost use Rattle.schema.specs.Properties.{property_names};
@@ -59,7 +60,7 @@ fn typed_as(context: Context, u: usize, s: &[u8], e: Element) -> Judged
     ensures { judged_as result
         ≡ pick (permits_type context.row u and eqb u context.value_type)
         (typed_at context e.place e.end (nodes_at s.now e.inside))
-        (refuse VALUE e.place) }
+        (refuse spec.VALUE e.place) }
 {
     let permitted = permits_type(context.row, u);
     if permitted {

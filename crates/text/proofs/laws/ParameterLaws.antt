@@ -3,7 +3,7 @@
 --     parameter_accepted, parameters_accepted     what is read is typed as the schema says
 --     own_with_value, type_read_back              VALUE that is written is none of the parameters, and names the type
 use Rattle.std.specs.Prelude.{◌≡◌, refl, Bool, true, false, not, List, [], ◌∷◌, map, ℕ}
-use Rattle.std.proofs.Common.{sym, ap, ◌∙◌}
+use Rattle.std.proofs.Common.{subst, sym, ap, ◌∙◌}
 use Rattle.std.proofs.lemmas.Bool.{false≢true, not-true}
 use Rattle.std.proofs.Math.Option
 use Rattle.std.proofs.Math.Option.{Option, none, some}
@@ -227,7 +227,7 @@ unfolding is_type_of ◌or◌
 other_named n t h d = go (same_type t UNKNOWN) refl (type_any t)
   where
     known : (b : Bool) → is_known_property n ≡ b → t ≡ UNKNOWN → is_type_of t value_types ≡ true
-    known true k e = absurd (false≢true (sym (known_types n k) ∙ rw (← e) h))
+    known true k e = absurd (false≢true (sym (known_types n k) ∙ subst (λ (x : ValueType). is_type_of x (permitted_types n) ≡ true) e h))
     known false k e =
         let u : default_type n ≡ UNKNOWN = ap (λ (r : PropertyRow). r.default) (unrecognised_property_lem n k) in
         absurd (false≢true (sym d ∙ rw (u, e) (same_type_self UNKNOWN)))

@@ -1,0 +1,13 @@
+-- `distinct::is_again` meets its contract.
+use Rattle.distinct.specs.Pairs.{Apart}
+use Rattle.distinct.specs.laws.Pairs.{pairwise}
+use Rattle.distinct.specs.Listed.{word_at}
+use Prim.Native.Nat.{◌-◌}
+use borrow.Author.Rules.{rules}
+use Rattle.distinct.proofs.pairs.is_again.Given as goal
+
+abbrev pub invariant-loop-i : goal.invariant-loop-i
+invariant-loop-i l = Apart (word_at l.mode l.s l.from l.to) l.j l.i
+
+abbrev pub decreases-loop-i : goal.decreases-loop-i
+decreases-loop-i l = l.j - l.i

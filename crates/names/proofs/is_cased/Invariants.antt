@@ -1,0 +1,12 @@
+-- `names::is_cased` meets its contract.
+use native.Mathlib.Omega.{arith}
+use Prim.Native.Nat.{◌-◌}
+use lib.ListN.{length}
+use Rattle.names.specs.laws.Runs.{Comparing, comparing, comparing_stop}
+use Rattle.names.proofs.is_cased.Given as goal
+
+abbrev pub invariant-loop-i : goal.invariant-loop-i
+invariant-loop-i l = Comparing l.k l.mode l.s l.at l.w l.c l.i
+
+abbrev pub decreases-loop-i : goal.decreases-loop-i
+decreases-loop-i l = length l.w - l.i

@@ -1,0 +1,22 @@
+-- `numbers::float::put_trimmed` meets its contract.
+use lib.ListN.{length}
+use native.Mathlib.Omega.{arith}
+use Prim.Native.Nat.{◌≤◌, ◌-◌, ◌*◌}
+use mathlib.Core.Path.{◌≡◌}
+use Rattle.sink.specs.Sink.{Todo}
+use Rattle.sink.specs.laws.Sink.{todo_step, todo_done, writing}
+use Rattle.octets.specs.Append.{◌⊕◌}
+use Rattle.numbers.specs.laws.PutFloat.{todo_same, trim_all}
+use Rattle.numbers.specs.laws.Spans.{trim_end, trim_zero, trim_more}
+use Rattle.numbers.specs.Worth.{zeros}
+use Rattle.numbers.specs.Float.{no_trailing}
+use Rattle.numbers.specs.Until.{until}
+use Rattle.numbers.specs.laws.Until.{turn_byte, turn_end}
+use Rattle.sink.specs.laws.Sink.{writing}
+use Rattle.numbers.proofs.float.put_trimmed.Given as goal
+
+abbrev pub invariant-loop-t : goal.invariant-loop-t
+invariant-loop-t l = Todo l.initial.out l.o (no_trailing (until l.stop l.mode l.s l.at)) l.out l.q (no_trailing (zeros l.k ⊕ until l.stop l.mode l.s l.c)) × (l.k ≤ l.c) × (length l.out ≡ length l.initial.out)
+
+abbrev pub decreases-loop-t : goal.decreases-loop-t
+decreases-loop-t l = 4 * length l.s - l.c

@@ -1,0 +1,17 @@
+-- `numbers::scan::digits_end` meets its contract.
+use lib.ListN.{length}
+use native.Mathlib.Omega.{arith}
+use Prim.Native.Nat.{◌-◌, ◌*◌}
+use mathlib.Core.Path.{◌≡◌, refl, sym, ◌∙◌}
+use Rattle.numbers.specs.laws.Spans.{after_end, after_more, after_stop}
+use Rattle.numbers.specs.FloatParts.{after_digits}
+use Rattle.numbers.specs.Until.{until}
+use Rattle.numbers.specs.laws.Until.{turn_byte, turn_end}
+use borrow.Author.Rules.{rules}
+use Rattle.numbers.proofs.scan.digits_end.Given as goal
+
+abbrev pub invariant-loop-t : goal.invariant-loop-t
+invariant-loop-t l = after_digits (until l.stop l.mode l.s l.at) ≡ after_digits (until l.stop l.mode l.s l.c)
+
+abbrev pub decreases-loop-t : goal.decreases-loop-t
+decreases-loop-t l = 4 * length l.s - l.c

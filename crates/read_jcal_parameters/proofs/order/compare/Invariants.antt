@@ -1,0 +1,15 @@
+-- `read_jcal_parameters::order::compare` meets its contract.
+use mathlib.Core.Path.{◌≡◌, refl, sym, ◌∙◌}
+use Prim.Native.Nat.{◌*◌, ◌-◌}
+use lib.ListN.{length}
+use Rattle.source.specs.Source.{rest}
+use Rattle.distinct.specs.Order.{order}
+use Rattle.read_jcal_parameters.specs.laws.Order.{order_less, order_more, order_end, order_on, order_nearer}
+use borrow.Author.Rules.{rules}
+use Rattle.read_jcal_parameters.proofs.order.compare.Given as goal
+
+abbrev pub invariant-loop-x : goal.invariant-loop-x
+invariant-loop-x l = order (rest 3 l.s l.a) (rest 3 l.s l.b) ≡ order (rest 3 l.s l.c) (rest 3 l.s l.d)
+
+abbrev pub decreases-loop-x : goal.decreases-loop-x
+decreases-loop-x l = 4 * length l.s - l.c

@@ -1,0 +1,20 @@
+-- `read_jcal_parameters::rounds::rise` meets its contract.
+use Prim.Native.Nat.{◌+◌, ◌-◌, ◌^◌, ◌<◌}
+use native.Mathlib.Omega.{arith}
+use Rattle.distinct.specs.Rising.{Rising}
+use Rattle.distinct.specs.laws.Rising.{rising_start, rising_more, rising_fewer}
+use Rattle.read_json.specs.TreeAt.{string_at}
+use borrow.Author.Rules.{rules}
+use Rattle.read_jcal_parameters.proofs.rounds.rise.Goals as goal
+
+pub loop-i-init : goal.loop-i-init
+loop-i-init c = (rising_start, omega arith)
+
+pub loop-i-preserved : goal.loop-i-preserved
+loop-i-preserved c = (rising_more c.loop-i.i c.loop-i.invariant.0 c.place_at-p.ensures.0 c.place_at-q.ensures.0 c.compare_places-k.ensures c.if-k-eq1.true, omega arith)
+
+pub returns-else-k-eq1 : goal.returns-else-k-eq1
+returns-else-k-eq1 c = c.loop-i.invariant.0
+
+pub returns : goal.returns
+returns c = rising_fewer c.loop-i.invariant.0 (omega arith)

@@ -1,0 +1,14 @@
+-- `read_jcal_parameters::rounds::rise` meets its contract.
+use Prim.Native.Nat.{◌+◌, ◌-◌, ◌^◌, ◌<◌}
+use native.Mathlib.Omega.{arith}
+use Rattle.distinct.specs.Rising.{Rising}
+use Rattle.distinct.specs.laws.Rising.{rising_start, rising_more, rising_fewer}
+use Rattle.read_json.specs.TreeAt.{string_at}
+use borrow.Author.Rules.{rules}
+use Rattle.read_jcal_parameters.proofs.rounds.rise.Given as goal
+
+abbrev pub invariant-loop-i : goal.invariant-loop-i
+invariant-loop-i l = Rising (string_at l.s) l.places (l.i + 1) × (l.i < 2 ^ 64 - 1)
+
+abbrev pub decreases-loop-i : goal.decreases-loop-i
+decreases-loop-i l = l.n - l.i

@@ -1,0 +1,11 @@
+-- `read_json::element_at` meets its contract.
+use Prim.Native.Nat.{◌-◌}
+use lib.ListN.{length}
+use Rattle.read_json.specs.laws.Heads.{Seeking, seeking}
+use Rattle.read_json.proofs.elements.element_at.Given as goal
+
+abbrev pub invariant-loop-c : goal.invariant-loop-c
+invariant-loop-c l = Seeking l.s l.at l.c
+
+abbrev pub decreases-loop-c : goal.decreases-loop-c
+decreases-loop-c l = length l.s - l.c

@@ -1,0 +1,21 @@
+-- `read_text::component::body`, which calls itself, meets its contract.
+use mathlib.Core.Path.{refl, sym, subst}
+use Prim.Native.Nat.{ℕ, ◌-◌, ◌<◌}
+use native.Mathlib.Omega.{arith}
+use lib.ListN.{length}
+use borrow.Author.Rules.{rules}
+use lib.Seq.{length-take-le}
+use Rattle.octets.specs.Class.{upper}
+use Rattle.source.specs.Source.{rest}
+use Rattle.read_text.specs.Turns.{Body}
+use Rattle.read_text.proofs.Walk.{Reached, reached_none, reached_held, reached_inner, starts_number, starts_left, body_inner, body_closed, body_short, body_faulty, body_open}
+use Rattle.read_text.proofs.component.+body.Given as goal
+
+abbrev pub decreases-body : goal.decreases-body
+decreases-body l = l.left
+
+abbrev pub invariant-loop-at : goal.invariant-loop-at
+invariant-loop-at l = Reached l.edition (upper (rest l.mode l.name l.v)) l.left l.method l.mode l.s l.from l.at l.counts l.action l.inner
+
+abbrev pub decreases-loop-at : goal.decreases-loop-at
+decreases-loop-at l = length l.s - l.at

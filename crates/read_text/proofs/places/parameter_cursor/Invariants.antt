@@ -1,0 +1,13 @@
+-- `read_text::parameter_cursor` meets its contract.
+use Prim.Native.Nat.{◌<◌}
+use lib.ListN.{length}
+use Rattle.read_text_line.specs.Cursor.{params_at}
+use Rattle.read_text.specs.laws.Places.{Passing, passing_start, passing_more, passing_end}
+use borrow.Author.Rules.{rules}
+use Rattle.read_text.proofs.places.parameter_cursor.Given as goal
+
+abbrev pub invariant-loop-left : goal.invariant-loop-left
+invariant-loop-left l = (l.i < length (params_at l.mode l.s l.e) → Passing l.mode l.s l.e l.i l.c l.left)
+
+abbrev pub decreases-loop-left : goal.decreases-loop-left
+decreases-loop-left l = l.left

@@ -1,0 +1,35 @@
+-- `read_text_line::encoded::put_carets` meets its contract.
+use mathlib.Core.Path.{◌≡◌}
+use Prim.Native.Nat.{◌-◌, ◌*◌}
+use lib.ListN.{length}
+use Rattle.sink.specs.Sink.{Todo}
+use Rattle.sink.specs.laws.Sink.{each}
+use Rattle.source.specs.Source.{rest}
+use Rattle.source.specs.laws.Copying.{copying}
+use Rattle.edition.specs.Edition.{encode_byte}
+use Rattle.read_text_line.specs.laws.Written.{encoding-each}
+use Rattle.read_text_line.proofs.encoded.put_carets.Goals as goal
+
+pub loop-t-init : goal.loop-t-init
+loop-t-init c = search copying
+
+pub unit-t-requires : goal.unit-t-requires
+unit-t-requires c = search copying
+
+pub shape_of-out-then-u-eq-END : goal.shape_of-out-then-u-eq-END
+shape_of-out-then-u-eq-END c = search copying
+
+pub returns-then-u-eq-END : goal.returns-then-u-eq-END
+returns-then-u-eq-END c = rw encoding-each (search copying)
+
+pub overflow_cast-u : goal.overflow_cast-u
+overflow_cast-u c = search copying
+
+pub put_encoded_byte-o-requires : goal.put_encoded_byte-o-requires
+put_encoded_byte-o-requires c = search copying
+
+pub loop-t-smaller : goal.loop-t-smaller
+loop-t-smaller c = search copying
+
+pub loop-t-preserved : goal.loop-t-preserved
+loop-t-preserved c = search copying

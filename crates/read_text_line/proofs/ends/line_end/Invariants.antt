@@ -1,0 +1,12 @@
+-- `read_text_line::ends::line_end` meets its contract.
+use Prim.Native.Nat.{◌*◌, ◌-◌}
+use lib.ListN.{length}
+use borrow.Author.Rules.{rules}
+use Rattle.read_text_line.specs.laws.LineEnd.{Seeking, seeking_start, seeking_none, seeking_other, seeking_return, seeking_less, seeking_found}
+use Rattle.read_text_line.proofs.ends.line_end.Given as goal
+
+abbrev pub invariant-loop-n : goal.invariant-loop-n
+invariant-loop-n l = Seeking l.mode l.s l.from l.c
+
+abbrev pub decreases-loop-n : goal.decreases-loop-n
+decreases-loop-n l = 4 * length l.s - l.c

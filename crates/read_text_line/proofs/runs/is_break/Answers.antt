@@ -1,0 +1,9 @@
+-- `read_text_line::is_break` meets its contract. Assumes nothing.
+use Rattle.octets.specs.laws.Pick.{branching_joined}
+use Rattle.read_text_line.proofs.runs.is_break.Goals as goal
+
+pub returns-then-u-eq-CR : goal.returns-then-u-eq-CR
+returns-then-u-eq-CR c = search branching_joined
+
+pub returns : goal.returns
+returns c = search branching_joined

@@ -1,0 +1,12 @@
+-- `read_text_line::runs::run_end` meets its contract.
+use Prim.Native.Nat.{◌*◌, ◌-◌}
+use lib.ListN.{length}
+use Rattle.read_text_line.specs.Cursor.{char_of}
+use Rattle.read_text_line.specs.laws.Cursor.{Passing, passing}
+use Rattle.read_text_line.proofs.runs.run_end.Given as goal
+
+abbrev pub invariant-loop-c : goal.invariant-loop-c
+invariant-loop-c l = Passing (char_of l.k) l.mode l.s l.at l.c
+
+abbrev pub decreases-loop-c : goal.decreases-loop-c
+decreases-loop-c l = 4 * length l.s - l.c

@@ -1,0 +1,19 @@
+-- `read_text_parameters::stands_before` meets its contract.
+use mathlib.Core.Path.{◌≡◌, refl, sym, ◌∙◌}
+use mathlib.Core.List.{List}
+use lib.ListN.{take}
+use Rattle.octets.specs.Words.{is_one_of}
+use Rattle.read_text_line.specs.ContentLine.{RawParameter}
+use Rattle.read_text_line.specs.Cursor.{params_at}
+use Rattle.read_text_parameters.specs.Cutting.{name_cut}
+use Rattle.read_text_parameters.specs.Comparing.{names_of}
+use Rattle.read_text_parameters.specs.laws.Cutting.{params_step, params_over, params_fault}
+use Rattle.read_text_parameters.specs.laws.Before.{first_over, first_zero, first_go, first_halt}
+use borrow.Author.Rules.{rules}
+use Rattle.read_text_parameters.proofs.once.stands_before.Given as goal
+
+abbrev pub invariant-loop-left : goal.invariant-loop-left
+invariant-loop-left l = is_one_of (name_cut l.mode l.s l.name l.end) (take l.k (names_of (params_at l.mode l.s l.e))) ≡ is_one_of (name_cut l.mode l.s l.name l.end) (take l.left (names_of (params_at l.mode l.s l.c)))
+
+abbrev pub decreases-loop-left : goal.decreases-loop-left
+decreases-loop-left l = l.left

@@ -1,0 +1,27 @@
+-- `read_text_parameters::compare_names` meets its contract. Assumes nothing.
+use mathlib.Core.Path.{◌≡◌, refl}
+use Prim.Native.Nat.{◌*◌, ◌-◌}
+use lib.ListN.{length}
+use Rattle.distinct.specs.Order.{order}
+use Rattle.read_text_parameters.specs.Naming.{name_at}
+use Rattle.read_text_parameters.specs.laws.Naming.{name_less, name_more, name_end, name_on, name_nearer}
+use borrow.Author.Rules.{rules}
+use Rattle.read_text_parameters.proofs.order.compare_names.Goals as goal
+
+pub loop-x-init : goal.loop-x-init
+loop-x-init c = refl
+
+pub returns-then-xu-yu : goal.returns-then-xu-yu
+returns-then-xu-yu c = search (name_less, rules)
+
+pub returns-then-yu-xu : goal.returns-then-yu-xu
+returns-then-yu-xu c = search (name_more, rules)
+
+pub returns-then-xu-eq-END : goal.returns-then-xu-eq-END
+returns-then-xu-eq-END c = search (name_end, rules)
+
+pub loop-x-smaller : goal.loop-x-smaller
+loop-x-smaller c = search (name_nearer, rules)
+
+pub loop-x-preserved : goal.loop-x-preserved
+loop-x-preserved c = search (name_on, rules)

@@ -1,0 +1,11 @@
+-- `read_text_parameters::absent` meets its contract. Assumes nothing.
+use Prim.Native.Nat.{◌-◌, ◌≤◌}
+use Rattle.read_text_parameters.specs.laws.Rounds.{Missing, missing_start, missing_more, missing_end}
+use borrow.Author.Rules.{rules}
+use Rattle.read_text_parameters.proofs.rounds.absent.Given as goal
+
+abbrev pub invariant-loop-k : goal.invariant-loop-k
+invariant-loop-k l = Missing l.mode l.s l.places l.n l.from l.k l.c × (l.k ≤ l.left)
+
+abbrev pub decreases-loop-k : goal.decreases-loop-k
+decreases-loop-k l = l.left - l.k

@@ -1,0 +1,10 @@
+-- `read_text_parameters::is_again` meets its contract.
+use Rattle.octets.specs.laws.Pick.{branching}
+use borrow.Author.Rules.{rules}
+use Rattle.read_text_parameters.proofs.walk.is_again.Goals as goal
+
+pub returns-then-q-eq-KNOWN : goal.returns-then-q-eq-KNOWN
+returns-then-q-eq-KNOWN c = search branching
+
+pub returns : goal.returns
+returns c = search branching

@@ -1,0 +1,18 @@
+-- `recur::is_item` meets its contract.
+use Rattle.source.specs.Source.{rest}
+use Rattle.calendar.specs.Calendar.{format_of}
+use Rattle.recur.specs.laws.Fits.{item_beyond}
+use borrow.Author.Rules.{rules}
+use Rattle.recur.proofs.item.is_item.Goals as goal
+
+pub returns-then-p-lt-BYSECOND : goal.returns-then-p-lt-BYSECOND
+returns-then-p-lt-BYSECOND c = c.is_limit.ensures
+
+pub returns-then-p-lt-BYMONTHDAY : goal.returns-then-p-lt-BYMONTHDAY
+returns-then-p-lt-BYMONTHDAY c = c.is_time_part.ensures
+
+pub returns-then-p-lt-KNOWN : goal.returns-then-p-lt-KNOWN
+returns-then-p-lt-KNOWN c = c.is_day_part.ensures
+
+pub returns : goal.returns
+returns c = item_beyond (format_of c.args.xcal) (rest c.args.mode c.args.s.now c.args.at) c.args.p c.if-p-lt-KNOWN.false

@@ -1,0 +1,13 @@
+-- `recur::is_short` meets its contract.
+use Rattle.recur.specs.laws.Numeral.{Passed, passed_start, passed_end, passed_long, passed_more, passed_less}
+use native.Mathlib.Omega.{arith}
+use Prim.Native.Nat.{◌-◌, ◌*◌}
+use lib.ListN.{length}
+use borrow.Author.Rules.{rules}
+use Rattle.recur.proofs.number.is_short.Given as goal
+
+abbrev pub invariant-loop-t : goal.invariant-loop-t
+invariant-loop-t l = Passed l.d l.letters l.mode l.s l.at l.c l.i
+
+abbrev pub decreases-loop-t : goal.decreases-loop-t
+decreases-loop-t l = 4 * length l.s - l.c

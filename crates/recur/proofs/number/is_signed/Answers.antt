@@ -1,0 +1,6 @@
+-- `recur::is_signed` meets its contract.
+use borrow.Author.Rules.{rules}
+use Rattle.recur.proofs.number.is_signed.Goals as goal
+
+pub returns : goal.returns
+returns c = rw c.after_sign-c.ensures c.is_unsigned.ensures

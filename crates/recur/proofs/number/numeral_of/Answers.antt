@@ -1,0 +1,14 @@
+-- `recur::numeral_of` meets its contract.
+use Rattle.numbers.specs.laws.Numeral.{fronts_byte, fronts_end}
+use Rattle.recur.specs.laws.Numeral.{numeral_none, numeral_low, numeral_some}
+use borrow.Author.Rules.{rules}
+use Rattle.recur.proofs.number.numeral_of.Goals as goal
+
+pub returns-then-t-eq-END : goal.returns-then-t-eq-END
+returns-then-t-eq-END c = numeral_none _ _ (fronts_end c.front_unit-t.ensures c.if-t-eq-END.true)
+
+pub returns-then-n-lo : goal.returns-then-n-lo
+returns-then-n-lo c = numeral_low _ _ (fronts_byte c.front_unit-t.ensures c.if-t-eq-END.false) c.worth-n.ensures c.if-n-lo.true
+
+pub returns : goal.returns
+returns c = numeral_some _ _ (fronts_byte c.front_unit-t.ensures c.if-t-eq-END.false) c.worth-n.ensures c.if-n-lo.false

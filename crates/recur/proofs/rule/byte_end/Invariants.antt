@@ -1,0 +1,13 @@
+-- `recur::byte_end` meets its contract.
+use Rattle.recur.specs.laws.PieceLaws.{Ending, ending_start, ending_stop, ending_here, ending_more, step_less}
+use native.Mathlib.Omega.{arith}
+use lib.ListN.{length}
+use Prim.Native.Nat.{◌-◌}
+use borrow.Author.Rules.{rules}
+use Rattle.recur.proofs.rule.byte_end.Given as goal
+
+abbrev pub invariant-loop-t : goal.invariant-loop-t
+invariant-loop-t l = Ending l.k l.mode l.s l.at l.c
+
+abbrev pub decreases-loop-t : goal.decreases-loop-t
+decreases-loop-t l = length l.s - l.c

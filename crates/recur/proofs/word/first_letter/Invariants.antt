@@ -1,0 +1,16 @@
+-- `recur::first_letter` meets its contract.
+use Rattle.recur.specs.laws.Fits.{Lettered, letter_end, letter_here, letter_later}
+use Rattle.source.specs.laws.Facts.{byte_small}
+use Rattle.octets.specs.laws.Pick.{flag_yes, flag_no}
+use native.Mathlib.Omega.{arith}
+use mathlib.Core.Path.{refl}
+use Prim.Native.Nat.{◌-◌, ◌*◌}
+use lib.ListN.{length}
+use borrow.Author.Rules.{rules}
+use Rattle.recur.proofs.word.first_letter.Given as goal
+
+abbrev pub invariant-loop-t : goal.invariant-loop-t
+invariant-loop-t l = Lettered l.mode l.s l.at l.c
+
+abbrev pub decreases-loop-t : goal.decreases-loop-t
+decreases-loop-t l = 4 * length l.s - l.c

@@ -1,0 +1,11 @@
+-- `schema::counts::half_often` meets its contract.
+use Prim.Native.Nat.{◌-◌}
+use native.Mathlib.Omega.{arith}
+use Rattle.schema.specs.laws.Completing.{Testing, testing_start, testing_more, testing_stop, testing}
+use Rattle.schema.proofs.counts.half_often.Given as goal
+
+abbrev pub invariant-loop-n : goal.invariant-loop-n
+invariant-loop-n l = Testing l.rows l.from l.l l.t l.n
+
+abbrev pub decreases-loop-n : goal.decreases-loop-n
+decreases-loop-n l = 23 - l.n

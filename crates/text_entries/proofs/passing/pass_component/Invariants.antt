@@ -1,0 +1,11 @@
+-- `text_entries::passing::pass_component` meets its contract.
+use Prim.Native.Nat.{◌-◌}
+use lib.ListN.{length}
+use Rattle.text_entries.proofs.Past.{Passing, passings}
+use Rattle.text_entries.proofs.passing.pass_component.Given as goal
+
+abbrev pub invariant-loop-at : goal.invariant-loop-at
+invariant-loop-at l = Passing l.edition l.mode l.s l.from l.at l.depth
+
+abbrev pub decreases-loop-at : goal.decreases-loop-at
+decreases-loop-at l = length l.s - l.at

@@ -1,0 +1,20 @@
+-- `text_from_jcal::lined` meets its contract.
+use Rattle.text_from_jcal.specs.laws.Steps.{fits_again}
+use mathlib.Core.Path.{◌≡◌, sym}
+use Prim.Native.Nat.{ℕ}
+use lib.ListN.{length, replicate, length-replicate}
+use borrow.Author.Rules.{rules}
+use Rattle.text_from_jcal.proofs.lined.Goals as goal
+
+-- for any n: the array is too long to be counted by computation
+zeros : (n : ℕ) → n ≡ length {A = ℕ} (replicate n 0)
+zeros n = sym (length-replicate n 0)
+
+pub slice_bounds-written-end : goal.slice_bounds-written-end
+slice_bounds-written-end c = zeros 262144
+
+pub written-requires : goal.written-requires
+written-requires c = (c.requires.0, fits_again c.args.edition _ _ 262144 (sym (zeros 262144)) c.requires.1, c.requires.2)
+
+pub returns : goal.returns
+returns c = c.written.ensures

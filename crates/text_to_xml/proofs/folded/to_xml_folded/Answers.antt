@@ -1,0 +1,15 @@
+-- `text_to_xml::to_xml_folded` meets its contract.
+use mathlib.Core.Path.{refl, subst}
+use borrow.Author.Rules.{rules}
+use Rattle.read_text_whole.specs.Whole.{ReadsFolded}
+use Rattle.text_to_xml.specs.laws.Steps.{folded_refused, folded_kept}
+use Rattle.text_to_xml.proofs.folded.to_xml_folded.Goals as goal
+
+pub written-requires : goal.written-requires
+written-requires c = (refl, (subst (ReadsFolded _ _) c.in-Kept.is c.read_folded.ensures).short)
+
+pub returns-in-Kept : goal.returns-in-Kept
+returns-in-Kept c = folded_kept c.args.input.now c.args.out.now c.args.edition (subst (ReadsFolded _ _) c.in-Kept.is c.read_folded.ensures) c.written.ensures
+
+pub returns-in-Refused : goal.returns-in-Refused
+returns-in-Refused c = folded_refused c.args.input.now c.args.out.now c.args.edition (subst (ReadsFolded _ _) c.in-Refused.is c.read_folded.ensures)

@@ -1,0 +1,17 @@
+-- `texts::put_chars` meets its contract.
+use mathlib.Core.Path.{◌≡◌}
+use Prim.Native.Nat.{◌-◌, ◌*◌}
+use lib.ListN.{length}
+use Rattle.sink.specs.Sink.{Todo}
+use Rattle.sink.specs.laws.Sink.{each}
+use Rattle.source.specs.Source.{rest}
+use Rattle.source.specs.laws.Copying.{copying}
+use Rattle.texts.specs.Chars.{as_is_byte}
+use Rattle.texts.specs.laws.Chars.{put_as_is}
+use Rattle.texts.proofs.chars.put_chars.Given as goal
+
+abbrev pub invariant-loop-t : goal.invariant-loop-t
+invariant-loop-t l = Todo l.initial.out l.at (each as_is_byte (rest l.mode l.s l.from)) l.out l.o (each as_is_byte (rest l.mode l.s l.c)) × (length l.out ≡ length l.initial.out)
+
+abbrev pub decreases-loop-t : goal.decreases-loop-t
+decreases-loop-t l = 4 * length l.s - l.c

@@ -1,0 +1,7 @@
+-- `texts::read_one_text` meets its contract.
+use borrow.Author.Rules.{rules}
+use Rattle.texts.specs.laws.Unescaped.{text_alone}
+use Rattle.texts.proofs.text.read_one_text.Goals as goal
+
+pub returns : goal.returns
+returns c = rw text_alone (search rules)

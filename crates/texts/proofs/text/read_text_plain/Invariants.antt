@@ -1,0 +1,16 @@
+-- `texts::read_text_plain` meets its contract.
+use mathlib.Core.Path.{◌≡◌}
+use Prim.Native.Nat.{◌-◌, ◌*◌}
+use lib.ListN.{length}
+use Rattle.octets.specs.Reading.{is_read}
+use Rattle.source.specs.Source.{rest}
+use Rattle.texts.specs.Text.{split_text}
+use Rattle.texts.specs.Unescaped.{is_split}
+use Rattle.texts.specs.laws.Unescaped.{reading_text}
+use Rattle.texts.proofs.text.read_text_plain.Given as goal
+
+abbrev pub invariant-loop-t : goal.invariant-loop-t
+invariant-loop-t l = is_read (split_text l.sep (rest 0 l.s l.at)) ≡ is_split l.after l.sep (rest 0 l.s l.c)
+
+abbrev pub decreases-loop-t : goal.decreases-loop-t
+decreases-loop-t l = 4 * length l.s - l.c

@@ -1,0 +1,7 @@
+-- `times::offset::minus_at` meets its contract.
+use borrow.Author.Rules.{rules}
+use Rattle.times.specs.laws.OffsetAlong.{minus_here}
+use Rattle.times.proofs.offset.minus_at.Goals as goal
+
+pub returns : goal.returns
+returns c = search (minus_here, rules)

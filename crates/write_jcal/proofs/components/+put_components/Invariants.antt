@@ -1,0 +1,18 @@
+-- `write_jcal::components::put_components`, which calls itself, meets its contract. The measure is the levels that are left.
+use mathlib.Core.Bool.{false}
+use Prim.Native.Nat.{ℕ, ◌-◌, ◌<◌}
+use native.Mathlib.Omega.{arith}
+use lib.ListN.{length}
+use Rattle.text_entries.specs.laws.Levels.{level_left}
+use Rattle.write_jcal.specs.laws.Places.{ahead_ready}
+use Rattle.write_jcal.proofs.Walking.{Walking, inner, inners, inner_at_bare, inner_at_component}
+use Rattle.write_jcal.proofs.components.+put_components.Given as goal
+
+abbrev pub decreases-put_components : goal.decreases-put_components
+decreases-put_components l = l.left
+
+abbrev pub invariant-loop-at : goal.invariant-loop-at
+invariant-loop-at l = Walking l.edition false (inner l.left) l.mode l.s l.from l.initial.out l.o l.out l.p l.started l.at
+
+abbrev pub decreases-loop-at : goal.decreases-loop-at
+decreases-loop-at l = length l.s - l.at

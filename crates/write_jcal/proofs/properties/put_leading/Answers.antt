@@ -1,0 +1,62 @@
+-- `write_jcal::properties::put_leading` meets its contract.
+use Prim.Native.Nat.{◌-◌}
+use lib.ListN.{length}
+use lib.Seq.{length-take-le}
+use borrow.Author.Rules.{rules}
+use Rattle.text_entries.specs.laws.Entries.{property_inside}
+use Rattle.write_jcal.proofs.Leading.{Leading, leadings}
+use Rattle.write_jcal.proofs.properties.put_leading.Goals as goal
+
+pub loop-at-init : goal.loop-at-init
+loop-at-init c = search leadings
+
+pub entry_at-f-requires : goal.entry_at-f-requires
+entry_at-f-requires c = search leadings
+
+pub enum_told-1 : goal.enum_told-1
+enum_told-1 c = search leadings
+
+pub shape_of-out-in-Begin : goal.shape_of-out-in-Begin
+shape_of-out-in-Begin c = search leadings
+
+pub returns-in-Begin : goal.returns-in-Begin
+returns-in-Begin c = search leadings
+
+pub enum_told-in-End : goal.enum_told-in-End
+enum_told-in-End c = search leadings
+
+pub shape_of-out-in-End : goal.shape_of-out-in-End
+shape_of-out-in-End c = search leadings
+
+pub returns-in-End : goal.returns-in-End
+returns-in-End c = search leadings
+
+pub enum_told-in-Property : goal.enum_told-in-Property
+enum_told-in-Property c = search leadings
+
+pub slice_bounds-put_next_property-end : goal.slice_bounds-put_next_property-end
+slice_bounds-put_next_property-end c = search (length-take-le, rules)
+
+pub put_next_property-p-requires : goal.put_next_property-p-requires
+put_next_property-p-requires c = search (property_inside, rules)
+
+pub loop-at-smaller-in-Property : goal.loop-at-smaller-in-Property
+loop-at-smaller-in-Property c = search leadings
+
+pub loop-at-preserved-in-Property : goal.loop-at-preserved-in-Property
+loop-at-preserved-in-Property c = search leadings
+
+pub enum_told-in-Nothing : goal.enum_told-in-Nothing
+enum_told-in-Nothing c = search leadings
+
+pub loop-at-smaller : goal.loop-at-smaller
+loop-at-smaller c = search leadings
+
+pub loop-at-preserved : goal.loop-at-preserved
+loop-at-preserved c = search leadings
+
+pub shape_of-out : goal.shape_of-out
+shape_of-out c = search leadings
+
+pub returns : goal.returns
+returns c = search leadings

@@ -1,0 +1,16 @@
+-- `write_jcal_value::rule::put_each_item` meets its contract.
+use mathlib.Core.List.{[]}
+use Prim.Native.Nat.{◌-◌}
+use lib.ListN.{length, get_or}
+use Rattle.recur.specs.Parts.{part_names}
+use Rattle.recur.specs.laws.PieceLaws.{cut_count, pieces_less}
+use Rattle.sink.specs.laws.Sink.{writing}
+use Rattle.write_jcal_value.specs.Rules.{item_shown}
+use Rattle.write_jcal_value.specs.laws.Pieces.{Piecing, piecing_start, piecing_more, piecing_end}
+use Rattle.write_jcal_value.proofs.rule.put_each_item.Given as goal
+
+abbrev pub invariant-loop-n : goal.invariant-loop-n
+invariant-loop-n l = Piecing (item_shown (get_or part_names l.p [])) l.initial.out l.o l.mode l.s l.at l.out l.q l.c
+
+abbrev pub decreases-loop-n : goal.decreases-loop-n
+decreases-loop-n l = length l.s - l.c

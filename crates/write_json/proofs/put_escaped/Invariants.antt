@@ -1,0 +1,17 @@
+-- `write_json::put_escaped` meets its contract.
+use mathlib.Core.Path.{◌≡◌}
+use Prim.Native.Nat.{◌-◌, ◌*◌}
+use lib.ListN.{length}
+use Rattle.sink.specs.Sink.{Todo}
+use Rattle.sink.specs.laws.Sink.{each}
+use Rattle.source.specs.Source.{rest}
+use Rattle.source.specs.laws.Copying.{copying}
+use Rattle.json_text.specs.Write.{escaped_byte}
+use Rattle.write_json.specs.laws.Escaped.{escaped-each}
+use Rattle.write_json.proofs.put_escaped.Given as goal
+
+abbrev pub invariant-loop-t : goal.invariant-loop-t
+invariant-loop-t l = Todo l.initial.out l.at (each escaped_byte (rest l.mode l.s l.from)) l.out l.o (each escaped_byte (rest l.mode l.s l.c)) × (length l.out ≡ length l.initial.out)
+
+abbrev pub decreases-loop-t : goal.decreases-loop-t
+decreases-loop-t l = 4 * length l.s - l.c

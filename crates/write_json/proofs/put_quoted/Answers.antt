@@ -1,0 +1,18 @@
+-- `write_json::put_quoted` meets its contract.
+use Rattle.sink.specs.laws.Sink.{writing}
+use Rattle.write_json.proofs.put_quoted.Goals as goal
+
+pub put-a-requires : goal.put-a-requires
+put-a-requires c = search writing
+
+pub put_escaped-b-requires : goal.put_escaped-b-requires
+put_escaped-b-requires c = search writing
+
+pub put-requires : goal.put-requires
+put-requires c = search writing
+
+pub shape_of-out : goal.shape_of-out
+shape_of-out c = search writing
+
+pub returns : goal.returns
+returns c = search writing

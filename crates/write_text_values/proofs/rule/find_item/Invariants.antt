@@ -1,0 +1,13 @@
+-- `write_text_values::rule::find_item` meets its contract.
+use Prim.Native.Nat.{◌-◌}
+use lib.ListN.{length}
+use Rattle.read_xml_nodes.specs.laws.NodeFound.{element_less, literal_less, referred_less}
+use Rattle.write_text_values.specs.laws.Rules.{Listing, items, item_none, item_here, item_other, item_literal, item_referred}
+use borrow.Author.Rules.{rules}
+use Rattle.write_text_values.proofs.rule.find_item.Given as goal
+
+abbrev pub invariant-loop-q : goal.invariant-loop-q
+invariant-loop-q l = Listing l.p l.s l.at l.c
+
+abbrev pub decreases-loop-q : goal.decreases-loop-q
+decreases-loop-q l = length l.s - l.c

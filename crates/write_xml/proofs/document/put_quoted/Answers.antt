@@ -1,0 +1,18 @@
+-- `write_xml::document::put_quoted` meets its contract.
+use Rattle.sink.specs.laws.Sink.{writing}
+use Rattle.write_xml.proofs.document.put_quoted.Goals as goal
+
+pub put_all-a-requires : goal.put_all-a-requires
+put_all-a-requires c = search writing
+
+pub put_all-b-requires : goal.put_all-b-requires
+put_all-b-requires c = search writing
+
+pub put_all-requires : goal.put_all-requires
+put_all-requires c = search writing
+
+pub shape_of-out : goal.shape_of-out
+shape_of-out c = search writing
+
+pub returns : goal.returns
+returns c = search writing

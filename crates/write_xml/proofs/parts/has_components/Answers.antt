@@ -1,0 +1,13 @@
+-- `write_xml::parts::has_components` meets its contract.
+use borrow.Author.Rules.{rules}
+use Rattle.octets.specs.laws.Pick.{branching}
+use Rattle.write_xml.proofs.parts.has_components.Goals as goal
+
+pub returns-then-calendar : goal.returns-then-calendar
+returns-then-calendar c = search branching
+
+pub returns-then-bare : goal.returns-then-bare
+returns-then-bare c = search branching
+
+pub returns : goal.returns
+returns c = search branching

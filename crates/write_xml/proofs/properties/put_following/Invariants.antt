@@ -1,0 +1,14 @@
+-- `write_xml::properties::put_following` meets its contract.
+use Prim.Native.Nat.{◌-◌}
+use lib.ListN.{length}
+use lib.Seq.{length-take-le}
+use borrow.Author.Rules.{rules}
+use Rattle.text_entries.specs.laws.Entries.{property_inside}
+use Rattle.write_xml.proofs.Walking.{Walking, own, owns}
+use Rattle.write_xml.proofs.properties.put_following.Given as goal
+
+abbrev pub invariant-loop-at : goal.invariant-loop-at
+invariant-loop-at l = Walking l.edition (own l.k) l.mode l.s l.from l.initial.out l.o l.out l.p l.at
+
+abbrev pub decreases-loop-at : goal.decreases-loop-at
+decreases-loop-at l = length l.s - l.at

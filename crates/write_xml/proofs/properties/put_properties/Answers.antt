@@ -1,0 +1,10 @@
+-- `write_xml::properties::put_properties` meets its contract.
+use borrow.Author.Rules.{rules}
+use Rattle.write_xml.specs.laws.Places.{leading_bare, leading_more}
+use Rattle.write_xml.proofs.properties.put_properties.Goals as goal
+
+pub returns-then-ahead : goal.returns-then-ahead
+returns-then-ahead c = search (leading_bare, rules)
+
+pub returns : goal.returns
+returns c = search (leading_more, rules)

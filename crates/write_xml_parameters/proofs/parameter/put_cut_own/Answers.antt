@@ -1,0 +1,21 @@
+-- `write_xml_parameters::parameter::put_cut_own` meets its contract.
+use native.Mathlib.Omega.{arith}
+use lib.ListN.{length-take}
+use Rattle.sink.specs.laws.Sink.{writing}
+use Rattle.write_xml_parameters.specs.laws.Parts.{least_own}
+use Rattle.write_xml_parameters.proofs.parameter.put_cut_own.Goals as goal
+
+pub smaller-e-requires : goal.smaller-e-requires
+smaller-e-requires c = search writing
+
+pub slice_bounds-put_own-end : goal.slice_bounds-put_own-end
+slice_bounds-put_own-end c = simp length-take (omega arith)
+
+pub put_own-requires : goal.put_own-requires
+put_own-requires c = search writing
+
+pub shape_of-out : goal.shape_of-out
+shape_of-out c = search writing
+
+pub returns : goal.returns
+returns c = search (least_own, writing)

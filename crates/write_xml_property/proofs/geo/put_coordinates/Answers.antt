@@ -1,0 +1,15 @@
+-- `write_xml_property::put_coordinates` meets its contract.
+use Rattle.sink.specs.laws.Sink.{writing}
+use Rattle.write_xml_property.proofs.geo.put_coordinates.Goals as goal
+
+pub put_latitude-a-requires : goal.put_latitude-a-requires
+put_latitude-a-requires c = search writing
+
+pub put_longitude-requires : goal.put_longitude-requires
+put_longitude-requires c = search writing
+
+pub shape_of-out : goal.shape_of-out
+shape_of-out c = search writing
+
+pub returns : goal.returns
+returns c = search writing

@@ -1,0 +1,31 @@
+-- `write_xml_value::put_value_element` meets its contract.
+use Rattle.sink.specs.laws.Sink.{writing}
+use Rattle.write_xml_value.specs.laws.PutElement.{put_at}
+use Rattle.write_xml_value.proofs.value.put_value_element.Goals as goal
+
+pub put_period_element-requires : goal.put_period_element-requires
+put_period_element-requires c = search writing
+
+pub shape_of-out-then-t-eq-PERIOD : goal.shape_of-out-then-t-eq-PERIOD
+shape_of-out-then-t-eq-PERIOD c = search writing
+
+pub returns-then-t-eq-PERIOD : goal.returns-then-t-eq-PERIOD
+returns-then-t-eq-PERIOD c = put_at c.args.t 8 _ c.if-t-eq-PERIOD.true c.put_period_element.ensures
+
+pub put_recur_element-requires : goal.put_recur_element-requires
+put_recur_element-requires c = c.requires c.if-t-eq-RECUR.true
+
+pub shape_of-out-then-t-eq-RECUR : goal.shape_of-out-then-t-eq-RECUR
+shape_of-out-then-t-eq-RECUR c = search writing
+
+pub returns-then-t-eq-RECUR : goal.returns-then-t-eq-RECUR
+returns-then-t-eq-RECUR c = put_at c.args.t 9 _ c.if-t-eq-RECUR.true c.put_recur_element.ensures
+
+pub put_plain_element-requires : goal.put_plain_element-requires
+put_plain_element-requires c = (c.if-t-eq-PERIOD.false, c.if-t-eq-RECUR.false)
+
+pub shape_of-out : goal.shape_of-out
+shape_of-out c = search writing
+
+pub returns : goal.returns
+returns c = search writing

@@ -1,0 +1,17 @@
+-- `write_xml_value::put_capitals` meets its contract.
+use mathlib.Core.Path.{◌≡◌}
+use Prim.Native.Nat.{◌-◌, ◌*◌}
+use native.Mathlib.Omega.{arith}
+use lib.ListN.{length}
+use Rattle.sink.specs.Sink.{Todo}
+use Rattle.sink.specs.laws.Sink.{each}
+use Rattle.source.specs.Source.{rest}
+use Rattle.source.specs.laws.Facts.{byte_small}
+use Rattle.write_xml_value.specs.laws.Words.{capital_byte, capitals_each, capital_small, capitals}
+use Rattle.write_xml_value.proofs.word.put_capitals.Given as goal
+
+abbrev pub invariant-loop-t : goal.invariant-loop-t
+invariant-loop-t l = Todo l.initial.out l.o (each capital_byte (rest l.mode l.s l.at)) l.out l.p (each capital_byte (rest l.mode l.s l.c)) × (length l.out ≡ length l.initial.out)
+
+abbrev pub decreases-loop-t : goal.decreases-loop-t
+decreases-loop-t l = 4 * length l.s - l.c
