@@ -9,7 +9,7 @@
         print(refused.number, refused.name, refused.place, refused.line, refused.column)
 
 The library is libmallettriton.so: the one that the variable MALLETTRITON_LIBRARY names, else the one beside this file, else the one that the system's
-loader finds. A release has it beside this file. From the archives that `rt staticlib` writes, the system's linker makes it:
+loader finds. A release has it beside this file. From the archives that `tools/staticlib` writes, the system's linker makes it:
 
     cc -shared -o libmallettriton.so -Wl,--whole-archive libmallettriton.a libmallettriton_folded.a -Wl,--no-whole-archive
 

@@ -27,7 +27,7 @@ fn main() {
             eprintln!("{} is not there.", archive.display());
             eprintln!("In the root of the Mallettriton repository run");
             eprintln!();
-            eprintln!("    rt staticlib {library}");
+            eprintln!("    tools/staticlib {library}");
             eprintln!();
             eprintln!("which proves the library and writes target/staticlib/lib{library}.a; or let MALLETTRITON_LIB_DIR name the directory that has it.");
             exit(1);

@@ -1,7 +1,6 @@
 /* Standard input to standard output, iCalendar text to xCal or jCal, or either to iCalendar text, by the static library. From the repository's root:
  *
- *     rt staticlib mallettriton
- *     rt staticlib mallettriton_folded
+ *     tools/staticlib mallettriton mallettriton_folded
  *     cc -std=c99 -Wall -Iinclude examples/c/convert.c target/staticlib/libmallettriton.a target/staticlib/libmallettriton_folded.a -o target/convert_c
  *     target/convert_c to-xml < samples/rota.ics
  *     target/convert_c to-xml-folded < samples/rota.ics
