@@ -1,5 +1,5 @@
 -- The refusals and their numbers, and the answer of a reading.
---     Refusal, number_of  the refusals;   refusal_at: the one of a number, refusal-back: the one that has this number
+--     Refusal, number_of  the refusals;   refusal_at: the one of a number, refusal_back: the one that has this number
 --     Verdict             what a check finds;   ◌otherwise◌ is one check after another
 --     characters, limit   refusals 3 and 1
 --     Answer              what reading an input gives

@@ -1,6 +1,6 @@
 -- A small edit: the line of one property is another, and the XML and the jCal are the same before it and after it.
 --     three_events, time_zone, fleet  texts with such a line: last in the second event of three; in a VTIMEZONE behind a subcomponent; alone in an unrecognised component
---     summary_line, summary_stated    two of them as `small-edit` of crate theorems takes them
+--     summary_line, summary_stated    two of them as `small_edit` of crate theorems takes them
 use Rattle.std.specs.Prelude.{◌≡◌, refl, false, List, [], ◌∷◌, ◌++◌, map, ℕ, length}
 use Rattle.std.proofs.Math.Option.{some}
 use Rattle.octets.specs.Ascii.{ascii}
@@ -140,7 +140,7 @@ fleet_mended_jcal : map (λ (s : List ℕ). to_jcal (some Rfc6868) s (length s))
 unfolding jcal_calls_compute
 fleet_mended_jcal = refl
 
--- ---- the premise of `small-edit`
+-- ---- the premise of `small_edit`
 
 -- the first two texts of three events
 unfoldable summary_line : OneLine Rfc5545 (three_events [] (ascii "SUMMARY:Cuont boats\r\n")) (three_events (ascii "\r\n ") (ascii "SUM\r\n\tMARY;LANGUAGE=en:Count <boats>\r\n"))

@@ -42,7 +42,7 @@ pub record TextCall : Type 0 where
   pub input : List ℕ
   pub output : List ℕ
 
--- all that follows is of calls in one edition; a call names it by its number (calls-by-number)
+-- all that follows is of calls in one edition; a call names it by its number (calls_by_number)
 module _ (ed : Edition) where
   -- ---- calls to XML
 

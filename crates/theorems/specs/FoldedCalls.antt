@@ -17,7 +17,7 @@ pub record FoldedCall : Type 0 where
   pub input : List ℕ
   pub output : List ℕ
 
--- all that follows is of calls in one edition; a call names it by its number (folded-by-number)
+-- all that follows is of calls in one edition; a call names it by its number (folded_by_number)
 module _ (ed : Edition) where
   abbrev pub folded_answer_of : FoldedCall → Outcome
   folded_answer_of k = outcome (to_xml (some ed) k.input (length k.input)) (length k.output)

@@ -1,6 +1,6 @@
 -- What following a pattern answers: whether all of it was passed, the number of its digits, and the cursor after it.
 --     Walks     the contract
---     walk-more, walk-lost, walk-done    laws of the loop
+--     walk_more, walk_lost, walk_done    laws of the loop
 use Rattle.std.specs.Prelude.{◌≡◌, Bool, List, ℕ}
 use Rattle.octets.specs.Pick.{pick}
 use Rattle.source.specs.Source.{rest}

@@ -4,7 +4,7 @@
 --     month_days        the same within a month
 --     only_days         and nothing else is a DATE
 --     date_time_rule    the same of the date of a DATE-TIME
--- The dates of DATE-TIME and PERIOD are read by the same function: laws/DateParts. So is that of UNTIL: `until-parts` (recur/specs/laws/EnddateLaws).
+-- The dates of DATE-TIME and PERIOD are read by the same function: laws/DateParts. So is that of UNTIL: `until_parts` (recur/specs/laws/EnddateLaws).
 use Rattle.std.specs.Prelude.{◌≡◌, ◌↔◌, true, List, ◌∷◌, ℕ, ◌≤◌, ◌<◌}
 use Rattle.std.proofs.Common.{◌∙◌, arith, le-leb}
 use Rattle.octets.specs.Pick.{◌and◌, within}

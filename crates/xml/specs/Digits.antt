@@ -1,7 +1,7 @@
 -- The digits of a character reference, read from the left, with a value that stops growing where no character is.
 --     is_digit_in h      a digit, hexadecimal if h says so
 --     worth_on h n s     what the digits at the front of s are worth after digits that are worth n
---     capped n           n, or 0x110000 where it is more: no character has such a number (capped-character)
+--     capped n           n, or 0x110000 where it is more: no character has such a number (capped_character)
 use Rattle.std.specs.Prelude.{◌≡◌, Bool, List, [], ◌∷◌, ℕ, ◌+◌, ◌*◌, ◌≤◌, ltb, length, drop}
 use Rattle.octets.specs.Pick.{pick}
 use Rattle.octets.specs.Scan.{span_end}

@@ -3,7 +3,7 @@
 --     number_small      every refusal's number is one byte
 --     cast_fits, cast_back   what a cast of an enum to its number asks, and gives
 --     answer_refusal    the answer of a number stands for the refusal of that number
---     done-..           what the steps of a conversion do
+--     done_..           what the steps of a conversion do
 use Rattle.std.specs.Prelude.{◌≡◌, refl, Bool, true, false, List, [], ◌++◌, ℕ, zero, suc, ◌+◌, ◌^◌, ◌≤◌, ◌<◌, T, pos, nat_abs}
 use Rattle.std.proofs.Common.{sym, ap, ◌∙◌, Fits, to_z, le-leb, ne_eqb}
 use Rattle.std.specs.Int.{w64}

@@ -1,5 +1,5 @@
 -- Laws of what specs/ReadBoolean.antt defines.
---     text-.., xml-..    the ways of reading it in text and in XML
+--     text_.., xml_..    the ways of reading it in text and in XML
 use Rattle.std.specs.Prelude.{◌≡◌, Bool, true, false, List, ℕ}
 use Rattle.std.proofs.Math.Option.{none, some}
 use Rattle.octets.specs.Ascii.{ascii}

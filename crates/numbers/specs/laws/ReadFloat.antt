@@ -1,5 +1,5 @@
 -- Laws of what specs/ReadFloat.antt defines.
---     shape-..          the ways of `read_shape`;   minus-..: whether the minus counts;   float-..: the ways of `float_to`
+--     shape_..          the ways of `read_shape`;   minus_..: whether the minus counts;   float_..: the ways of `float_to`
 use Rattle.std.specs.Prelude.{◌≡◌, Bool, true, false, not, List, [], ◌∷◌, ℕ}
 use Rattle.std.proofs.Common.{◌∙◌}
 use Rattle.std.proofs.Math.Option.{Option, none, some}

@@ -1,11 +1,11 @@
 -- What the code walks over: laws at each way that a loop goes on or ends.
---     after-..       the digits at the front passed over
---     leading-..     leading zeros passed over
---     zeros-..       zeros to the end
---     all-..         digits to the end
---     sign-..        a sign passed over;   minus_at, lead_at    whether a minus, a digit stands at the cursor
---     lead-.., point-..    what is written before and after the point
---     trim-..        digits without trailing zeros
+--     after_..       the digits at the front passed over
+--     leading_..     leading zeros passed over
+--     zeros_..       zeros to the end
+--     all_..         digits to the end
+--     sign_..        a sign passed over;   minus_at, lead_at    whether a minus, a digit stands at the cursor
+--     lead_.., point_..    what is written before and after the point
+--     trim_..        digits without trailing zeros
 use Rattle.std.specs.Prelude.{◌≡◌, Bool, not, ℕ, zero, suc, ◌+◌, ◌-◌, ◌≤◌, ◌<◌, ltb, length}
 use Rattle.std.proofs.Math.Path.{refl}
 use Rattle.std.proofs.Common.{sym, ap, ◌∙◌, add-one, arith}

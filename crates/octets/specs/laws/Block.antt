@@ -1,5 +1,5 @@
 -- Laws of what specs/Block.antt defines.
---     Any, any-..       the loop that tests a block; rules `testing`
+--     Any, any_..       the loop that tests a block; rules `testing`
 --     from_block        a block without such a byte is passed over; with `scanning_from` of octets: rules `blocking`
 use Rattle.std.specs.Prelude.{◌≡◌, Bool, ◌||◌, ℕ, ◌+◌, ◌-◌, ◌≤◌, ◌<◌, length, get_or, take, drop}
 use Rattle.std.proofs.Math.Path.{refl}

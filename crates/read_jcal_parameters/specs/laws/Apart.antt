@@ -1,9 +1,9 @@
 -- Laws of what specs/Apart.antt defines.
 --     names_none, names_some       the names, by the member that was found
---     twice-..                     the walk to a name that comes again;   `search twices`
---     rounds-..                    names in rounds;   `search rounds`
---     again-..                     the walk that looks for a name;   `search agains`
---     apart-..                     the walk that compares each name with those behind it;   `search aparts`
+--     twice_..                     the walk to a name that comes again;   `search twices`
+--     rounds_..                    names in rounds;   `search rounds`
+--     again_..                     the walk that looks for a name;   `search agains`
+--     apart_..                     the walk that compares each name with those behind it;   `search aparts`
 use Rattle.std.specs.Prelude.{◌≡◌, Bool, List, [], ◌∷◌, ℕ, ◌-◌, ◌<◌, length}
 use Rattle.std.proofs.Math.Path.{refl, sym, ap}
 use Rattle.std.proofs.Common.{◌∙◌, arith, rules}

@@ -1,6 +1,6 @@
 -- Laws of what specs/Encoded.antt defines.
---     first-.., base-..          the first value, as code finds it
---     encoded-..                 a parameter that is ENCODING;   `search encodings`: the walk that looks for it
+--     first_.., base_..          the first value, as code finds it
+--     encoded_..                 a parameter that is ENCODING;   `search encodings`: the walk that looks for it
 --     encoding_is                of parameters that were read
 use Rattle.std.specs.Prelude.{◌≡◌, Bool, List, [], ◌∷◌, ℕ}
 use Rattle.std.proofs.Math.Path.{refl, sym}

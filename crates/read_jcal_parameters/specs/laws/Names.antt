@@ -1,6 +1,6 @@
 -- Laws of what specs/Names.antt defines.
 --     Smalls           the invariant of the walk over characters;   `search smalls`
---     bad-..           a bad name, as code tests it
+--     bad_..           a bad name, as code tests it
 --     naming           the walk over the names of members
 use Rattle.std.specs.Prelude.{◌≡◌, refl, Bool, true, false, not, List, [], ◌∷◌, ℕ, ◌+◌, ◌-◌, ◌*◌, ◌<◌, eqb, length}
 use Rattle.std.proofs.Math.Path.{sym}

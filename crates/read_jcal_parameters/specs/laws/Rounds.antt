@@ -1,9 +1,9 @@
 -- Laws of what specs/Rounds.antt defines.
---     stands-..                a place that was found
---     found-..                 the walk over members that are found;   `search founds`
---     behind-.., before-.., between-..    a name between two that rise is none of them
---     Missing, missing-..      the walk over names that are none of them;   `search missings`
---     passes-..                a round
+--     stands_..                a place that was found
+--     found_..                 the walk over members that are found;   `search founds`
+--     behind_.., before_.., between_..    a name between two that rise is none of them
+--     Missing, missing_..      the walk over names that are none of them;   `search missings`
+--     passes_..                a round
 use Rattle.std.specs.Prelude.{◌≡◌, refl, Bool, true, false, List, ◌∷◌, ℕ, zero, suc, ◌+◌, ◌-◌, ◌≤◌, ◌<◌, eqb, ltb, get_or}
 use Rattle.std.proofs.Common.{sym, ap, ◌∙◌, arith, rules, eq-eqb, ne_eqb, eqb-true, ltb-true, ltb-false}
 use Rattle.std.proofs.lemmas.Bool.{false≢true, eqb-false}

@@ -1,6 +1,6 @@
 -- Laws of what specs/Sound.antt defines.
---     sound-..                one parameter;   `search sounds`: the walk over all of them
---     encodes-.., good-..     for code
+--     sound_..                one parameter;   `search sounds`: the walk over all of them
+--     encodes_.., good_..     for code
 --     read_member, members-read    what can be read, by values
 --     good_is                what `parameters_good` asks for
 use Rattle.std.specs.Prelude.{◌≡◌, Bool, not, ℕ, ◌≤◌, eqb}

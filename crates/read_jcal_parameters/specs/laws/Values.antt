@@ -1,8 +1,8 @@
 -- Laws of what specs/Values.antt defines.
 --     Holding          the invariant of the look for a byte;   `search holding`
---     truth-.., typed-.., chosen-..    one value
---     plain-.., spelled-.., string-..  what an edition can spell
---     all-.., amount-.., values-..     all values
+--     truth_.., typed_.., chosen_..    one value
+--     plain_.., spelled_.., string_..  what an edition can spell
+--     all_.., amount_.., values_..     all values
 use Rattle.std.specs.Prelude.{◌≡◌, Bool, List, ℕ, ◌-◌, ◌*◌, ◌<◌, eqb, length}
 use Rattle.std.proofs.Math.Path.{refl, sym, ap}
 use Rattle.std.proofs.Common.{◌∙◌, arith, rules}

@@ -1,9 +1,9 @@
 -- Laws of what specs/Written.antt defines.
---     quoted-.., plain_put, item-..        one value
+--     quoted_.., plain_put, item_..        one value
 --     Emits                                the invariant of a loop that writes: `all` is to be written, `left` is still to be written
---     list-start, list_next, list_over     the values of a parameter;   given-..: as they stand in a member
+--     list_start, list_next, list_over     the values of a parameter;   given_..: as they stand in a member
 --     parameter_put, members_next, members_over    parameters
---     reads-..                             the walk that asks whether all can be read
+--     reads_..                             the walk that asks whether all can be read
 --     parameters_put, parameters_unread    what the canonical text has
 use Rattle.std.specs.Prelude.{◌≡◌, Bool, ℕ, ◌*◌, ◌^◌, ◌<◌, length}
 use Rattle.std.proofs.Math.Path.{refl, sym, subst}

@@ -1,7 +1,7 @@
 -- Names that stand before others.
 --     before-take          so many names from the front are those;   before_one: a name is one of them
---     first-..             the first names of a list, compared one after another
---     word-..              a value is one word, for code
+--     first_..             the first names of a list, compared one after another
+--     word_..              a value is one word, for code
 use Rattle.std.specs.Prelude.{◌≡◌, Bool, true, false, List, [], ◌∷◌, map, length, take}
 use Rattle.std.proofs.Math.Path.{refl, ap}
 use Rattle.std.proofs.Common.{sym, ◌∙◌}

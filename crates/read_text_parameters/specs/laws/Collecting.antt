@@ -1,5 +1,5 @@
 -- Laws of what specs/Collecting.antt defines.
---     compared-..               the first names are compared, none of them comes again
+--     compared_..               the first names are compared, none of them comes again
 --     Collecting s e f t k c    the names from the cursor e on are the k that are collected, and those from c on
 use Rattle.std.specs.Prelude.{◌≡◌, refl, Bool, true, false, List, [], ◌∷◌, ℕ, ◌+◌, ◌<◌, take}
 use Rattle.std.proofs.Math.Path.{sym}

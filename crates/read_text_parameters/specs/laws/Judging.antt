@@ -1,7 +1,7 @@
 -- Laws of what specs/Walking.antt says of one parameter, each way that code goes.
---     sought-..     the place of the first that comes again
---     for-..        the type by which it is judged
---     encodes-..    ENCODING;   behind-..: the type behind it
+--     sought_..     the place of the first that comes again
+--     for_..        the type by which it is judged
+--     encodes_..    ENCODING;   behind_..: the type behind it
 use Rattle.std.specs.Prelude.{◌≡◌, Bool, true, false, List, [], ℕ, eqb}
 use Rattle.std.proofs.Math.Path.{sym}
 use Rattle.std.proofs.Common.{ap, ◌∙◌}

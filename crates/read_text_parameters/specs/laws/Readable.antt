@@ -1,6 +1,6 @@
 -- Laws of what specs/Readable.antt defines.
 --     own_every      what holds of a property's own parameters, of all of them;   all_read: all can be read where each one can
---     single-.., amount-.., readable-..    for code
+--     single_.., amount_.., readable_..    for code
 use Rattle.std.specs.Prelude.{◌≡◌, refl, Bool, true, false, List, [], ◌∷◌, map, ℕ}
 use Rattle.std.proofs.Common.{sym, ap, ◌∙◌}
 use Rattle.std.proofs.Math.Option

@@ -1,10 +1,10 @@
 -- Laws of what specs/Rounds.antt defines.
---     stands-.., held-..       a place that was found;   the name at a cursor, whose place was found
---     found-..                 the walk over names that are found
---     behind-.., before-.., between-..    a name between two that rise is none of them
---     Missing, missing-..      the walk over names that are none of them
---     passes-.., passed-..     a round, and all rounds
---     ends-..                  their end
+--     stands_.., held_..       a place that was found;   the name at a cursor, whose place was found
+--     found_..                 the walk over names that are found
+--     behind_.., before_.., between_..    a name between two that rise is none of them
+--     Missing, missing_..      the walk over names that are none of them
+--     passes_.., passed_..     a round, and all rounds
+--     ends_..                  their end
 use Rattle.std.specs.Prelude.{◌≡◌, refl, Bool, true, false, ℕ, zero, suc, ◌+◌, ◌-◌, ◌^◌, ◌≤◌, ◌<◌, eqb, ltb, get_or, take}
 use Rattle.std.proofs.Math.Path.{sym, ap}
 use Rattle.std.proofs.Common.{◌∙◌, eqb-true, ltb-true, ltb-false}

@@ -1,5 +1,5 @@
 -- Laws of what specs/Stating.antt defines.
---     Stating        the invariant of the walk over them;   stated-..: its laws
+--     Stating        the invariant of the walk over them;   stated_..: its laws
 --     stated_same, stated_names, stated-known   what they state of a name whose default has the number
 use Rattle.std.specs.Prelude.{◌≡◌, Bool, length, get_or, take}
 use Rattle.std.proofs.Math.Path.{refl, ap}

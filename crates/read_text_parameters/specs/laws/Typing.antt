@@ -1,6 +1,6 @@
 -- Laws of what specs/Typing.antt defines.
 --     value_place  it is `read_param_value` of a name, by the name's number
---     typed-.., chosen-.., by-..   for the code that reads one
+--     typed_.., chosen_.., by_..   for the code that reads one
 use Rattle.std.specs.Prelude.{◌≡◌, Bool, not, List, ℕ, eqb}
 use Rattle.std.proofs.Math.Path.{refl}
 use Rattle.std.proofs.Common.{sym, ap, ◌∙◌}

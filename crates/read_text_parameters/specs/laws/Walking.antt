@@ -1,5 +1,5 @@
 -- Laws of what specs/Walking.antt defines.
---     number-..        the number of a name
+--     number_..        the number of a name
 --     Walked           the invariant of the walk: what is noted of the parameters before `rest`
 --     Stepping         the same through a cursor;   step_start, step_again, step_bad, step_more, step_over ..: its laws
 use Rattle.std.proofs.Math.Path.{◌≡◌, refl, sym, ap}

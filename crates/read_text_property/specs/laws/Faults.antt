@@ -1,5 +1,5 @@
 -- Laws of what specs/Faults.antt defines.
---     value-..       each way of `value_fault`;   fault_parameter, fault_encoding, fault_value: of `property_fault`
+--     value_..       each way of `value_fault`;   fault_parameter, fault_encoding, fault_value: of `property_fault`
 --     fault_named   it is `property_fault` of names that have the number and the row
 use Rattle.std.specs.Prelude.{◌≡◌, Bool, List, ℕ}
 use Rattle.std.proofs.Math.Path.{refl, sym, ap}

@@ -1,7 +1,7 @@
 -- Laws of what specs/Judging.antt defines.
 --     is_name .. is_count          the refusals that content is given
 --     after_fine, after_refused    one check after another
---     unexpected-..                an element that has no place;   `search judging`
+--     unexpected_..                an element that has no place;   `search judging`
 use Rattle.std.specs.Prelude.{◌≡◌, refl, Bool, true, false, List, ℕ}
 use Rattle.std.proofs.Common.{sym, ◌∙◌, rules}
 use Rattle.octets.specs.laws.Pick.{pick_yes, pick_no}

@@ -2,7 +2,7 @@
 --     skipped    a function that passes over characters says the same from the next element on
 --     Looking    the invariant of its loop;   `search looking`
 --     children_none, children_some, child_less    a walk over elements
---     encoding-..            the walk that looks for ENCODING
+--     encoding_..            the walk that looks for ENCODING
 use Rattle.std.proofs.Math.Path.{◌≡◌, sym, ap}
 use Rattle.std.specs.Prelude.{refl, Bool, true, false, List, ℕ, ◌-◌, ◌≤◌, ◌<◌, length}
 use Rattle.std.proofs.Common.{◌∙◌, arith, rules}

@@ -1,6 +1,6 @@
 -- Laws of what specs/Fresh.antt defines.
---     Fresh s from at i seen   where the first i + r names from `from` on are distinct, so are the first r from `at` on, and none of them is one of those seen;   fresh-..: for a walk
---     Collecting               names collected by their cuts;   collect-..: its laws
+--     Fresh s from at i seen   where the first i + r names from `from` on are distinct, so are the first r from `at` on, and none of them is one of those seen;   fresh_..: for a walk
+--     Collecting               names collected by their cuts;   collect_..: its laws
 use Rattle.std.specs.Prelude.{◌≡◌, Bool, ℕ, ◌+◌, ◌-◌, ◌≤◌, ◌<◌, eqb, take}
 use Rattle.std.proofs.Math.Path.{refl, ap}
 use Rattle.std.proofs.Common.{sym, ◌∙◌, ne_eqb, eqb-true}

@@ -1,9 +1,9 @@
 -- Laws of what specs/Leaves.antt defines.
 --     Holding          the invariant of the look for a byte;   `search holding`
---     chosen-..        a word of a closed set, or a value of the type
---     leaf-..          a value is characters alone
+--     chosen_..        a word of a closed set, or a value of the type
+--     leaf_..          a value is characters alone
 --     type_words       the names of the types' elements, by the types' numbers;   type_word: compared by number
---     value-..         an element that is a value
+--     value_..         an element that is a value
 use Rattle.std.specs.Prelude.{◌≡◌, Bool, List, ℕ, ◌-◌, ◌*◌, ◌<◌, length}
 use Rattle.std.proofs.Math.Path.{refl, sym}
 use Rattle.std.proofs.Common.{ap, ◌∙◌, arith, rules}

@@ -1,5 +1,5 @@
 -- Laws of what specs/Seen.antt defines.
---     before-..            the walk that looks for one;   `search befores`
+--     before_..            the walk that looks for one;   `search befores`
 use Rattle.std.specs.Prelude.{◌≡◌, refl, Bool, true, false, List, ℕ, ◌≤◌, ◌<◌}
 use Rattle.std.proofs.Math.Path.{sym}
 use Rattle.std.proofs.Common.{ap, ◌∙◌, rules, lt-ltb, le-ltb}

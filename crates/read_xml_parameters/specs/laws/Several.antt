@@ -3,7 +3,7 @@
 --     amount_is                 one value at most
 --     good_is                  what `values_good` asks for
 --     first_is_lem              the first value's characters are a word
---     all-.., single-.., good-.., first-.., plain-.., spelled-..    for code
+--     all_.., single_.., good_.., first_.., plain_.., spelled_..    for code
 use Rattle.std.specs.Prelude.{◌≡◌, refl, Bool, true, false, not, List, [], ℕ}
 use Rattle.std.proofs.Math.Path.{sym, ap}
 use Rattle.std.proofs.Common.{◌∙◌, rules}

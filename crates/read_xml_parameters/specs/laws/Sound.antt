@@ -1,6 +1,6 @@
 -- Laws of what specs/Sound.antt defines.
---     bad-..                 a name that no parameter has
---     encoded-..    for code
+--     bad_..                 a name that no parameter has
+--     encoded_..    for code
 --     sound_is    the same of names
 use Rattle.std.specs.Prelude.{◌≡◌, Bool, ℕ, ◌≤◌, length, take}
 use Rattle.std.proofs.Math.Path.{refl, sym}

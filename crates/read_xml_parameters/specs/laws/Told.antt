@@ -1,8 +1,8 @@
 -- Laws of what specs/Told.antt defines.
---     judged-..    for code
---     against-..    for code
+--     judged_..    for code
+--     against_..    for code
 --     verdict_is         it is the verdict of xcal, where the names before its place are those seen
---     Told               the invariant of the walk over them;   told-..: its laws
+--     Told               the invariant of the walk over them;   told_..: its laws
 use Rattle.std.specs.Prelude.{◌≡◌, Bool, List, [], ◌∷◌, ℕ, ◌+◌, ◌≤◌, ltb}
 use Rattle.std.proofs.Math.Path.{refl, sym, ap}
 use Rattle.std.proofs.Common.{◌∙◌, arith, rules}

@@ -1,7 +1,7 @@
 -- Laws of what specs/Written.antt defines.
 --     shown_is    it is the text of the value that was read
 --     list_is    they are the text of the values that were read
---     quoted-.., truth-.., value-put-.., item-.., values-..    for code
+--     quoted_.., truth_.., value-put-.., item_.., values_..    for code
 use Rattle.std.specs.Prelude.{◌≡◌, Bool, not, ℕ, ◌*◌, ◌^◌, ◌<◌, length}
 use Rattle.std.proofs.Math.Path.{refl}
 use Rattle.std.proofs.Common.{sym, ◌∙◌, eq-eqb, ne_eqb}

@@ -2,7 +2,7 @@
 --     named_at         a name against the name at a place
 --     are_new t ws     no part of these pieces is noted
 --     Noting           which pieces are noted;   none_noted, one_noted: at the start, and with one piece more
---     Walked           the invariant of the loop over the pieces;   walk-..: its ways
+--     Walked           the invariant of the loop over the pieces;   walk_..: its ways
 use Rattle.std.specs.Prelude.{◌≡◌, Bool, length, take, set, replicate}
 use Rattle.std.proofs.Math.Path.{refl, sym}
 use Rattle.std.proofs.Common.{ap, ◌∙◌, arith, add-one, length-set, get_or-set_same}

@@ -1,7 +1,7 @@
 -- Laws of pieces cut out of a text at a separator, for each way that the code goes.
 --     ending_start, -more, -stop, -here     the loop of `byte_end`
 --     pieces_any, pieces_last, pieces_more  the first piece, cut out of the slice, and those after it
---     Left                                  the invariant of a loop over pieces;   items-..: its ways over the items of a part
+--     Left                                  the invariant of a loop over pieces;   items_..: its ways over the items of a part
 --     cons_read_lem                         one more read
 use Rattle.std.specs.Prelude.{◌≡◌, refl, Bool, true, false, List, [], ◌∷◌, ℕ, zero, suc, ◌-◌, ◌≤◌, ◌<◌, eqb, length, take, get_or}
 use Rattle.std.proofs.Math.Path.{sym}

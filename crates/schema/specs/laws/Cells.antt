@@ -3,7 +3,7 @@
 --     tabled_at    its entries
 --     column_at     the entry of a row in the list of a field of each row;   column_past: of a number that is no row
 --     cell_at       the entry of two numbers in a table of w to a line
---     at_passes, row-passes    what every row passes;   below_passes: every number of a run
+--     at_passes, row_passes    what every row passes;   below_passes: every number of a run
 use Rattle.std.specs.Prelude.{◌≡◌, refl, Bool, true, false, eqb, length, get_or}
 use Rattle.std.proofs.Common.{sym, ap, ◌∙◌, not-suc-le-zero, le_of_suc-le-suc, arith}
 use mathlib.Core.List.{List, [], ◌∷◌, map}

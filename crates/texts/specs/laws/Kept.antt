@@ -1,5 +1,5 @@
 -- Laws of what specs/Kept.antt defines.
---     unknown-.., uri-.., binary-..   the ways that each loop goes on and ends
+--     unknown_.., uri_.., binary_..   the ways that each loop goes on and ends
 --     passed, kept, none_left         BINARY a byte at a time: white space of XML is passed over
 use Rattle.std.specs.Prelude.{◌≡◌, Bool, List, [], ◌∷◌, ℕ, ◌+◌, ◌%◌, ◌≤◌, ◌<◌, ltb}
 use Rattle.std.proofs.Math.Path.{refl, sym}

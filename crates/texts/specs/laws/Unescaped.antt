@@ -2,7 +2,7 @@
 --     split_is, text_is    then it is read
 --     text_value    it is what is read
 --     separator_none      a single TEXT has no separator
---     text-..             the ways that a reader's loop goes on and ends;   `search reading_text`
+--     text_..             the ways that a reader's loop goes on and ends;   `search reading_text`
 use Rattle.std.specs.Prelude.{◌≡◌, refl, Bool, true, false, List, [], ◌∷◌, ℕ, eqb}
 use Rattle.std.proofs.Math.Path.{sym}
 use Rattle.std.proofs.Common.{ap, ◌∙◌, rules, eqb-true}

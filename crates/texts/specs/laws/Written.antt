@@ -1,5 +1,5 @@
 -- TEXT written: loops that unescape a TEXT into XML's character data, and that escape characters.
---     xml-..      the ways that the first goes on and ends;   `search writing_xml`
+--     xml_..      the ways that the first goes on and ends;   `search writing_xml`
 --     text_each_of  the second writes escape_text of each byte
 --     put_read, put_unread, put_two   what was written, from what was read
 use Rattle.std.specs.Prelude.{◌≡◌, refl, Bool, true, List, [], ◌∷◌, ◌++◌, ℕ, ◌*◌, ◌^◌, ◌<◌, length}

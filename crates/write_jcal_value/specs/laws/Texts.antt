@@ -1,7 +1,7 @@
 -- Laws of what specs/Texts.antt defines.
 --     strings_quoted, text_alone    of texts that are read it is their strings
 --     writing_strings               the ways that the loop goes on and ends, for `search`
---     put_strings, put-text, put_unread    what was written, from what was read
+--     put_strings, put_text, put_unread    what was written, from what was read
 use Rattle.std.specs.Prelude.{◌≡◌, Bool, List, [], ◌∷◌, map, ℕ, ◌*◌, ◌^◌, ◌<◌, eqb, length}
 use Rattle.std.proofs.Math.Path.{refl}
 use Rattle.std.proofs.Common.{sym, ap, ◌∙◌}

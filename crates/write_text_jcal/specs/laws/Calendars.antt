@@ -1,6 +1,6 @@
 -- Laws of the calendars of a text.
 --     stream_is       whether it is a stream
---     alone-..        one calendar;   calendars_stream, calendars_alone: the ways of `put_calendars`
+--     alone_..        one calendar;   calendars_stream, calendars_alone: the ways of `put_calendars`
 use Rattle.std.specs.Prelude.{◌≡◌, Bool, true, false, ℕ, zero, suc, ◌+◌, ◌-◌, ◌≤◌, length, drop}
 use Rattle.std.proofs.Math.Path.{refl, sym, ap, subst}
 use Rattle.std.proofs.Common.{◌∙◌, arith}

@@ -1,6 +1,6 @@
 -- Laws of what specs/Walks.antt defines.
 --     Walking          the invariant of a walk that writes: what is left to write from the element at hand on
---     own-..           of properties;   inner-..: of components
+--     own_..           of properties;   inner_..: of components
 --     head_put, tail_put, name_folded    from what was put
 use Rattle.std.specs.Prelude.{◌≡◌, Bool, true, false, ℕ, zero, suc, ◌+◌, ◌-◌, ◌*◌, ◌^◌, ◌≤◌, ◌<◌, take}
 use Rattle.std.proofs.Math.Path.{refl, ap}

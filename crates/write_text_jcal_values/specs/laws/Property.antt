@@ -1,6 +1,6 @@
 -- Laws of the values of a property by numbers.
 --     value_geo, value_status, value_typed    the ways of `put_value`
---     written-..                              those of `written_type`;   `search written`
+--     written_..                              those of `written_type`;   `search written`
 --     values_put, values_unread               those of `put_values`
 --     type_first, type_none, type_unread      those of `type_of_values`
 use Rattle.std.specs.Prelude.{◌≡◌, refl, Bool, ℕ, ◌*◌, ◌^◌, ◌≤◌, ◌<◌, eqb, length}

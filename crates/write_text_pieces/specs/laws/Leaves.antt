@@ -1,5 +1,5 @@
 -- Laws of what specs/Leaves.antt defines.
---     put-..         what the writer of each type puts is that;   placing: the choice of a type
+--     put_..         what the writer of each type puts is that;   placing: the choice of a type
 use Rattle.std.specs.Prelude.{◌≡◌, refl, Bool, List, [], ℕ, eqb}
 use Rattle.std.proofs.Common.{sym, rules, eq-eqb, ne_eqb}
 use Rattle.std.proofs.Math.Path.{subst}

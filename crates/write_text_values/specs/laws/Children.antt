@@ -1,5 +1,5 @@
 -- Laws of what specs/Children.antt defines.
---     Naming      the walk to it;   child-..: its ways, `search children`
+--     Naming      the walk to it;   child_..: its ways, `search children`
 --     put_chars, put_there   what is written of the characters of an element, of a child
 use Rattle.std.specs.Prelude.{◌≡◌, refl, Bool, true, false, List, ℕ, ◌*◌, ◌≤◌, length, take}
 use Rattle.std.proofs.Common.{sym, subst, ◌∙◌, rules}

@@ -1,5 +1,5 @@
 -- Laws of what specs/Own.antt defines.
---     put-..             the ways of the code
+--     put_..             the ways of the code
 use Rattle.std.specs.Prelude.{◌≡◌, Bool, List, [], ℕ, ◌*◌}
 use Rattle.std.proofs.Common.{sym, ◌∙◌}
 use Rattle.std.proofs.Math.Option.{Option, none, some}

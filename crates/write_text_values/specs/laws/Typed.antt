@@ -1,8 +1,8 @@
 -- Laws of what specs/Typed.antt defines.
 --     `search typings`
---     put-..          the ways of `put_value`
+--     put_..          the ways of `put_value`
 --     Valuing         the invariant of the loop over the values
---     type-..         the type of a value
+--     type_..         the type of a value
 use Prim.{tt}
 use Rattle.std.specs.Prelude.{◌≡◌, refl, Bool, true, false, ℕ, ◌-◌, ◌*◌, ◌^◌, ◌≤◌, ◌<◌, eqb, length, take}
 use Rattle.std.proofs.Math.Path.{ap}

@@ -1,5 +1,5 @@
 -- The type of a property's values, by its number.
---     type-..          the ways of `type_of_value` and `type_of_typed`
+--     type_..          the ways of `type_of_value` and `type_of_typed`
 use Rattle.std.specs.Prelude.{◌≡◌, refl, Bool, List, ℕ, ◌*◌, ◌≤◌}
 use Rattle.std.proofs.Common.{sym, ap, ◌∙◌, arith}
 use Rattle.std.proofs.Math.Option.{Option, none, some}

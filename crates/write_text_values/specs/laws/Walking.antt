@@ -1,6 +1,6 @@
 -- A walk over nodes to the first that is sought.
 --     Seeking f    the invariant of the walk: what f says of the content is the same from here on
---     seek-..      the ways of the walk, by the content from here on
+--     seek_..      the ways of the walk, by the content from here on
 use Rattle.std.specs.Prelude.{◌≡◌, refl, List, ℕ, ◌≤◌, ◌<◌}
 use Rattle.std.proofs.Common.{ap, ◌∙◌, arith}
 use Rattle.xml.specs.Nodes.{Nodes, literal, referred}
