@@ -1,8 +1,8 @@
 /* Mallettriton for C: iCalendar text (RFC 5545) to xCal (RFC 6321) or jCal (RFC 7265) and back, on buffers that the caller lends.
  *
  * Link libmallettriton.a (x86-64 Linux), for mallettriton_to_xml_folded libmallettriton_folded.a. An installed release has both, and
- * `pkg-config --cflags --libs mallettriton` names them; in the repository `rt staticlib mallettriton` and `rt staticlib mallettriton_folded` write
- * them to target/staticlib. The library allocates nothing, keeps nothing between calls and makes no system call. docs/FORMAT.md says what is
+ * `pkg-config --cflags --libs mallettriton` names them; in the repository `tools/staticlib mallettriton mallettriton_folded` proves them and
+ * writes them to target/staticlib. The library allocates nothing, keeps nothing between calls and makes no system call. docs/FORMAT.md says what is
  * accepted and what is written, examples/c/convert.c is a whole program.
  *
  * A buffer is a pointer and a length in bytes. What is proved holds if each pointer is to that many bytes which can be read (those of
