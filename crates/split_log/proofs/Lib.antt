@@ -1,3 +1,3 @@
 -- Laws of what specs/ defines.
---     LineLaws   a line has room
+--     LineLaws   two places have room
 pub mod LineLaws

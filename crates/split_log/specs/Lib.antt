@@ -1,3 +1,3 @@
 -- What is printed of a log.
---     Line   a line of it
+--     Line   how a line of it begins
 pub mod Line

@@ -1,10 +1,10 @@
 -- What is printed of a log.
---     line   the line of some of its bytes, by their places: the first one's, a space, that behind the last, and what ends the line
+--     places   how the line of some of its bytes begins: the place of the first, a space, the place behind the last
 use Rattle.std.specs.Prelude.{List, ℕ}
 use Rattle.octets.specs.Ascii.{ascii}
 use Rattle.octets.specs.Append.{◌⊕◌}
 use Rattle.octets.specs.Decimal.{digits}
 
 -- of places below 10 ^ 20
-abbrev pub line : ℕ → ℕ → List ℕ → List ℕ
-line from to end = digits 19 from ⊕ ascii " " ⊕ digits 19 to ⊕ end
+abbrev pub places : ℕ → ℕ → List ℕ
+places from to = digits 19 from ⊕ ascii " " ⊕ digits 19 to

@@ -379,13 +379,13 @@ exponent_is s e {c} {b} {w} {d} l h p q f = record {
 pub marks_order : {p r : ℕ → Bool} {s : List ℕ} {a e q : ℕ} → MarkAt p s a e → MarkAt r (take e s) a q → (a ≤ q) × (q ≤ e) × (e ≤ length s)
 marks_order {p} {r} {s} {a} {e} {q} m n = (n.onward, rw (length-take-le e s m.inside) at n.inside, m.inside)
 
-pub magnitude_is : (s : List ℕ) (a : ℕ) {e q behind keep v zeros r : ℕ} {x : Exponent} →
+pub magnitude_is : (s : List ℕ) (a : ℕ) {e q behind keep v more r : ℕ} {x : Exponent} →
     MarkAt is_e s a e → ExponentAt s e x → MarkAt is_point (take e s) a q → behind ≡ e - (q + 1) →
     keep ≡ kept_of x.down (q - a) behind x.worth →
     Worth 4294967296 (rest 0 (take q s) a ⊕ rest 0 (take e s) (q + 1)) keep 0 v →
-    zeros ≡ up_of x.down behind x.worth → r ≡ raised_to v zeros → r ≡ magnitude_of (rest 0 s a)
+    more ≡ up_of x.down behind x.worth → r ≡ raised_to v more → r ≡ magnitude_of (rest 0 s a)
 unfolding magnitude_of
-magnitude_is s a {e} {q} {behind} {keep} {v} {zeros} {r} {x} m y p b k f z g =
+magnitude_is s a {e} {q} {behind} {keep} {v} {more} {r} {x} m y p b k f z g =
     let n : q ≤ e = (marks_order m p).1 in
     let i : rest 0 (take q s) a ≡ up_to is_point (up_to is_e (rest 0 s a)) = rw (take-take q e s n, m.before) at p.before in
     let j : rest 0 (take e s) (q + 1) ≡ past is_point (up_to is_e (rest 0 s a)) = rw m.before at p.behind in
