@@ -20,7 +20,7 @@ function meanings() {
     meaning[13] = "EDITION: the call names an edition other than 0 and 1; the programs always name edition 0"
 }
 
-# ---- the schema: propertyTable of crates/schema/specs/Properties.antt, to which tools/check-programs holds it
+# ---- the schema: property_table of crates/schema/specs/Properties.antt, to which tools/check-programs holds it
 
 # A row: name; how often it stands in VCALENDAR, VEVENT, VTODO, VJOURNAL, VFREEBUSY, VTIMEZONE, STANDARD, DAYLIGHT and in a VALARM of AUDIO, DISPLAY, EMAIL (1 once,
 # ? at most once, * any number of times, + at least once, a point where it may not stand); whether it has one value or several; types; parameters.

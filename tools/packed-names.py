@@ -1,9 +1,9 @@
 #!/usr/bin/env python3
 """Packed names (crates/names/specs/Packing.antt), by which code finds them; for names in the order of their places, which a module has as constants:
 
-    tools/packed-names.py parameter parameter_rows ALTREP CN ..           prints the lines of the code and of the specification, as in crates/schema/src/numbers.rt and
-                                                                  crates/schema/specs/Packs.antt
-    tools/packed-names.py --check                                        whether each line in crates/*/src has the halves of its name
+    tools/packed-names.py parameter parameter_rows ALTREP CN ..      prints the lines of the code and of the specification, as in crates/schema/src/numbers.rt and
+                                                                     crates/schema/specs/Packs.antt
+    tools/packed-names.py --check                                    whether each line in crates/*/src has the halves of its name
 
 The prover compares them with the names, so a wrong one is refused anyway.
 """
@@ -39,7 +39,7 @@ def code(module, table, names):
     parts = groups(names)
     for i, rows in enumerate(parts, 1):
         print(f"fn {module}_{i}(high: u64, low: u64) -> usize")
-        print(f"    ensures {{ λ r. ⌜ r ≡ lookup high low {table}{i} {len(names)} ⌝ }}\n{{")
+        print(f"    ensures {{ result ≡ lookup high low {table}{i} {len(names)} }}\n{{")
         for high, low, name, _ in rows:
             print(f"    if (low == {low:#x}) & (high == {high:#x}) {{\n        return {module}::{constant(name)};\n    }}")
         print(f"    {module}::KNOWN\n}}\n")
@@ -52,14 +52,10 @@ def specification(table, names):
     parts = groups(names)
     for i, rows in enumerate(parts, 1):
         print(f"abbrev pub {table}{i} : List Row\n{table}{i} =")
-        lines = [f"row {high:#x} {low:#x} {place} ∷" for high, low, _, place in rows]
-        for j in range(0, len(lines), 4):
-            last = " []" if j + 4 >= len(lines) else ""
-            print("    " + " ".join(lines[j : j + 4]) + last)
-        print()
-    print(f"abbrev pub {table} : List Group\n{table} =")
-    for i, rows in enumerate(parts[1:], 1):
-        print(f"    group {rows[0][1]:#x} {table}{i} ∷" + (" []" if i + 1 == len(parts) else ""))
+        lines = [f"row {high:#x} {low:#x} {place}" for high, low, _, place in rows]
+        print("    " + "\n    ∷ ".join(" ∷ ".join(lines[j : j + 4]) for j in range(0, len(lines), 4)) + " ∷ []\n")
+    bounds = [f"group {rows[0][1]:#x} {table}{i}" for i, rows in enumerate(parts[1:], 1)]
+    print(f"abbrev pub {table} : List Group\n{table} = " + " ∷ ".join([*bounds, "[]"]))
 
 
 def check():
