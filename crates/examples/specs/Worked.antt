@@ -136,7 +136,7 @@ standard_time = "BEGIN:STANDARD" ∷ "DTSTART:19701025T030000" ∷ "TZOFFSETFROM
 abbrev daylight_time : List String
 daylight_time = "BEGIN:DAYLIGHT" ∷ "DTSTART:19700329T020000" ∷ "TZOFFSETFROM:+0100" ∷ "TZOFFSETTO:+0200" ∷ "END:DAYLIGHT" ∷ []
 
-time_zone : of_text (calendar_text ("BEGIN:VTIMEZONE" ∷ standard_time ++ ("TZID:Lake" ∷ daylight_time) ++ ("X-A:1" ∷ "TZURL:http://b.c/lake" ∷ "END:VTIMEZONE" ∷ [])))
+time_zone_lem : of_text (calendar_text ("BEGIN:VTIMEZONE" ∷ standard_time ++ ("TZID:Lake" ∷ daylight_time) ++ ("X-A:1" ∷ "TZURL:http://b.c/lake" ∷ "END:VTIMEZONE" ∷ [])))
     ≡ both_ways
     (canonical (calendar_xml (
     ascii "<vtimezone><properties><tzid><text>Lake</text></tzid><x-a><unknown>1</unknown></x-a><tzurl><uri>http://b.c/lake</uri></tzurl></properties><components>"
@@ -146,7 +146,7 @@ time_zone : of_text (calendar_text ("BEGIN:VTIMEZONE" ∷ standard_time ++ ("TZI
     ++ ascii "<tzoffsetto><utc-offset>+02:00</utc-offset></tzoffsetto></properties></daylight></components></vtimezone>")))
     (calendar_text ("BEGIN:VTIMEZONE" ∷ "TZID:Lake" ∷ "X-A:1" ∷ "TZURL:http://b.c/lake" ∷ standard_time ++ daylight_time ++ ("END:VTIMEZONE" ∷ [])))
 unfolding conversions_compute
-time_zone = refl
+time_zone_lem = refl
 
 -- an alarm of each ACTION, in a to-do
 abbrev alarms : List ℕ

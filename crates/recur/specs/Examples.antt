@@ -124,9 +124,9 @@ names : map part_order (ascii "FREQ" ∷ ascii "WKST" ∷ ascii "RSCALE" ∷ [])
 unfolding recur_compute
 names = refl
 
-in_order : map part_order part_names ≡ 0 ∷ 1 ∷ 2 ∷ 3 ∷ 4 ∷ 5 ∷ 6 ∷ 7 ∷ 8 ∷ 9 ∷ 10 ∷ 11 ∷ 12 ∷ 13 ∷ []
+in_order_lem : map part_order part_names ≡ 0 ∷ 1 ∷ 2 ∷ 3 ∷ 4 ∷ 5 ∷ 6 ∷ 7 ∷ 8 ∷ 9 ∷ 10 ∷ 11 ∷ 12 ∷ 13 ∷ []
 unfolding recur_compute
-in_order = refl
+in_order_lem = refl
 
 lists : map is_list_part (ascii "INTERVAL" ∷ ascii "BYDAY" ∷ ascii "X-A" ∷ []) ≡ false ∷ true ∷ false ∷ []
 unfolding recur_compute

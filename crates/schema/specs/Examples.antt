@@ -103,10 +103,10 @@ quoted_parameters : passing (λ q. is_quoted_parameter q) (ascii "X-A" ∷ param
 unfolding schema_compute passing
 quoted_parameters = refl
 
-parameter_types : map parameter_type (ascii "ALTREP" ∷ ascii "MEMBER" ∷ ascii "RSVP" ∷ ascii "ROLE" ∷ ascii "VALUE" ∷ ascii "X-A" ∷ []) ≡
+parameter_types_lem : map parameter_type (ascii "ALTREP" ∷ ascii "MEMBER" ∷ ascii "RSVP" ∷ ascii "ROLE" ∷ ascii "VALUE" ∷ ascii "X-A" ∷ []) ≡
     URI ∷ CAL-ADDRESS ∷ BOOLEAN ∷ TEXT ∷ UNKNOWN ∷ UNKNOWN ∷ []
 unfolding schema_compute
-parameter_types = refl
+parameter_types_lem = refl
 
 parameter_words_lem : map parameter_words (ascii "RELATED" ∷ ascii "LANGUAGE" ∷ ascii "X-A" ∷ []) ≡ some (ascii "START" ∷ ascii "END" ∷ []) ∷ none ∷ none ∷ []
 unfolding schema_compute

@@ -70,13 +70,13 @@ module _ (limit i : ℕ) (cs : List Container) where
 
 -- ---- arrays and objects
 
-opens_array : (limit i : ℕ) (cs : List Container) (s : List ℕ) → length cs < limit → check (91 ∷ s) limit i (Expects Value) cs ≡ check s limit (i + 1) (Expects ValueOrEnd) (array ∷ cs)
+opens_array_lem : (limit i : ℕ) (cs : List Container) (s : List ℕ) → length cs < limit → check (91 ∷ s) limit i (Expects Value) cs ≡ check s limit (i + 1) (Expects ValueOrEnd) (array ∷ cs)
 unfolding check followed pick ◌and◌ ◌or◌
-opens_array limit i cs s h = rw (lt-ltb (length cs) limit h)
+opens_array_lem limit i cs s h = rw (lt-ltb (length cs) limit h)
 
-opens_object : (limit i : ℕ) (cs : List Container) (s : List ℕ) → length cs < limit → check (123 ∷ s) limit i (Expects Value) cs ≡ check s limit (i + 1) (Expects NameOrEnd) (object ∷ cs)
+opens_object_lem : (limit i : ℕ) (cs : List Container) (s : List ℕ) → length cs < limit → check (123 ∷ s) limit i (Expects Value) cs ≡ check s limit (i + 1) (Expects NameOrEnd) (object ∷ cs)
 unfolding check followed pick ◌and◌ ◌or◌
-opens_object limit i cs s h = rw (lt-ltb (length cs) limit h)
+opens_object_lem limit i cs s h = rw (lt-ltb (length cs) limit h)
 
 -- a comma and a closing bracket, behind an element and behind a member; a closing bracket at once
 marks : (limit i : ℕ) (cs : List Container) (s : List ℕ) →
@@ -106,11 +106,11 @@ module _ (limit : ℕ) where
     value_passes (tree.array p e vs) zero h i cs l r f = absurd (false≢true h)
     value_passes (tree.array p e vs) (suc d) h i cs l r f =
         let q = elements_pass vs d h (i + 1) cs (omega arith) r in
-        (q.0, rw (array_front r p e vs) (opens_array limit i cs (first_elements vs r) (omega arith) ∙ q.1))
+        (q.0, rw (array_front r p e vs) (opens_array_lem limit i cs (first_elements vs r) (omega arith) ∙ q.1))
     value_passes (tree.object p e ms) zero h i cs l r f = absurd (false≢true h)
     value_passes (tree.object p e ms) (suc d) h i cs l r f =
         let q = members_pass ms d h (i + 1) cs (omega arith) r in
-        (q.0, rw (object_front r p e ms) (opens_object limit i cs (first_members ms r) (omega arith) ∙ q.1))
+        (q.0, rw (object_front r p e ms) (opens_object_lem limit i cs (first_members ms r) (omega arith) ∙ q.1))
 
     elements_pass : (vs : Elements) (d : ℕ) → are_writable vs d ≡ true → (i : ℕ) (cs : List Container) → d + suc (length cs) ≤ limit → (r : List ℕ) →
         Passes limit (first_elements vs r) i (Expects ValueOrEnd) (array ∷ cs) r (Expects After) cs

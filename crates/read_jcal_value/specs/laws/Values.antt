@@ -67,13 +67,13 @@ pick_read false a b = refl
 -- ---- by names
 
 module _ (x : Context) (c w : List ℕ) (a : x.component ≡ place_of c component_names) (y : x.row ≡ row_at (place_of w property_names)) where
-  number_of : x.row.number ≡ place_of w property_names
-  number_of = ap (λ (r : Row). r.number) y ∙ number_place w
+  number_of_lem : x.row.number ≡ place_of w property_names
+  number_of_lem = ap (λ (r : Row). r.number) y ∙ number_place w
 
   one_as : (v : Json) → is_read (read_one c w (type_at x.value_type) v) ≡ one_at x v
   unfolding one_at
   one_as v =
-      rw (geo_place w, request_status_place w, words_place c w, ← a, ← number_of)
+      rw (geo_place w, request_status_place w, words_place c w, ← a, ← number_of_lem)
       (pick_read (eqb x.row.number property.GEO) (and_then (as_array v) read_geo) _
       ∙ ap (λ (b : Bool). pick (eqb x.row.number property.GEO) (is_read (and_then (as_array v) read_geo)) b)
       (pick_read (eqb x.row.number property.REQUEST-STATUS) (and_then (as_array v) read_strings) (read_chosen (words_at x.component x.row.number) (type_at x.value_type) v)))

@@ -26,10 +26,10 @@ unfolding first_faulty is_faulty
 first_same f g h before [] = refl
 first_same f g h before (r ∷ rs) = rw (h r, first_same f g h (upper r.name ∷ before) rs)
 
-type_for : (o : Option ValueType) → read_or 5 (map type_place o) ≡ type_place (read_or DURATION o)
+type_for_lem : (o : Option ValueType) → read_or 5 (map type_place o) ≡ type_place (read_or DURATION o)
 unfolding read_or
-type_for none = refl
-type_for (some t) = refl
+type_for_lem none = refl
+type_for_lem (some t) = refl
 
 binary_for : (o : Option ValueType) → is_binary_at (map type_place o) ≡ is_binary o
 unfolding same_type
@@ -39,7 +39,7 @@ binary_for (some t) = refl
 module _ (w : List ℕ) {row : Row} (e : row ≡ row_at (place_of w property_names)) where
   fits_place : (o : Option ValueType) (r : RawParameter) → fits_at row (map type_place o) r ≡ fits w o r
   unfolding fits_at
-  fits_place o r = rw (e, type_for o, binary_for o, permits_place w (upper r.name) (read_or DURATION o))
+  fits_place o r = rw (e, type_for_lem o, binary_for o, permits_place w (upper r.name) (read_or DURATION o))
 
   pub fault_place : (o : Option ValueType) (rs : List RawParameter) → fault_as row (map type_place o) rs ≡ parameters_fault w o rs
   unfolding fault_as parameters_fault

@@ -115,5 +115,5 @@ single_decoded ed [] = refl
 single_decoded ed (v ∷ vs) = map_empty (decoded_value ed) vs
 
 -- by the values as they stand
-pub read_by : (ed : Edition) (p : ParameterRow) (vs : List ParamValue) → is_read_by p (map (decoded_value ed) vs) ≡ ((p.listed or is_single vs) and every (is_value_in ed p) vs)
-read_by ed p vs = rw (single_decoded ed vs, every_map (is_value_by p) (decoded_value ed) vs)
+pub read_by_lem : (ed : Edition) (p : ParameterRow) (vs : List ParamValue) → is_read_by p (map (decoded_value ed) vs) ≡ ((p.listed or is_single vs) and every (is_value_in ed p) vs)
+read_by_lem ed p vs = rw (single_decoded ed vs, every_map (is_value_by p) (decoded_value ed) vs)

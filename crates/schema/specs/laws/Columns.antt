@@ -1,5 +1,5 @@
 -- Laws of what specs/Columns.antt defines, and of row_at (specs/Coded.antt), so that callers need not open them.
---     row_number, row_default, row_listed, row_types, row_parameters, row_stands     what the row of a number says is what the definitions say of the number's name
+--     row_number, row_default, row_listed_lem, row_types, row_parameters, row_stands  what the row of a number says is what the definitions say of the number's name
 --     default_at, listed_at, types_at     the same of the table's row
 --     number_place, default_place, listed_place, permits_type_place, permits_place, stand_place, begin_place, alarm_place     the same of a name and its number
 --     inner_at, flag_at   the entries of the code's tables
@@ -82,8 +82,8 @@ pub listed_at : (p : ℕ) → (row_at p).listed ≡ (property_at p).listed
 unfolding row_at
 listed_at p = refl
 
-pub row_listed : (p : ℕ) → (row_at p).listed ≡ is_listed_property (property_name p)
-row_listed p = listed_at p ∙ ap (λ (r : PropertyRow). r.listed) (sym (row_named p))
+pub row_listed_lem : (p : ℕ) → (row_at p).listed ≡ is_listed_property (property_name p)
+row_listed_lem p = listed_at p ∙ ap (λ (r : PropertyRow). r.listed) (sym (row_named p))
 
 pub listed_place : (w : List ℕ) → (row_at (place_of w property_names)).listed ≡ is_listed_property w
 listed_place w = listed_at (place_of w property_names) ∙ ap (λ (r : PropertyRow). r.listed) (sym (property_place w))

@@ -1,7 +1,7 @@
 -- Laws of the tables of components, properties and parameters, each by computing over the rows.
 --     known_property_passes, known_parameter_passes, known_component_passes   what every name of the table passes, a known name passes
 --     unrecognised_property_lem, unrecognised_parameter_lem  what a name of no row has
---     property_name.., parameter_name.., component_name..    names are made of name characters, in capitals
+--     property_name_lem.., parameter_name_lem.., component_name_lem..  names are made of name characters, in capitals
 --     parameter_types, parameter_type_lem  the types of parameters
 --     stand_known, subcomponents_known   what may stand in a component is known
 use Rattle.std.specs.Prelude.{◌≡◌, refl, Bool, true, false, not, List, [], ◌∷◌, map, ℕ, eqb, ltb, length, get_or}
@@ -43,17 +43,17 @@ known_component_passes p a w h = word_passes p component_names w a h
 abbrev pub is_capital_name : List ℕ → Bool
 is_capital_name w = ltb 0 (length w) and all_of is_name_char w and same (upper (lower w)) w
 
-pub property_name : (w : List ℕ) → is_known_property w ≡ true → is_capital_name w ≡ true
+pub property_name_lem : (w : List ℕ) → is_known_property w ≡ true → is_capital_name w ≡ true
 unfolding octets_compute
-property_name w h = known_property_passes is_capital_name refl w h
+property_name_lem w h = known_property_passes is_capital_name refl w h
 
-pub parameter_name : (w : List ℕ) → is_known_parameter w ≡ true → is_capital_name w ≡ true
+pub parameter_name_lem : (w : List ℕ) → is_known_parameter w ≡ true → is_capital_name w ≡ true
 unfolding octets_compute
-parameter_name w h = known_parameter_passes is_capital_name refl w h
+parameter_name_lem w h = known_parameter_passes is_capital_name refl w h
 
-pub component_name : (w : List ℕ) → is_one_of w component_names ≡ true → is_capital_name w ≡ true
+pub component_name_lem : (w : List ℕ) → is_one_of w component_names ≡ true → is_capital_name w ≡ true
 unfolding octets_compute
-component_name w h = known_component_passes is_capital_name refl w h
+component_name_lem w h = known_component_passes is_capital_name refl w h
 
 pub name_capital : (w : List ℕ) → is_capital_name w ≡ true → upper (lower w) ≡ w
 name_capital w h = same_true _ _ (and_both _ _ (and_both _ _ h).1).1

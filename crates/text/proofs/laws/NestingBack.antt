@@ -34,7 +34,7 @@ use Rattle.text.specs.Nesting.{Open, on, opened, has_level, may_begin, begin_in,
 use Rattle.text.specs.WriteText.{raw_of, value_parameter, with_value, content_line_of}
 use Rattle.text.proofs.laws.PropertyLaws.{property_read_back, property_no_fault}
 use Rattle.text.proofs.laws.Turned.{turned, complete-turned, method_turned}
-use Rattle.text.proofs.laws.TreeBack.{begin_of, end_of, line_of, properties_before, lines_before, lines_of, framing, begin_line, end_line, property_line}
+use Rattle.text.proofs.laws.TreeBack.{begin_of, end_of, line_of, properties_before, lines_before, lines_of, framing, begin_line_lem, end_line_lem, property_line_lem}
 
 -- ---- an open component
 
@@ -62,12 +62,12 @@ end_by k st = rw (end_carried k)
 module _ (ed : Edition) where
   begin_move : (k : List ℕ) (st : List Open) → (upper k ≡ k) × (all_of is_visible k ≡ true) × (is_component_name k ≡ true) → may_begin k st ≡ true → move ed (begin_of k) st ≡ on (begin_in k st)
   unfolding move_of begins pick
-  begin_move k st n m = rw (begin_line ed k n.1) (begin_by k st ∙ rw (n.0, n.2, m))
+  begin_move k st n m = rw (begin_line_lem ed k n.1) (begin_by k st ∙ rw (n.0, n.2, m))
 
   end_move : (k : List ℕ) (seen : List Property) (inner : Bool) (st : List Open) → upper k ≡ k → all_of is_visible k ≡ true → complete k seen (record { inner = inner; method = method_in st }) ≡ true →
       move ed (end_of k) (frame k seen inner ∷ st) ≡ on st
   unfolding move_of ends pick
-  end_move k seen inner st u h m = rw (end_line ed k h) (end_by k (frame k seen inner ∷ st) ∙ rw (u, same_self k, m))
+  end_move k seen inner st u h m = rw (end_line_lem ed k h) (end_by k (frame k seen inner ∷ st) ∙ rw (u, same_self k, m))
 
   -- the names of a property's line are carried
   value_carried : is_carried_name (ascii "VALUE") ≡ true
@@ -103,7 +103,7 @@ module _ (ed : Edition) where
   unfolding move_of move_by pick
   property_move k p h seen st =
       let s = valid_property ed k p h in
-      rw (property_line ed k p s) (rw (property_carried k p s, line_name k p s, s.begins, s.ends) (property_states k p s seen st))
+      rw (property_line_lem ed k p s) (rw (property_carried k p s, line_name k p s, s.begins, s.ends) (property_states k p s seen st))
 
   -- ---- all lines
 

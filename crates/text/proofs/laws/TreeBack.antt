@@ -1,7 +1,7 @@
 -- The lines of a calendar, not folded, and the components that they state: that calendar.
 --     lines_before c r  the lines of components, in front of others;   lines_of c: alone
 --     entry             what a line is
---     begin_line, end_line, property_line    these lines are read as content lines
+--     begin_line_lem, end_line_lem, property_line_lem  these lines are read as content lines
 --     tree_back         the components that the lines of a calendar state, wherever they stand
 use Rattle.std.specs.Prelude.{◌≡◌, Bool, true, ℕ, suc, ◌+◌, ◌-◌}
 use Rattle.std.proofs.Math.Path.{refl, ap}
@@ -96,14 +96,14 @@ module _ (ed : Edition) where
   abbrev pub lines_of : Components → List (List ℕ)
   lines_of c = lines_before c []
 
-  pub begin_line : (k : List ℕ) → all_of is_visible k ≡ true → read_line ed (begin_of k) ≡ some (framing (ascii "BEGIN") k)
-  begin_line k h = ap (Option.map (decoded_line ed)) (begin_content k h)
+  pub begin_line_lem : (k : List ℕ) → all_of is_visible k ≡ true → read_line ed (begin_of k) ≡ some (framing (ascii "BEGIN") k)
+  begin_line_lem k h = ap (Option.map (decoded_line ed)) (begin_content k h)
 
-  pub end_line : (k : List ℕ) → all_of is_visible k ≡ true → read_line ed (end_of k) ≡ some (framing (ascii "END") k)
-  end_line k h = ap (Option.map (decoded_line ed)) (end_content k h)
+  pub end_line_lem : (k : List ℕ) → all_of is_visible k ≡ true → read_line ed (end_of k) ≡ some (framing (ascii "END") k)
+  end_line_lem k h = ap (Option.map (decoded_line ed)) (end_content k h)
 
-  pub property_line : (k : List ℕ) (p : Property) → ValidProperty ed k p → read_line ed (line_of p) ≡ some (content_line_of p)
-  property_line k p s = line_read_back ed k p s
+  pub property_line_lem : (k : List ℕ) (p : Property) → ValidProperty ed k p → read_line ed (line_of p) ≡ some (content_line_of p)
+  property_line_lem k p s = line_read_back ed k p s
 
   -- ---- entries
 
@@ -120,15 +120,15 @@ module _ (ed : Edition) where
 
   begin-entry : (k : List ℕ) → upper k ≡ k → all_of is_visible k ≡ true → entry (begin_of k) ≡ begin k
   unfolding entry
-  begin-entry k u h = ap entry_by (begin_line k h) ∙ begin_by k ∙ ap begin u
+  begin-entry k u h = ap entry_by (begin_line_lem k h) ∙ begin_by k ∙ ap begin u
 
   end-entry : (k : List ℕ) → all_of is_visible k ≡ true → entry (end_of k) ≡ end
   unfolding entry
-  end-entry k h = ap entry_by (end_line k h) ∙ end_by k
+  end-entry k h = ap entry_by (end_line_lem k h) ∙ end_by k
 
   property-entry : (k : List ℕ) (p : Property) → is_valid_property ed k p ≡ true → entry (line_of p) ≡ property (content_line_of p)
   unfolding entry entry_by pick content_line_of
-  property-entry k p h = let s = valid_property ed k p h in ap entry_by (property_line k p s) ∙ rw ((kept_parts p.name s.kept).0, s.begins, s.ends)
+  property-entry k p h = let s = valid_property ed k p h in ap entry_by (property_line_lem k p s) ∙ rw ((kept_parts p.name s.kept).0, s.begins, s.ends)
 
   stated_back : (k : List ℕ) (p : Property) → is_valid_property ed k p ≡ true → property_of k (content_line_of p) ≡ p
   stated_back k p h = property_read_back k p (valid_property ed k p h).typed

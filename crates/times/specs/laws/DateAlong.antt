@@ -49,8 +49,8 @@ abbrev worth8 : ℕ → ℕ → ℕ → ℕ → ℕ → ℕ → ℕ → ℕ → 
 worth8 a b c d e f g h = (((worth4 a b c d * 10 + e) * 10 + f) * 10 + g) * 10 + h
 
 module _ (a b c d e f g h : ℕ) (pa : a < 10) (pb : b < 10) (pc : c < 10) (pd : d < 10) (pe : e < 10) (pf : f < 10) (pg : g < 10) (ph : h < 10) where
-  year_digits : worth8 a b c d e f g h / 10000 % 10000 ≡ worth4 a b c d
-  year_digits = omega arith
+  year_digits_lem : worth8 a b c d e f g h / 10000 % 10000 ≡ worth4 a b c d
+  year_digits_lem = omega arith
 
   month_digits : worth8 a b c d e f g h / 100 % 100 ≡ worth2 e f
   month_digits = omega arith
@@ -69,7 +69,7 @@ module _ (a b c d e f g h : ℕ) (pa : a < 10) (pb : b < 10) (pc : c < 10) (pd :
 
   day_worth : day_from (worth8 a b c d e f g h) ≡ provided (is_day (worth4 a b c d) (worth2 e f) (worth2 g h)) ((48 + a) ∷ (48 + b) ∷ (48 + c) ∷ (48 + d) ∷ (48 + e) ∷ (48 + f) ∷ (48 + g) ∷ (48 + h) ∷ [])
   unfolding day_from
-  day_worth = rw (year_digits, month_digits, day_digits, date_digits)
+  day_worth = rw (year_digits_lem, month_digits, day_digits, date_digits)
 
 -- eight digits are a date if they are a day's
 pub eight_day : (v : List ℕ) → length v ≡ 8 → all_of is_digit v ≡ true → keep is_date v ≡ day_from (value 0 v)

@@ -60,10 +60,10 @@ item_bare n (weekday o d) h = bare_escaped _ (chars_bare _ (item_characters n (w
 
 -- ---- a part
 
-item_xml : (n w : List ℕ) (ws : List (List ℕ)) (i : RuleItem) (is : List RuleItem) → read_item ical n w ≡ some i → items_xml (lower n) is ≡ each_xml n ws →
+item_xml_lem : (n w : List ℕ) (ws : List (List ℕ)) (i : RuleItem) (is : List RuleItem) → read_item ical n w ≡ some i → items_xml (lower n) is ≡ each_xml n ws →
     items_xml (lower n) (i ∷ is) ≡ each_xml n (w ∷ ws)
 unfolding items_xml each_xml is_read
-item_xml n w ws i is h k =
+item_xml_lem n w ws i is h k =
     let e : write_item xcal i ≡ shown_at xcal ical (part_of n) w = rw h at (item_shown_lem xcal ical n w (rw h)) in
     rw (item_bare n i (item_accepted ical n w i h), e, k)
 
@@ -73,7 +73,7 @@ items_xml_lem n [] is h = let z : [] ≡ is = cc in rw (← z)
 items_xml_lem n (w ∷ ws) is h =
     let e = and_then-some (read_item ical n w) (λ b. cons_read b (read_each (read_item ical n) ws)) is h in
     let f = cons_read-some e.0 (read_each (read_item ical n) ws) is e.2 in
-    sym (ap (items_xml (lower n)) f.2) ∙ item_xml n w ws e.0 f.0 e.1 (items_xml_lem n ws f.0 f.1)
+    sym (ap (items_xml (lower n)) f.2) ∙ item_xml_lem n w ws e.0 f.0 e.1 (items_xml_lem n ws f.0 f.1)
 
 abbrev part_xml : RulePart → List ℕ
 part_xml p = items_xml (lower p.part) p.items

@@ -160,16 +160,16 @@ module _ (ed : Edition) where
     unfolding pick ◌or◌
     all_property t vs h = every_weaker (is_chosen (property_words k n) t) (is_property_value k n t) (λ v e. rw (g, s) e) vs h
 
-    first_type : (t : ValueType) (l : Bool) (vs : List Value) → is_type_of t (permitted_types n) ≡ true → is_amount l vs ≡ true → every (is_chosen (property_words k n) t) vs ≡ true → type_of_all vs ≡ t
-    first_type t l [] p a h = absurd (false≢true a)
-    first_type t l (v ∷ vs) p a h = (chosen_typed (property_words k n) t v (of_text k n t p) (every_both _ v vs h).0).0
+    first_type_lem : (t : ValueType) (l : Bool) (vs : List Value) → is_type_of t (permitted_types n) ≡ true → is_amount l vs ≡ true → every (is_chosen (property_words k n) t) vs ≡ true → type_of_all vs ≡ t
+    first_type_lem t l [] p a h = absurd (false≢true a)
+    first_type_lem t l (v ∷ vs) p a h = (chosen_typed (property_words k n) t v (of_text k n t p) (every_both _ v vs h).0).0
 
     typed_given : (kids : Nodes) (x : ℕ) → is_good kids ≡ true → sequence (property_slots n) (child_verdict ed k n (type_of_nodes n kids)) kids 0 [] x ≡ fine → Given k n kids
     unfolding are_values_of pick
     typed_given kids x c h =
         let t = type_of_nodes n kids in
         let r = typed_values_accepted ed k n g s t (is_listed_property n) kids x c (rw (g, s) at h) in
-        let z = first_type t (is_listed_property n) (typed_values kids) r.2 r.0 r.1 in
+        let z = first_type_lem t (is_listed_property n) (typed_values kids) r.2 r.0 r.1 in
         record {
           values = rw (stated kids, z) (and_yes _ _ r.2 (and_yes _ _ r.0 (all_property t (typed_values kids) r.1)));
           type = rw (stated kids) z;

@@ -88,9 +88,9 @@ types_apart = refl
 other_come : (seen : List (List ℕ)) (b : Bool) → (any_one (λ w. is_one_of w (ascii "parameters" ∷ seen)) type_elements or b) ≡ true → (any_one (λ w. is_one_of w seen) type_elements or b) ≡ true
 other_come seen b h = ap (λ (c : Bool). c or b) (sym (come_apart type_elements seen types_apart)) ∙ h
 
-nothing_come : any_one (λ w. is_one_of w []) type_elements ≡ false
+nothing_come_lem : any_one (λ w. is_one_of w []) type_elements ≡ false
 unfolding schema_compute
-nothing_come = refl
+nothing_come_lem = refl
 
 module _ (ed : Edition) where
   module _ (k n : List ℕ) (g : same n (ascii "GEO") ≡ false) (s : same n (ascii "REQUEST-STATUS") ≡ false) (t : ValueType) (l : Bool) where
@@ -191,7 +191,7 @@ module _ (ed : Edition) where
         (is_amount l (typed_values kids) ≡ true) × (every (is_chosen (property_words k n) t) (typed_values kids) ≡ true) × (is_type_of t (permitted_types n) ≡ true) × (every is_clean_value (typed_values kids) ≡ true)
     typed_values_accepted kids x c h =
         let r = all_read kids 0 [] x c h in
-        let e : is_empty (typed_values kids) ≡ false = not-true _ (or_cases _ _ (some_come kids 0 [] x h) (λ f. absurd (false≢true (sym nothing_come ∙ f))) (λ f. f)) in
+        let e : is_empty (typed_values kids) ≡ false = not-true _ (or_cases _ _ (some_come kids 0 [] x h) (λ f. absurd (false≢true (sym nothing_come_lem ∙ f))) (λ f. f)) in
         (amount l refl (typed_values kids) e (λ f. one_only f kids 0 [] x h), r.chosen, r.permitted e, r.clean)
       where
         amount : (b : Bool) → l ≡ b → (vs : List Value) → is_empty vs ≡ false → (l ≡ false → at_most_one vs ≡ true) → is_amount b vs ≡ true
