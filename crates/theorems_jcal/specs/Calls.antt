@@ -14,7 +14,7 @@ use Rattle.calls_jcal.specs.ToJcal.{to_jcal}
 use Rattle.calls_jcal.specs.JcalToText.{jcal_to_text}
 use Rattle.theorems.specs.Calls.{is_written, bytes_of, Call, TextCall}
 
--- all that follows is of calls in one edition; a call names it by its number (calls-by-number)
+-- all that follows is of calls in one edition; a call names it by its number (calls_by_number)
 module _ (ed : Edition) where
   -- ---- calls to jCal
 

@@ -16,13 +16,13 @@ pub judged-requires : goal.judged-requires
 judged-requires c = refl
 
 pub returns-in-Known : goal.returns-in-Known
-returns-in-Known c = unfolded_read c.args.input.now c.args.work.now c.args.edition (omega (arith, c.if-input-le65535.true)) c.if-input-work.true c.judged.result (sym (ap known c.in-Known.is) ∙ c.edition_of.ensures) c.unfold-n.ensures c.judged.ensures
+returns-in-Known c = unfolded_read c.args.input.now c.args.work.now c.args.edition (omega arith) c.if-input-work.true c.judged.result (sym (ap known c.in-Known.is) ∙ c.edition_of.ensures) c.unfold-n.ensures c.judged.ensures
 
 pub returns-in-Unknown : goal.returns-in-Unknown
-returns-in-Unknown c = no_edition c.args.input.now c.args.work.now c.args.edition (omega (arith, c.if-input-le65535.true)) c.if-input-work.true (sym (ap known c.in-Unknown.is) ∙ c.edition_of.ensures)
+returns-in-Unknown c = no_edition c.args.input.now c.args.work.now c.args.edition (omega arith) c.if-input-work.true (sym (ap known c.in-Unknown.is) ∙ c.edition_of.ensures)
 
 pub returns-then-input-le65535 : goal.returns-then-input-le65535
-returns-then-input-le65535 c = no_room c.args.input.now c.args.work.now c.args.edition (omega (arith, c.if-input-le65535.true)) c.if-input-work.false
+returns-then-input-le65535 c = no_room c.args.input.now c.args.work.now c.args.edition (omega arith) c.if-input-work.false
 
 pub returns : goal.returns
-returns c = too_long c.args.input.now c.args.work.now c.args.edition (omega (arith, c.if-input-le65535.false))
+returns c = too_long c.args.input.now c.args.work.now c.args.edition (omega arith)

@@ -1,6 +1,6 @@
 -- Laws of what specs/NodeFound.antt defines.
 --     node_none, node_element, node_literal, node_referred    the content, by the kind of node
---     node-less-..       a node takes bytes;   `search nodes_found` for the answers of `next_node`
+--     node_less_..       a node takes bytes;   `search nodes_found` for the answers of `next_node`
 use Rattle.std.specs.Prelude.{◌≡◌, List, ℕ, ◌-◌, ◌<◌, length, take}
 use Rattle.std.proofs.Common.{ap, subst, ◌∙◌, arith, rules}
 use Prim.{tt}

@@ -1,6 +1,6 @@
 -- Laws of what specs/Listed.antt defines.
 --     Emits                                the invariant of a loop that writes: `all` is to be written, `left` is still to be written
---     list-start, list_more, list_over     the values of a parameter
+--     list_start, list_more, list_over     the values of a parameter
 --     parameters_shown                     one parameter, and all of them
 --     parameter_put, parameter_more, parameters_over, parameters_put    for code
 use Rattle.std.specs.Prelude.{◌≡◌, Bool, true, false, ℕ, ◌*◌, ◌^◌, ◌<◌, length}

@@ -23,7 +23,7 @@ pub shape_of-out-then-need-out : goal.shape_of-out-then-need-out
 shape_of-out-then-need-out c = search writing
 
 pub returns-then-need-out : goal.returns-then-need-out
-returns-then-need-out c = let k : length (write_calendar c.args.edition (read_calendars (nodes_at c.args.s.now c.args.from))) < 2 ^ 63 = omega (arith, c.requires.0, c.requires.2) in done_written k c.put_calendar-need.ensures.put (omega (arith, c.if-need-out.true)) c.put_calendar.ensures.put
+returns-then-need-out c = let k : length (write_calendar c.args.edition (read_calendars (nodes_at c.args.s.now c.args.from))) < 2 ^ 63 = omega (arith, c.requires.0, c.requires.2) in done_written k c.put_calendar-need.ensures.put (omega arith) c.put_calendar.ensures.put
 
 pub shape_of-line : goal.shape_of-line
 shape_of-line c = search writing
@@ -32,4 +32,4 @@ pub shape_of-out : goal.shape_of-out
 shape_of-out c = search writing
 
 pub returns : goal.returns
-returns c = let k : length (write_calendar c.args.edition (read_calendars (nodes_at c.args.s.now c.args.from))) < 2 ^ 63 = omega (arith, c.requires.0, c.requires.2) in done_room k c.put_calendar-need.ensures.put (omega (arith, c.if-need-out.false))
+returns c = let k : length (write_calendar c.args.edition (read_calendars (nodes_at c.args.s.now c.args.from))) < 2 ^ 63 = omega (arith, c.requires.0, c.requires.2) in done_room k c.put_calendar-need.ensures.put (omega arith)
