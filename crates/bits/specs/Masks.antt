@@ -1,7 +1,7 @@
 -- A set of small numbers as a mask: bit i is set where i is in it. Runs of bits of a number.
 --     has        a number is in the set of a mask
---     mask_of     the mask of a list of numbers, each standing there once
---     low_bits    the lowest `count` bits;   high_bits: those from number `from` on
+--     mask_of    the mask of a list of numbers, each standing there once
+--     low_bits   the lowest `count` bits;   high_bits: those from number `from` on
 use Rattle.std.specs.Prelude.{Bool, List, [], ◌∷◌, ℕ, ◌+◌, ◌/◌, ◌%◌, ◌^◌, eqb}
 
 abbrev pub has : ℕ → ℕ → Bool

@@ -2,7 +2,7 @@
 --     refusal_of      the refusal that code names
 --     outcome_of      the outcome that an answer stands for
 --     answer_at       the answer of a refusal's number
---     code_of          an outcome as one number: its number times 2 ^ 32, and its value
+--     code_of         an outcome as one number: its number times 2 ^ 32, and its value
 --     Done            the contract of a conversion's last part: what is given is written into d, which is left as e
 use Rattle.std.specs.Prelude.{◌≡◌, List, ℕ, ◌+◌, ◌*◌, eqb, length}
 use Rattle.octets.specs.Pick.{pick}

@@ -1,7 +1,7 @@
 -- The call that converts iCalendar text to canonical XML and reads it with its folds in place: lent are the text and an output, and the edition is named by its number.
 -- It answers what `to_xml` gives with a work room as long as the text: it has none, and never gives WORK.
 --     to_xml_folded_outcome  the answer of the call
---     to_xml_folded_output  what the output holds afterwards
+--     to_xml_folded_output   what the output holds afterwards
 use Rattle.std.specs.Prelude.{List, ℕ, length}
 use Rattle.edition.specs.Edition.{edition_of}
 use Rattle.calls.specs.Conversion.{Outcome, outcome, contents}

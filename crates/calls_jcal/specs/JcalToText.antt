@@ -1,7 +1,7 @@
 -- The call that converts jCal to canonical iCalendar text: lent are the jCal and an output, as from XML, and the edition of the text is named by its number.
---     jcal_to_text         what the jCal gives in an edition, if there is one
+--     jcal_to_text          what the jCal gives in an edition, if there is one
 --     jcal_to_text_outcome  the answer of the call
---     jcal_to_text_output  what the output holds afterwards
+--     jcal_to_text_output   what the output holds afterwards
 use Rattle.std.specs.Prelude.{List, ℕ, leb, length}
 use Rattle.std.proofs.Math.Option.{Option, none, some}
 use Rattle.octets.specs.Pick.{pick}

@@ -1,7 +1,7 @@
 -- A log is the canonical XML of calls, one document after another. It is split with no reading of XML: a document ends with the root's end tag and LF, and these
 -- bytes stand together nowhere else in it (laws/Passed.antt, and Log.antt of crate theorems).
 --     document_close      what a document ends with
---     document_end log   how many bytes there are to the end of the first document: up to the first document_close, and with it; none where it does not occur
+--     document_end log    how many bytes there are to the end of the first document: up to the first document_close, and with it; none where it does not occur
 --     documents log       the documents, first to last, and the bytes that are left behind them
 --     Whole d             d is a document whatever follows it;   AllWhole: each of a list
 use Rattle.std.specs.Prelude.{◌≡◌, List, [], ◌∷◌, ℕ, ◌+◌, length, take, drop}

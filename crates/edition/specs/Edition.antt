@@ -4,7 +4,7 @@
 --   o  the character sequence ^^ (U+005E, U+005E) is decoded into the ^ character (U+005E)
 --   o  the character sequence ^' (U+005E, U+0027) is decoded into the " character (U+0022)
 --   o  if a ^ (U+005E) character is followed by any character other than the ones above, parsers MUST leave both the ^ and the following character in place
---     edition_of      the edition that a number names;   edition_number: its number
+--     edition_of       the edition that a number names;   edition_number: its number
 --     decode e s       the value that s spells;   encode e s: a value spelled
 use Rattle.std.specs.Prelude.{Bool, true, false, List, [], ◌∷◌, ℕ, eqb}
 use Rattle.std.proofs.Math.Option.{Option, none, some}

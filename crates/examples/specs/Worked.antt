@@ -1,5 +1,5 @@
 -- Worked examples of both conversions.
---     line_table    content lines of an event: the property in canonical XML, and its canonical line
+--     line_table     content lines of an event: the property in canonical XML, and its canonical line
 --     element_table  properties of an event in XML: their canonical lines
 -- and whole texts: a time zone, alarms, busy time, two calendars.
 use Rattle.std.specs.Prelude.{◌≡◌, refl, List, [], ◌∷◌, ◌++◌, map, ℕ}

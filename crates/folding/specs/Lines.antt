@@ -1,6 +1,6 @@
 -- The lines of a text. A line is what stands before the next CRLF; what has no CRLF after it is a loose line. A text that ends with CRLF ends with a whole line.
 --     lines s          the lines of s, each with the index in s where it starts
---     lines_from p s    the same, where s starts at index p
+--     lines_from p s   the same, where s starts at index p
 --     to_break         how many bytes stand before the first CRLF
 use Rattle.std.specs.Prelude.{Bool, true, false, List, [], ◌∷◌, ℕ, zero, suc, ◌+◌}
 use Rattle.octets.specs.Pick.{pick, ◌or◌}

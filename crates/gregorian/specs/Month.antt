@@ -1,6 +1,6 @@
 -- The months of the Gregorian calendar (RFC 5545, section 3.3.4: "date-mday = 2DIGIT ;01-28, 01-29, 01-30, 01-31 based on month/year").
 --     is_leap_year, days_in_month  the Gregorian rule
---     is_day                     a day of it, by year, month and day of the month
+--     is_day                       a day of it, by year, month and day of the month
 use Rattle.std.specs.Prelude.{Bool, ℕ, ◌%◌, eqb}
 use Rattle.octets.specs.Pick.{pick, ◌and◌, ◌or◌, within}
 

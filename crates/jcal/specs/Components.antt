@@ -1,7 +1,7 @@
 -- The arrays of components in jCal (RFC 7265, sections 3.2 and 3.3): a component's name, its properties, its subcomponents.
 --     component_fault may left vs          NAME or FRAME, where the array of these elements has it: a component's name passes the test `may`, and so many levels are left
 --     components_verdict ed vs may left m  the verdict, in an edition, on components whose names pass a test, in a calendar with METHOD or, where m is false, without
---     read_components vs                  the components that they state;   read_calendars: without what stands too deep
+--     read_components vs                   the components that they state;   read_calendars: without what stands too deep
 --     calendars_in v                       the calendars of a text: of one outer array, known by beginning with an array, its elements; else the text's value alone
 use Rattle.std.specs.Prelude.{Bool, not, List, [], ◌∷◌, map, ℕ, zero, suc, ◌-◌, eqb, ltb, length}
 use Rattle.std.proofs.Math.Option.{Option, none, some}

@@ -1,6 +1,6 @@
 -- The canonical jCal of a calendar (RFC 7265, section 3): no white space outside strings, escapes only for quote, backslash, LF and TAB.
 --     value_json, parameter_json, property_json, components_json  each as JSON
---     write_jcal                                                the text: one calendar alone, two or more in one outer array
+--     write_jcal                                                  the text: one calendar alone, two or more in one outer array
 use Rattle.std.specs.Prelude.{List, [], ◌∷◌, map, ℕ}
 use Rattle.std.proofs.Math.Option.{Option, none, some}
 use Rattle.octets.specs.Class.{lower}

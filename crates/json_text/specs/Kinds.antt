@@ -1,5 +1,5 @@
 -- What a JSON value is, by its kind (RFC 8259, section 3): none where it is of another kind.
---     as_string, as_number, as_literal   its characters, its bytes, its name
+--     as_string, as_number, as_literal  its characters, its bytes, its name
 --     as_array, as_object               its elements, its members
 --     or_alone                          the elements of an array; of any other value, itself alone
 --     nth k vs                          element k of a list, from 0

@@ -1,5 +1,5 @@
 -- The open arrays and objects as one number: a 1, then a bit for each, the innermost lowest, 0 for an array and 1 for an object.
---     coded              that number
+--     coded                that number
 --     around_of, outer_of  the innermost, and the number without it, from the number
 use Rattle.std.specs.Prelude.{List, [], ◌∷◌, ℕ, ◌+◌, ◌*◌, ◌/◌, ◌%◌, eqb, ltb}
 use Rattle.octets.specs.Pick.{pick}

@@ -1,6 +1,6 @@
 -- The value that a JSON text states (RFC 8259, sections 3 to 7), as a tree with its places; of a text that is accepted.
---     Json, Elements, Members   a value, the elements of an array, the members of an object
---     Token, tokens p s         the tokens of bytes that stand at the place p; white space and separators give none
+--     Json, Elements, Members    a value, the elements of an array, the members of an object
+--     Token, tokens p s          the tokens of bytes that stand at the place p; white space and separators give none
 --     value_of s                 the value of a text
 --     element_list, member_list  the elements and members as lists
 use Rattle.std.specs.Prelude.{Bool, List, [], ◌∷◌, ℕ, zero, suc, ◌+◌, eqb, drop}

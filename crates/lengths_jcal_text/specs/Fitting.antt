@@ -1,5 +1,5 @@
 -- Whether the lines of a calendar fit into a room of n bytes for one line.
---     line_fits  the content line of a property;   head_fits: what stands before the components inside a component
+--     line_fits   the content line of a property;   head_fits: what stands before the components inside a component
 --     fits        all lines of components
 use Rattle.std.specs.Prelude.{Bool, true, List, ℕ, ◌+◌, leb, length}
 use Rattle.octets.specs.Pick.{◌and◌}

@@ -1,6 +1,6 @@
 -- A word in a given case: as it stands, in capitals, in small letters.
---     cased k s          the word s in the case k;   cased_byte k b: a byte of it
---     case_of xcal         the case in which a word is compared: as it stands in XML, in capitals in text
+--     cased k s           the word s in the case k;   cased_byte k b: a byte of it
+--     case_of xcal        the case in which a word is compared: as it stands in XML, in capitals in text
 use Rattle.std.specs.Prelude.{Bool, true, false, List, ℕ}
 use Rattle.octets.specs.Class.{upper_byte, lower_byte, upper, lower}
 use Rattle.names.specs.declared.Case.{Case}

@@ -1,6 +1,6 @@
 -- A word as one number: its bytes are the digits of base 128 behind a 1, the first highest, so that no two words have the same number. Code has it in two halves, the low one of eight digits.
 -- A word with a byte of 128 or more, or of more than 16 bytes, has the number of no name.
---     high_of, low_of    the halves of a word's number;   Packs w h l: h and l are those of w
+--     high_of, low_of  the halves of a word's number;   Packs w h l: h and l are those of w
 --     row h l n        the word whose halves are h and l has the place n;   group m rs: rows whose low halves are below m
 --     lookup, find     the place that rows give, that groups give, the last of them with no bound; d where there is none
 --     agree            groups and names agree, by `refl` with `unfolding packing_compute`

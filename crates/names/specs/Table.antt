@@ -1,6 +1,6 @@
 -- A table of names is one byte string, each name ended by a line feed. The number of a name is its place in the table, from 0.
 --     names_in t       the names of a table; bytes after the last line feed count for nothing
---     place_of w ws     the place of the word w in a list; the number of all words where it is not there
+--     place_of w ws    the place of the word w in a list; the number of all words where it is not there
 --     nth l k          the element at a place
 use Rattle.std.specs.Prelude.{List, [], ◌∷◌, ℕ, zero, suc, eqb}
 use Rattle.std.proofs.Math.Option.{Option, none, some}

@@ -1,6 +1,6 @@
 -- FLOAT as the code reads and writes it.
 --     Shaped            the contract of `read_shape`: digits, and digits after a point if there is one, from a cursor on
---     float_of           what the answer of `read_float` states: the digits at its first cursor, and those at its second without trailing zeros
+--     float_of          what the answer of `read_float` states: the digits at its first cursor, and those at its second without trailing zeros
 use Rattle.std.specs.Prelude.{◌≡◌, Bool, List, ℕ}
 use Rattle.std.proofs.Math.Option.{Option, none, some}
 use Rattle.octets.specs.Pick.{pick}

@@ -1,6 +1,6 @@
 -- INTEGER as the code reads and writes it.
---     number_in most s      what the digits of s are worth, which must have a digit and be worth no more than most; else 2 ^ 32 - 1
---     whole_of              what the answer of `read_integer` states
+--     number_in most s     what the digits of s are worth, which must have a digit and be worth no more than most; else 2 ^ 32 - 1
+--     whole_of             what the answer of `read_integer` states
 --     whole_is m n         the number of sign m and magnitude n
 use Rattle.std.specs.Prelude.{Bool, List, ℕ, eqb}
 use Rattle.std.proofs.Math.Option.{Option, none, some}

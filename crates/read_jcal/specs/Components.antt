@@ -1,10 +1,10 @@
 -- The array of a component: its shape, up to its subcomponents, and behind them.
---     may_at, Names     the components that may stand in a stream, or in a component
---     is_whole          two arrays behind the first element, and nothing more
+--     may_at, Names    the components that may stand in a stream, or in a component
+--     is_whole         two arrays behind the first element, and nothing more
 --     NamedShape, ShapeAt    the contracts of `named_shape` and `shape_of`: a component that may stand there, or its fault
 --     OpenedAt         the contract of `opened`: its properties
 --     BegunAt          the contract of `array_begun` and `begun`: the verdict, or the subcomponents that are to be judged, and what is kept of its properties
---     end_of            its tallies are compared at its closing bracket
+--     end_of           its tallies are compared at its closing bracket
 use Prim.{Unit}
 use Rattle.std.specs.Prelude.{◌≡◌, Bool, true, not, List, ℕ, ◌-◌, ◌≤◌, eqb, ltb}
 use Rattle.std.proofs.Math.Option.{Option, none, some}

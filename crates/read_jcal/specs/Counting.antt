@@ -1,5 +1,5 @@
 -- The word of an ACTION.
---     word_in     the number of the word that the first of some elements is, where it is a string
+--     word_in    the number of the word that the first of some elements is, where it is a string
 --     WordAt     the contract of `word_of`
 use Rattle.std.specs.Prelude.{◌≡◌, true, List, [], ℕ}
 use Rattle.octets.specs.Reading.{and_then, is_read, read_or}

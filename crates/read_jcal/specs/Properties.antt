@@ -1,5 +1,5 @@
 -- The array of a property, by what its elements are; the properties of a component.
---     known_fault    its fault, where its name, its parameters and its type are known;   shape_fault: where they are not
+--     known_fault     its fault, where its name, its parameters and its type are known;   shape_fault: where they are not
 --     Holder          a context is that of a component and a property of these names, and of a type
 --     StandsAt        the contract of `stands`
 --     ValuesAt, KnownAt, NamedAt, ShapedAt, PropertyAt    the contracts of `values_fault`, `known_fault`, `named_fault`, `shape_fault`, `property_fault`

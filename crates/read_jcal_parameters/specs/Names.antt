@@ -1,5 +1,5 @@
 -- Names in small letters.
---     is_small_name_char    a character of a name that is no capital
+--     is_small_name_char     a character of a name that is no capital
 --     is_bad_parameter_name  the name of a parameter that is bad
 use Rattle.std.specs.Prelude.{Bool, not, List, ℕ}
 use Rattle.octets.specs.Ascii.{ascii}

@@ -1,7 +1,7 @@
 -- What parameters must be, by the property's row and the number of the type of its value.
 --     sound_by         one parameter: permitted, with good values
 --     encoded_for      with a value of type BINARY, the one of the number 0, ENCODING is BASE64
---     good_by         what `parameters_good` asks for
+--     good_by          what `parameters_good` asks for
 use Rattle.std.specs.Prelude.{Bool, not, List, ℕ, eqb}
 use Rattle.octets.specs.Pick.{◌and◌, ◌or◌}
 use Rattle.octets.specs.Class.{upper}

@@ -1,5 +1,5 @@
 -- The values of a parameter by the parameter's row in the schema's table.
---     row_at            the row of a number
+--     row_at           the row of a number
 --     read_typed       a value of the parameter's type
 --     read_string      one value
 --     is_spelled       whether an edition can spell its characters

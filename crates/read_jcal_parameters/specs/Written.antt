@@ -1,8 +1,8 @@
 -- Parameters as text.
---     plain_shown            one value, by its characters
+--     plain_shown             one value, by its characters
 --     item_shown, list_shown  a value with a comma before it where it is a later one; all values
---     member_shown          one parameter;   members_shown: all of them
---     is_read_member         a parameter that can be read
+--     member_shown            one parameter;   members_shown: all of them
+--     is_read_member          a parameter that can be read
 use Rattle.std.specs.Prelude.{Bool, true, false, List, [], ◌∷◌, ℕ}
 use Rattle.octets.specs.Pick.{pick, ◌or◌}
 use Rattle.octets.specs.Append.{◌⊕◌}

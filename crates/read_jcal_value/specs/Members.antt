@@ -1,5 +1,5 @@
 -- A rule by the members of its object (crate jcal, specs/Values.antt), as code reads it: one after another, with the parts seen in a mask.
---     cap_name, place_in    the name of a member's part, and its number
+--     cap_name, place_in   the name of a member's part, and its number
 --     has_place p ms       some member has the part at the place p
 --     each_part ms         each member is a part, and no later one has its name
 --     is_whole ms          FREQ is there; UNTIL and COUNT are not both there;   whole_in: the same of a mask

@@ -2,7 +2,7 @@
 --     far              more than every INTEGER, and what stands for a number that is none
 --     kept_of, up_of   how many digits are kept, and how many zeros follow: by whether the exponent has a minus, the counts of digits before and behind the point,
 --                      and what the exponent is worth
---     worth_by        what a number is worth without its sign;   magnitude_of: the same of its bytes behind the sign
+--     worth_by         what a number is worth without its sign;   magnitude_of: the same of its bytes behind the sign
 --     signed_to        the INTEGER, if it is one
 --     MarkAt           the contract of `mark_at`: the first byte that passes a test, or the end
 --     SignAt, ExponentAt, Power, Most    the contracts of `after_sign`, `exponent_at`, `power`, `most_of`

@@ -1,6 +1,6 @@
 -- A value of a type (crate jcal, specs/Values.antt), by the type's number and by the head that code finds.
 --     typed_in       whether it is one
---     pair_in       two strings that are a PERIOD;   geo_in: two numbers that are a GEO
+--     pair_in        two strings that are a PERIOD;   geo_in: two numbers that are a GEO
 use Rattle.std.specs.Prelude.{Bool, true, false, List, ℕ, eqb}
 use Rattle.std.proofs.Math.Option.{Option, map}
 use Rattle.octets.specs.Pick.{pick}

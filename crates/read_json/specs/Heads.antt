@@ -1,8 +1,8 @@
 -- The elements of an array, one by one.
 --     value_by, value_of_head  the value of an element that was found
---     behind_by               the elements behind it
---     head_by, HeadAt         what an element that was found says of those from its place on, and its bounds: the contract of `element_at`
---     NextAt                  the contract of `element_next`
+--     behind_by                the elements behind it
+--     head_by, HeadAt          what an element that was found says of those from its place on, and its bounds: the contract of `element_at`
+--     NextAt                   the contract of `element_next`
 use Rattle.std.specs.Prelude.{◌≡◌, List, [], ℕ, ◌≤◌, length}
 use Prim.{Unit}
 use Rattle.json_text.specs.Tree.{Json, string, number, literal, array, object, Elements, no_elements, element, end_place, elements}

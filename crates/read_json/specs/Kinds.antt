@@ -1,6 +1,6 @@
 -- The kinds of elements.
 --     kind_number                 the number of a kind; 0 where there is no element
---     is_none, is_there         whether there is an element;   is_string, is_array, is_object: it is of this kind
+--     is_none, is_there           whether there is an element;   is_string, is_array, is_object: it is of this kind
 use Rattle.std.specs.Prelude.{Bool, true, false, ℕ}
 use Rattle.read_json.specs.declared.HeadKind.{HeadKind}
 use Rattle.read_json.specs.declared.HeadKind.TheVariants.{None, String, Number, Literal, Array, Object}

@@ -1,8 +1,8 @@
 -- Parts of a content line read through a cursor: what the readers answer, as contracts. `rest m s c` is what stands from the cursor c on.
 --     Onward m s c r        the cursor r is at or behind c, within bounds, and reached from c by whole steps
---     RunEnds p m s c r   the run of characters that pass p, from c on, ends at r;   in_line, char_of: its tests, `passing` its rules
+--     RunEnds p m s c r     the run of characters that pass p, from c on, ends at r;   in_line, char_of: its tests, `passing` its rules
 --     ItemAt p m s c ..     what p reads from c on: no item, an item and the cursor behind it, or a fault
---     values_at, params_at   the values of a parameter from its first on, the parameters of a line, up to the first that is none
+--     values_at, params_at  the values of a parameter from its first on, the parameters of a line, up to the first that is none
 use Rattle.std.specs.Prelude.{◌≡◌, Bool, true, false, List, [], ◌∷◌, ℕ, ◌*◌, max, ◌≤◌, eqb, length}
 use Rattle.octets.specs.Pick.{pick}
 use Rattle.octets.specs.Runs.{after_run}

@@ -1,5 +1,5 @@
 -- Names compared in any case.
---     names_of                the names of parameters, in capitals
+--     names_of               the names of parameters, in capitals
 --     onto                   names, the last first, in front of others
 --     Comparing m s e k c    the first k names from the cursor e on, up to the cursor c: none of them comes again
 use Rattle.std.specs.Prelude.{◌≡◌, List, [], ◌∷◌, map, ℕ, ◌+◌, ◌≤◌, length}

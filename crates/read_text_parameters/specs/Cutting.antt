@@ -1,6 +1,6 @@
 -- Parameters and values cut out of a line, in bytes as they stand.
 --     cut-least                 a slice cut at its length where the cut is to be past it
---     param_cut, value_cut    a parameter, a value, by cursors;   name_cut: a name in capitals;   param_read: a parameter in an edition
+--     param_cut, value_cut      a parameter, a value, by cursors;   name_cut: a name in capitals;   param_read: a parameter in an edition
 use Rattle.std.specs.Prelude.{Bool, List, ℕ, take}
 use Rattle.octets.specs.Class.{upper}
 use Rattle.source.specs.Source.{rest}

@@ -1,6 +1,6 @@
 -- The name that stands from a cursor on.
 --     name_unit u      a character of a name, in capitals; 256 where there is another, or the end
---     name_at m s c     the name from the cursor c on, in capitals
+--     name_at m s c    the name from the cursor c on, in capitals
 --     NameAt m s c r   the parameter at the cursor c has the name at r's cursor, if r says that it is there
 use Rattle.std.specs.Prelude.{◌≡◌, true, List, ◌∷◌, ℕ, ◌≤◌, ◌<◌}
 use Rattle.octets.specs.Pick.{pick}

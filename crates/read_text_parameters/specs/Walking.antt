@@ -1,5 +1,5 @@
 -- The walk over a line's parameters by numbers: of types, of parameters, and the property's row.
---     number_of         the number of a parameter's name, VALUE's too
+--     number_of        the number of a parameter's name, VALUE's too
 --     comes_again      whether the name of a parameter stands before it, by what a walk has noted
 --     type_for         the type by which a parameter is judged
 --     fits_by          a parameter of a number fits;   fits_at: a parameter of a line

@@ -1,5 +1,5 @@
 -- The values of a property by its row and the numbers of the component and of the type: what the code asks is what `read_values` says of the names.
---     values_read     the answer of `read_values`: the type's number where the values are good
+--     values_read      the answer of `read_values`: the type's number where the values are good
 --     own_at, good_at  whether the values are good, by these;   good_at: and their type is permitted
 use Rattle.std.specs.Prelude.{Bool, true, false, List, ℕ, eqb}
 use Rattle.octets.specs.Pick.{pick}

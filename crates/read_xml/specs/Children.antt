@@ -1,8 +1,8 @@
 -- The children of a property, by the property's number p and the child's number.
---     name_of                    the name of an element
+--     name_of                   the name of an element
 --     child_words p             the names of the children
 --     slots_at                  their slots;   slot_at p i: the slot of the child of the number i, 4 where it has none
---     after_at                   the slot after a child
+--     after_at                  the slot after a child
 --     flags_at                            the slots that must be filled: the first of the value, and of GEO and REQUEST-STATUS the second
 use Rattle.std.specs.Prelude.{Bool, true, false, List, [], ◌∷◌, ℕ, ◌+◌, eqb, ltb, take}
 use Rattle.std.proofs.Math.Option.{Option, none, some}

@@ -1,8 +1,8 @@
 -- The head of the node at a place: all of it but the end of an element.
 --     after_tag, end_of_tag  what follows an element, and the place of its end, by the place behind its tag
---     head_of, HeadAt       what a head that was found says of the content from its place on, and its bounds: the contract of `node_head`
---     Takes                a node takes bytes
---     NodeEnded            the contract of `node_end`
+--     head_of, HeadAt        what a head that was found says of the content from its place on, and its bounds: the contract of `node_head`
+--     Takes                  a node takes bytes
+--     NodeEnded              the contract of `node_end`
 use Rattle.std.specs.Prelude.{◌≡◌, Bool, false, List, ℕ, ◌≤◌, ◌<◌, length, take}
 use Prim.{Unit}
 use Rattle.octets.specs.Pick.{pick}

@@ -1,5 +1,5 @@
 -- The values of a parameter by the parameter's row in the schema's table.
---     row_at                      the row of a number
+--     row_at                     the row of a number
 --     read_leaf, read_leaves     one value, all values
 use Rattle.std.specs.Prelude.{List, [], ℕ}
 use Rattle.std.proofs.Math.Option.{Option, none, some}

@@ -1,7 +1,7 @@
 -- All values of a parameter.
 --     all_values                the content is values of a parameter alone
 --     is_single                 one value at most
---     good_by                  what `values_good` asks for
+--     good_by                   what `values_good` asks for
 --     first_is                  the first value's characters are a word
 use Rattle.std.specs.Prelude.{Bool, true, false, not, List, ℕ}
 use Rattle.octets.specs.Pick.{◌and◌, ◌or◌}

@@ -1,7 +1,7 @@
 -- The values of a parameter as text.
---     value_shown           one value, by its characters
+--     value_shown             one value, by its characters
 --     item_shown, list_shown  a value with a comma before it where it is a later one; all values
---     values_shown          the same, or nothing where they can't be read
+--     values_shown            the same, or nothing where they can't be read
 use Rattle.std.specs.Prelude.{Bool, true, List, [], ◌∷◌, map, ℕ}
 use Rattle.octets.specs.Pick.{pick, ◌or◌}
 use Rattle.octets.specs.Append.{◌⊕◌}

@@ -1,7 +1,7 @@
 -- The open elements of a document, as the places of their names in the input.
 --     opened s a e d    the names of d open elements, the innermost first: name i stands from a[i] to e[i]
 --     may_stand, closes_at   a character, an end tag may stand there
---     room_at d          an element may start inside d open ones, after the root's start
+--     room_at d         an element may start inside d open ones, after the root's start
 use Rattle.std.specs.Prelude.{Bool, true, false, List, [], ◌∷◌, ℕ, zero, suc, ◌-◌, ltb, eqb, get_or, take}
 use Rattle.octets.specs.Pick.{pick}
 use Rattle.octets.specs.Class.{is_space}

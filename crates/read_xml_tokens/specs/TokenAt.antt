@@ -2,7 +2,7 @@
 --     token_of s at t    the token that t says stands at the place `at` of s
 --     name_in s t        the name of a tag
 --     token_in, root_in  the token at the front of bytes, in the content or where the root's tag has to stand; none at their end
---     Reads f s at i t  t is what f finds at the place i, for a token that begins at `at`;  the contract of token_at is  Reads token_in s at at t
+--     Reads f s at i t   t is what f finds at the place i, for a token that begins at `at`;  the contract of token_at is  Reads token_in s at at t
 use Rattle.std.specs.Prelude.{◌≡◌, List, [], ◌∷◌, ℕ, ◌+◌, ◌-◌, min, max, ◌≤◌, ◌<◌, length, take}
 use Rattle.source.specs.Source.{rest}
 use Rattle.xml.specs.Pieces.{from}

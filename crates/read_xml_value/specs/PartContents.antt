@@ -1,6 +1,6 @@
 -- What stands in a child of PERIOD or RECUR, and which slots must be filled. `rule` is true for RECUR.
 --     inside_of, inside_at                the verdict on a child's content, by its name and by its number
---     flags_of                             the slots that must be filled: the first, and of PERIOD the second
+--     flags_of                            the slots that must be filled: the first, and of PERIOD the second
 use Rattle.std.specs.Prelude.{Bool, true, false, List, [], ◌∷◌, ℕ, eqb, get_or}
 use Rattle.octets.specs.Pick.{pick}
 use Rattle.octets.specs.Reading.{is_read}

@@ -1,6 +1,6 @@
 -- The children of PERIOD and RECUR, by the numbers of their names. `rule` is true for RECUR.
---     names_of, slots_of      the names of the children, and their slots
---     after_at               the slot after a child, by its number
+--     names_of, slots_of    the names of the children, and their slots
+--     after_at              the slot after a child, by its number
 use Rattle.std.specs.Prelude.{Bool, true, false, List, [], ◌∷◌, ℕ, ◌+◌, ◌-◌, ltb}
 use Rattle.octets.specs.Ascii.{ascii}
 use Rattle.octets.specs.Pick.{pick, within}

@@ -1,6 +1,6 @@
 -- The one table of properties as the code has it: a set is a mask, one bit for each type, parameter, component or list.
 --     coded            a row in numbers
---     row_at            what code hands on of the property of a number: the row that stands there, or what stands for an unrecognised property. Its laws: specs/laws/Columns.antt
+--     row_at           what code hands on of the property of a number: the row that stands there, or what stands for an unrecognised property. Its laws: specs/laws/Columns.antt
 --     place_by         the number of a property by the halves of its name's number
 --     first_half, second_half  the table in two halves, as the code has it
 use Rattle.std.specs.Prelude.{List, [], ◌∷◌, map, ℕ, suc, ◌+◌, ◌/◌, ◌%◌, ◌^◌, min, eqb, take, drop}

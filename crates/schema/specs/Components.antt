@@ -1,12 +1,12 @@
 -- Calendar components: RFC 5545, section 3.6; schema 3.6, lines 392 to 638. What may stand in a component, and how often: the columns of the one table of properties (Properties).
---     component_names   the components
---     subcomponents_of  the components that may stand directly in a component
---     Occurrence        a property with how often it stands: `least` times, and at most `most` times; `most` is none where any number may stand
---     list_in           the list of a column of the table
---     occurrences_of   the list of a component; for a VALARM there are three, by the word of its ACTION: alarm_table
+--     component_names     the components
+--     subcomponents_of    the components that may stand directly in a component
+--     Occurrence          a property with how often it stands: `least` times, and at most `most` times; `most` is none where any number may stand
+--     list_in             the list of a column of the table
+--     occurrences_of      the list of a component; for a VALARM there are three, by the word of its ACTION: alarm_table
 --     is_known_component  the schema's components
---     may_contain       whether a component may stand directly in another: unrecognised ones in a VCALENDAR and in each other
---     may_stand         whether a known property may stand in a component; in a VALARM, one that any of the three lists has
+--     may_contain         whether a component may stand directly in another: unrecognised ones in a VCALENDAR and in each other
+--     may_stand           whether a known property may stand in a component; in a VALARM, one that any of the three lists has
 -- The pairs and choices inside the lists (lines 447, 492, 614, 627, 637) are judged in Counts; here each of their properties is one that may be missing.
 use Rattle.std.specs.Prelude.{Bool, not, List, [], ◌∷◌, map, ℕ, eqb, get_or}
 use Rattle.std.proofs.Math.Option.{Option, none, some}

@@ -1,7 +1,7 @@
 -- Numbers of names. A component, property, parameter or type is its place in its list of names; a place equal to the list's length is an unrecognised one.
---     type_names                                   the names of the fourteen types;   type_words: of their elements in xCal, and of `unknown`
+--     type_names                                        the names of the fourteen types;   type_words: of their elements in xCal, and of `unknown`
 --     type_at, component_at, property_at, parameter_at  the type, or the row, of a number
---     component_name, property_name, parameter_name  the name of a number; of an unrecognised one no bytes
+--     component_name, property_name, parameter_name     the name of a number; of an unrecognised one no bytes
 use Rattle.std.specs.Prelude.{List, [], ◌∷◌, map, ℕ, get_or}
 use Rattle.octets.specs.Ascii.{ascii}
 use Rattle.calendar.specs.Calendar.{ValueType, UNKNOWN}

@@ -1,8 +1,8 @@
 -- Property parameters: RFC 5545, section 3.2; schema 3.2, lines 9 to 183, in its order. VALUE is none of them: it names a value's type.
 --     parameter_names, is_known_parameter  the schema's parameters
---     parameter_type      the type of its values; UNKNOWN for an unrecognised parameter
+--     parameter_type       the type of its values; UNKNOWN for an unrecognised parameter
 --     is_listed_parameter  whether it takes a list of values (`value-cal-address+`); an unrecognised one does
---     parameter_words     its closed set of words, if it has one
+--     parameter_words      its closed set of words, if it has one
 --     is_quoted_parameter  whether its values must be quoted in text
 use Rattle.std.specs.Prelude.{Bool, true, false, List, [], ◌∷◌, map, ℕ}
 use Rattle.std.proofs.Math.Option.{Option, none, some}

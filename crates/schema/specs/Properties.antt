@@ -1,12 +1,12 @@
 -- Properties: RFC 5545, sections 3.6 to 3.8; schema 3.6 to 3.8, lines 392 to 1192: the one table of properties, and what it says of a name.
---     PropertyRow        a row: name, the type of its values where no VALUE is given, the other types that are permitted, the parameters that are, whether it takes a list of values, its signs
---     property_table     the table, in order of name: a property is added by one row here
+--     PropertyRow         a row: name, the type of its values where no VALUE is given, the other types that are permitted, the parameters that are, whether it takes a list of values, its signs
+--     property_table      the table, in order of name: a property is added by one row here
 --     property_names, is_known_property  the schema's properties
---     permitted_types    the types that its values may have, RFC 5545's default type first; an unrecognised property's: any, UNKNOWN first
---     default_type       the type of its values where no VALUE is given
+--     permitted_types     the types that its values may have, RFC 5545's default type first; an unrecognised property's: any, UNKNOWN first
+--     default_type        the type of its values where no VALUE is given
 --     is_listed_property  whether it takes a list of values
---     permits_parameter  whether a property whose values have a given type permits a parameter
---     property_words     the closed set of words of a property in a component, if it has one
+--     permits_parameter   whether a property whose values have a given type permits a parameter
+--     property_words      the closed set of words of a property in a component, if it has one
 -- A sign says how often the property stands by a list: a component's list of properties; a VALARM has three, and ACTION's word says which. There are eleven lists, in this order:
 --     VCALENDAR VEVENT VTODO VJOURNAL VFREEBUSY VTIMEZONE STANDARD DAYLIGHT, VALARM with AUDIO, DISPLAY, EMAIL
 --     1 once, ? at most once, * any number of times, + at least once, a point where it may not stand

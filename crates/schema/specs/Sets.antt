@@ -1,10 +1,10 @@
 -- Closed sets of words, by numbers.
 --     word_sets            the sets of properties: of CALSCALE, VERSION, CLASS, TRANSP, ACTION, and of STATUS in VEVENT, VTODO, VJOURNAL; then those of parameters; at the end that of STATUS elsewhere
 --     word_bytes, set_starts, set_sizes  the sets as the code has them
---     set_at, words_at      the number of the set of a property in a component, 17 where it has none, and the set
+--     set_at, words_at     the number of the set of a property in a component, 17 where it has none, and the set
 --     parameter_set, parameter_words_at  the same of a parameter
 --     is_word_of           a word of a set, where there is one
---     word_in               the answer of a reader of words: the place of the word in the set
+--     word_in              the answer of a reader of words: the place of the word in the set
 use Rattle.std.specs.Prelude.{Bool, false, List, [], ◌∷◌, ℕ, eqb, ltb, length, get_or}
 use Rattle.std.proofs.Math.Option.{Option, none, some}
 use Rattle.octets.specs.Ascii.{ascii}

@@ -1,6 +1,6 @@
 -- The characters of a JSON string from a cursor on. A cursor is twice the place where a character begins. Within the character that an escape of digits names,
 -- after j of its bytes, it is 2 * (p + j) - 1, where p is the place of the escape's reverse solidus; so it grows, and stays below twice the length.
---     left_of t j       what is left of the character t at the place p after j bytes of it, and what follows it
+--     left_of t j      what is left of the character t at the place p after j bytes of it, and what follows it
 --     quoted_from s c  the bytes of the characters from the cursor c on, up to the string's end
 use Rattle.std.specs.Prelude.{List, [], ℕ, ◌+◌, ◌-◌, ◌/◌, ◌%◌, eqb, ltb, length, drop}
 use Rattle.octets.specs.Pick.{pick}

@@ -1,8 +1,8 @@
 -- The components that the lines of a text state (RFC 5545, sections 3.4 and 3.6), with no regard to refusals.
 -- A depth counts the components that the lines at hand begin inside the one that is asked for: its own lines are those at depth 0.
---     entry_of       what a line is: the beginning or the end of a component, or a property
---     own_of         the properties of a component, from the lines after its BEGIN
---     inner_of       the components that the lines begin at depth 0
+--     entry_of      what a line is: the beginning or the end of a component, or a property
+--     own_of        the properties of a component, from the lines after its BEGIN
+--     inner_of      the components that the lines begin at depth 0
 --     calendar_of   the calendar that lines state; what stands too deep in it counts as nothing
 use Rattle.std.specs.Prelude.{List, [], ◌∷◌, map, ℕ, zero, suc}
 use Rattle.std.proofs.Math.Option.{Option, none, some}

@@ -1,5 +1,5 @@
 -- What stands ahead of a walk over a component's properties, as many levels deep as are left.
---     is_none c    no component
+--     is_none c   no component
 --     whole       all of them
 --     AheadAt     the component's lines begin at `from`; its subcomponents, of which u is taken, stand from `inner` on; if there is none, `next` is behind its END
 use Rattle.std.specs.Prelude.{◌≡◌, Bool, true, false, List, ℕ, ◌≤◌}

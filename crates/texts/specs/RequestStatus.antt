@@ -1,6 +1,6 @@
 -- REQUEST-STATUS of RFC 5545, section 3.8.8.3, as iCalendar text writes it. In xCal its parts are elements (RFC 6321, section 3.4.1.3).
 -- Its code is any TEXT, as are the description and the data: RFC 6321, section 3.4.1.3, has "two or three TEXT values".
---     read_request_status s                     two or three texts between bare semicolons; a bare comma is a fault; an empty third part is kept
+--     read_request_status s                       two or three texts between bare semicolons; a bare comma is a fault; an empty third part is kept
 --     write_request_status code description data  the same back
 use Rattle.std.specs.Prelude.{List, [], ◌∷◌, map, ℕ}
 use Rattle.std.proofs.Math.Option.{Option, none, some}

@@ -1,6 +1,6 @@
 -- The parts of a REQUEST-STATUS (RequestStatus), found at a cursor.
 --     in_parts, soon_over  by what stands behind the first part: two or three parts in all; at most one part more
---     StatusEnds          the contract of `read_request_status`; PartEnds, the cursors of the parts
+--     StatusEnds           the contract of `read_request_status`; PartEnds, the cursors of the parts
 use Rattle.std.specs.Prelude.{◌≡◌, Bool, true, false, List, [], ◌∷◌, ℕ, ◌≤◌, length}
 use Rattle.octets.specs.Words.{is_empty}
 use Rattle.octets.specs.Reading.{is_read}

@@ -3,7 +3,7 @@
 --     is_accepted     its answer is a number of bytes written
 --     xml_of          these bytes, from the front of its output
 --     States k c      its text states the calendar c (without any writer);   SameCalendar: two calls state the same
---     accepted_ones  of a list of calls;   SameCalendars: place by place the same calendar;   stream_of: their XML, joined
+--     accepted_ones   of a list of calls;   SameCalendars: place by place the same calendar;   stream_of: their XML, joined
 --     TextCall, is_text_accepted, text_of, StatesXml  the same of a call to text
 use Rattle.std.specs.Prelude.{◌≡◌, Bool, true, false, List, [], ◌∷◌, map, ℕ, length, take}
 use Rattle.std.proofs.Math.Option.{some}

@@ -1,5 +1,5 @@
 -- Texts that are joined, and what their calls give.
---     ◌followed_by◌  the calendars of one, and then those of the other;   in_order: of each of a list
+--     ◌followed_by◌   the calendars of one, and then those of the other;   in_order: of each of a list
 --     Inside s x      s is the inside of the XML x: what stands between the root's start tag and its end tag
 --     Lent j t x      the call j is lent the text t, within the input limit, a work room no shorter, and room for x
 --     Rota            an accepted call, with the calendars that its text states and the inside of its XML

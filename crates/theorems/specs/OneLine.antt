@@ -3,7 +3,7 @@
 --     line_is ed a      what a line is: the beginning or the end of a component, or a property
 --     open_behind       the components that are open behind lines, the innermost first
 --     OneLine ed s t    the texts s and t have the same content lines but for one, which is a property in both
---     stands_in       the component in which this line stands;   stated_first, stated_second: the property that it states there, in s and in t
+--     stands_in         the component in which this line stands;   stated_first, stated_second: the property that it states there, in s and in t
 --     Apart one p q x y    x and y are the same but for one part, which is the property p in x and q in y, as `one` writes a property
 use Rattle.std.specs.Prelude.{◌≡◌, List, [], ◌∷◌, map, ℕ}
 use Rattle.octets.specs.Append.{◌⊕◌}

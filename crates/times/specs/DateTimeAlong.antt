@@ -1,7 +1,7 @@
 -- DATE-TIME by its pattern: 00000000T000000 in text, 0000-00-00T00:00:00 in XML, and Z or nothing after it.
 --     moment_of          what a reader's answer says
 --     date_time_pattern  the pattern in a format
---     moment_from n r   the date-time of fourteen digits that are worth n, with r after them;   moment_by: by the kind of what is after them
+--     moment_from n r    the date-time of fourteen digits that are worth n, with r after them;   moment_by: by the kind of what is after them
 use Rattle.std.specs.Prelude.{List, ◌∷◌, ℕ, ◌/◌, ◌%◌}
 use Rattle.std.proofs.Math.Option.{Option, none, some}
 use Rattle.octets.specs.Append.{◌⊕◌}

@@ -1,6 +1,6 @@
 -- DURATION read at a cursor, rule by rule.
 --     Runs           the contract of a step over digits: r has whether there are any, the character after them, and the cursor after that
---     span_of         what a reader's answer says: a hyphen if it is negative, and the characters after the sign
+--     span_of        what a reader's answer says: a hyphen if it is negative, and the characters after the sign
 use Rattle.std.specs.Prelude.{◌≡◌, Bool, true, false, List, ℕ, ltb, drop}
 use Rattle.std.proofs.Math.Option.{Option, none, some}
 use Rattle.octets.specs.Append.{◌⊕◌}

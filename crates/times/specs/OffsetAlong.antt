@@ -1,5 +1,5 @@
 -- UTC-OFFSET by its two patterns: +0000 and +000000 in text, +00:00 and +00:00:00 in XML; a + of a pattern stands for either sign.
---     shift_of            what a reader's answer says
+--     shift_of           what a reader's answer says
 --     minute_pattern, second_pattern  the patterns in a format
 --     followed_to_end    the number of digits that were followed to the end
 --     offset_by          the offset of a sign and six digits that are worth n, the last two given or not

@@ -1,6 +1,6 @@
 -- TIME by its pattern: 000000 in text, 00:00:00 in XML, and Z or nothing after it.
---     clock_of       what a reader's answer says
---     time_pattern   the pattern in a format
+--     clock_of        what a reader's answer says
+--     time_pattern    the pattern in a format
 --     clock_from n r  the time of six digits that are worth n, with r after them
 --     zone, clock_by  the same by the kind of what is after them: 0 nothing, 1 Z, 2 anything else
 use Rattle.std.specs.Prelude.{Bool, List, [], ◌∷◌, ℕ, ◌/◌, ◌%◌, eqb, leb}

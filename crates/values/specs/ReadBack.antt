@@ -1,5 +1,5 @@
 -- What a kept value is, and that a value which is written is read back, from iCalendar text and from XML character data.
---     is_value            whether a value is one that its type has: as it is kept
+--     is_value           whether a value is one that its type has: as it is kept
 --     is_typed           whether it is spelled as its type says: all but GEO's and REQUEST-STATUS's, which have spellings of their own
 use Rattle.std.specs.Prelude.{Bool, true, false}
 use Rattle.octets.specs.Pick.{◌and◌}

@@ -1,7 +1,7 @@
 -- What a parameter and a property of a calendar are: typed as the schema says, whichever format they were read from.
---     is_parameter        a parameter's values have its type, or are words of its closed set; one value, unless it takes a list
+--     is_parameter         a parameter's values have its type, or are words of its closed set; one value, unless it takes a list
 --     are_property_values  the values of a property in a component: of one permitted type, and words of its closed set where it has one
---     is_property         a property of a component: such values, and parameters that it permits, each once; BINARY with ENCODING=BASE64
+--     is_property          a property of a component: such values, and parameters that it permits, each once; BINARY with ENCODING=BASE64
 -- How often a property stands in a component is no part of this.
 use Rattle.std.specs.Prelude.{Bool, false, not, List, [], ◌∷◌, map, ℕ}
 use Rattle.std.proofs.Math.Option.{Option, none, some}

@@ -1,6 +1,6 @@
 -- Whether there is a value of a type, from a cursor on: what the readers of each type answer is what `read_value` says.
 --     value_read   the answer of `read_value`: the type's number where there is a value
---     is_read_at  whether a value of a type is read in an encoding: as `read_value` says, but that RECUR of text is read only where that can be cut
+--     is_read_at   whether a value of a type is read in an encoding: as `read_value` says, but that RECUR of text is read only where that can be cut
 --     from_binary  the type of a number; from_date, from_integer, from_time: the same without the types before DATE, INTEGER, TIME
 use Rattle.std.specs.Prelude.{Bool, true, false, not, List, ℕ, eqb}
 use Rattle.octets.specs.Pick.{pick, ◌and◌, ◌or◌}

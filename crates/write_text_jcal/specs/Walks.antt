@@ -1,5 +1,5 @@
 -- What is written of the arrays of properties and of components, one by one.
---     properties_of c es   the properties that elements state, in a component c
+--     properties_of c es    the properties that elements state, in a component c
 --     name_of es            the name of the component whose array has these elements
 --     head_text, head_room  what stands before the components inside a component, and what the room for a line then holds
 use Rattle.std.specs.Prelude.{List, [], map, ℕ}

@@ -1,5 +1,5 @@
 -- The elements of an array by places, whatever they are.
---     list_at         the elements from a place on, as a list;   member_list_at: the members of an object
+--     list_at           the elements from a place on, as a list;   member_list_at: the members of an object
 --     without k es      elements without the first k of them
 --     characters_in es  the characters of the first of them; none where it is no string
 --     members_in v      the members of an object; none of any other value

@@ -1,8 +1,8 @@
 -- The values of a property by numbers.
 --     one_at p t v      the value that the property of the number p states by v, of the type of the number t
 --     written_at k p t  the number of the type that the values of a property have, in the component of the number k, whose type is stated as that of the number t
---     stated_as        the values that a property states in its context, c and w being the names of the component and of the property
---     ReadAs           `read` says whether they can be read
+--     stated_as         the values that a property states in its context, c and w being the names of the component and of the property
+--     ReadAs            `read` says whether they can be read
 use Rattle.std.specs.Prelude.{◌≡◌, Bool, List, [], ℕ, ◌≤◌, eqb}
 use Rattle.std.proofs.Math.Option.{Option}
 use Rattle.octets.specs.Pick.{pick}

@@ -1,5 +1,5 @@
 -- A RECUR from its object, written as text (RFC 7265, section 3.6.10): for each part in the schema's order the member that has its name.
---     item_of p v       the item of the part of the number p that a value states
+--     item_of p v      the item of the part of the number p that a value states
 --     upper_name       the name of a member in capitals
 --     PartAt           the first member of a part's name: the contract of `find_part`
 use Rattle.std.specs.Prelude.{◌≡◌, Bool, true, false, List, [], ℕ, ◌<◌, length, get_or}

@@ -1,5 +1,5 @@
 -- What the room for one content line holds after lines were written into it, each from its start over what stood there.
---     properties_room  after the content lines of properties;   calendar_room: after those of components
+--     properties_room   after the content lines of properties;   calendar_room: after those of components
 --     PutBy             the contract of a writer that has such a room: what was put, and what the room l then is
 use Rattle.std.specs.Prelude.{◌≡◌, List, [], ◌∷◌, ℕ}
 use Rattle.octets.specs.Ascii.{ascii}

@@ -1,7 +1,7 @@
 -- The elements of components, up to the root (RFC 6321, sections 3.2 and 3.3): what they state, and where they are refused.
 --     components_verdict, component_verdict  the verdict on the children of `components`, and of a component
---     root_verdict                          the verdict on the root element
---     read_components, read_calendars       the components that elements state, and the calendars of the root's children
+--     root_verdict                           the verdict on the root element
+--     read_components, read_calendars        the components that elements state, and the calendars of the root's children
 use Rattle.std.specs.Prelude.{Bool, true, false, not, List, ℕ, ◌-◌, ltb}
 use Rattle.octets.specs.Ascii.{ascii}
 use Rattle.octets.specs.Pick.{pick, ◌and◌, ◌or◌}

@@ -1,9 +1,9 @@
 -- The elements of a property's parameters (RFC 6321, section 3.5): what they state, and where they are refused.
 -- Refusal 7 covers all in a parameter but a missing child, at the parameter's start tag.
---     are_spelled          whether the values of a parameter can be spelled in an edition
---     parameters_verdict   the verdict on the children of `parameters`
+--     are_spelled           whether the values of a parameter can be spelled in an edition
+--     parameters_verdict    the verdict on the children of `parameters`
 --     read_parameter_nodes  the parameters that they state
---     has_encoding         whether ENCODING stands among a property's parameters
+--     has_encoding          whether ENCODING stands among a property's parameters
 use Rattle.std.specs.Prelude.{Bool, true, false, not, List, [], ◌∷◌, ℕ, eqb}
 use Rattle.std.proofs.Math.Option.{Option, none, some}
 use Rattle.octets.specs.Ascii.{ascii}

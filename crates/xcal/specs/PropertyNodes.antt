@@ -1,7 +1,7 @@
 -- The element of a property (RFC 6321, section 3.4): what it states, and where it is refused.
 --     property_verdict    the verdict on a property's element
 --     properties_verdict  the verdict on the children of `properties`
---     property_in        the property that an element states;   read_properties: the properties of the children
+--     property_in         the property that an element states;   read_properties: the properties of the children
 use Rattle.std.specs.Prelude.{Bool, true, false, not, List, [], ◌∷◌, ℕ}
 use Rattle.std.proofs.Math.Option.{Option, none, some}
 use Rattle.octets.specs.Ascii.{ascii}

@@ -1,7 +1,7 @@
 -- The canonical XML of a calendar (RFC 6321, section 3): the declaration, LF, the root element, LF; no other white space between elements, start and end
 -- tags always both, no empty `parameters`; `components` in every VCALENDAR, elsewhere only if not empty.
 --     value_xml, parameter_xml, property_xml, components_xml  the elements of each
---     write_document                                        the document
+--     write_document                                          the document
 use Rattle.std.specs.Prelude.{Bool, true, false, List, [], ◌∷◌, ℕ}
 use Rattle.std.proofs.Math.Option.{Option, none, some}
 use Rattle.octets.specs.Ascii.{ascii}

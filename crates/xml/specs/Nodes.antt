@@ -1,8 +1,8 @@
 -- The content of an element as a tree, of a document that is well formed.
---     Nodes          nothing; or an element, a literal byte or a referred character, and what follows it
+--     Nodes           nothing; or an element, a literal byte or a referred character, and what follows it
 --     document_nodes  the root as one element
---     characters_of  the bytes of the characters that stand there, up to an element
---     has_element    whether an element stands there
+--     characters_of   the bytes of the characters that stand there, up to an element
+--     has_element     whether an element stands there
 use Rattle.std.specs.Prelude.{Bool, true, false, List, [], ◌∷◌, ℕ, zero, suc}
 use Rattle.octets.specs.Append.{◌⊕◌}
 use Rattle.xml.specs.Marks.{Mark, opens, closes, char, refers, fault, document_marks}

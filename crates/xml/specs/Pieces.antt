@@ -1,12 +1,12 @@
--- Pieces of markup: how many bytes at the front of a list are such a piece, if one stands there. XML 1.0's productions are written with them, in its words.
---     from        what is left after so many bytes
---     first       the first byte, 256 where there is none
---     exactly   given bytes;   in_any_case: given bytes, their letters in any case
+-- Pieces of markup: how many bytes at the front of a list are such a piece, if one stands there. XML 1.0's productions are written with them.
+--     from                   what is left after so many bytes
+--     first                  the first byte, 256 where there is none
+--     exactly                given bytes;   in_any_case: given bytes, their letters in any case
 --     some_space, any_space  white space, at least one byte or also none
---     xml_name    a name: ASCII letters, digits, hyphens, beginning with a letter (the rules, "XML profile for reading")
---     ◌then◌      one piece and another after it
---     quoted      a piece between two quotes of one kind
---     equals_sign  an equals sign, with white space round it
+--     xml_name               a name: ASCII letters, digits, hyphens, beginning with a letter (the rules, "XML profile for reading")
+--     ◌then◌                 one piece and another after it
+--     quoted                 a piece between two quotes of one kind
+--     equals_sign            an equals sign, with white space round it
 use Rattle.std.specs.Prelude.{List, [], ◌∷◌, ℕ, ◌+◌, ltb, length, get_or, take, drop}
 use Rattle.std.proofs.Math.Option.{Option, none, some}
 use Rattle.octets.specs.Ascii.{ascii}

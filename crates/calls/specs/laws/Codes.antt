@@ -1,6 +1,6 @@
 -- An answer's number and its value can be told from its one number.
 --     code_of_lem, code_fits  both put together
---     code_back             its number and its value from the one number
+--     code_back               its number and its value from the one number
 use Rattle.std.specs.Prelude.{◌≡◌, ℕ, ◌+◌, ◌*◌, ◌/◌, ◌%◌, ◌<◌}
 use Rattle.std.proofs.Common.{◌∙◌, arith}
 use Rattle.calls.specs.Conversion.{Outcome, written, refusal, numbers}

@@ -1,7 +1,7 @@
 -- Arrays and objects that are written, in front of what follows them.
---     follows                       what follows a value that is written: nothing, a comma, a closing bracket
+--     follows                        what follows a value that is written: nothing, a comma, a closing bracket
 --     first_elements, more_elements  the elements behind an opening bracket, and behind an element, with the closing bracket and what follows it
---     first_members, more_members   the members of an object likewise
+--     first_members, more_members    the members of an object likewise
 use Rattle.std.specs.Prelude.{◌≡◌, Bool, true, ℕ, eqb}
 use Rattle.std.proofs.Math.Path.{refl, ap}
 use mathlib.Core.List.{List, [], ◌∷◌, append_assoc}

@@ -1,10 +1,10 @@
 -- The size of a JSON value: of a string its characters and a quotation mark, of a number or a literal its bytes, of an array or an object what is in it and a bracket.
---     literal_size                of a literal's name
---     size, sizes, member_sizes   of a value, of elements, of members;   size_some: one at least
---     total, member_total         of lists of them
+--     literal_size                    of a literal's name
+--     size, sizes, member_sizes       of a value, of elements, of members;   size_some: one at least
+--     total, member_total             of lists of them
 --     as_string_lem .. as_object_lem  the size of a value of a kind;   array_size: of any value, by its elements;   alone_size
---     split_size                  the first three elements, and the others
---     each_weight                 each of a list read, and written with a separator
+--     split_size                      the first three elements, and the others
+--     each_weight                     each of a list read, and written with a separator
 use Rattle.std.specs.Prelude.{◌≡◌, refl, ℕ, suc, ◌+◌, ◌*◌, ◌≤◌, length, drop}
 use mathlib.Core.List.{List, [], ◌∷◌, map}
 use Rattle.std.proofs.Math.Option.{Option, none, some}

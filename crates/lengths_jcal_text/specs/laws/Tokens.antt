@@ -1,5 +1,5 @@
 -- The bytes that tokens of a JSON text take, and the sizes of what they state: each token counts in one array or object.
---     bytes_of           the bytes of tokens;   scan_within: no more than what they are read from
+--     bytes_of          the bytes of tokens;   scan_within: no more than what they are read from
 --     valued            each name stands before a value
 --     value_size        the value of a text whose names do is no larger than the text
 use Rattle.std.specs.Prelude.{◌≡◌, Bool, true, false, not, ℕ, zero, suc, ◌+◌, ◌-◌, ◌≤◌, ◌<◌, eqb, ltb, length, drop}

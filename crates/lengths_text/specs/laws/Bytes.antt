@@ -1,6 +1,6 @@
 -- The bytes that a document's marks take: of a start tag its name and two brackets, of a character its bytes.
 --     name_bytes      the bytes of a name, one at least;   name_some, name_length
---     bytes_of         the bytes of marks
+--     bytes_of        the bytes of marks
 --     scan_within     marks have no more bytes than what they are read from
 --     root_within     nor has the root's tag with what follows it
 use Rattle.std.specs.Prelude.{◌≡◌, refl, true, List, [], ◌∷◌, ℕ, zero, suc, ◌+◌, ◌-◌, ◌≤◌, eqb, ltb, length, take}

@@ -1,7 +1,7 @@
 -- The children of a name in an element.
---     named_text         the characters of the first of them;   text_within: by the size of all children
+--     named_text           the characters of the first of them;   text_within: by the size of all children
 --     parameters_part_lem  the size of the `parameters` of a property
---     inside_size        the size of what stands in the first child of a name
+--     inside_size          the size of what stands in the first child of a name
 use Rattle.std.specs.Prelude.{◌≡◌, refl, Bool, true, false, List, [], ℕ, ◌+◌, ◌≤◌, length}
 use Rattle.std.proofs.Math.Option.{some}
 use native.Mathlib.Omega.{arith}

@@ -1,5 +1,5 @@
 -- The length of a document's text grows no faster than the document's, whether the document is accepted or not; and a room for one content line is large enough.
---     text_bound    `rate` bytes for each byte of the document;   text_fits: an output that has them is long enough;   text_short: of a document within the limit
+--     text_bound     `rate` bytes for each byte of the document;   text_fits: an output that has them is long enough;   text_short: of a document within the limit
 --     line_fits_lem  the content line of a property that an element states;   lines_fit: of each that is stated at a place
 use Rattle.std.specs.Prelude.{◌≡◌, Bool, ltb, drop}
 use Rattle.std.proofs.Math.Path.{refl, ap}

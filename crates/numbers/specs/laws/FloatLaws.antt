@@ -1,6 +1,6 @@
 -- The laws of FLOAT.
 --     float_read_back, float_accepted, float_visible
---     Normal                 what is_normal says, part by part;   normal_parts
+--     Normal                  what is_normal says, part by part;   normal_parts
 --     Digits                  a decimal has digits on both sides of its point;   spelled_digits, normal_digits: what is spelled has, and a normal form
 --     normal_is_normal        digits have a normal form;   normal_fixed: a normal form is its own
 --     float_all               a test that digits, the minus and the point pass

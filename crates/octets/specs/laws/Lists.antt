@@ -1,6 +1,6 @@
 -- Laws of what specs/Lists.antt defines.
 --     every_both, every_always, every_weaker, every-and, every_map    laws of `every`
---     word_passes              what every word of a list passes, a word of the list passes
+--     word_passes                 what every word of a list passes, a word of the list passes
 --     none_holds_lem, all_joined  what is written of each of a list, joined
 use Rattle.std.specs.Prelude.{◌≡◌, Bool, true, false, ℕ}
 use Rattle.std.proofs.Math.Path.{refl}

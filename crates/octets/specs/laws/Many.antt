@@ -1,9 +1,9 @@
 -- Laws of what specs/Many.antt defines.
 --     many-got, many-none, many-bad    a turn of it;   bad-got, none-got: no item is an item
 --     write_all w l r  the items of l written in front of r;   joined_all, each_after_all: lists joined are so written
---     Each F l        F holds of each item;   each_of_every, every_of_each: as a test
---     many_round      items written are read back
---     many_read       what is read passes what each item passes, and is written back
+--     Each F l         F holds of each item;   each_of_every, every_of_each: as a test
+--     many_round       items written are read back
+--     many_read        what is read passes what each item passes, and is written back
 use Prim.Native.Nat.{ℕ, zero, suc, ◌<◌}
 use mathlib.Core.List.{List, [], ◌∷◌, map}
 use Rattle.std.specs.Prelude.{Bool}

@@ -1,7 +1,7 @@
 -- Laws of what specs/Runs.antt defines.
 --     span_front, stops_at    how long a run is that was written; a byte that ends one
 --     run_front, after_front, run_passes, run_joined    a run written is read back; a run read is written back
---     byte_there, byte_missing, byte_case              of after_byte, from what stands at the front; and what holds of its answer
+--     byte_there, byte_missing, byte_case               of after_byte, from what stands at the front; and what holds of its answer
 use Rattle.std.specs.Prelude.{◌≡◌, Bool, ℕ, suc, eqb, length, take}
 use Rattle.std.proofs.Math.Path.{refl}
 use Rattle.std.proofs.Common.{sym, ap, eq-eqb, eqb-true}

@@ -1,7 +1,7 @@
 -- The marks of a document stand within it, so its nodes do, and its XML is refused there or at its end.
 --     document_marks_lem  every mark of a document stands at a place up to its length
---     document_inside    so does every node
---     xml_within         the verdict on its XML
+--     document_inside     so does every node
+--     xml_within          the verdict on its XML
 use Rattle.std.specs.Prelude.{◌≡◌, refl, Bool, length, drop}
 use Rattle.std.proofs.Common.{ap, length-drop}
 use mathlib.Core.List.{List, [], ◌∷◌}

@@ -2,7 +2,7 @@
 --     sound_..                one parameter;   `search sounds`: the walk over all of them
 --     encodes_.., good_..     for code
 --     read_member, members-read    what can be read, by values
---     good_is                what `parameters_good` asks for
+--     good_is                 what `parameters_good` asks for
 use Rattle.std.specs.Prelude.{◌≡◌, Bool, not, ℕ, ◌≤◌, eqb}
 use Rattle.std.proofs.Math.Path.{refl, sym}
 use Rattle.std.proofs.Common.{ap, ◌∙◌, rules, eq-eqb, ne_eqb}

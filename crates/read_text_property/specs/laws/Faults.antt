@@ -1,6 +1,6 @@
 -- Laws of what specs/Faults.antt defines.
 --     value_..       each way of `value_fault`;   fault_parameter, fault_encoding, fault_value: of `property_fault`
---     fault_named   it is `property_fault` of names that have the number and the row
+--     fault_named    it is `property_fault` of names that have the number and the row
 use Rattle.std.specs.Prelude.{◌≡◌, Bool, List, ℕ}
 use Rattle.std.proofs.Math.Path.{refl, sym, ap}
 use Rattle.std.proofs.Common.{◌∙◌}

@@ -1,6 +1,6 @@
 -- Laws of what specs/ValuesAt.antt defines.
 --     are_good        whether they are;   good_values: whether they were read
---     values_place   it is what `read_values` says of the names;   values_named: so is the answer
+--     values_place    it is what `read_values` says of the names;   values_named: so is the answer
 --     values_yes, values_no, values_as, own_take, own_skip             the answer, by tests
 --     geo_yes, status_yes, chosen_word, chosen_value ..                the ways of the code
 use Rattle.std.specs.Prelude.{◌≡◌, refl, Bool, List, [], ◌∷◌, ℕ, ◌≤◌}

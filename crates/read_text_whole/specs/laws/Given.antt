@@ -1,5 +1,5 @@
 -- What the calls from text give, by the writer of a format, where the text was read as specs/Whole.antt says.
---     given         what a call gives: `to_xml` is given write_document
+--     given           what a call gives: `to_xml` is given write_document
 --     refused_done    a text that is refused
 --     kept_done       a text that is fine: what is written of its kept bytes;   folded_done: of the text with its folds in place
 use Rattle.std.specs.Prelude.{Bool, List, [], ℕ, leb, length, take}

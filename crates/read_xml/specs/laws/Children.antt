@@ -1,5 +1,5 @@
 -- Laws of what specs/Children.antt defines.
---     slots_place           their slots;   slot_at_lem: it is so
+--     slots_place               their slots;   slot_at_lem: it is so
 --     after_at_lem              the slot after a child
 --     flags_start, flags_more             the slots that must be filled: the first of the value, and of GEO and REQUEST-STATUS the second
 --     parameters_at             the child `parameters` is the one of the slot 0

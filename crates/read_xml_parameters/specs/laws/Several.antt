@@ -1,7 +1,7 @@
 -- Laws of what specs/Several.antt defines.
 --     all_read    then they can be read
 --     amount_is                 one value at most
---     good_is                  what `values_good` asks for
+--     good_is                   what `values_good` asks for
 --     first_is_lem              the first value's characters are a word
 --     all_.., single_.., good_.., first_.., plain_.., spelled_..    for code
 use Rattle.std.specs.Prelude.{◌≡◌, refl, Bool, true, false, not, List, [], ℕ}

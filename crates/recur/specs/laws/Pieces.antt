@@ -1,7 +1,7 @@
 -- Laws of what specs/Pieces.antt defines.
 --     has_place p ws     some piece has the name at the place p
 --     each_part ws       each piece is a part, and no later piece has its name
---     is_whole ws         FREQ is there; UNTIL and COUNT are not both there
+--     is_whole ws        FREQ is there; UNTIL and COUNT are not both there
 use Rattle.std.specs.Prelude.{Bool, true, false, not, List, [], ◌∷◌, ℕ, eqb}
 use Rattle.octets.specs.Pick.{pick, ◌and◌, ◌or◌}
 use Rattle.octets.specs.Reading.{is_read}

@@ -1,8 +1,8 @@
 -- The lists of properties in the schema's own order, section by section, from which the one table was made: types and parameters by property, and how often a property stands component by component.
 -- Only specs/laws/Table.antt uses them, to show that the table answers what they answer.
---     listed_rows      properties: types, parameters, whether listed;   row_listed: of a name
+--     listed_rows       properties: types, parameters, whether listed;   row_listed: of a name
 --     calprops .. emailprop     how often each property stands
---     component_lists  the properties that may stand in a component;   stands_listed: a property in a component
+--     component_lists   the properties that may stand in a component;   stands_listed: a property in a component
 --     occurrence_lists  the lists in the order of the table's columns;   list_listed: of a number
 use Rattle.std.specs.Prelude.{Bool, true, false, List, [], ◌∷◌, map, ℕ, get_or}
 use Rattle.std.proofs.Math.Option.{Option, none, some}

@@ -1,10 +1,10 @@
 -- The number of the name of a number, and of the type of one.
 --     known_component, component_at_lem  the name of a component's number below 9 is known, and has that number
---     known_property, property_at_lem  the same of a property's below 46
---     no_component_lem, no_property   the number of no bytes, which is the name of a greater number
+--     known_property, property_at_lem    the same of a property's below 46
+--     no_component_lem, no_property      the number of no bytes, which is the name of a greater number
 --     component_fixed, property_fixed    the number of the name of a name's number
---     type_back, type_known           the number of the type of a number; it is 14 at most
---     type_word                       a name compared with a type's element
+--     type_back, type_known              the number of the type of a number; it is 14 at most
+--     type_word                          a name compared with a type's element
 use Rattle.std.specs.Prelude.{◌≡◌, refl, true, List, [], map, ℕ, ◌≤◌, ◌<◌, eqb, leb, get_or}
 use Rattle.std.proofs.Common.{sym, ap, ◌∙◌, arith, leb-true, eqb-true}
 use Rattle.std.proofs.Math.Decide.{dec_le}

@@ -3,7 +3,7 @@
 --     unrecognised_property_lem, unrecognised_parameter_lem  what a name of no row has
 --     property_name_lem.., parameter_name_lem.., component_name_lem..  names are made of name characters, in capitals
 --     parameter_types, parameter_type_lem  the types of parameters
---     stand_known, subcomponents_known   what may stand in a component is known
+--     stand_known, subcomponents_known     what may stand in a component is known
 use Rattle.std.specs.Prelude.{◌≡◌, refl, Bool, true, false, not, List, [], ◌∷◌, map, ℕ, eqb, ltb, length, get_or}
 use Rattle.std.proofs.Common.{sym}
 use Rattle.std.proofs.lemmas.Bool.{false≢true, not-true}

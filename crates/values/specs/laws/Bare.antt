@@ -1,5 +1,5 @@
 -- Values whose characters stand in XML as they are: dates and times, numbers, BINARY. None of them has `&`, `<` or `>`.
---     is_bare                 a character that stands as it is
+--     is_bare                a character that stands as it is
 --     bare_escaped           such characters have no entities;   chars_bare: nor have those of dates and times
 --     date_bare, time_bare, date_time_bare, duration_bare, offset_bare, integer_bare, float_bare, boolean_bare, binary_bare    what each type writes
 use Rattle.std.specs.Prelude.{◌≡◌, refl, Bool, true, false, List, [], ◌∷◌, ℕ, zero, suc, eqb, ltb, length}

@@ -1,8 +1,8 @@
 -- Laws of what specs/ValueAt.antt defines.
---     is_good      whether it is a value;   good_value, good_yes, good_no: whether one was read
+--     is_good          whether it is a value;   good_value, good_yes, good_no: whether one was read
 --     at_plain, at_cut, value_there  `is_read_at` is what `read_value` says: of any type but RECUR; in XML, and in an encoding that can be cut
 --     from_binary_lem  it is the type at that place
---     mapped       what was read, made into another thing
+--     mapped           what was read, made into another thing
 --     timing, counting, keeping, choosing    the rules for types of dates and times, of numbers, of characters; for the choice of a type
 use Rattle.std.specs.Prelude.{◌≡◌, Bool, true, not, List, eqb}
 use Rattle.std.proofs.Math.Path.{refl, sym}

@@ -1,5 +1,5 @@
 -- Laws of what specs/Typing.antt defines.
---     value_at_lem  it is what the names have
+--     value_at_lem    it is what the names have
 --     number_of, default_of    a row has the number and the default of its property
 --     with_value_lem  VALUE and the other parameters, written
 --     type_unnamed   a type that has no name of its own

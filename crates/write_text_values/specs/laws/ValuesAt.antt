@@ -1,5 +1,5 @@
 -- The values of a property by its number.
---     values_at    they, by the number;   values_at_lem: those of a name are those of its number
+--     values_at        they, by the number;   values_at_lem: those of a name are those of its number
 --     values_named     those of a name are those of its number's name
 --     put_..           the ways of `put_values`;   type_..: of `type_of_values`
 use Rattle.std.specs.Prelude.{◌≡◌, List, [], ◌∷◌, ℕ, ◌≤◌, eqb}
