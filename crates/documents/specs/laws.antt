@@ -1,3 +1,3 @@
--- Laws. A log, and where its documents end.
+-- Words of laws. A log, and where its documents end.
 --     Passed        the content of an element in which no document ends
 pub mod Passed

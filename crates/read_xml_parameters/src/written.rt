@@ -158,7 +158,7 @@ pub fn put_parameters(out: &mut [u8], o: usize, edition: Edition, s: &[u8], insi
 {
     let mut p = o;
     let mut c = inside;
-    loop {
+    'children: loop {
         let n = next_child(s, c);
         if n.there {
             let a = n.name;

@@ -7,8 +7,8 @@ use Rattle.read_xml_parameters.specs.laws.Listed.{Emits, emits_start, parameters
 use Rattle.sink.specs.laws.Sink.{writing}
 use Rattle.read_xml_parameters.proofs.written.put_parameters.Goals as goal
 
-pub loop-c-init : goal.loop-c-init
-loop-c-init c = search (emits_start, writing)
+pub children-init : goal.children-init
+children-init c = search (emits_start, writing)
 
 pub next_child-n-requires : goal.next_child-n-requires
 next_child-n-requires c = search writing
@@ -25,11 +25,11 @@ slice_bounds-put_parameter-end c = search writing
 pub put_parameter-p-requires : goal.put_parameter-p-requires
 put_parameter-p-requires c = search writing
 
-pub loop-c-smaller : goal.loop-c-smaller
-loop-c-smaller c = search (child_less, writing)
+pub children-smaller : goal.children-smaller
+children-smaller c = search (child_less, writing)
 
-pub loop-c-preserved : goal.loop-c-preserved
-loop-c-preserved c = search (parameter_more, writing)
+pub children-preserved : goal.children-preserved
+children-preserved c = search (parameter_more, writing)
 
 pub shape_of-out-else-n : goal.shape_of-out-else-n
 shape_of-out-else-n c = search writing

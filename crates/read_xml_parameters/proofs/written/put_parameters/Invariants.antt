@@ -7,8 +7,8 @@ use Rattle.read_xml_parameters.specs.laws.Listed.{Emits, emits_start, parameters
 use Rattle.sink.specs.laws.Sink.{writing}
 use Rattle.read_xml_parameters.proofs.written.put_parameters.Given as goal
 
-abbrev pub invariant-loop-c : goal.invariant-loop-c
-invariant-loop-c l = Emits l.initial.out l.o (parameters_shown l.edition (nodes_at l.s l.inside)) l.out l.p (parameters_shown l.edition (nodes_at l.s l.c))
+abbrev pub invariant-children : goal.invariant-children
+invariant-children l = Emits l.initial.out l.o (parameters_shown l.edition (nodes_at l.s l.inside)) l.out l.p (parameters_shown l.edition (nodes_at l.s l.c))
 
-abbrev pub decreases-loop-c : goal.decreases-loop-c
-decreases-loop-c l = length l.s - l.c
+abbrev pub decreases-children : goal.decreases-children
+decreases-children l = length l.s - l.c
